@@ -1,0 +1,4 @@
+pub mod Bag
+pub mod Codes
+pub mod Order
+pub mod Rows

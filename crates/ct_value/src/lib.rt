@@ -1,0 +1,18 @@
+//! Texts, values and rows, the order of rows, bags of rows as definitions see them, and the codes of refusals.
+#![tactic(auto)]
+
+mod bytes;
+mod codes;
+mod cols;
+mod memory;
+mod row;
+mod text;
+mod value;
+
+pub use bytes::Bytes;
+pub use codes::{ChangeCode, OrderCode, ScriptCode};
+pub use cols::Cols;
+pub use memory::Memory;
+pub use row::{Row, Values};
+pub use text::{Text, TextFault};
+pub use value::{CompareOp, Value};

@@ -1,0 +1,221 @@
+ghost use Rattle.std.specs.Prelude.{◌≡◌, ◌==◌, ◌<◌, [], ◌∷◌, ◌++◌, Some, All, length, take, slice_get, option_copied, OnOk, OnErr, IfOk};
+ghost use Rattle.std.specs.Ordering.{eq_by_cmp};
+ghost use Rattle.std.specs.Cmp.{eq_by_cmp_equiv, partial_equiv_from_equiv, po};
+ghost use Rattle.std.proofs.Common.{refl};
+
+use crate::{Cols, Memory, Value};
+use std::alloc::Global;
+use std::cmp::Ordering;
+use std::marker::Model;
+
+/// A list of values.
+#[derive(Debug, Drop)]
+pub struct Values {
+    items: Vec<Value>,
+}
+
+impl Model for Values {
+    ghost use Rattle.std.specs.Prelude.{List};
+    ghost use Rattle.ct_value.specs.declared.value.Value.{Value as Cell};
+
+    ghost Value = { List Cell };
+
+    ghost view = { λ v. v.items.items };
+}
+
+impl Values {
+    /// No values. It takes no memory.
+    pub fn new(alloc: Global) -> Self
+        ensures { result ≡ [] }
+    {
+        Values {
+            items: Vec::new(alloc),
+        }
+    }
+
+    /// How many values it has.
+    pub fn len(&self) -> usize
+        ensures { result ≡ length self.now }
+    {
+        self.items.len()
+    }
+
+    /// Whether it has no values.
+    pub fn is_empty(&self) -> bool
+        ensures { result ≡ (length self.now == 0) }
+    {
+        self.items.is_empty()
+    }
+
+    /// The value at an index, and `None` exactly past the end.
+    pub fn get(&self, index: usize) -> Option<&Value>
+        ensures { option_copied result ≡ slice_get self.now index }
+    {
+        self.items.get(index)
+    }
+
+    /// Puts a value behind the others.
+    pub fn push(&mut self, value: Value) -> Result<(), Memory>
+        ensures ok { OnOk result (self.new ≡ self.old ++ value ∷ []) }
+        ensures err { OnErr result (self.new ≡ self.old) }
+    {
+        self.items.push(value)?;
+        Ok(())
+    }
+
+    /// An equal list.
+    pub fn dup(&self) -> Result<Self, Memory>
+        ensures { IfOk result (λ copy. copy ≡ self.now) }
+    {
+        let mut values = Values::new(*self.items.allocator());
+        for value in &self.items {
+            values.push(value.dup()?)?;
+        }
+        Ok(values)
+    }
+}
+
+/// A row of a table: one value for each column.
+#[derive(Debug, Drop)]
+pub struct Row {
+    values: Values,
+}
+
+impl Model for Row {
+    ghost use Rattle.std.specs.Prelude.{List};
+    ghost use Rattle.ct_value.specs.declared.value.Value.{Value as Cell};
+
+    ghost Value = { List Cell };
+
+    ghost view = { λ r. r.values };
+}
+
+impl Row {
+    ghost use Rattle.ct_value.specs.Order.{row_cmp};
+    ghost use Rattle.ct_value.specs.Rows.{project};
+
+    /// The row of these values. It takes no memory.
+    pub fn from_values(values: Values) -> Row
+        ensures { result ≡ values }
+    {
+        Row { values }
+    }
+
+    /// How many values it has.
+    pub fn len(&self) -> usize
+        ensures { result ≡ length self.now }
+    {
+        self.values.len()
+    }
+
+    /// Whether it has no values.
+    pub fn is_empty(&self) -> bool
+        ensures { result ≡ (length self.now == 0) }
+    {
+        self.values.is_empty()
+    }
+
+    /// The value of a column, counted from 0, and `None` exactly past the end.
+    pub fn get(&self, column: usize) -> Option<&Value>
+        ensures { option_copied result ≡ slice_get self.now column }
+    {
+        self.values.get(column)
+    }
+
+    /// An equal row.
+    pub fn dup(&self) -> Result<Row, Memory>
+        ensures { IfOk result (λ copy. copy ≡ self.now) }
+    {
+        Ok(Row {
+            values: self.values.dup()?,
+        })
+    }
+
+    /// The values of these columns, in that order.
+    pub fn project(&self, cols: &Cols) -> Result<Row, Memory>
+        requires { All (λ col. col < length self.now) cols.now }
+        ensures { IfOk result (λ row. row ≡ project cols.now self.now) }
+    {
+        let cells = self.values.items.as_slice();
+        let mut values = Values::new(*self.values.items.allocator());
+        for col in cols.as_slice() {
+            values.push(cells[*col as usize].dup()?)?;
+        }
+        Ok(Row { values })
+    }
+
+    /// The first values, `count` of them, or all where there are fewer.
+    pub fn prefix(&self, count: u32) -> Result<Row, Memory>
+        ensures { IfOk result (λ row. row ≡ take count self.now) }
+    {
+        let end = self.values.len().min(count as usize);
+        let mut values = Values::new(*self.values.items.allocator());
+        for value in &self.values.items.as_slice()[..end] {
+            values.push(value.dup()?)?;
+        }
+        Ok(Row { values })
+    }
+
+    /// The row with one more value behind the others.
+    pub fn with(self, value: Value) -> Result<Row, Memory>
+        ensures { IfOk result (λ row. row ≡ self ++ value ∷ []) }
+    {
+        let Row { mut values } = self;
+        values.push(value)?;
+        Ok(Row { values })
+    }
+
+    /// The order of rows: value by value, and a row that begins a longer one before it. NULL stands before
+    /// FALSE, FALSE before TRUE, these before numbers by value, numbers before texts by their bytes.
+    pub fn compare(&self, other: &Row) -> Ordering
+        ensures { result ≡ row_cmp self.now other.now }
+    {
+        self.values.items.cmp(&other.values.items)
+    }
+}
+
+impl PartialEq for Row {
+    ghost use Rattle.ct_value.specs.Order.{row_cmp, row_total};
+
+    ghost eq = { eq_by_cmp row_cmp };
+
+    ghost laws = { partial_equiv_from_equiv (eq_by_cmp_equiv row_total) };
+
+    fn eq(&self, other: &Row) -> bool {
+        self.compare(other).is_eq()
+    }
+}
+
+impl Eq for Row {
+    ghost use Rattle.ct_value.specs.Order.{row_total};
+
+    ghost laws = { eq_by_cmp_equiv row_total };
+}
+
+impl PartialOrd for Row {
+    ghost use Rattle.ct_value.specs.Order.{row_cmp, row_total};
+
+    ghost partial_cmp = { λ a b. Some (row_cmp a b) };
+
+    ghost laws = { po row_total (λ a b. refl) };
+
+    fn partial_cmp(&self, other: &Row) -> Option<Ordering> {
+        Some(self.compare(other))
+    }
+}
+
+impl Ord for Row {
+    ghost use Rattle.ct_value.specs.Order.{row_cmp, row_total};
+
+    ghost cmp = { row_cmp };
+
+    ghost total = { row_total };
+
+    ghost matches_partial_cmp = { λ a b. refl };
+
+    ghost matches_eq = { λ a b. refl };
+
+    fn cmp(&self, other: &Row) -> Ordering {
+        self.compare(other)
+    }
+}
