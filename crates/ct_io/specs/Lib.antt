@@ -1,0 +1,4 @@
+pub mod Counts
+pub mod Holdings
+pub mod InMemory
+pub mod Written
