@@ -1,4 +1,5 @@
 ghost use Rattle.std.specs.Prelude.{◌≡◌, ◌==◌, [], ◌∷◌, ◌++◌, length, slice_get, OnOk, OnErr, IfOk};
+ghost use Rattle.std.specs.Str.{bytes_eq};
 
 use crate::Memory;
 use std::alloc::Global;
@@ -72,6 +73,13 @@ impl Bytes {
         self.items.as_slice()
     }
 
+    /// Whether these are the bytes.
+    pub fn is(&self, bytes: &[u8]) -> bool
+        ensures { result ≡ bytes_eq self.now bytes.now }
+    {
+        self.items.as_slice() == bytes
+    }
+
     /// Puts a byte behind the others.
     pub fn push(&mut self, byte: u8) -> Result<(), Memory>
         ensures ok { OnOk result (self.new ≡ self.old ++ byte ∷ []) }
@@ -79,6 +87,22 @@ impl Bytes {
     {
         self.items.push(byte)?;
         Ok(())
+    }
+
+    /// Puts these bytes behind the others.
+    pub fn extend(&mut self, bytes: &[u8]) -> Result<(), Memory>
+        ensures ok { OnOk result (self.new ≡ self.old ++ bytes.now) }
+        ensures err { OnErr result (self.new ≡ self.old) }
+    {
+        self.items.extend_from_slice(bytes)?;
+        Ok(())
+    }
+
+    /// Leaves no bytes, and keeps the room for them. It takes no memory.
+    pub fn clear(&mut self)
+        ensures { self.new ≡ [] }
+    {
+        self.items.clear();
     }
 
     /// An equal list.

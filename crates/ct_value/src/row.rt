@@ -122,6 +122,13 @@ impl Row {
         self.values.get(column)
     }
 
+    /// The values, column by column.
+    pub fn as_slice(&self) -> &[Value]
+        ensures { result.now ≡ self.now }
+    {
+        self.values.items.as_slice()
+    }
+
     /// An equal row.
     pub fn dup(&self) -> Result<Row, Memory>
         ensures { IfOk result (λ copy. copy ≡ self.now) }
@@ -154,6 +161,15 @@ impl Row {
             values.push(value.dup()?)?;
         }
         Ok(Row { values })
+    }
+
+    /// The row cut to its first values, `count` of them, or all where there are fewer. It takes no memory.
+    pub fn into_prefix(self, count: u32) -> Row
+        ensures { result ≡ take count self }
+    {
+        let Row { mut values } = self;
+        values.items.truncate(count as usize);
+        Row { values }
     }
 
     /// The row with one more value behind the others.

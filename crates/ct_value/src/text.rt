@@ -57,6 +57,15 @@ impl Text {
         }
     }
 
+    /// A copy of a `str`.
+    pub fn from_str(alloc: Global, text: &str) -> Result<Text, Memory>
+        ensures { IfOk result (λ copy. copy ≡ text.now) }
+    {
+        Ok(Text {
+            text: String::from_str(alloc, text)?,
+        })
+    }
+
     /// The bytes, which are UTF-8.
     pub fn as_slice(&self) -> &[u8]
         ensures bytes { result.now ≡ self.now }

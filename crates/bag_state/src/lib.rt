@@ -1,0 +1,6 @@
+//! State that is kept by key.
+#![tactic(auto)]
+
+mod keyed_bag;
+
+pub use keyed_bag::KeyedBag;

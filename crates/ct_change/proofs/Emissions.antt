@@ -1,0 +1,53 @@
+-- What is emitted for a row that is replaced, folded, replaces it.
+use Rattle.std.proofs.Common.{◌≡◌, ℕ, ◌<◌, Bool, true, false, cond, List, [], Option, Some, None, refl, sym, ap, ◌∙◌}
+use Rattle.std.specs.Cmp.{Equal-is}
+use Rattle.std.specs.List.{find}
+use Rattle.ct_value.specs.Bag.{items, copies, add, remove, add-remove}
+use Rattle.ct_value.specs.Order.{row_cmp, row_total, row_exact}
+use Rattle.ct_value.specs.Rows.{project}
+use Rattle.ct_value.specs.declared.row.Row.{Row}
+use Rattle.ct_change.specs.declared.change.Change.{Change}
+use Rattle.ct_change.specs.Changelog.{Mode, append, retract, upsert, Rows, fold_from, IsValidFrom, row_at, without, same_row}
+use Rattle.ct_change.specs.Emission.{emission, update, replaced}
+use Rattle.ct_change.proofs.Folds.{row_at-stands}
+
+-- the old row can be told to go, and the fresh one to come, where these rows stand
+abbrev pub Tells : Mode → Rows → Option Row → Option Row → Type 0
+Tells append rows old fresh = old ≡ None
+Tells retract rows None fresh = Unit {0}
+Tells retract rows (Some old) fresh = 0 < copies rows old
+Tells (upsert key) rows None None = Unit {0}
+Tells (upsert key) rows None (Some fresh) = row_at rows key fresh ≡ None
+Tells (upsert key) rows (Some old) None = row_at rows key old ≡ Some old
+Tells (upsert key) rows (Some old) (Some fresh) = (row_at rows key old ≡ Some old) × (project key old ≡ project key fresh)
+
+pub record Replaces (mode : Mode) (rows : Rows) (old fresh : Option Row) (changes : List Change) : Type 0 where
+  pub folds : fold_from mode rows changes ≡ replaced rows old fresh
+  pub valid : IsValidFrom mode rows changes
+
+nothing : (mode : Mode) (rows : Rows) (old fresh : Row) → same_row old fresh ≡ true → 0 < copies rows old → Replaces mode rows (Some old) (Some fresh) []
+nothing mode rows old fresh e stands =
+    let same : old ≡ fresh = row_exact old fresh ((Equal-is (row_cmp old fresh)).0 e) in
+    record { folds = sym (ap (add (remove rows old)) (sym same) ∙ add-remove row_total row_exact rows old stands); valid = tt }
+
+both_rows : (mode : Mode) (rows : Rows) (old fresh : Row) (b : Bool) → same_row old fresh ≡ b → 0 < copies rows old → (b ≡ false → Replaces mode rows (Some old) (Some fresh) (update mode old fresh)) → Replaces mode rows (Some old) (Some fresh) (cond b [] (update mode old fresh))
+both_rows mode rows old fresh true e stands h = nothing mode rows old fresh e stands
+both_rows mode rows old fresh false e stands h = h refl
+
+row_at-same : (rows : Rows) (key : List ℕ) (old fresh : Row) → project key old ≡ project key fresh → row_at rows key fresh ≡ row_at rows key old
+row_at-same rows key old fresh e = ap (λ (k : Row). find (λ other. same_row k (project key other)) (items rows)) (sym e)
+
+pub emission_replaces : (mode : Mode) (rows : Rows) (old fresh : Option Row) → Tells mode rows old fresh → Replaces mode rows old fresh (emission mode old fresh)
+emission_replaces append rows None None t = record { folds = refl; valid = tt }
+emission_replaces append rows None (Some fresh) t = record { folds = refl; valid = (refl, tt) }
+emission_replaces append rows (Some old) fresh t = absurd (cc)
+emission_replaces retract rows None None t = record { folds = refl; valid = tt }
+emission_replaces retract rows None (Some fresh) t = record { folds = refl; valid = (λ e. absurd (cc), tt) }
+emission_replaces retract rows (Some old) None t = record { folds = refl; valid = (λ e. t, tt) }
+emission_replaces retract rows (Some old) (Some fresh) t = both_rows retract rows old fresh (same_row old fresh) refl t (λ _. record { folds = refl; valid = (λ e. t, (λ e. absurd (cc), tt)) })
+emission_replaces (upsert key) rows None None t = record { folds = refl; valid = tt }
+emission_replaces (upsert key) rows None (Some fresh) t = record { folds = ap (λ o. add (without rows o) fresh) t; valid = (refl, tt) }
+emission_replaces (upsert key) rows (Some old) None t = record { folds = ap (without rows) t; valid = (refl, tt) }
+emission_replaces (upsert key) rows (Some old) (Some fresh) t =
+    both_rows (upsert key) rows old fresh (same_row old fresh) refl (row_at-stands rows key old old t.0)
+    (λ _. record { folds = ap (λ o. add (without rows o) fresh) (row_at-same rows key old fresh t.1 ∙ t.0); valid = (refl, tt) })

@@ -1,0 +1,3 @@
+pub mod Changelog
+pub mod Counts
+pub mod Emission

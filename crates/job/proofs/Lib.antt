@@ -1,0 +1,4 @@
+pub mod Cuts
+pub mod FullLines
+pub mod Lists
+pub mod Plain

@@ -1,0 +1,77 @@
+-- What a subtask may rely on of the history that it took, and what is then known of all that it emitted.
+use Rattle.std.specs.Prelude.{◌≡◌, ℕ, ◌≤◌, ◌<◌, true, List, length, take, Option, Some, Ok}
+use Rattle.std.specs.List.{AllByRecursion}
+use Rattle.ct_value.specs.Bag.{copies}
+use Rattle.ct_value.specs.declared.row.Row.{Row}
+use Rattle.ct_change.specs.declared.kind.Kind.{Kind}
+use Rattle.ct_change.specs.declared.kind.KindSet.{KindSet}
+use Rattle.ct_change.specs.declared.change.Change.{Change}
+use Rattle.ct_change.specs.Changelog.{Mode, Rows, Means, HasKey, has, admits, AreOf}
+use Rattle.rel_algebra.specs.Groups.{grouped_counts}
+use Rattle.op_rules.specs.History.{Arrival, at_port, joined}
+use Rattle.op_rules.specs.Rule.{Rule, group, sink, port_count, input_mode, output_mode, columns_needed, output_kinds, output_width, IsSound}
+use Rattle.op_rules.specs.Rules.{emitted}
+
+-- what comes to a port: changes of these kinds, with rows of so many columns
+pub record Port : Type 0 where
+  pub kinds : KindSet
+  pub width : ℕ
+
+-- a rule can take what comes to a port
+pub record FitsPort (rule : Rule) (number : ℕ) (port : Port) : Type 0 where
+  pub kinds : (kind : Kind) → has port.kinds kind ≡ true → admits (input_mode rule number) kind ≡ true
+  pub columns : columns_needed rule number ≤ port.width
+  pub key : (row : Row) → length row ≡ port.width → HasKey (input_mode rule number) row
+
+-- the batch answer of a subtask from the rows of its ports, and none where it is out of range
+abbrev pub batch_answer : Rule → ℕ → (ℕ → Rows) → Option Rows
+batch_answer (group keys input output) subtask rows = grouped_counts keys (rows 0)
+batch_answer (sink mode) subtask rows = Some (rows 0)
+
+-- what a subtask may rely on of its history: each change came to a port of the rule, and for each port, each prefix of
+-- its changes means some rows, and the kinds and the rows are the port's
+pub record Ready (rule : Rule) (ports : ℕ → Port) (history : List Arrival) : Type 0 where
+  pub known : AllByRecursion (λ a. a.port < port_count rule) history
+  pub stands : (port : ℕ) → port < port_count rule → (n : ℕ) → (rows : Rows) × Means (input_mode rule port) (at_port port (take n history)) rows
+  pub kinds : (port : ℕ) → port < port_count rule → AreOf (ports port).kinds (at_port port history)
+  pub widths : (port : ℕ) → port < port_count rule → AllByRecursion (λ change. length change.row ≡ (ports port).width) (at_port port history)
+
+-- what is known of the rows that a port's changes mean
+pub record Settled (port : Port) (rows : Rows) : Type 0 where
+  pub widths : (row : Row) → 0 < copies rows row → length row ≡ port.width
+
+-- a subtask that took these pieces, on which it may rely, emitted this
+abbrev pub Emitted : Rule → (ℕ → Port) → ℕ → List (List Arrival) → List Change → Type 0
+Emitted rule ports subtask pieces sent = (emitted rule subtask pieces ≡ Ok sent) × Ready rule ports (joined pieces)
+
+-- all that was emitted means the batch answer of what the ports' changes mean, which isn't out of range
+abbrev pub FoldsToAnswer : Rule → (ℕ → Port) → Type 0
+FoldsToAnswer rule ports = (subtask : ℕ) (pieces : List (List Arrival)) (sent : List Change) → Emitted rule ports subtask pieces sent
+    → (rows : ℕ → Rows) → ((port : ℕ) → port < port_count rule → Means (input_mode rule port) (at_port port (joined pieces)) (rows port) × Settled (ports port) (rows port))
+    → (answer : Rows) × (batch_answer rule subtask rows ≡ Some answer) × Means (output_mode rule) sent answer
+
+-- each prefix of what was emitted means some rows
+abbrev pub PrefixesStand : Rule → (ℕ → Port) → Type 0
+PrefixesStand rule ports = (subtask : ℕ) (pieces : List (List Arrival)) (sent : List Change) → Emitted rule ports subtask pieces sent
+    → (n : ℕ) → (rows : Rows) × Means (output_mode rule) (take n sent) rows
+
+-- what was emitted is of the rule's kinds
+abbrev pub KindsStay : Rule → (ℕ → Port) → Type 0
+KindsStay rule ports = (subtask : ℕ) (pieces : List (List Arrival)) (sent : List Change) → Emitted rule ports subtask pieces sent
+    → AreOf (output_kinds rule (λ port. (ports port).kinds)) sent
+
+-- the rows that were emitted have the rule's columns
+abbrev pub WidthsStay : Rule → (ℕ → Port) → Type 0
+WidthsStay rule ports = (subtask : ℕ) (pieces : List (List Arrival)) (sent : List Change) → Emitted rule ports subtask pieces sent
+    → AllByRecursion (λ change. length change.row ≡ output_width rule (λ port. (ports port).width)) sent
+
+-- what is known of a rule
+pub record Facts (rule : Rule) (ports : ℕ → Port) : Type 0 where
+  pub folds_to_answer : FoldsToAnswer rule ports
+  pub prefixes_stand : PrefixesStand rule ports
+  pub kinds : KindsStay rule ports
+  pub widths : WidthsStay rule ports
+
+-- a fact holds of a rule that is sound, at ports that fit it
+abbrev pub HoldsOf : (Rule → (ℕ → Port) → Type 0) → Rule → Type 0
+HoldsOf Fact rule = (ports : ℕ → Port) → IsSound rule → ((port : ℕ) → port < port_count rule → FitsPort rule port (ports port)) → Fact rule ports

@@ -1,0 +1,12 @@
+//! The rules by which operators emit, as functions of all that came to them, the facts that hold of each rule, and
+//! what an operator is.
+#![tactic(auto)]
+
+mod laws;
+mod operator;
+
+pub use laws::{
+    group_difference, group_folds_to_answer, group_kinds, group_prefixes_stand, group_widths,
+    ready_change_may_arrive, sink_folds_to_answer, sink_kinds, sink_prefixes_stand, sink_widths,
+};
+pub use operator::{OpFault, Operator};
