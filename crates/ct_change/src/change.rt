@@ -101,6 +101,23 @@ impl Changes {
         Ok(changes)
     }
 
+    /// The changes, in order.
+    pub fn as_slice(&self) -> &[Change]
+        ensures { result.now ≡ self.now }
+    {
+        self.items.as_slice()
+    }
+
+    /// Puts these changes behind the others.
+    pub fn append(&mut self, more: Changes) -> Result<(), Memory>
+        ensures ok { OnOk result (self.new ≡ self.old ++ more) }
+        ensures err { OnErr result (self.new ≡ self.old) }
+    {
+        let Changes { mut items } = more;
+        self.items.append(&mut items)?;
+        Ok(())
+    }
+
     /// The changes, in order, to be moved out one by one. It takes no memory.
     pub fn into_vec(self) -> Vec<Change>
         ensures { result.items ≡ self }

@@ -7,6 +7,7 @@ mod cols;
 mod memory;
 mod row;
 mod text;
+mod ty;
 mod value;
 
 pub use bytes::Bytes;
@@ -15,4 +16,5 @@ pub use cols::Cols;
 pub use memory::Memory;
 pub use row::{Row, Values};
 pub use text::{Text, TextFault};
+pub use ty::{ColTy, ColTys, Ty};
 pub use value::{CompareOp, Value};

@@ -1,4 +1,11 @@
+pub mod Chains
+pub mod Countings
 pub mod Cuts
 pub mod FullLines
+pub mod Intakes
 pub mod Lists
 pub mod Plain
+pub mod Prints
+pub mod Replays
+pub mod Runs
+pub mod ScanFacts

@@ -1,10 +1,14 @@
-ghost use Rattle.std.specs.Prelude.{◌≡◌, ◌<◌, ◌≤◌, ◌+◌, [], ◌∷◌, ◌++◌, Some, None, length, option_copied, OnOk, OnErr, IfOk, IsErrOf};
+ghost use Rattle.std.specs.Prelude.{◌≡◌, ◌<◌, ◌≤◌, ◌+◌, ◌^◌, true, position, IfSome, [], ◌∷◌, ◌++◌, Some, None, length, option_copied, OnOk, OnErr, IfOk, IsErrOf};
 ghost use Rattle.std.specs.List.{list_any, list_all};
+ghost use Rattle.ct_change.specs.Changelog.{mode_of};
+ghost use Rattle.job.specs.Lawful.{IsKeyed, IsLawful};
+ghost use Rattle.job.specs.Plan.{place_of, places_of, columns_read};
+ghost use Rattle.job.specs.Scans.{IsBagMode};
 ghost use Rattle.job.specs.Script.{columns_of, column_of, column_end, mode_of_word, options_of, create_of, items_of, item_of, behind_names, is_over, are_names, is_end, source_of, insert_of, is_named, are_distinct, is_string, is_retract, is_source, is_count, are_filled, is_sink, is_between, script_between, script_of_tokens, script_of};
 
 use crate::tokens::{ReadFault, Token, tokens_of};
 use ct_change::Declared;
-use ct_value::{Bytes, Memory};
+use ct_value::{Bytes, Cols, Memory};
 use std::alloc::Global;
 use std::marker::Model;
 
@@ -121,6 +125,8 @@ pub fn script_of(alloc: Global, text: &[u8]) -> Result<Script, ReadFault>
     ensures ok { IfOk result (λ script. script_of text.now ≡ Some script) }
     ensures refused { IsErrOf result ReadFault.Refused → script_of text.now ≡ None }
     ensures few { IfOk result (λ script. length script.source.columns ≤ length text.now) }
+    ensures few_names { IfOk result (λ script. length script.insert.names ≤ length text.now) }
+    ensures lawful { IfOk result (λ script. IsLawful script) }
 {
     let tokens = tokens_of(alloc, text)?;
     script_of_tokens(alloc, tokens.as_slice())
@@ -130,6 +136,8 @@ fn script_of_tokens(alloc: Global, tokens: &[Token]) -> Result<Script, ReadFault
     ensures ok { IfOk result (λ script. script_of_tokens tokens.now ≡ Some script) }
     ensures refused { IsErrOf result ReadFault.Refused → script_of_tokens tokens.now ≡ None }
     ensures few { IfOk result (λ script. length script.source.columns ≤ length tokens.now) }
+    ensures few_names { IfOk result (λ script. length script.insert.names ≤ length tokens.now) }
+    ensures lawful { IfOk result (λ script. IsLawful script) }
 {
     let (source, rest) = create_of(alloc, tokens)?;
     let (sink, rest) = create_of(alloc, rest)?;
@@ -138,9 +146,12 @@ fn script_of_tokens(alloc: Global, tokens: &[Token]) -> Result<Script, ReadFault
 }
 
 fn script_between(source: Table, sink: Table, insert: Insert) -> Result<Script, ReadFault>
+    requires bag { IsBagMode (mode_of source.mode []) }
+    requires keyed { IsKeyed insert }
     ensures ok { IfOk result (λ script. script_between source sink insert ≡ Some script) }
     ensures refused { OnErr result (script_between source sink insert ≡ None) }
-    ensures same { IfOk result (λ script. script.source ≡ source) }
+    ensures same { IfOk result (λ script. (script.source ≡ source) × (script.insert ≡ insert)) }
+    ensures lawful { IfOk result (λ script. IsLawful script) }
 {
     if is_source(&source) && is_sink(&sink, &insert) && is_between(&source, &sink, &insert) {
         return Ok(Script {
@@ -156,6 +167,8 @@ fn create_of<'t>(alloc: Global, tokens: &'t [Token]) -> Result<(Table, &'t [Toke
     ensures ok { IfOk result (λ read. create_of tokens.now ≡ Some (read.0, read.1.now)) }
     ensures refused { IsErrOf result ReadFault.Refused → create_of tokens.now ≡ None }
     ensures few { IfOk result (λ read. length read.0.columns ≤ length tokens.now) }
+    ensures shorter { IfOk result (λ read. length read.1.now ≤ length tokens.now) }
+    ensures bag { IfOk result (λ read. IsBagMode (mode_of read.0.mode [])) }
 {
     let [
         Token::Create,
@@ -176,6 +189,7 @@ fn columns_of<'t>(alloc: Global, tokens: &'t [Token]) -> Result<(Columns, &'t [T
     ensures ok { IfOk result (λ read. columns_of [] tokens.now ≡ Some (read.0, read.1.now)) }
     ensures refused { IsErrOf result ReadFault.Refused → columns_of [] tokens.now ≡ None }
     ensures few { IfOk result (λ read. length read.0 ≤ length tokens.now) }
+    ensures shorter { IfOk result (λ read. length read.1.now ≤ length tokens.now) }
 {
     let mut columns = Columns::new(alloc);
     let mut rest = tokens;
@@ -222,7 +236,8 @@ fn column_end(tokens: &[Token]) -> Result<(bool, &[Token]), ReadFault>
 }
 
 fn mode_of_word(word: &Bytes) -> Option<Declared>
-    ensures { result ≡ mode_of_word word.now }
+    ensures mode { result ≡ mode_of_word word.now }
+    ensures bag { IfSome result (λ mode. IsBagMode (mode_of mode [])) }
 {
     if word.is(b"append") {
         return Some(Declared::Append);
@@ -241,6 +256,8 @@ fn options_of<'t>(
     ensures ok { IfOk result (λ read. options_of name.now columns tokens.now ≡ Some (read.0, read.1.now)) }
     ensures refused { IsErrOf result ReadFault.Refused → options_of name.now columns tokens.now ≡ None }
     ensures same { IfOk result (λ read. read.0.columns ≡ columns) }
+    ensures shorter { IfOk result (λ read. length read.1.now ≤ length tokens.now) }
+    ensures bag { IfOk result (λ read. IsBagMode (mode_of read.0.mode [])) }
 {
     let [
         Token::With,
@@ -275,6 +292,8 @@ fn options_of<'t>(
 fn insert_of(alloc: Global, tokens: &[Token]) -> Result<Insert, ReadFault>
     ensures ok { IfOk result (λ insert. insert_of tokens.now ≡ Some insert) }
     ensures refused { IsErrOf result ReadFault.Refused → insert_of tokens.now ≡ None }
+    ensures few { IfOk result (λ insert. length insert.names ≤ length tokens.now) }
+    ensures keyed { IfOk result (λ insert. IsKeyed insert) }
 {
     let [
         Token::Insert,
@@ -298,6 +317,8 @@ fn source_of(
 ) -> Result<Insert, ReadFault>
     ensures ok { IfOk result (λ insert. source_of sink.now names counted tokens.now ≡ Some insert) }
     ensures refused { IsErrOf result ReadFault.Refused → source_of sink.now names counted tokens.now ≡ None }
+    ensures same { IfOk result (λ insert. insert.names ≡ names) }
+    ensures keyed { IfOk result (λ insert. IsKeyed insert) }
 {
     let [Token::Name(source), rest @ ..] = tokens else {
         return Err(ReadFault::Refused);
@@ -317,6 +338,7 @@ fn source_of(
 fn items_of<'t>(alloc: Global, tokens: &'t [Token]) -> Result<(Names, bool, &'t [Token]), ReadFault>
     ensures ok { IfOk result (λ read. items_of [] tokens.now ≡ Some (read.0, read.1, read.2.now)) }
     ensures refused { IsErrOf result ReadFault.Refused → items_of [] tokens.now ≡ None }
+    ensures few { IfOk result (λ read. length read.0 ≤ length tokens.now) }
 {
     let mut names = Names::new(alloc);
     let mut rest = tokens;
@@ -355,7 +377,8 @@ fn item_of(tokens: &[Token]) -> Result<(Option<Bytes>, bool, &[Token]), ReadFaul
 }
 
 fn is_end(names: &[Bytes], counted: bool, tokens: &[Token]) -> bool
-    ensures { result ≡ is_end names.now counted tokens.now }
+    ensures is { result ≡ is_end names.now counted tokens.now }
+    ensures keyed { result ≡ true → counted ≡ true → 0 < length names.now }
 {
     match tokens {
         [Token::Semicolon] => !counted,
@@ -365,7 +388,8 @@ fn is_end(names: &[Bytes], counted: bool, tokens: &[Token]) -> bool
 }
 
 fn are_names(names: &[Bytes], tokens: &[Token]) -> bool
-    ensures { result ≡ are_names names.now tokens.now }
+    ensures are { result ≡ are_names names.now tokens.now }
+    ensures some { result ≡ true → 0 < length names.now }
 {
     let [name, names @ ..] = names else {
         return false;
@@ -490,4 +514,44 @@ fn are_there(columns: &[Column], names: &[Bytes]) -> bool
     ensures { result ≡ list_all (λ n. list_any (is_named n) columns.now) names.now }
 {
     names.iter().all(|name| has_name(columns, name))
+}
+
+/// The positions of the columns that the script's INSERT reads.
+pub fn columns_read(alloc: Global, script: &Script) -> Result<Cols, Memory>
+    requires { length script.now.source.columns < 2 ^ 32 }
+    ensures { IfOk result (λ cols. cols ≡ columns_read script.now) }
+{
+    places_of(
+        alloc,
+        script.source.columns.as_slice(),
+        script.insert.names.as_slice(),
+    )
+}
+
+fn places_of(alloc: Global, columns: &[Column], names: &[Bytes]) -> Result<Cols, Memory>
+    requires { length columns.now < 2 ^ 32 }
+    ensures { IfOk result (λ cols. cols ≡ places_of columns.now names.now) }
+{
+    let mut cols = Cols::new(alloc);
+    for name in names {
+        cols.push(place_of(columns, name))?;
+    }
+    Ok(cols)
+}
+
+fn place_of(columns: &[Column], name: &Bytes) -> u32
+    requires { length columns.now < 2 ^ 32 }
+    ensures { result ≡ place_of columns.now name.now }
+{
+    match position_of(columns, name) {
+        Some(place) => place as u32,
+        None => 0,
+    }
+}
+
+fn position_of(columns: &[Column], name: &Bytes) -> Option<usize>
+    ensures place { result ≡ position (is_named name.now) columns.now }
+    ensures within { IfSome result (λ place. place < length columns.now) }
+{
+    columns.iter().position(|c| c.name.is(name.as_slice()))
 }

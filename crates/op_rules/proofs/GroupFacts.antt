@@ -1,29 +1,29 @@
 -- The facts of a group, over every history.
-use Rattle.std.proofs.Common.{◌≡◌, ℕ, ◌+◌, ◌<◌, ◌≤◌, ◌==◌, ◌^◌, nat_lt, Bool, true, false, cond, ◌||◌, List, [], ◌∷◌, ◌++◌, map, length, take, Option, Some, None, Result, Ok, Err, refl, sym, ap, subst, ◌∙◌, arith, append_assoc, append-nil}
+use Rattle.std.proofs.Common.{◌≡◌, ℕ, ◌+◌, ◌<◌, ◌≤◌, ◌^◌, Bool, true, false, cond, ◌||◌, List, [], ◌∷◌, ◌++◌, map, length, take, Ok, Err, refl, sym, ap, subst, ◌∙◌, arith, append_assoc, append-nil}
 use Rattle.std.specs.List.{list_any, AllByRecursion, IsDistinct}
 use Rattle.std.specs.Cmp.{eq_by_cmp_equiv}
 use Rattle.std.proofs.lemmas.Bool.{ltb-true}
 use Rattle.std.proofs.lemmas.List.{length-take-le}
 use Rattle.std.proofs.lemmas.Map.Keys.{IsDistinct-head, IsDistinct-tail}
-use Rattle.ct_value.specs.Bag.{copies, none, copies-none, total-none, same_bag}
-use Rattle.ct_value.specs.Order.{row_cmp, row_total, row_exact}
+use Rattle.ct_value.specs.Bag.{none, copies-none, total-none}
+use Rattle.ct_value.specs.Order.{row_total}
 use Rattle.ct_value.specs.declared.row.Row.{Row}
 use Rattle.ct_change.specs.declared.kind.Kind.{Kind}
 use Rattle.ct_change.specs.declared.kind.Kind.TheVariants.{I, UB, UA, D}
 use Rattle.ct_change.specs.declared.kind.KindSet.{KindSet}
 use Rattle.ct_change.specs.declared.change.Change.{Change}
-use Rattle.ct_change.specs.Changelog.{Mode, Rows, same_row, adds, has, AreOf, fold, fold_from, IsValidFrom, IsValid, Means}
+use Rattle.ct_change.specs.Changelog.{Mode, Rows, same_row, adds, has, AreOf, fold, fold_from, IsValidFrom, IsValid}
 use Rattle.ct_change.specs.Emission.{emission}
 use Rattle.ct_change.proofs.Folds.{IsValidFrom-front, IsValidFrom-back}
-use Rattle.ct_change.proofs.Meanings.{same_row-true, same_row-itself, means_fold, fold_means, means_one, prefixes_mean, IsValidFrom-take}
-use Rattle.rel_algebra.specs.Groups.{first_seen, in_group, group_size, counted, sized, result_row, count_groups, is_countable, grouped_counts}
+use Rattle.ct_change.proofs.Meanings.{same_row-true, fold_means, prefixes_mean, IsValidFrom-take}
+use Rattle.rel_algebra.specs.Groups.{first_seen, group_size, sized, result_row, count_groups, is_countable, grouped_counts}
 use Rattle.rel_algebra.proofs.Results.{front, AreWide, in_it, group-wide, any-first_seen, distinct-first_seen, all-first_seen, copies-count_groups, result_row-none, grouped_counts-countable, one_of}
 use Rattle.op_rules.specs.History.{Arrival, at_port, joined}
-use Rattle.op_rules.specs.Rule.{Rule, group, port_count, has_more_than_inserts, output_kinds, KeepsGroups, TellsGroups, IsSound}
-use Rattle.op_rules.specs.Rules.{Answer, appended, answers, groups_of, group_emits, emits, emitted_after, emitted, opening, RunsAlong}
-use Rattle.op_rules.specs.Facts.{Port, FitsPort, Ready, Settled, Emitted, FoldsToAnswer, PrefixesStand, KindsStay, WidthsStay, HoldsOf}
-use Rattle.op_rules.specs.Laws.{IsDifference, GroupDifference}
-use Rattle.op_rules.proofs.Histories.{at_port-append, rows_after, all-append, all-front, all-back, all-each, appended-nothing, Both, both-appended, ready_valid, ready_wide, Arrived, arrived_all}
+use Rattle.op_rules.specs.Rule.{Rule, group, port_count, has_more_than_inserts, TellsGroups, IsSound}
+use Rattle.op_rules.specs.Rules.{Answer, answers, groups_of, group_emits, emits, emitted_after, emitted}
+use Rattle.op_rules.specs.Facts.{Port, FitsPort, Emitted, FoldsToAnswer, PrefixesStand, KindsStay, WidthsStay}
+use Rattle.op_rules.specs.Laws.{GroupDifference}
+use Rattle.op_rules.proofs.Histories.{at_port-append, rows_after, all-append, all-front, all-back, all-each, appended-nothing, both-appended, ready_valid, ready_wide, arrived_all}
 use Rattle.op_rules.proofs.Sizes.{wide_from, other_sizes_from, grows_from}
 use Rattle.op_rules.proofs.SentResults.{result_at, resized, MeansAt, means_rows_at, means-same, means-nothing, AreNamed, means-emission, valid-emission, kinds_out, kinds-emission, widths-emission}
 

@@ -1,16 +1,13 @@
 -- Histories by port, and what follows where a subtask may rely on one.
-use Rattle.std.proofs.Common.{◌≡◌, ℕ, zero, suc, ◌+◌, ◌<◌, ◌≤◌, ◌==◌, Bool, true, false, cond, List, [], ◌∷◌, ◌++◌, take, length, Result, Ok, Err, refl, sym, ap, subst, ◌∙◌, arith, append_assoc, append-nil}
+use Rattle.std.proofs.Common.{◌≡◌, ℕ, zero, suc, ◌<◌, ◌≤◌, ◌==◌, true, false, cond, List, [], ◌∷◌, ◌++◌, take, length, Ok, Err, refl, sym, ap, subst, ◌∙◌, arith, append_assoc, append-nil}
 use Rattle.std.specs.List.{AllByRecursion}
 use Rattle.std.proofs.lemmas.Bool.{eq-eqb, eqb-true}
-use Rattle.ct_value.specs.Bag.{copies, none}
-use Rattle.ct_value.specs.declared.row.Row.{Row}
-use Rattle.ct_change.specs.declared.kind.Kind.{Kind}
-use Rattle.ct_change.specs.declared.kind.KindSet.{KindSet}
+use Rattle.ct_value.specs.Bag.{none}
 use Rattle.ct_change.specs.declared.change.Change.{Change}
-use Rattle.ct_change.specs.Changelog.{Mode, append, retract, upsert, Rows, fold, fold_from, MayCome, IsValidFrom, IsValid, Means, HasKey, has, admits, AreOf}
-use Rattle.ct_change.proofs.Folds.{fold_from-append, fold-push, IsValidFrom-append, IsValidFrom-back}
+use Rattle.ct_change.specs.Changelog.{Mode, Rows, fold, fold_from, MayCome, IsValid, Means, HasKey, has, admits}
+use Rattle.ct_change.proofs.Folds.{fold_from-append, IsValidFrom-append, IsValidFrom-back}
 use Rattle.ct_change.proofs.Meanings.{valid_where_means, means_rows}
-use Rattle.op_rules.specs.History.{Arrival, arrival, at_port, joined}
+use Rattle.op_rules.specs.History.{Arrival, at_port}
 use Rattle.op_rules.specs.Rule.{Rule, port_count, input_mode, columns_needed}
 use Rattle.op_rules.specs.Rules.{Answer, appended, rows_at, MayArrive, ArriveAfter}
 use Rattle.op_rules.specs.Facts.{Port, FitsPort, Ready, Settled}

@@ -1,25 +1,23 @@
 -- What was sent, while each group's result in turn is replaced by another.
-use Rattle.std.proofs.Common.{◌≡◌, ◌≢◌, ℕ, ◌+◌, ◌<◌, ◌≤◌, ◌==◌, pos, Bool, true, false, cond, List, [], ◌∷◌, ◌++◌, length, Option, Some, None, refl, sym, ap, subst, ◌∙◌, arith, length-append}
+use Rattle.std.proofs.Common.{◌≡◌, ◌≢◌, ℕ, ◌+◌, ◌<◌, ◌≤◌, ◌==◌, pos, Bool, true, false, cond, List, [], ◌∷◌, ◌++◌, length, Option, Some, None, refl, sym, ap, ◌∙◌, arith, length-append}
 use Rattle.std.specs.List.{AllByRecursion}
 use Rattle.std.proofs.lemmas.Bool.{eqb-true, eqb-false}
-use Rattle.ct_value.specs.Bag.{copies, one_at, one_at_itself, none, weigh, weigh-append}
+use Rattle.ct_value.specs.Bag.{copies, one_at, one_at_itself, none, weigh-append}
 use Rattle.ct_value.specs.Order.{row_cmp, row_total}
 use Rattle.ct_value.specs.Rows.{project}
 use Rattle.ct_value.specs.declared.row.Row.{Row}
-use Rattle.ct_value.specs.declared.value.Value.{Value}
 use Rattle.ct_value.specs.declared.value.Value.TheVariants.{Num}
 use Rattle.ct_change.specs.declared.kind.Kind.TheVariants.{I, UB, UA, D}
 use Rattle.ct_change.specs.declared.kind.KindSet.{KindSet}
 use Rattle.ct_change.specs.declared.change.Change.{Change}
-use Rattle.ct_change.specs.Changelog.{Mode, append, retract, upsert, Rows, same_row, adds, has, admits, AreOf, fold, fold_from, IsValidFrom, IsValid, addition, removal, additions, removals, last_shown, Means}
+use Rattle.ct_change.specs.Changelog.{Mode, append, retract, upsert, Rows, same_row, has, admits, AreOf, fold, IsValidFrom, IsValid, addition, removal, additions, removals, last_shown, Means}
 use Rattle.ct_change.specs.Emission.{emission, update}
 use Rattle.ct_change.proofs.Folds.{IsValidFrom-append}
 use Rattle.ct_change.proofs.Emissions.{Tells, emission_replaces}
 use Rattle.ct_change.proofs.Meanings.{same_row-true, same_row-itself, means_fold}
 use Rattle.rel_algebra.specs.Groups.{counted, sized}
-use Rattle.rel_algebra.proofs.Results.{front, front-push, one_of, one_of-some, one_of-sized, sized-front, nothing_above}
+use Rattle.rel_algebra.proofs.Results.{front, one_of, one_of-some, one_of-sized, sized-front, nothing_above}
 use Rattle.op_rules.specs.Rule.{TellsGroups}
-use Rattle.op_rules.proofs.Histories.{all-append}
 
 -- how often a row is a result, where the groups have these sizes
 abbrev pub result_at : (Row → ℕ) → Row → ℕ

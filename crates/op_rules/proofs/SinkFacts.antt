@@ -1,12 +1,12 @@
 -- The facts of a sink, over every history: it prints what it takes.
-use Rattle.std.proofs.Common.{◌≡◌, ℕ, ◌<◌, List, [], ◌∷◌, ◌++◌, length, take, Option, Some, Ok, refl, sym, ap, subst, ◌∙◌, arith}
+use Rattle.std.proofs.Common.{◌≡◌, ℕ, ◌<◌, List, [], ◌∷◌, ◌++◌, length, take, Ok, refl, sym, ap, subst, ◌∙◌, arith}
 use Rattle.std.specs.List.{AllByRecursion}
 use Rattle.ct_change.specs.declared.change.Change.{Change}
-use Rattle.ct_change.specs.Changelog.{Mode, Rows, Means, AreOf}
+use Rattle.ct_change.specs.Changelog.{Mode, Means, AreOf}
 use Rattle.op_rules.specs.History.{Arrival, at_port, joined}
-use Rattle.op_rules.specs.Rule.{Rule, sink, port_count, output_kinds, output_width}
-use Rattle.op_rules.specs.Rules.{Answer, appended, emitted_after, emitted}
-use Rattle.op_rules.specs.Facts.{Port, Ready, Emitted, FoldsToAnswer, PrefixesStand, KindsStay, WidthsStay}
+use Rattle.op_rules.specs.Rule.{sink, port_count}
+use Rattle.op_rules.specs.Rules.{Answer, appended, emitted_after}
+use Rattle.op_rules.specs.Facts.{Port, Emitted, FoldsToAnswer, PrefixesStand, KindsStay, WidthsStay}
 use Rattle.op_rules.proofs.Histories.{at_port-append, appended-nothing, prefix_at, ok-same}
 
 emitted_after-sink : (mode : Mode) (before : List Arrival) (pieces : List (List Arrival)) → emitted_after (sink mode) before pieces ≡ Ok (at_port 0 (joined pieces))

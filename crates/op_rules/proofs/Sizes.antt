@@ -1,16 +1,16 @@
 -- The sizes of groups after one more change, and after a piece.
-use Rattle.std.proofs.Common.{◌≡◌, ℕ, ◌+◌, ◌<◌, ◌≤◌, Bool, true, false, cond, ◌||◌, List, [], ◌∷◌, map, length, take, Option, Some, None, refl, sym, ap, subst, ◌∙◌, arith}
+use Rattle.std.proofs.Common.{◌≡◌, ℕ, ◌+◌, ◌≤◌, Bool, true, false, cond, ◌||◌, List, [], ◌∷◌, map, length, take, Option, Some, None, refl, sym, ap, subst, ◌∙◌, arith}
 use Rattle.std.specs.List.{list_any, AllByRecursion}
 use Rattle.std.specs.Option.{is_some}
-use Rattle.ct_value.specs.Bag.{copies, one_at, copies-occurs}
+use Rattle.ct_value.specs.Bag.{one_at, copies-occurs}
 use Rattle.ct_value.specs.Order.{row_cmp}
 use Rattle.ct_value.specs.declared.row.Row.{Row}
 use Rattle.ct_change.specs.declared.change.Change.{Change}
 use Rattle.ct_change.specs.Changelog.{Mode, append, retract, upsert, Rows, apply, fold_from, adds, MayCome, IsValidFrom, same_row, row_at}
 use Rattle.ct_change.specs.Emission.{difference, as_it_is, put_in, put_over, replaced_by}
-use Rattle.ct_change.proofs.Folds.{total-apply, weight_of, weight-gone, weight-come, IsSame, row_at-key, row_at-stands}
+use Rattle.ct_change.proofs.Folds.{total-apply, weight-gone, weight-come, IsSame, row_at-key, row_at-stands}
 use Rattle.ct_change.proofs.Meanings.{same_row-true}
-use Rattle.rel_algebra.specs.Groups.{in_group, group_size}
+use Rattle.rel_algebra.specs.Groups.{group_size}
 use Rattle.rel_algebra.proofs.Results.{AreWide, in_it}
 use Rattle.op_rules.specs.Rule.{KeepsGroups}
 

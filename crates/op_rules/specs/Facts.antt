@@ -6,7 +6,7 @@ use Rattle.ct_value.specs.declared.row.Row.{Row}
 use Rattle.ct_change.specs.declared.kind.Kind.{Kind}
 use Rattle.ct_change.specs.declared.kind.KindSet.{KindSet}
 use Rattle.ct_change.specs.declared.change.Change.{Change}
-use Rattle.ct_change.specs.Changelog.{Mode, Rows, Means, HasKey, has, admits, AreOf}
+use Rattle.ct_change.specs.Changelog.{Rows, Means, HasKey, has, admits, AreOf}
 use Rattle.rel_algebra.specs.Groups.{grouped_counts}
 use Rattle.op_rules.specs.History.{Arrival, at_port, joined}
 use Rattle.op_rules.specs.Rule.{Rule, group, sink, port_count, input_mode, output_mode, columns_needed, output_kinds, output_width, IsSound}

@@ -3,7 +3,7 @@ ghost use Rattle.std.specs.Prelude.{ℕ};
 ghost use Rattle.ct_change.specs.Changelog.{Mode};
 ghost use Rattle.op_rules.specs.Rule.{group, sink};
 ghost use Rattle.op_rules.specs.Facts.{HoldsOf, FoldsToAnswer, PrefixesStand, KindsStay, WidthsStay};
-ghost use Rattle.op_rules.specs.Laws.{GroupDifference, ReadyArrives};
+ghost use Rattle.op_rules.specs.Laws.{GroupDifference, ReadyArrives, ReadySettles};
 
 /// All that a group emitted means the groups' counts of what it took.
 pub fn group_folds_to_answer()
@@ -54,4 +54,9 @@ pub fn group_difference()
 /// Where a subtask may rely on its history, the last change of it may come after the others.
 pub fn ready_change_may_arrive()
     ensures { ReadyArrives }
+{}
+
+/// Where a subtask may rely on its history, the rows that a port's changes mean have the port's columns.
+pub fn ready_rows_settle()
+    ensures { ReadySettles }
 {}

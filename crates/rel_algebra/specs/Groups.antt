@@ -5,6 +5,8 @@ use Rattle.ct_value.specs.Bag.{total, items, bag_of}
 use Rattle.ct_value.specs.declared.row.Row.{Row}
 use Rattle.ct_value.specs.declared.value.Value.TheVariants.{Num}
 use Rattle.ct_change.specs.Changelog.{Rows, same_row}
+use Rattle.rel_algebra.specs.declared.agg.Agg.{Agg}
+use Rattle.rel_algebra.specs.declared.agg.AggCall.TheVariants.{CountAll}
 
 -- each row of a list once, in first-seen order
 abbrev pub first_seen : List Row → List Row
@@ -46,3 +48,7 @@ is_countable size = nat_lt size (2 ^ 63)
 -- each group's result, and none where a count is out of range
 abbrev pub grouped_counts : ℕ → Rows → Option Rows
 grouped_counts keys rows = cond (list_all (λ group. is_countable (group_size keys rows group)) (group_keys keys rows)) (Some (count_groups keys rows)) None
+
+-- the call `COUNT(*)` without a filter
+abbrev pub count_all : Agg
+count_all = record { call = CountAll; arg = None; filter = None }

@@ -1,0 +1,5 @@
+pub mod Depth
+pub mod Statements
+pub mod Tokens
+pub mod Tree
+pub mod View

@@ -1,0 +1,12 @@
+use Rattle.std.proofs.Common.{◌≡◌, ℕ, List, false, take}
+use Rattle.std.specs.BTreeSet.{contains}
+use Rattle.std.specs.Cmp.Lexicographic.{slice_cmp}
+use Rattle.std.specs.Ordering.{nat_cmp}
+use Rattle.ct_catalog.specs.Tables.{has_name, repeats}
+use Rattle.ct_catalog.proofs.create.repeats.Given as goal
+
+abbrev pub invariant-loop-name : goal.invariant-loop-name
+invariant-loop-name l = record {
+  known : (q : List ℕ) → contains (slice_cmp nat_cmp) l.seen q ≡ has_name (take l.name-index l.names) q;
+  apart : repeats (take l.name-index l.names) ≡ false;
+}

@@ -1,0 +1,5 @@
+//! Tests of changes, kept state and operators.
+#![tactic(auto)]
+
+#[cfg(test)]
+mod tests;

@@ -1,0 +1,14 @@
+pub mod Words
+pub mod SoundShapes
+pub mod SoundExpressions
+pub mod SoundQueries
+pub mod SoundStatements
+pub mod CompleteShapes
+pub mod CompleteExpressions
+pub mod CompleteQueries
+pub mod CompleteStatements
+pub mod Deeper
+pub mod Grammar
+pub mod Scripts
+pub mod Loops
+pub mod Depths

@@ -1,0 +1,4 @@
+pub mod Ascii
+pub mod Quotes
+pub mod Splits
+pub mod Turns
