@@ -229,9 +229,9 @@ addition-row P row change p some =
     elim (same_row row change.row) as (λ t. same_row row change.row ≡ t → P row) [
       | true ↦ λ e. subst P (sym (same_row-true row change.row e)) p
       | false ↦ λ e. absurd (
-        let nothing : one_at row_cmp row change.row ≡ 0 = ap (λ b. cond b 1 0) e in
-        let none_ : addition row change ≡ 0 = rw nothing (elim (adds change.kind) as (λ b. ◌≡◌ {A = ℕ} (cond b 0 0) 0) [ true ↦ refl | false ↦ refl ]) in
-        omega arith)
+          let nothing : one_at row_cmp row change.row ≡ 0 = ap (λ b. cond b 1 0) e in
+          let none_ : addition row change ≡ 0 = rw nothing (elim (adds change.kind) as (λ b. ◌≡◌ {A = ℕ} (cond b 0 0) 0) [ true ↦ refl | false ↦ refl ]) in
+          omega arith)
     ] refl
 
 additions-row : (P : Row → Type 0) (row : Row) (changes : List Change) → AllByRecursion (λ change. P change.row) changes → 0 < additions row changes → P row
@@ -246,8 +246,8 @@ last_shown-row : (P : Row → Type 0) (key : List ℕ) (row : Row) (start : ℕ)
 last_shown-row P key row start [] first all some = first some
 last_shown-row P key row start (change ∷ changes) first all some =
     last_shown-row P key row (cond (same_row (project key change.row) (project key row)) (addition row change) start) changes
-        (elim (same_row (project key change.row) (project key row)) as (λ b. 0 < cond b (addition row change) start → P row) [ true ↦ addition-row P row change all.0 | false ↦ first ])
-        all.1 some
+    (elim (same_row (project key change.row) (project key row)) as (λ b. 0 < cond b (addition row change) start → P row) [ true ↦ addition-row P row change all.0 | false ↦ first ])
+    all.1 some
 
 pub means_rows : (P : Row → Type 0) (mode : Mode) (changes : List Change) (rows : Rows) → Means mode changes rows → AllByRecursion (λ change. P change.row) changes → (row : Row) → 0 < copies rows row → P row
 means_rows P append changes rows means all = λ row some. additions-row P row changes all (let e = means row in omega arith)

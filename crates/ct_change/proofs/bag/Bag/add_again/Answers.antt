@@ -22,5 +22,5 @@ returns c =
     let P : Option ℕ → Type 0 = λ o. IsSome o in
     let writes = c.get_mut.follows.holds (c.in-Some.count.now + 1) in
     one_added c.self.inside.counts (c.get_mut.follows.lender (c.in-Some.count.now + 1)) c.args.row.now (Some (c.in-Some.count.now + 1)) c.self.invariant.ordered writes.4
-        (writes.3 (subst P c.in-Some.ensures.value refl)).0 (omega arith)
+    (writes.3 (subst P c.in-Some.ensures.value refl)).0 (omega arith)
     ∙ ap (λ b. bag.add b c.args.row.now) c.self.view_is
