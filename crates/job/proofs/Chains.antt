@@ -1,14 +1,13 @@
 -- What the machine does with the plans of the first forms: all changes are taken, then node by node all are delivered.
-use Rattle.std.proofs.Common.{◌≡◌, ℕ, ◌+◌, Bool, true, false, List, [], ◌∷◌, ◌++◌, length, map, Option, Some, None, Result, Ok, Err, refl, sym, ap, subst, ◌∙◌, append_assoc, append-nil}
-use Rattle.ct_value.specs.declared.row.Row.{Row}
+use Rattle.std.proofs.Common.{◌≡◌, ℕ, List, [], ◌∷◌, ◌++◌, map, Some, None, Result, Ok, Err, refl, sym, ap, subst, ◌∙◌, append_assoc, append-nil}
 use Rattle.ct_change.specs.declared.change.Change.{Change}
-use Rattle.ct_change.specs.Changelog.{Mode, retract, fold}
-use Rattle.op_rules.specs.History.{Arrival, arrival, joined}
-use Rattle.op_rules.specs.Rule.{Rule, group, sink}
+use Rattle.ct_change.specs.Changelog.{Mode, fold}
+use Rattle.op_rules.specs.History.{Arrival, joined}
+use Rattle.op_rules.specs.Rule.{Rule, sink}
 use Rattle.op_rules.specs.Rules.{Answer, appended, emits, emitted_after, opening}
 use Rattle.job.specs.Lines.{refusal}
 use Rattle.job.specs.Intake.{AllTaken}
-use Rattle.job.specs.Machine.{Op, scan, run, Node, Plan, State, Event, take, move, Stop, out_of_range, Ran, scanned, scan_from, take_unless, put_between, consumed, print, send, answered, take_front, step, run_events, opened, deliver, drain_edges, drain}
+use Rattle.job.specs.Machine.{scan, run, Plan, State, Event, take, move, Stop, out_of_range, Ran, scanned, scan_from, take_unless, put_between, consumed, print, send, answered, take_front, step, run_events, opened, deliver, drain_edges, drain}
 use Rattle.job.specs.Pieces.{piece_of, pieces_of}
 use Rattle.job.specs.Plan.{node}
 use Rattle.job.specs.Outcome.{takes, whole_run}
@@ -115,8 +114,10 @@ module _ (mode : Mode) (cols : List ℕ) (output : Mode) where
 
   pub direct_takes : TakesOne direct cols
   direct_takes = record {
-    one = λ s v change has free.
-      (behind_take direct s change, ap (λ (l : List Change). take_unless direct s change (refusal mode (fold mode l) change)) has.taken_is ∙ ap (take_unless direct s change) free, record {
+    one = λ s v change has free. (
+      behind_take direct s change,
+      ap (λ (l : List Change). take_unless direct s change (refusal mode (fold mode l) change)) has.taken_is ∙ ap (take_unless direct s change) free,
+      record {
         taken_is = ap (λ (l : List Change). l ++ change ∷ []) has.taken_is;
         flight1_is = ap (λ (l : List Change). l ++ scanned cols change ∷ []) has.flight1_is;
         flight2_is = has.flight2_is;
@@ -126,25 +127,29 @@ module _ (mode : Mode) (cols : List ℕ) (output : Mode) where
         pieces2_is = has.pieces2_is;
         pieces3_is = has.pieces3_is;
         printed_is = has.printed_is;
-      });
+      },
+    );
   }
 
   -- one change is delivered to the sink
   direct_moves : (s : State) (v : View) (change : Change) (rest : List Change) → Has s v → v.flight1 ≡ change ∷ rest
       → (t : State) × (step direct s (move 1 0 0) ≡ Ok t) × Has t (printed2 v (change ∷ []) rest)
   direct_moves s v change rest has front =
-      let from = behind_move s 1 2 change rest in
-      (print 2 0 (change ∷ []) from, ap (take_front direct s 1 0 0 (2, node (run (sink output)) (1 ∷ []), 0)) (has.flight1_is ∙ front), record {
-        taken_is = has.taken_is;
-        flight1_is = refl;
-        flight2_is = has.flight2_is;
-        sent1_is = has.sent1_is;
-        sent2_is = ap (λ (l : List Change). l ++ change ∷ []) has.sent2_is;
-        sent3_is = has.sent3_is;
-        pieces2_is = ap (λ (l : List (List Arrival)). l ++ piece_of change ∷ []) has.pieces2_is;
-        pieces3_is = has.pieces3_is;
-        printed_is = ap (λ (l : List PrintItem). l ++ Printed change ∷ []) has.printed_is;
-      })
+      let from = behind_move s 1 2 change rest in (
+        print 2 0 (change ∷ []) from,
+        ap (take_front direct s 1 0 0 (2, node (run (sink output)) (1 ∷ []), 0)) (has.flight1_is ∙ front),
+        record {
+          taken_is = has.taken_is;
+          flight1_is = refl;
+          flight2_is = has.flight2_is;
+          sent1_is = has.sent1_is;
+          sent2_is = ap (λ (l : List Change). l ++ change ∷ []) has.sent2_is;
+          sent3_is = has.sent3_is;
+          pieces2_is = ap (λ (l : List (List Arrival)). l ++ piece_of change ∷ []) has.pieces2_is;
+          pieces3_is = has.pieces3_is;
+          printed_is = ap (λ (l : List PrintItem). l ++ Printed change ∷ []) has.printed_is;
+        },
+      )
 
   printed2-more : (v : View) (change : Change) (changes rest : List Change) → printed2 (printed2 v (change ∷ []) (changes ++ rest)) changes rest ≡ printed2 v (change ∷ changes) rest
   printed2-more v change changes rest = rw (push-append v.pieces2 (piece_of change) (pieces_of changes), push-append v.sent2 change changes, push-append v.printed (Printed change) (map Printed changes))
@@ -156,9 +161,11 @@ module _ (mode : Mode) (cols : List ℕ) (output : Mode) where
       (s, leads_nowhere direct s, subst (Has s) (let e : v ≡ printed2 v [] [] = rw (append-nil v.pieces2, append-nil v.sent2, append-nil v.printed, sym front) in e) has)
   direct_delivered s v (change ∷ changes) has front =
       let first = direct_moves s v change changes has front in
-      let rest = direct_delivered first.0 (printed2 v (change ∷ []) changes) changes first.2 refl in
-      (rest.0, leads_one direct s first.0 rest.0 (move 1 0 0) (deliver 1 changes) first.1 rest.1,
-        subst (Has rest.0) (ap (λ (l : List Change). printed2 (printed2 v (change ∷ []) l) changes []) (sym (append-nil changes)) ∙ printed2-more v change changes []) rest.2)
+      let rest = direct_delivered first.0 (printed2 v (change ∷ []) changes) changes first.2 refl in (
+        rest.0,
+        leads_one direct s first.0 rest.0 (move 1 0 0) (deliver 1 changes) first.1 rest.1,
+        subst (Has rest.0) (ap (λ (l : List Change). printed2 (printed2 v (change ∷ []) l) changes []) (sym (append-nil changes)) ∙ printed2-more v change changes []) rest.2,
+      )
 
   -- all that a run of the plan prints are the changes as the scan sent them
   pub direct_run : (changes : List Change) → AllTaken mode [] changes → (t : State) × (whole_run direct changes ≡ (t, None)) × Has t (printed2 (took cols empty_view changes) (map (scanned cols) changes) [])
@@ -167,7 +174,7 @@ module _ (mode : Mode) (cols : List ℕ) (output : Mode) where
       let delivered = direct_delivered taken.0 (took cols empty_view changes) (map (scanned cols) changes) taken.2 refl in
       let queue : drain direct taken.0 ≡ deliver 1 (map (scanned cols) changes) = append-nil (deliver 1 (taken.0.flight 1 0 0)) ∙ ap (deliver 1) taken.2.flight1_is in
       let events : takes changes ++ drain direct (run_events direct (opened direct) (takes changes)).0 ≡ takes changes ++ deliver 1 (map (scanned cols) changes) =
-          ap (λ (r : Ran). takes changes ++ drain direct r.0) (leads_run direct (opened direct) taken.0 (takes changes) taken.1) ∙ ap (λ (l : List Event). takes changes ++ l) queue in
+      ap (λ (r : Ran). takes changes ++ drain direct r.0) (leads_run direct (opened direct) taken.0 (takes changes) taken.1) ∙ ap (λ (l : List Event). takes changes ++ l) queue in
       (delivered.0, ap (run_events direct (opened direct)) events ∙ taken.1.on (deliver 1 (map (scanned cols) changes)) ∙ leads_run direct taken.0 delivered.0 (deliver 1 (map (scanned cols) changes)) delivered.1, delivered.2)
 
 -- ---- the plan with a group: a scan, a group, a sink
@@ -186,8 +193,10 @@ module _ (mode : Mode) (cols : List ℕ) (rule : Rule) (output : Mode) (silent :
 
   pub grouped_takes : TakesOne grouped cols
   grouped_takes = record {
-    one = λ s v change has free.
-      (behind_take grouped s change, ap (λ (l : List Change). take_unless grouped s change (refusal mode (fold mode l) change)) has.taken_is ∙ ap (take_unless grouped s change) free, record {
+    one = λ s v change has free. (
+      behind_take grouped s change,
+      ap (λ (l : List Change). take_unless grouped s change (refusal mode (fold mode l) change)) has.taken_is ∙ ap (take_unless grouped s change) free,
+      record {
         taken_is = ap (λ (l : List Change). l ++ change ∷ []) has.taken_is;
         flight1_is = ap (λ (l : List Change). l ++ scanned cols change ∷ []) has.flight1_is;
         flight2_is = has.flight2_is;
@@ -197,7 +206,8 @@ module _ (mode : Mode) (cols : List ℕ) (rule : Rule) (output : Mode) (silent :
         pieces2_is = has.pieces2_is;
         pieces3_is = has.pieces3_is;
         printed_is = has.printed_is;
-      });
+      },
+    );
   }
 
   -- what the group answers for a piece
@@ -214,18 +224,21 @@ module _ (mode : Mode) (cols : List ℕ) (rule : Rule) (output : Mode) (silent :
   -- one change is delivered to the group
   group_moves : (s : State) (v : View) (change : Change) (rest : List Change) → Has s v → v.flight1 ≡ change ∷ rest → (sent : List Change) → emits rule (joined v.pieces2) (piece_of change) ≡ Ok sent
       → (t : State) × (step grouped s (move 1 0 0) ≡ Ok t) × Has t (grouped2 v (change ∷ []) sent rest)
-  group_moves s v change rest has front sent is =
-      (send 2 0 sent (behind_move s 1 2 change rest), move2 s v change rest has front (Ok sent) is, record {
-        taken_is = has.taken_is;
-        flight1_is = refl;
-        flight2_is = ap (λ (l : List Change). l ++ sent) has.flight2_is;
-        sent1_is = has.sent1_is;
-        sent2_is = ap (λ (l : List Change). l ++ sent) has.sent2_is;
-        sent3_is = has.sent3_is;
-        pieces2_is = ap (λ (l : List (List Arrival)). l ++ piece_of change ∷ []) has.pieces2_is;
-        pieces3_is = has.pieces3_is;
-        printed_is = has.printed_is;
-      })
+  group_moves s v change rest has front sent is = (
+    send 2 0 sent (behind_move s 1 2 change rest),
+    move2 s v change rest has front (Ok sent) is,
+    record {
+      taken_is = has.taken_is;
+      flight1_is = refl;
+      flight2_is = ap (λ (l : List Change). l ++ sent) has.flight2_is;
+      sent1_is = has.sent1_is;
+      sent2_is = ap (λ (l : List Change). l ++ sent) has.sent2_is;
+      sent3_is = has.sent3_is;
+      pieces2_is = ap (λ (l : List (List Arrival)). l ++ piece_of change ∷ []) has.pieces2_is;
+      pieces3_is = has.pieces3_is;
+      printed_is = has.printed_is;
+    },
+  )
 
   -- what a whole channel comes to: all was emitted, or a row is out of range, and nothing was printed
   abbrev pub GroupDelivers : State → View → List Change → Answer → Type 0
@@ -256,23 +269,26 @@ module _ (mode : Mode) (cols : List ℕ) (rule : Rule) (output : Mode) (silent :
   group_delivered s v (change ∷ changes) has front =
       deliver_more s v change changes has front (emits rule (joined v.pieces2) (piece_of change)) (emitted_after rule (joined v.pieces2 ++ piece_of change) (pieces_of changes)) refl
       (λ sent t there. subst (λ (l : List Arrival). GroupDelivers t (grouped2 v (change ∷ []) sent changes) changes (emitted_after rule l (pieces_of changes))) (joined-push v.pieces2 (piece_of change))
-        (group_delivered t (grouped2 v (change ∷ []) sent changes) changes there refl))
+      (group_delivered t (grouped2 v (change ∷ []) sent changes) changes there refl))
 
   -- one change is delivered to the sink
   sink_moves : (s : State) (v : View) (change : Change) (rest : List Change) → Has s v → v.flight2 ≡ change ∷ rest
       → (t : State) × (step grouped s (move 2 0 0) ≡ Ok t) × Has t (printed3 v (change ∷ []) rest)
-  sink_moves s v change rest has front =
-      (print 3 0 (change ∷ []) (behind_move s 2 3 change rest), ap (take_front grouped s 2 0 0 (3, node (run (sink output)) (2 ∷ []), 0)) (has.flight2_is ∙ front), record {
-        taken_is = has.taken_is;
-        flight1_is = has.flight1_is;
-        flight2_is = refl;
-        sent1_is = has.sent1_is;
-        sent2_is = has.sent2_is;
-        sent3_is = ap (λ (l : List Change). l ++ change ∷ []) has.sent3_is;
-        pieces2_is = has.pieces2_is;
-        pieces3_is = ap (λ (l : List (List Arrival)). l ++ piece_of change ∷ []) has.pieces3_is;
-        printed_is = ap (λ (l : List PrintItem). l ++ Printed change ∷ []) has.printed_is;
-      })
+  sink_moves s v change rest has front = (
+    print 3 0 (change ∷ []) (behind_move s 2 3 change rest),
+    ap (take_front grouped s 2 0 0 (3, node (run (sink output)) (2 ∷ []), 0)) (has.flight2_is ∙ front),
+    record {
+      taken_is = has.taken_is;
+      flight1_is = has.flight1_is;
+      flight2_is = refl;
+      sent1_is = has.sent1_is;
+      sent2_is = has.sent2_is;
+      sent3_is = ap (λ (l : List Change). l ++ change ∷ []) has.sent3_is;
+      pieces2_is = has.pieces2_is;
+      pieces3_is = ap (λ (l : List (List Arrival)). l ++ piece_of change ∷ []) has.pieces3_is;
+      printed_is = ap (λ (l : List PrintItem). l ++ Printed change ∷ []) has.printed_is;
+    },
+  )
 
   printed3-more : (v : View) (change : Change) (changes rest : List Change) → printed3 (printed3 v (change ∷ []) changes) changes rest ≡ printed3 v (change ∷ changes) rest
   printed3-more v change changes rest = rw (push-append v.pieces3 (piece_of change) (pieces_of changes), push-append v.sent3 change changes, push-append v.printed (Printed change) (map Printed changes))
@@ -320,7 +336,7 @@ module _ (mode : Mode) (cols : List ℕ) (rule : Rule) (output : Mode) (silent :
         let v = grouped2 (after_takes changes) queue sent [] in
         let there : run_events grouped t (deliver 1 queue) ≡ (u, None) = leads_run grouped t u (deliver 1 queue) delivers.1 in
         let rest : behind ≡ deliver 2 sent =
-            ap (λ (r : Ran). drain_edges grouped r.0 (2 ∷ [])) there ∙ append-nil (deliver 2 (u.flight 2 0 0)) ∙ ap (deliver 2) delivers.2.flight2_is in
+        ap (λ (r : Ran). drain_edges grouped r.0 (2 ∷ [])) there ∙ append-nil (deliver 2 (u.flight 2 0 0)) ∙ ap (deliver 2) delivers.2.flight2_is in
         let printed = sink_delivered u v sent delivers.2 refl in
         (printed.0, comes_to ∙ ap (λ (l : List Event). run_events grouped t (deliver 1 queue ++ l)) rest ∙ delivers.1.on (deliver 2 sent) ∙ leads_run grouped u printed.0 (deliver 2 sent) printed.1, printed.2)
 

@@ -1,14 +1,14 @@
 -- A group takes changes one after the other.
-use Rattle.std.proofs.Common.{◌≡◌, ℕ, ◌+◌, ◌<◌, ◌≤◌, List, [], ◌∷◌, ◌++◌, length, Result, Ok, Err, refl, sym, ap, subst, ◌∙◌, arith, append_assoc, append-nil, length-append}
+use Rattle.std.proofs.Common.{◌≡◌, ℕ, List, [], ◌∷◌, ◌++◌, length, Result, Ok, Err, refl, sym, ap, subst, ◌∙◌, arith, append_assoc, append-nil}
 use Rattle.std.specs.List.{AllByRecursion}
 use Rattle.ct_value.specs.declared.row.Row.{Row}
 use Rattle.ct_change.specs.declared.change.Change.{Change}
-use Rattle.ct_change.specs.Changelog.{Mode, retract, Rows, fold, apply, MayCome, IsValidFrom, IsValid}
+use Rattle.ct_change.specs.Changelog.{retract, Rows, fold, MayCome, IsValidFrom, IsValid}
 use Rattle.ct_change.proofs.Folds.{fold-push}
 use Rattle.op_rules.specs.Faults.{IfRange}
 use Rattle.op_rules.specs.declared.operator.OpFault.{OpFault}
 use Rattle.op_rules.specs.declared.operator.OpFault.TheVariants.{Range, Memory}
-use Rattle.op_rules.specs.History.{Arrival, arrival, at_port, joined}
+use Rattle.op_rules.specs.History.{Arrival, at_port, joined}
 use Rattle.op_rules.specs.Rule.{Rule, group}
 use Rattle.op_rules.specs.Rules.{Answer, appended, emits, emitted_after, ArriveAfter}
 use Rattle.job.specs.Pieces.{piece_of, pieces_of}
@@ -32,15 +32,16 @@ length-history (change ∷ done) = let e = length-history done in omega arith
 -- changes of a valid changelog may all come to a group
 arrive_from : (keys : ℕ) (done rest : List Change) → IsValidFrom retract (fold retract done) rest → AllByRecursion (λ change. length change.row ≡ keys) rest → ArriveAfter (group keys retract retract) (joined (pieces_of done)) (joined (pieces_of rest))
 arrive_from keys done [] valid wide = tt
-arrive_from keys done (change ∷ rest) valid wide =
-    (record {
-        port = omega arith;
-        change = subst (λ (l : List Change). MayCome retract (fold retract l) change) (sym (at_port-pieces_of done)) valid.0;
-        wide = omega (arith, wide.0);
-        key = tt;
-      },
-      subst (λ (l : List Arrival). ArriveAfter (group keys retract retract) l (joined (pieces_of rest))) (history-push done change)
-        (arrive_from keys (done ++ change ∷ []) rest (subst (λ (rows : Rows). IsValidFrom retract rows rest) (sym (fold-push retract done change)) valid.1) wide.1))
+arrive_from keys done (change ∷ rest) valid wide = (
+  record {
+    port = omega arith;
+    change = subst (λ (l : List Change). MayCome retract (fold retract l) change) (sym (at_port-pieces_of done)) valid.0;
+    wide = omega (arith, wide.0);
+    key = tt;
+  },
+  subst (λ (l : List Arrival). ArriveAfter (group keys retract retract) l (joined (pieces_of rest))) (history-push done change)
+      (arrive_from keys (done ++ change ∷ []) rest (subst (λ (rows : Rows). IsValidFrom retract rows rest) (sym (fold-push retract done change)) valid.1) wide.1),
+)
 
 pub all_arrive : (keys : ℕ) (changes : List Change) → IsValid retract changes → AllByRecursion (λ change. length change.row ≡ keys) changes → ArriveAfter (group keys retract retract) [] (joined (pieces_of changes))
 all_arrive keys changes valid wide = arrive_from keys [] changes valid wide

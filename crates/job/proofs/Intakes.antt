@@ -1,13 +1,12 @@
 -- What is kept of a source after one more change.
-use Rattle.std.proofs.Common.{◌≡◌, ◌==◌, ◌&&◌, ℕ, suc, ◌+◌, ◌<◌, ◌≤◌, ◌^◌, Bool, true, false, cond, List, [], ◌∷◌, ◌++◌, length, map, All, Option, Some, None, Ok, refl, sym, ap, subst, ◌∙◌, arith, append-nil, append_assoc}
+use Rattle.std.proofs.Common.{◌≡◌, ◌==◌, ◌&&◌, ℕ, suc, ◌+◌, ◌<◌, ◌≤◌, ◌^◌, true, false, cond, List, [], ◌∷◌, ◌++◌, length, map, All, Option, Some, None, Ok, refl, sym, ap, subst, ◌∙◌, arith, append-nil, append_assoc}
 use Rattle.std.specs.List.{AllByRecursion}
 use Rattle.std.specs.Ordering.{eq_by_cmp}
 use Rattle.std.proofs.lemmas.List.{drop_more, drop_all}
 use Rattle.std.proofs.Common.{drop, slice_index_or}
-use Rattle.ct_value.specs.Bag.{items, copies, none, total, weigh, one_at, copies-occurs, total-none, total-le}
+use Rattle.ct_value.specs.Bag.{copies, none, total, one_at, copies-occurs, total-none, total-le}
 use Rattle.ct_value.specs.Order.{row_cmp, row_total}
 use Rattle.ct_value.specs.declared.row.Row.{Row}
-
 use Rattle.ct_change.specs.declared.kind.Kind.{Kind}
 use Rattle.ct_change.specs.declared.kind.Declared.{Declared}
 use Rattle.ct_change.specs.declared.kind.Declared.TheVariants.{Append, Retract, Upsert}
@@ -82,8 +81,8 @@ fits_kind mode values None change e = absurd (cc)
 fits_kind mode values (Some kind) change e =
     elim (admits mode kind) as (λ b. admits mode kind ≡ b → cond b (Some (record { kind = kind; row = text_row values })) None ≡ Some change → (length change.row ≡ length values) × (admits mode change.kind ≡ true)) [
       | true ↦ λ a q.
-        let same : record { kind = kind; row = text_row values } ≡ change = cc in
-        (ap (λ (c : Change). length c.row) (sym same) ∙ length-texts values, ap (λ (c : Change). admits mode c.kind) (sym same) ∙ a)
+          let same : record { kind = kind; row = text_row values } ≡ change = cc in
+          (ap (λ (c : Change). length c.row) (sym same) ∙ length-texts values, ap (λ (c : Change). admits mode c.kind) (sym same) ∙ a)
       | false ↦ λ a q. absurd (cc)
     ] refl e
 
@@ -93,8 +92,8 @@ fits_fields source (name ∷ []) change e = absurd (cc)
 fits_fields source (name ∷ kind ∷ values) change e =
     elim (bytes_eq source.name name && (length values == length source.columns)) as (λ b. (bytes_eq source.name name && (length values == length source.columns)) ≡ b → cond b (change_of_kind (source_mode source) values (kind_of kind)) None ≡ Some change → Fits source change) [
       | true ↦ λ t q.
-        let fits = fits_kind (source_mode source) values (kind_of kind) change q in
-        record { width = fits.0 ∙ eqb-true _ _ (second_of_both (bytes_eq source.name name) _ t); declared = fits.1 }
+          let fits = fits_kind (source_mode source) values (kind_of kind) change q in
+          record { width = fits.0 ∙ eqb-true _ _ (second_of_both (bytes_eq source.name name) _ t); declared = fits.1 }
       | false ↦ λ t q. absurd (cc)
     ] refl e
 

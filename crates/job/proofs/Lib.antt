@@ -1,7 +1,10 @@
+pub mod Accepted
 pub mod Chains
 pub mod Countings
+pub mod Counts
 pub mod Cuts
 pub mod FullLines
+pub mod Headline
 pub mod Intakes
 pub mod Lists
 pub mod Plain
@@ -9,3 +12,5 @@ pub mod Prints
 pub mod Replays
 pub mod Runs
 pub mod ScanFacts
+pub mod Selects
+pub mod Takings

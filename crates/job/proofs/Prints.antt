@@ -1,10 +1,8 @@
 -- Printed lines, one after the other.
-use Rattle.std.proofs.Common.{◌≡◌, ℕ, ◌+◌, ◌≤◌, List, [], ◌∷◌, ◌++◌, map, Option, refl, sym, ◌∙◌, ap, arith, append_assoc, append-nil}
-use Rattle.ct_io.specs.Counts.{Rose}
+use Rattle.std.proofs.Common.{◌≡◌, ℕ, List, [], ◌∷◌, ◌++◌, map, Option, sym, ◌∙◌, ap, append_assoc, append-nil}
 use Rattle.ct_io.specs.Written.{Appends, AppendsUpTo, AppendsPart}
 use Rattle.ct_io.proofs.Written.{appends_both, up_to_start, up_to_end}
 use Rattle.ct_change.specs.declared.change.Change.{Change as TableChange}
-use Rattle.job.specs.declared.printed.PrintItem.{PrintItem}
 use Rattle.job.specs.declared.printed.PrintItem.TheVariants.{Change, Quiet}
 use Rattle.job.specs.Printed.{item_text, text_of}
 

@@ -1,5 +1,5 @@
 -- What a run of a plan of the first forms comes to, as one list of printed changes.
-use Rattle.std.proofs.Common.{◌≡◌, ℕ, suc, ◌+◌, ◌<◌, ◌≤◌, Bool, true, false, ◌&&◌, ◌||◌, cond, List, [], ◌∷◌, ◌++◌, length, map, All, Option, Some, None, Result, Ok, Err, refl, sym, ◌∙◌, ap, subst, arith, append-nil, length-append}
+use Rattle.std.proofs.Common.{◌≡◌, ℕ, suc, ◌+◌, ◌<◌, Bool, true, false, List, [], ◌∷◌, ◌++◌, length, map, All, Option, Some, None, Result, Ok, Err, refl, sym, ◌∙◌, ap, subst, arith, length-append}
 use Rattle.std.specs.List.{AllByRecursion, list_any, list_all}
 use Rattle.std.specs.Prelude.{position, unwrap_or}
 use Rattle.std.proofs.lemmas.List.Quantifiers.{position-Some}
@@ -10,24 +10,20 @@ use Rattle.ct_value.specs.declared.row.Row.{Row}
 use Rattle.ct_value.specs.declared.codes.ChangeCode.{ChangeCode}
 use Rattle.ct_change.specs.declared.change.Change.{Change}
 use Rattle.ct_change.specs.Changelog.{Mode, append, retract, upsert, fold, IsValid}
-use Rattle.op_rules.specs.Rules.{Answer, emitted_after}
+use Rattle.op_rules.specs.Rules.{Answer}
 use Rattle.job.specs.declared.script.Column.{Column}
 use Rattle.job.specs.declared.script.Table.{Table}
-use Rattle.job.specs.declared.script.Insert.{Insert}
 use Rattle.job.specs.declared.script.Script.{Script}
 use Rattle.job.specs.declared.intake.Intake.{Intake}
-use Rattle.job.specs.declared.printed.PrintItem.{PrintItem}
-use Rattle.job.specs.declared.printed.PrintItem.TheVariants.{Change as Printed, Quiet}
+use Rattle.job.specs.declared.printed.PrintItem.TheVariants.{Change as Printed}
 use Rattle.job.specs.Intake.{AllTaken, StandsFor, Holds}
 use Rattle.job.specs.Scans.{IsBagMode}
 use Rattle.job.specs.Lawful.{IsLawful}
 use Rattle.job.specs.Lines.{source_mode, lines_of, taken_of, taken_from, taken_then, line_change}
-use Rattle.job.specs.Machine.{Plan, State, scan, scanned, Ran, out_of_range}
-use Rattle.job.specs.Outcome.{Outcome, ends, whole_run, outcome_of_run, after_lines, with_text}
+use Rattle.job.specs.Machine.{Plan, State, scan, scanned, out_of_range}
+use Rattle.job.specs.Outcome.{ends, whole_run, outcome_of_run, after_lines, with_text}
 use Rattle.job.specs.declared.ending.Ending.TheVariants as e
-use Rattle.job.specs.Pieces.{pieces_of}
 use Rattle.job.specs.Plan.{place_of, places_of, columns_read, count_rule, plan_of, node, nodes_behind}
-use Rattle.job.specs.Printed.{text_of}
 use Rattle.job.specs.Replays.{emitted_where, emitted_by, outcome_of_answer}
 use Rattle.job.specs.Script.{is_named}
 use Rattle.job.proofs.Chains as chains
@@ -128,6 +124,9 @@ sent_wide : (cols : List ℕ) (n : ℕ) → length cols ≡ n → (taken : List 
 sent_wide cols n is [] = tt
 sent_wide cols n is (change ∷ taken) = (length-project cols change.row ∙ is, sent_wide cols n is taken)
 
+pub sent_has_width : (script : Script) (taken : List Change) → AllByRecursion (λ change. length change.row ≡ length script.insert.names) (sent_by script taken)
+sent_has_width script taken = sent_wide (columns_read script) (length script.insert.names) (length-places script.source.columns script.insert.names) taken
+
 length-sent : (script : Script) (changes : List Change) → length (sent_by script changes) ≡ length changes
 length-sent script [] = refl
 length-sent script (change ∷ changes) = ap (λ n. suc n) (length-sent script changes)
@@ -140,8 +139,7 @@ module _ (script : Script) (intake : Intake) (taken : List Change) (holds : Hold
   sent_valid = subst (IsValid retract) (sym sent_is) (scan_valid (source_mode script.source) holds.bag (columns_read script) taken (taken_valid (source_mode script.source) [] taken holds.all_taken))
 
   pub sent_is_wide : AllByRecursion (λ change. length change.row ≡ length script.insert.names) intake.sent
-  sent_is_wide = subst (AllByRecursion (λ change. length change.row ≡ length script.insert.names)) (sym sent_is)
-      (sent_wide (columns_read script) (length script.insert.names) (length-places script.source.columns script.insert.names) taken)
+  sent_is_wide = subst (AllByRecursion (λ change. length change.row ≡ length script.insert.names)) (sym sent_is) (sent_has_width script taken)
 
   pub sent_few : length intake.sent ≡ length taken
   sent_few = ap length sent_is ∙ length-sent script taken

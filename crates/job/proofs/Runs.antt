@@ -12,7 +12,7 @@ use Rattle.job.specs.declared.ending.LimitName.{LimitName}
 use Rattle.job.specs.declared.halt.Halt.{Halt}
 use Rattle.job.specs.declared.halt.Halt.TheVariants.{Script, Change, Range, Limit, ReadFault, WriteFault, Memory}
 use Rattle.job.specs.Script.{script_of}
-use Rattle.job.specs.Outcome.{Outcome, ends, after_load, with_script, with_script_text}
+use Rattle.job.specs.Outcome.{Outcome, after_load, with_script, with_script_text}
 use Rattle.job.specs.Runs.{is_free, IsCaused, Runs, RunsThere, HaltsAs, IsCausedThere, ending_of, ending_of_halt}
 
 pub rose_earlier : (before mid now : ℕ) → before ≤ mid → Rose mid now → Rose before now
@@ -95,6 +95,10 @@ runs_there told of read write old new there result same runs = record {
 -- want of memory, with nothing written
 pub memory_there : {T : Type 0} (there : Outcome) (write : Type 0) (o : Option (List ℕ)) → RunsThere {T = T} there write o o (Err Memory)
 memory_there there write o = record { cause = tt; part = part_none o there.bytes; whole = λ free. absurd (cc (free)) }
+
+-- the same by another outcome that agrees with this one
+pub there_moved : {T : Type 0} {there : Outcome} {write : Type 0} {old new : Option (List ℕ)} {result : Result T Halt} (other : Outcome) → other ≡ there → RunsThere there write old new result → RunsThere other write old new result
+there_moved {write = write} {old = old} {new = new} {result = result} other same runs = subst (λ (o : Outcome). RunsThere o write old new result) (sym same) runs
 
 some_at : {A : Type 0} {P : A → Type 0} (o : Option A) → IsSomeAnd o P → (a : A) × (o ≡ Some a) × P a
 some_at None none = absurd none

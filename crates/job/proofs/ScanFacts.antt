@@ -1,8 +1,7 @@
 -- A scan sends a valid changelog of the source's rows cut to columns.
-use Rattle.std.proofs.Common.{◌≡◌, ℕ, zero, suc, ◌+◌, ◌<◌, ◌≤◌, ◌==◌, ◌||◌, not, Bool, true, false, cond, List, [], ◌∷◌, ◌++◌, map, take, Option, Some, None, refl, sym, ap, subst, ◌∙◌, arith}
-use Rattle.std.proofs.lemmas.Bool.{eqb-true, eqb-false}
-use Rattle.std.specs.Cmp.{Equal-is}
-use Rattle.ct_value.specs.Bag.{items, copies, none, add, remove, total, weigh, bag_of, one_at, one_at_itself, copies-occurs, total-none, total-add, total-remove, total-bag_of, same_bag}
+use Rattle.std.proofs.Common.{◌≡◌, ℕ, ◌+◌, ◌<◌, ◌≤◌, ◌==◌, ◌||◌, not, Bool, true, false, cond, List, [], ◌∷◌, ◌++◌, map, take, Some, None, refl, sym, ap, subst, ◌∙◌, arith}
+use Rattle.std.proofs.lemmas.Bool.{eqb-false}
+use Rattle.ct_value.specs.Bag.{items, copies, none, add, remove, total, weigh, one_at, one_at_itself, copies-occurs, total-none, total-add, total-remove, total-bag_of, same_bag}
 use Rattle.ct_value.specs.Order.{row_cmp, row_total, row_exact}
 use Rattle.ct_value.specs.Rows.{project}
 use Rattle.ct_value.specs.declared.row.Row.{Row}
@@ -10,7 +9,7 @@ use Rattle.ct_value.specs.declared.codes.ChangeCode.TheVariants.{KindNotDeclared
 use Rattle.ct_change.specs.declared.kind.KindSet.{KindSet}
 use Rattle.ct_change.specs.declared.change.Change.{Change}
 use Rattle.ct_change.specs.Changelog.{Mode, append, retract, upsert, Rows, adds, admits, apply, fold, fold_from, MayCome, IsValidFrom, IsValid, Means, AreOf, same_row}
-use Rattle.ct_change.proofs.Folds.{append_only, fold-push, IsValidFrom-append}
+use Rattle.ct_change.proofs.Folds.{append_only, fold-push}
 use Rattle.ct_change.proofs.Meanings.{same_row-true, means_fold, prefixes_mean}
 use Rattle.job.specs.Lines.{refusal}
 use Rattle.job.specs.Machine.{scanned}
@@ -128,6 +127,7 @@ free_to_come (upsert key) rows change free =
 -- changes that were all taken are a valid changelog
 pub taken_valid : (mode : Mode) (before changes : List Change) → AllTaken mode before changes → IsValidFrom mode (fold mode before) changes
 taken_valid mode before [] all = tt
-taken_valid mode before (change ∷ changes) all =
-    (free_to_come mode (fold mode before) change all.0,
-      subst (λ (rows : Rows). IsValidFrom mode rows changes) (fold-push mode before change) (taken_valid mode (before ++ change ∷ []) changes all.1))
+taken_valid mode before (change ∷ changes) all = (
+  free_to_come mode (fold mode before) change all.0,
+  subst (λ (rows : Rows). IsValidFrom mode rows changes) (fold-push mode before change) (taken_valid mode (before ++ change ∷ []) changes all.1),
+)

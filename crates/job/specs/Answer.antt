@@ -1,5 +1,5 @@
 -- The batch answer of a script on its tables, read off its names.
-use Rattle.std.specs.Prelude.{ℕ, Bool, true, false, cond, List, [], ◌∷◌, length, map, Option, Some}
+use Rattle.std.specs.Prelude.{ℕ, Bool, true, false, cond, List, ◌∷◌, length, map, Option, Some}
 use Rattle.ct_value.specs.Bag.{items, bag_of}
 use Rattle.ct_value.specs.declared.row.Row.{Row}
 use Rattle.ct_value.specs.declared.value.Value.{Value}

@@ -1,5 +1,5 @@
 -- What a run answers and writes, composed of the script's form, the lines of the change file and the machine.
-use Rattle.std.specs.Prelude.{◌≡◌, ◌⊎◌, ℕ, Bool, true, false, List, [], ◌∷◌, ◌++◌, length, map, Option, Some, None, Result, Ok, Err}
+use Rattle.std.specs.Prelude.{ℕ, List, [], ◌∷◌, ◌++◌, length, map, Option, Some, None, Result, Ok, Err}
 use Rattle.ct_value.specs.declared.codes.ScriptCode.TheVariants.{Unsupported}
 use Rattle.ct_value.specs.declared.codes.ChangeCode.{ChangeCode}
 use Rattle.ct_value.specs.declared.codes.ChangeCode.TheVariants.{FieldCount}
@@ -14,7 +14,7 @@ use Rattle.job.specs.declared.printed.PrintItem.TheVariants.{Quiet}
 use Rattle.job.specs.Words.{FileNames, files_of}
 use Rattle.job.specs.Script.{script_of}
 use Rattle.job.specs.Lines.{plain_text, lines_of, taken_of}
-use Rattle.job.specs.Machine.{Plan, State, Event, take, Stop, refused, misplaced, out_of_range, Ran, opened, run_events, drain}
+use Rattle.job.specs.Machine.{Plan, Event, take, Stop, refused, misplaced, out_of_range, Ran, opened, run_events, drain}
 use Rattle.job.specs.Plan.{plan_of}
 use Rattle.job.specs.Printed.{text_of}
 

@@ -1,11 +1,10 @@
 -- What is printed: the one text of a change, and of a quiet moment.
-use Rattle.std.specs.Prelude.{ℕ, Bool, true, false, ◌==◌, List, [], ◌∷◌, ◌++◌, if◌then◌else◌, codes}
+use Rattle.std.specs.Prelude.{ℕ, true, false, ◌==◌, List, [], ◌∷◌, ◌++◌, if◌then◌else◌, codes}
 use Rattle.std.specs.Fmt.{decimal, signed_decimal}
 use Rattle.ct_value.specs.declared.value.Value.{Value}
 use Rattle.ct_value.specs.declared.value.Value.TheVariants.{Null, Bool as Truth, Num, Text}
 use Rattle.ct_change.specs.declared.kind.Kind.{Kind}
 use Rattle.ct_change.specs.declared.kind.Kind.TheVariants.{I, UB, UA, D}
-use Rattle.ct_change.specs.declared.change.Change.{Change as TableChange}
 use Rattle.job.specs.declared.printed.PrintItem.{PrintItem}
 use Rattle.job.specs.declared.printed.PrintItem.TheVariants.{Change, Quiet}
 

@@ -1,11 +1,11 @@
 -- What is known of a scan: the rows that it sends are those of the source, cut to columns.
-use Rattle.std.specs.Prelude.{◌≡◌, ℕ, ◌≤◌, Bool, true, List, map, take}
+use Rattle.std.specs.Prelude.{ℕ, List, map, take}
 use Rattle.ct_value.specs.Bag.{items, bag_of}
 use Rattle.ct_value.specs.Rows.{project}
 use Rattle.ct_value.specs.declared.row.Row.{Row}
 use Rattle.ct_change.specs.declared.kind.KindSet.{KindSet}
 use Rattle.ct_change.specs.declared.change.Change.{Change}
-use Rattle.ct_change.specs.Changelog.{Mode, append, retract, upsert, Rows, fold, IsValid, Means, AreOf, kinds_of}
+use Rattle.ct_change.specs.Changelog.{Mode, append, retract, upsert, Rows, fold, IsValid, Means, AreOf}
 use Rattle.job.specs.Machine.{scanned}
 
 -- the rows of a bag, each turned into another

@@ -3,7 +3,7 @@ use Rattle.std.specs.Prelude.{ℕ, Bool, true, false, not, ◌&&◌, nat_le, Lis
 use Rattle.std.specs.List.{list_any, list_all}
 use Rattle.std.specs.Str.{bytes_eq}
 use Rattle.ct_change.specs.declared.kind.Declared.{Declared}
-use Rattle.ct_change.specs.declared.kind.Declared.TheVariants.{Append, Retract}
+use Rattle.ct_change.specs.declared.kind.Declared.TheVariants.{Append, Retract, Upsert}
 use Rattle.job.specs.declared.tokens.Token.{Token}
 use Rattle.job.specs.declared.tokens.Token.TheVariants.{Create, Table, Not, Null, With, Insert, Into, Select, From, Group, By, Name, Quoted, Open, Close, Comma, Semicolon, Equal, Times}
 use Rattle.job.specs.declared.script.Column.{Column}
@@ -124,9 +124,15 @@ is_retract Append = false
 is_retract Retract = true
 is_retract _ = false
 
--- the table that is read: texts under distinct names
+-- a changelog of a bag of rows: no upsert table, which would need a key
+abbrev pub is_of_bag : Declared → Bool
+is_of_bag Append = true
+is_of_bag Retract = true
+is_of_bag Upsert = false
+
+-- the table that is read: a bag of texts under distinct names
 abbrev pub is_source : TableText → Bool
-is_source t = are_distinct t.columns && list_all is_string t.columns
+is_source t = is_of_bag t.mode && (are_distinct t.columns && list_all is_string t.columns)
 
 -- behind the texts a count is filled into one BIGINT
 abbrev pub is_count : Bool → List Column → Bool

@@ -5,6 +5,7 @@ mod counting;
 mod ending;
 mod halt;
 mod intake;
+mod laws;
 mod lines;
 mod print;
 mod printed;
@@ -17,5 +18,6 @@ mod tokens;
 mod words;
 
 pub use ending::{Ending, LimitName, status};
+pub use laws::{scan_folds_to_answer, scan_kinds_stay, scan_prefixes_stand};
 pub use printed::PrintItem;
 pub use run::run_job;

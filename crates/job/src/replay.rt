@@ -47,12 +47,7 @@ pub fn replay<K: Sink>(
     replay_text(alloc, script, text, out)
 }
 
-fn replay_text<K: Sink>(
-    alloc: Global,
-    script: &Script,
-    text: &str,
-    out: &mut K,
-) -> Result<(), Halt>
+fn replay_text<K: Sink>(alloc: Global, script: &Script, text: &str, out: &mut K) -> Result<(), Halt>
     requires lawful { IsLawful script.now }
     requires few { (length script.now.source.columns ≤ 262144) × (length script.now.insert.names ≤ 262144) }
     requires within { length text.now ≤ 67108864 }

@@ -4,7 +4,7 @@ ghost use Rattle.ct_change.specs.Changelog.{mode_of};
 ghost use Rattle.job.specs.Lawful.{IsKeyed, IsLawful};
 ghost use Rattle.job.specs.Plan.{place_of, places_of, columns_read};
 ghost use Rattle.job.specs.Scans.{IsBagMode};
-ghost use Rattle.job.specs.Script.{columns_of, column_of, column_end, mode_of_word, options_of, create_of, items_of, item_of, behind_names, is_over, are_names, is_end, source_of, insert_of, is_named, are_distinct, is_string, is_retract, is_source, is_count, are_filled, is_sink, is_between, script_between, script_of_tokens, script_of};
+ghost use Rattle.job.specs.Script.{columns_of, column_of, column_end, mode_of_word, options_of, create_of, items_of, item_of, behind_names, is_over, are_names, is_end, source_of, insert_of, is_named, are_distinct, is_string, is_retract, is_of_bag, is_source, is_count, are_filled, is_sink, is_between, script_between, script_of_tokens, script_of};
 
 use crate::tokens::{ReadFault, Token, tokens_of};
 use ct_change::Declared;
@@ -457,10 +457,19 @@ fn is_string(column: &Column) -> bool
     column.ty.is(b"STRING")
 }
 
+// An upsert table would need a key, which the first forms don't have.
+fn is_of_bag(mode: Declared) -> bool
+    ensures { result ≡ is_of_bag mode }
+{
+    matches!(mode, Declared::Append | Declared::Retract)
+}
+
 fn is_source(table: &Table) -> bool
     ensures { result ≡ is_source table.now }
 {
-    are_distinct(table.columns.as_slice()) && are_strings(table.columns.as_slice())
+    is_of_bag(table.mode)
+        && are_distinct(table.columns.as_slice())
+        && are_strings(table.columns.as_slice())
 }
 
 fn are_strings(columns: &[Column]) -> bool

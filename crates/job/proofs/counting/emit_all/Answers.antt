@@ -5,7 +5,6 @@ use Rattle.ct_value.specs.declared.row.Row.{Row}
 use Rattle.ct_change.specs.declared.change.Change.{Change}
 use Rattle.op_rules.specs.History.{Arrival, arrival, joined}
 use Rattle.op_rules.specs.Rules.{ArriveAfter, MayArrive, emits, appended, emitted_after}
-use Rattle.op_rules.specs.Rule.{Rule}
 use Rattle.job.specs.Pieces.{piece_of, pieces_of}
 use Rattle.job.proofs.Countings.{length-history, history-push, emitted_more, emitted_out, range-weaker}
 use Rattle.job.proofs.counting.emit_all.Goals as goal
@@ -16,7 +15,7 @@ consume-requires-clause-may g c =
     let rule = g.P.Operator.rule c.args.operator.now in
     let step : into_iter_items c.loop-change.change-iterator ≡ c.in-Some.change ∷ into_iter_items c.next.new.self = c.in-Some.ensures.steps.0 in
     let ready : ArriveAfter rule (joined (pieces_of kept.done)) (joined (pieces_of (c.in-Some.change ∷ into_iter_items c.next.new.self))) =
-        subst (λ (l : List Change). ArriveAfter rule (joined (pieces_of kept.done)) (joined (pieces_of l))) step kept.ready in
+    subst (λ (l : List Change). ArriveAfter rule (joined (pieces_of kept.done)) (joined (pieces_of l))) step kept.ready in
     let may : MayArrive (g.P.Operator.rule c.loop-change.operator) (joined (pieces_of kept.done)) (arrival 0 0 c.in-Some.change) = rw kept.rule_stays ready.0 in
     (joined (pieces_of kept.done), 0, kept.stands, may, omega (arith, length-history kept.done, kept.count, ap length step, c.requires.few))
 
@@ -26,14 +25,14 @@ returns-in_err-sent-clause-range g c =
     let rule = g.P.Operator.rule c.args.operator.now in
     let step : into_iter_items c.loop-change.change-iterator ≡ c.in-Some.change ∷ into_iter_items c.next.new.self = c.in-Some.ensures.steps.0 in
     let ready : ArriveAfter rule (joined (pieces_of kept.done)) (joined (pieces_of (c.in-Some.change ∷ into_iter_items c.next.new.self))) =
-        subst (λ (l : List Change). ArriveAfter rule (joined (pieces_of kept.done)) (joined (pieces_of l))) step kept.ready in
+    subst (λ (l : List Change). ArriveAfter rule (joined (pieces_of kept.done)) (joined (pieces_of l))) step kept.ready in
     let may : MayArrive (g.P.Operator.rule c.loop-change.operator) (joined (pieces_of kept.done)) (arrival 0 0 c.in-Some.change) = rw kept.rule_stays ready.0 in
     let room : length (joined (pieces_of kept.done)) + 1 < 2 ^ 32 = omega (arith, length-history kept.done, kept.count, ap length step, c.requires.few) in
     let p = err_from_is_err_and c.from_residual.result c.from_residual.ensures.1 in
     rw (p.1, p.2) (range-weaker {T = List Change} (Err c.in_err-sent.field-0.0) _ _ (λ (row : Row) h.
-        let out : emits rule (joined (pieces_of kept.done)) (piece_of c.in-Some.change) ≡ Err row = rw kept.rule_stays at (h (joined (pieces_of kept.done)) 0 kept.stands may room) in
-        sym kept.same ∙ ap (λ (l : List Change). appended (Ok c.loop-change.emitted) (emitted_after rule (joined (pieces_of kept.done)) (pieces_of l))) step
-        ∙ emitted_out rule kept.done (into_iter_items c.next.new.self) c.loop-change.emitted c.in-Some.change row out) c.in_err-sent.ensures.range)
+    let out : emits rule (joined (pieces_of kept.done)) (piece_of c.in-Some.change) ≡ Err row = rw kept.rule_stays at (h (joined (pieces_of kept.done)) 0 kept.stands may room) in
+    sym kept.same ∙ ap (λ (l : List Change). appended (Ok c.loop-change.emitted) (emitted_after rule (joined (pieces_of kept.done)) (pieces_of l))) step
+    ∙ emitted_out rule kept.done (into_iter_items c.next.new.self) c.loop-change.emitted c.in-Some.change row out) c.in_err-sent.ensures.range)
 
 pub loop-change-preserved : goal.loop-change-preserved
 loop-change-preserved g c =
@@ -42,7 +41,7 @@ loop-change-preserved g c =
     let step : into_iter_items c.loop-change.change-iterator ≡ c.in-Some.change ∷ into_iter_items c.next.new.self = c.in-Some.ensures.steps.0 in
     let rest = into_iter_items c.next.new.self in
     let ready : ArriveAfter rule (joined (pieces_of kept.done)) (joined (pieces_of (c.in-Some.change ∷ rest))) =
-        subst (λ (l : List Change). ArriveAfter rule (joined (pieces_of kept.done)) (joined (pieces_of l))) step kept.ready in
+    subst (λ (l : List Change). ArriveAfter rule (joined (pieces_of kept.done)) (joined (pieces_of l))) step kept.ready in
     let may : MayArrive (g.P.Operator.rule c.loop-change.operator) (joined (pieces_of kept.done)) (arrival 0 0 c.in-Some.change) = rw kept.rule_stays ready.0 in
     let room : length (joined (pieces_of kept.done)) + 1 < 2 ^ 32 = omega (arith, length-history kept.done, kept.count, ap length step, c.requires.few) in
     let told = c.in_ok-sent.ensures.ok (joined (pieces_of kept.done)) 0 kept.stands may room in

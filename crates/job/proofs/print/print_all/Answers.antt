@@ -1,4 +1,4 @@
-use Rattle.std.proofs.Common.{◌≡◌, ◌++◌, ◌∷◌, [], arith}
+use Rattle.std.proofs.Common.{◌≡◌, ◌++◌, [], arith}
 use Rattle.std.proofs.lemmas.Grind.{common_steps}
 use Rattle.std.specs.Vec.Iter.{into_iter_items}
 use Rattle.job.specs.Printed.{item_text}
@@ -9,13 +9,13 @@ use Rattle.job.proofs.print.print_all.Goals as goal
 pub returns-in_err-print_item-clause-part : goal.returns-in_err-print_item-clause-part
 returns-in_err-print_item-clause-part g c =
     let is : lines_text (into_iter_items c.loop-change.change-iterator) c.args.taken ≡ item_text (Change c.in-Some.change) ++ lines_text (into_iter_items c.next.new.self) c.args.taken =
-        next_text _ c.in-Some.change _ c.args.taken c.in-Some.ensures.steps.0 in
+    next_text _ c.in-Some.change _ c.args.taken c.in-Some.ensures.steps.0 in
     part_in_piece _ _ _ _ _ _ _ c.loop-change.invariant.taken is c.in_err-print_item.ensures.part
 
 pub loop-change-preserved-in_ok-print_item : goal.loop-change-preserved-in_ok-print_item
 loop-change-preserved-in_ok-print_item g c =
     let is : lines_text (into_iter_items c.loop-change.change-iterator) c.args.taken ≡ item_text (Change c.in-Some.change) ++ lines_text (into_iter_items c.next.new.self) c.args.taken =
-        next_text _ c.in-Some.change _ c.args.taken c.in-Some.ensures.steps.0 in
+    next_text _ c.in-Some.change _ c.args.taken c.in-Some.ensures.steps.0 in
     record {
       taken = up_to_piece _ _ _ _ _ _ _ c.loop-change.invariant.taken is c.in_ok-print_item.ensures.whole;
       later = omega (arith, c.loop-change.invariant.later, c.in_ok-print_item.ensures.later);

@@ -1,4 +1,5 @@
-use Rattle.std.proofs.Common.{◌∙◌}
+use Rattle.std.proofs.Common.{◌∙◌, ap}
+use Rattle.job.specs.declared.intake.Intake.{Intake}
 use Rattle.job.proofs.Replays.{holds_nothing, taken-count}
 use Rattle.job.proofs.replay.take_all.Goals as goal
 
@@ -6,4 +7,11 @@ pub take_lines-requires-clause-holds : goal.take_lines-requires-clause-holds
 take_lines-requires-clause-holds c = rw (c.new-intake.ensures, c.in-Ok.ensures) (holds_nothing c.args.script.now c.requires.lawful)
 
 pub returns-clause-ok : goal.returns-clause-ok
-returns-clause-ok c = ?
+returns-clause-ok c =
+    let done = c.in_ok-take_lines.ensures.ok in (
+      done.0,
+      done.1,
+      done.2,
+      c.in_ok-take_lines.ensures.picks ∙ ap (λ (i : Intake). i.picks) c.new-intake.ensures ∙ c.in-Ok.ensures,
+      taken-count c.args.script.now.source c.args.lines.now done.0 done.1,
+    )

@@ -1,8 +1,6 @@
-use Rattle.std.proofs.Common.{ap, sym, ◌∙◌}
 use Rattle.std.proofs.lemmas.Result.{err_from_is_err_and}
-use Rattle.job.specs.Outcome.{with_changes, after_load}
-use Rattle.job.specs.declared.ending.LimitName.TheVariants.{Changes}
-use Rattle.job.proofs.Runs.{runs_halted, runs_there}
+use Rattle.job.specs.Outcome.{with_changes}
+use Rattle.job.proofs.Runs.{runs_halted}
 use Rattle.job.proofs.run.with_script.Goals as goal
 
 pub returns-in_err-bytes-clause-runs : goal.returns-in_err-bytes-clause-runs

@@ -1,5 +1,4 @@
-use Rattle.std.proofs.Common.{rules, ◌≡◌, [], ◌∷◌, ◌++◌, ◌∙◌, sym, true, Some, length-append, arith}
-use Rattle.job.specs.Script.{columns_of}
+use Rattle.std.proofs.Common.{length-append, arith}
 use Rattle.job.proofs.Lists.{columns_more}
 use Rattle.job.proofs.script.columns_of.Goals as goal
 

@@ -1,4 +1,4 @@
-use Rattle.std.proofs.Common.{◌∙◌, sym, arith, length-append}
+use Rattle.std.proofs.Common.{arith, length-append}
 use Rattle.job.proofs.Lists.{items_more}
 use Rattle.job.proofs.script.items_of.Goals as goal
 

@@ -11,7 +11,8 @@ take-requires-clause-room c =
 pub returns-clause-ok : goal.returns-clause-ok
 returns-clause-ok c = λ taken holds.
     let fits = change_fits c.args.source.now c.args.line.now c.in-Ok.change c.in-Ok.ensures.ok in
-    let free = c.in_ok-take.ensures.ok.0 in
-    (c.in-Ok.change,
+    let free = c.in_ok-take.ensures.ok.0 in (
+      c.in-Ok.change,
       ap (checked (source_mode c.args.source.now) taken) c.in-Ok.ensures.ok ∙ ap (unless c.in-Ok.change) (sym (refusal_seen c.args.source.now c.args.intake.now taken holds c.in-Ok.change fits) ∙ free),
-      rw c.in_ok-take.ensures.ok.1 (holds_push c.args.source.now c.args.intake.now taken holds c.in-Ok.change fits free))
+      rw c.in_ok-take.ensures.ok.1 (holds_push c.args.source.now c.args.intake.now taken holds c.in-Ok.change fits free),
+    )

@@ -1,4 +1,4 @@
-use Rattle.std.proofs.Common.{rules, ◌≡◌, ◌<◌, ◌-◌, length, Some, sym, ◌∙◌, arith, length-append}
+use Rattle.std.proofs.Common.{◌≡◌, ◌<◌, ◌-◌, length, Some, sym, ◌∙◌, arith, length-append}
 use Rattle.job.specs.Tokens.{next_token}
 use Rattle.job.proofs.Cuts.{cut_more}
 use Rattle.job.proofs.tokens.tokens_of.Goals as goal
