@@ -17,22 +17,27 @@ pub fn usual_words(alloc: Global) -> Result<Vec<Text>, Memory> {
     texts(alloc, &["--script", "s", "--changes", "c"])
 }
 
+fn hold(alloc: Global, files: &mut Files, name: &str, bytes: Bytes) -> Result<(), Memory> {
+    let name = Text::from_str(alloc, name)?;
+    files.set(name, bytes)
+}
+
 /// A script held as `s`, and a change file held as `c`.
 pub fn files(alloc: Global, script: Bytes, changes: Bytes) -> Result<Files, Memory> {
     let mut files = Files::new(alloc);
-    files.set(Text::from_str(alloc, "s")?, script)?;
-    files.set(Text::from_str(alloc, "c")?, changes)?;
+    hold(alloc, &mut files, "s", script)?;
+    hold(alloc, &mut files, "c", changes)?;
     Ok(files)
 }
 
-/// Files that hold these bytes.
+/// Files that hold these texts.
 pub fn files_of(alloc: Global, script: &str, changes: &str) -> Result<Files, Memory> {
     let script = Bytes::from_slice(alloc, script.as_bytes())?;
     let changes = Bytes::from_slice(alloc, changes.as_bytes())?;
     files(alloc, script, changes)
 }
 
-/// A text cut or filled with spaces to a length.
+/// A text filled with spaces to a length.
 pub fn filled(alloc: Global, text: &str, len: usize) -> Result<Bytes, Memory> {
     let mut bytes = text.as_bytes().to_vec(alloc)?;
     bytes.resize(len, b' ')?;
