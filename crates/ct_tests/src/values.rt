@@ -294,7 +294,7 @@ const SCRIPT_CODES: [(ScriptCode, &str); 24] = [
 #[test]
 fn script_codes_have_texts(rt: HostRuntime) {
     for (code, text) in SCRIPT_CODES {
-        assert!(rt; code.text() == text, "the text {text}");
+        assert!(rt; code.text() == text);
     }
 }
 
@@ -312,7 +312,7 @@ const CHANGE_CODES: [(ChangeCode, &str); 8] = [
 #[test]
 fn change_codes_have_texts(rt: HostRuntime) {
     for (code, text) in CHANGE_CODES {
-        assert!(rt; code.text() == text, "the text {text}");
+        assert!(rt; code.text() == text);
     }
 }
 
@@ -327,6 +327,6 @@ const ORDER_CODES: [(OrderCode, &str); 5] = [
 #[test]
 fn order_codes_have_texts(rt: HostRuntime) {
     for (code, text) in ORDER_CODES {
-        assert!(rt; code.text() == text, "the text {text}");
+        assert!(rt; code.text() == text);
     }
 }
