@@ -37,107 +37,127 @@ fn some_row(alloc: Global, word: Option<&str>) -> Result<Option<Row>, Memory> {
     }
 }
 
-// The sign of a kind, as a change line has it.
-fn sign(kind: Kind) -> &'static str {
-    match kind {
-        Kind::I => "+I",
-        Kind::UB => "-U",
-        Kind::UA => "+U",
-        Kind::D => "-D",
+// A kind, a word, and a count behind the word, or 0 where none stands there.
+type Wanted = (Kind, &'static str, i128);
+
+fn has_word(row: &Row, word: &str) -> bool {
+    match row.get(0) {
+        Some(Value::Text(text)) => text.is(word.as_bytes()),
+        _ => false,
     }
 }
 
-// Changes of a word and a number, as one line.
-fn line_of(alloc: Global, changes: &Changes) -> Result<String, Fail> {
-    let mut line = String::new(alloc);
-    for index in 0..changes.len() {
-        let Some(change) = changes.get(index) else {
-            continue;
-        };
-        line.push_str(sign(change.kind))?;
-        if let Some(Value::Text(word)) = change.row.get(0) {
-            line.push_str(",")?;
-            line.push_str(word.as_str())?;
-        }
-        if let Some(Value::Num(number)) = change.row.get(1) {
-            let text = format!(in alloc; ",{number}")?;
-            line.push_str(text.as_str())?;
-        }
-        line.push_str(";")?;
+fn has_count(row: &Row, count: i128) -> bool {
+    match row.get(1) {
+        Some(Value::Num(number)) => *number == count,
+        Some(_) => false,
+        None => count == 0,
     }
-    Ok(line)
+}
+
+fn is_change(change: &Change, wanted: Wanted) -> bool {
+    let (kind, word, count) = wanted;
+    change.kind == kind && has_word(&change.row, word) && has_count(&change.row, count)
+}
+
+// Whether these are the changes, in this order.
+fn are(changes: &Changes, wanted: &[Wanted]) -> bool {
+    for (i, change) in wanted.iter().enumerate() {
+        match changes.get(i) {
+            Some(found) if is_change(found, *change) => {}
+            _ => return false,
+        }
+    }
+    changes.len() == wanted.len()
+}
+
+// Whether a kind adds, and which modes admit it: append, retract, upsert.
+const KINDS: [(Kind, bool, [bool; 3]); 4] = [
+    (Kind::I, true, [true, true, true]),
+    (Kind::UB, false, [false, true, false]),
+    (Kind::UA, true, [false, true, true]),
+    (Kind::D, false, [false, true, true]),
+];
+
+fn admitted(kind: Kind) -> [bool; 3] {
+    [
+        Declared::Append.admits(kind),
+        Declared::Retract.admits(kind),
+        Declared::Upsert.admits(kind),
+    ]
 }
 
 #[test]
 fn kinds_add_or_remove(rt: HostRuntime) {
-    let cases = [
-        (Kind::I, true, true, true),
-        (Kind::UB, false, false, false),
-        (Kind::UA, true, false, true),
-        (Kind::D, false, false, true),
-    ];
-    for (kind, adds, in_append, in_upsert) in cases {
-        assert_eq!(rt; kind.is_addition(), adds);
-        assert_eq!(rt; Declared::Append.admits(kind), in_append);
-        assert!(rt; Declared::Retract.admits(kind));
-        assert_eq!(rt; Declared::Upsert.admits(kind), in_upsert);
-        let kinds = KindSet {
-            i: adds,
-            ub: adds,
-            ua: adds,
-            d: adds,
-        };
-        assert_eq!(rt; kinds.contains(kind), adds);
+    for (kind, adds, modes) in KINDS {
+        assert!(rt; kind.is_addition() == adds);
+        assert!(rt; admitted(kind) == modes);
         assert!(rt; Retract.admits(kind));
     }
 }
 
 #[test]
-fn changes_are_kept_in_order(rt: HostRuntime) -> Result<(), Fail> {
-    let alloc = rt.alloc();
-    let mut changes = Changes::new(alloc);
-    assert!(rt; changes.is_empty());
-    changes.push(Change::new(Kind::I, row(alloc, "a")?))?;
-    let again = Change::new(Kind::D, row(alloc, "b")?).dup()?;
-    changes.push(again)?;
-    let copy = changes.dup()?;
-    assert_eq!(rt; copy.len(), 2);
-    assert!(rt; copy.get(2).is_none());
-    assert_eq!(rt; line_of(alloc, &copy)?.as_str(), "+I,a;-D,b;");
-    let mut kinds = String::new(alloc);
-    for change in changes.into_vec() {
-        kinds.push_str(sign(change.kind))?;
+fn sets_of_kinds_contain_their_kinds(rt: HostRuntime) {
+    let kinds = KindSet {
+        i: true,
+        ub: false,
+        ua: true,
+        d: false,
+    };
+    for (kind, adds, _) in KINDS {
+        assert!(rt; kinds.contains(kind) == adds);
     }
-    assert_eq!(rt; kinds.as_str(), "+I-D");
+}
+
+// An added word and a removed one.
+fn two_changes(alloc: Global) -> Result<Changes, Memory> {
+    let mut changes = Changes::new(alloc);
+    changes.push(Change::new(Kind::I, row(alloc, "a")?))?;
+    let removal = Change::new(Kind::D, row(alloc, "b")?);
+    changes.push(removal.dup()?)?;
+    Ok(changes)
+}
+
+#[test]
+fn changes_are_kept_in_order(rt: HostRuntime) -> Result<(), Fail> {
+    assert!(rt; Changes::new(rt.alloc()).is_empty());
+    let changes = two_changes(rt.alloc())?;
+    let copy = changes.dup()?;
+    assert!(rt; are(&copy, &[(Kind::I, "a", 0), (Kind::D, "b", 0)]));
+    assert!(rt; copy.len() == 2 && copy.get(2).is_none());
     Ok(())
 }
 
-// The counts of a bag's first rows as digits, and whether the rows ascend.
-fn listed<L: Ledger>(bag: &Bag, blank: Blank) -> (u64, bool)
+#[test]
+fn changes_are_handed_out_in_order(rt: HostRuntime) -> Result<(), Fail> {
+    let mut kinds = [Kind::UA, Kind::UA];
+    for (i, change) in two_changes(rt.alloc())?.into_vec().into_iter().enumerate() {
+        if i < 2 {
+            kinds[i] = change.kind;
+        }
+    }
+    assert!(rt; kinds == [Kind::I, Kind::D]);
+    Ok(())
+}
+
+// The counts of a bag's two rows, and whether the rows ascend; `None` where there are fewer or more.
+fn two_rows<L: Ledger>(bag: &Bag, blank: Blank) -> Option<(u64, u64, bool)>
     requires name { blank.name ≡ L.name }
     requires parts { blank.parts ≡ L.parts }
     requires some { 0 < L.parts }
 {
     let mut steps = Steps::<L>::new(blank);
     let mut rows = bag.rows();
-    let mut digits = 0u64;
-    let mut ascend = true;
-    let mut last: Option<&Row> = None;
-    for _ in 0..4 {
-        let Some((row, count)) = rows.next_row(&mut steps) else {
-            break;
-        };
-        if let Some(before) = last {
-            ascend = ascend && before < row;
-        }
-        last = Some(row);
-        digits = digits.saturating_mul(10).saturating_add(count);
+    let (first, first_count) = rows.next_row(&mut steps)?;
+    let (second, second_count) = rows.next_row(&mut steps)?;
+    if rows.next_row(&mut steps).is_some() {
+        return None;
     }
-    (digits, ascend)
+    Some((first_count, second_count, first < second))
 }
 
-fn counts_of(bag: &Bag) -> (u64, bool) {
-    listed::<Brand>(bag, Blank::new(1))
+fn counts_of(bag: &Bag) -> Option<(u64, u64, bool)> {
+    two_rows::<Brand>(bag, Blank::new(1))
 }
 
 fn put(bag: &mut Bag, row: Row) -> Result<(), Memory> {
@@ -160,43 +180,52 @@ fn take(bag: &mut Bag, row: &Row) {
     }
 }
 
-#[test]
-fn bags_count_their_rows(rt: HostRuntime) -> Result<(), Fail> {
-    let alloc = rt.alloc();
-    let b = row(alloc, "b")?;
+// A bag of two rows, the greater one put first.
+fn two_in_bag(alloc: Global) -> Result<Bag, Memory> {
     let mut bag = Bag::new(alloc);
-    assert!(rt; bag.is_empty());
     put(&mut bag, row(alloc, "b")?)?;
     put(&mut bag, row(alloc, "a")?)?;
+    Ok(bag)
+}
+
+#[test]
+fn bags_count_their_rows(rt: HostRuntime) -> Result<(), Fail> {
+    let b = row(rt.alloc(), "b")?;
+    let mut bag = two_in_bag(rt.alloc())?;
     put_again(&mut bag, &b);
-    assert_eq!(rt; counts_of(&bag), (12, true));
+    assert!(rt; counts_of(&bag) == Some((1, 2, true)));
     take(&mut bag, &b);
-    assert_eq!(rt; bag.count(&b), 1);
-    assert!(rt; !bag.is_empty());
+    assert!(rt; bag.count(&b) == 1);
+    take(&mut bag, &b);
+    assert!(rt; bag.count(&b) == 0 && !bag.is_empty());
     Ok(())
 }
+
+#[test]
+fn new_bags_are_empty(rt: HostRuntime) {
+    assert!(rt; Bag::new(rt.alloc()).is_empty());
+}
+
+const SUM: Agg = Agg {
+    call: AggCall::Sum,
+    arg: Some(2),
+    filter: None,
+};
 
 #[test]
 fn aggregates_are_kept_in_order(rt: HostRuntime) -> Result<(), Fail> {
-    let alloc = rt.alloc();
-    let mut aggs = Aggs::new(alloc);
+    let mut aggs = Aggs::new(rt.alloc());
     assert!(rt; aggs.is_empty());
-    let sum = Agg {
-        call: AggCall::Sum,
-        arg: Some(2),
-        filter: None,
-    };
-    aggs.push(sum)?;
+    aggs.push(SUM)?;
     let copy = aggs.dup()?;
-    assert_eq!(rt; copy.len(), 1);
-    assert_eq!(rt; copy.get(0), Some(sum));
-    assert_eq!(rt; copy.get(1), None);
+    assert!(rt; copy.len() == 1 && copy.get(0) == Some(SUM) && copy.get(1).is_none());
     Ok(())
 }
 
-fn put_under(keyed: &mut KeyedBag, key: Row, row: Row) -> Result<(), Memory> {
-    if keyed.count(&key, &row) < 9 {
-        keyed.add(key, row)?;
+fn put_under(keyed: &mut KeyedBag, key: &Row, row: &Row) -> Result<(), Memory> {
+    if keyed.count(key, row) < 9 {
+        let new_key = key.dup()?;
+        keyed.add(new_key, row.dup()?)?;
     }
     Ok(())
 }
@@ -207,14 +236,20 @@ fn take_under(keyed: &mut KeyedBag, key: &Row, row: &Row) {
     }
 }
 
+// Two copies of a row under a key.
+fn two_under(alloc: Global, key: &Row, row: &Row) -> Result<KeyedBag, Memory> {
+    let mut keyed = KeyedBag::new(alloc);
+    put_under(&mut keyed, key, row)?;
+    put_under(&mut keyed, key, row)?;
+    Ok(keyed)
+}
+
 #[test]
 fn keyed_bags_drop_empty_keys(rt: HostRuntime) -> Result<(), Fail> {
-    let alloc = rt.alloc();
-    let (key, a) = (row(alloc, "k")?, row(alloc, "a")?);
-    let mut keyed = KeyedBag::new(alloc);
-    put_under(&mut keyed, key.dup()?, a.dup()?)?;
-    put_under(&mut keyed, key.dup()?, a.dup()?)?;
-    assert_eq!(rt; keyed.count(&key, &a), 2);
+    let key = row(rt.alloc(), "k")?;
+    let a = row(rt.alloc(), "a")?;
+    let mut keyed = two_under(rt.alloc(), &key, &a)?;
+    assert!(rt; keyed.count(&key, &a) == 2);
     take_under(&mut keyed, &key, &a);
     assert!(rt; keyed.rows_of(&key).is_some());
     take_under(&mut keyed, &key, &a);
@@ -237,20 +272,41 @@ fn absorbed(change: Change) -> Result<Diff, Memory>
     Retract.absorb(&mut kept, change)
 }
 
+// Whether a word, or none, that is replaced by another, or none, is told by these changes.
+fn is_told(
+    alloc: Global,
+    old: Option<&str>,
+    fresh: Option<&str>,
+    wanted: &[Wanted],
+) -> Result<bool, Memory> {
+    let old = some_row(alloc, old)?;
+    let fresh = some_row(alloc, fresh)?;
+    Ok(are(&told(alloc, old, fresh)?, wanted))
+}
+
+const REPLACED: [(Option<&str>, Option<&str>, &[Wanted]); 5] = [
+    (None, None, &[]),
+    (None, Some("a"), &[(Kind::I, "a", 0)]),
+    (
+        Some("a"),
+        Some("b"),
+        &[(Kind::UB, "a", 0), (Kind::UA, "b", 0)],
+    ),
+    (Some("b"), Some("b"), &[]),
+    (Some("b"), None, &[(Kind::D, "b", 0)]),
+];
+
 #[test]
 fn a_retraction_comes_before_its_update(rt: HostRuntime) -> Result<(), Fail> {
-    let alloc = rt.alloc();
-    let words = [
-        (None, Some("a"), "+I,a;"),
-        (Some("a"), Some("b"), "-U,a;+U,b;"),
-        (Some("b"), Some("b"), ""),
-        (Some("b"), None, "-D,b;"),
-    ];
-    for (old, fresh, line) in words {
-        let changes = told(alloc, some_row(alloc, old)?, some_row(alloc, fresh)?)?;
-        assert_eq!(rt; line_of(alloc, &changes)?.as_str(), line);
+    for (old, fresh, wanted) in REPLACED {
+        assert!(rt; is_told(rt.alloc(), old, fresh, wanted)?);
     }
-    let diff = absorbed(Change::new(Kind::UA, row(alloc, "a")?))?;
+    Ok(())
+}
+
+#[test]
+fn an_addition_comes(rt: HostRuntime) -> Result<(), Fail> {
+    let diff = absorbed(Change::new(Kind::UA, row(rt.alloc(), "a")?))?;
     assert!(rt; diff.gone.is_none() && diff.come.is_some());
     Ok(())
 }
@@ -297,20 +353,26 @@ fn counted(alloc: Global, word: &str, kind: Kind) -> Result<(Changes, Changes), 
     two::<Group<Retract, Retract>, Brand>(&mut group, first, second, Blank::new(1))
 }
 
-#[test]
-fn groups_tell_their_counts(rt: HostRuntime) -> Result<(), Fail> {
-    let alloc = rt.alloc();
-    let cases = [
-        (Kind::I, "+I,a,1;", "-U,a,1;+U,a,2;"),
-        (Kind::D, "+I,a,1;", "-D,a,1;"),
-    ];
-    for (kind, first, second) in cases {
-        let Ok((one, other)) = counted(alloc, "a", kind) else {
-            assert!(rt; false);
-            return Ok(());
-        };
-        assert_eq!(rt; line_of(alloc, &one)?.as_str(), first);
-        assert_eq!(rt; line_of(alloc, &other)?.as_str(), second);
+// A change of a row that was added, what the addition is told by, and what the change is told by.
+const COUNTED: [(Kind, &[Wanted], &[Wanted]); 2] = [
+    (
+        Kind::I,
+        &[(Kind::I, "a", 1)],
+        &[(Kind::UB, "a", 1), (Kind::UA, "a", 2)],
+    ),
+    (Kind::D, &[(Kind::I, "a", 1)], &[(Kind::D, "a", 1)]),
+];
+
+fn is_counted(alloc: Global, kind: Kind, first: &[Wanted], second: &[Wanted]) -> bool {
+    match counted(alloc, "a", kind) {
+        Ok((one, other)) => are(&one, first) && are(&other, second),
+        Err(_) => false,
     }
-    Ok(())
+}
+
+#[test]
+fn groups_tell_their_counts(rt: HostRuntime) {
+    for (kind, first, second) in COUNTED {
+        assert!(rt; is_counted(rt.alloc(), kind, first, second));
+    }
 }

@@ -1,0 +1,11 @@
+//! Tests of the top call: worked runs, faults, limits, and runs of many lines.
+#![tactic(auto)]
+
+#[cfg(test)]
+mod files;
+#[cfg(test)]
+mod long_runs;
+#[cfg(test)]
+mod runs;
+#[cfg(test)]
+mod scripts;
