@@ -93,6 +93,7 @@ mod tests {
             }
         }
         assert_eq!(rt; shelf.faults, 2);
+        fs::remove_file(&rt, "held")?;
         Ok(())
     }
 }

@@ -1,33 +1,36 @@
 // The scripts of these tests.
 
-/// Words of a source that only grows.
+/// Selects the words of an append table.
 pub const SELECT_APPEND: &str =
     "CREATE TABLE t (word STRING NOT NULL) WITH ('changelog' = 'append');\
     CREATE TABLE out_t (word STRING) WITH ('changelog' = 'retract');\
     INSERT INTO out_t SELECT word FROM t;";
 
+/// Selects the words of a retract table.
 pub const SELECT_RETRACT: &str =
     "CREATE TABLE t (word STRING NOT NULL) WITH ('changelog' = 'retract');\
     CREATE TABLE out_t (word STRING) WITH ('changelog' = 'retract');\
     INSERT INTO out_t SELECT word FROM t;";
 
+/// Counts the rows of each word of an append table.
 pub const COUNT_APPEND: &str =
     "CREATE TABLE t (word STRING NOT NULL) WITH ('changelog' = 'append');\
     CREATE TABLE out_t (word STRING, n BIGINT) WITH ('changelog' = 'retract');\
     INSERT INTO out_t SELECT word, COUNT(*) FROM t GROUP BY word;";
 
+/// Counts the rows of each word of a retract table.
 pub const COUNT_RETRACT: &str =
     "CREATE TABLE t (word STRING NOT NULL) WITH ('changelog' = 'retract');\
     CREATE TABLE out_t (word STRING, n BIGINT) WITH ('changelog' = 'retract');\
     INSERT INTO out_t SELECT word, COUNT(*) FROM t GROUP BY word;";
 
-/// Two columns, of which the second is read before the first.
+/// Selects two columns, the second before the first.
 pub const SELECT_TWO: &str =
     "CREATE TABLE t (a STRING, b STRING NOT NULL) WITH ('changelog' = 'append');\
     CREATE TABLE out_t (y STRING, x STRING) WITH ('changelog' = 'retract');\
     INSERT INTO out_t SELECT b, a FROM t;";
 
-/// Counts by the second of two columns.
+/// Counts the rows of each value of the second of two columns.
 pub const COUNT_SECOND: &str =
     "CREATE TABLE t (a STRING, b STRING NOT NULL) WITH ('changelog' = 'retract');\
     CREATE TABLE out_t (b STRING, n BIGINT) WITH ('changelog' = 'retract');\
