@@ -1,7 +1,4 @@
-pub mod Chains
 pub mod Ascii
 pub mod Quotes
 pub mod Splits
 pub mod Turns
-pub mod Operands
-pub mod Scripts
