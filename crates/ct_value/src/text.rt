@@ -8,6 +8,7 @@ ghost use Rattle.std.proofs.Common.{refl};
 use crate::Memory;
 use std::alloc::{AllocError, Global};
 use std::cmp::Ordering;
+use std::convert::AsStr;
 use std::marker::Model;
 
 /// A text in UTF-8, seen as the list of its bytes, by which texts are ordered.
@@ -22,6 +23,14 @@ impl Model for Text {
     ghost Value = { List ℕ };
 
     ghost view = { λ t. string_bytes t.text };
+}
+
+impl AsStr for Text {
+    ghost text = { λ t. t };
+
+    fn as_str(&self) -> &str {
+        self.text.as_str()
+    }
 }
 
 /// Why bytes are no text.

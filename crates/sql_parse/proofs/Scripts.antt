@@ -44,11 +44,17 @@ following-and xs x (refused code number) = refl
 -- so many statements were read, and the rest is still to be read
 pub record ReadSoFar (is_whole : Bool) (start : List Token) (xs : List Statement) (number : ℕ) (rest : List Token) : Type 0 where
   pub few : number + length rest ≤ 1 + length start
+  pub counted : number ≡ suc (length xs)
   pub same : read_from is_whole 1 start ≡ following xs (read_from is_whole number rest)
+
+length-more : {A : Type 0} (xs : List A) (x : A) → length (xs ++ x ∷ []) ≡ suc (length xs)
+length-more [] x = refl
+length-more (y ∷ xs) x = ap suc (length-more xs x)
 
 pub so_far_start : (is_whole : Bool) (start : List Token) (xs : List Statement) (number : ℕ) → xs ≡ [] → number ≡ 1 → ReadSoFar is_whole start xs number start
 so_far_start is_whole start xs number e n = record {
   few = omega arith;
+  counted = n ∙ ap (λ (l : List Statement). suc (length l)) (sym e);
   same = following-nil _ ∙ ap (λ a. following a (read_from is_whole 1 start)) (sym e) ∙ ap (λ a. following xs (read_from is_whole a start)) (sym n);
 }
 
@@ -82,6 +88,12 @@ read_open true number [] e = refl
 read_open true number (t ∷ ts) e = ap (read_pieces number) (pieces-cut true (t ∷ ts)) ∙ ap (λ o. read_pieces number (cut true (t ∷ ts) o)) e
 read_open false number ts e = ap (read_pieces number) (pieces-cut false ts) ∙ ap (λ o. read_pieces number (cut false ts o)) e
 
+one_more : (n : ℕ) → suc n + 1 ≡ suc (suc n)
+one_more n = omega arith
+
+pub so_far_few : (is_whole : Bool) (start ts : List Token) (xs : List Statement) (number : ℕ) → ReadSoFar is_whole start xs number ts → length xs ≤ length start
+so_far_few is_whole start ts xs number from = omega (arith, from.few, from.counted)
+
 pub so_far_turn : (is_whole : Bool) (start ts us vs : List Token) (xs more : List Statement) (x : Statement) (number next : ℕ) → ReadSoFar is_whole start xs number ts → first_statement ts ≡ Some (us, vs)
     → ((others : Answer) → read_ended number us others ≡ and_others x others) → more ≡ xs ++ x ∷ [] → next ≡ number + 1 → ReadSoFar is_whole start more next vs
 so_far_turn is_whole start ts us vs xs more x number next from cuts one e n =
@@ -89,6 +101,7 @@ so_far_turn is_whole start ts us vs xs more x number next from cuts one e n =
     let up : suc number ≡ next = omega arith in
     record {
       few = omega (arith, from.few, less);
+      counted = n ∙ ap (λ k. k + 1) from.counted ∙ one_more (length xs) ∙ ap suc (sym (ap length e ∙ length-more xs x));
       same = from.same ∙ ap (following xs) (read_closed is_whole number ts us vs cuts ∙ one (read_from is_whole (suc number) vs)) ∙ following-and xs x (read_from is_whole (suc number) vs)
           ∙ ap (λ a. following a (read_from is_whole (suc number) vs)) (sym e) ∙ ap (λ a. following more (read_from is_whole a vs)) up;
     }
@@ -252,6 +265,14 @@ refused_behind n (ended ts ∷ before) piece ps (x ∷ xs) code g h =
 pub is_read : (text : List ℕ) (x : t.Script) → IsScript text x → read_text text ≡ answered x.statements
 unfolding read_text read_from
 is_read text x h = are_read 1 (statements_of text) x.statements h
+
+pub script_read : (text : List ℕ) (x : t.Script) → read_text text ≡ answered x.statements → IsScript text x
+unfolding read_text read_from
+script_read text x e = pieces_are 1 (statements_of text) x.statements e
+
+pub read_refusal : (text : List ℕ) (code : ScriptCode) (number : ℕ) → read_text text ≡ refused code number → TextRefusal text code number
+unfolding read_text read_from
+read_refusal text code number e = refused_are 1 (statements_of text) code number e
 
 pub refusal_read : (text : List ℕ) (code : ScriptCode) (number : ℕ) → TextRefusal text code number → read_text text ≡ refused code number
 unfolding read_text read_from

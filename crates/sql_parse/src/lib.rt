@@ -3,6 +3,7 @@
 
 mod depth;
 mod expressions;
+mod laws;
 mod lists;
 mod nested;
 mod nodes;
@@ -14,6 +15,7 @@ mod statements;
 mod tokens;
 mod words;
 
+pub use laws::{text_is_refused, text_is_script};
 pub use script::{ParseFault, parse_script};
 pub use statements::{is_too_deep, split_statement};
 pub use tokens::{Tokens, tokens_of};

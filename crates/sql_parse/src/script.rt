@@ -1,5 +1,5 @@
 //! Reads scripts: the first text refusal, or the statements.
-ghost use Rattle.std.specs.Prelude.{◌≡◌, ℕ, ◌<◌, ◌≤◌, Some, None, [], length, option_map, IfSome, IfOk, IfErr, IsErrOf};
+ghost use Rattle.std.specs.Prelude.{◌≡◌, ℕ, ◌<◌, ◌≤◌, ◌+◌, Some, None, [], length, option_map, IfSome, IfOk, IfErr, IsErrOf};
 ghost use Rattle.ct_value.specs.declared.codes.ScriptCode.{ScriptCode as Code};
 ghost use Rattle.sql_syntax.specs.Tree.{Script as ScriptTree};
 ghost use Rattle.sql_syntax.specs.Statements.{first_statement};
@@ -169,6 +169,7 @@ fn script_statements(
     requires { length tokens.now ≤ 262145 }
     ensures ok { IfOk result (λ list. read_from is_whole 1 tokens.now ≡ answered (statements_view list)) }
     ensures refused { IfErr result (λ fault. IsRefusal fault (read_from is_whole 1 tokens.now)) }
+    ensures few { IfOk result (λ list. length (statements_view list) ≤ length tokens.now) }
 {
     let mut list = Statements::new(alloc);
     let mut rest = tokens;
@@ -188,6 +189,7 @@ fn read_text(alloc: Global, text: &[u8]) -> Result<Script, ParseFault>
     requires { length text.now ≤ 262144 }
     ensures ok { IfOk result (λ script. read_text text.now ≡ answered (statements_view script.statements)) }
     ensures refused { IfErr result (λ fault. IsRefusal fault (read_text text.now)) }
+    ensures few { IfOk result (λ script. length (statements_view script.statements) ≤ length text.now + 1) }
 {
     let tokens = tokens_of(alloc, text)?;
     let statements = script_statements(alloc, tokens.as_slice(), tokens.is_whole())?;
@@ -203,6 +205,7 @@ pub fn parse_script(alloc: Global, text: &Bytes) -> Result<Script, ParseFault>
     ensures refused { IfErr result (λ fault. IfRefused fault (λ code number. TextRefusal text.now code number)) }
     ensures spelled { (x : ScriptTree) → IsScript text.now x → IfOk result (λ script. script_view script ≡ x) × IfErr result (λ fault. fault ≡ ParseFault.Memory) }
     ensures first { (code : Code) (number : ℕ) → TextRefusal text.now code number → IfOk result (λ script. ⊥) × IfErr result (λ fault. IfRefused fault (λ c n. (c ≡ code) × (n ≡ number))) }
+    ensures few { IfOk result (λ script. length (statements_view script.statements) ≤ length text.now + 1) }
 {
     read_text(alloc, text.as_slice())
 }

@@ -2,7 +2,7 @@ use Rattle.std.proofs.Common.{◌≡◌, ◌+◌, Some, None, rules, arith, refl
 use Rattle.sql_syntax.specs.Statements.{first_statement}
 use Rattle.sql_syntax.specs.View.{statements_view, statement_view}
 use Rattle.sql_parse.specs.Scripts.{IsRefusal, read_from}
-use Rattle.sql_parse.proofs.Scripts.{so_far_turn, so_far_end, so_far_refused, so_far_last, passed_up}
+use Rattle.sql_parse.proofs.Scripts.{so_far_turn, so_far_end, so_far_refused, so_far_last, so_far_few, passed_up}
 use Rattle.sql_parse.proofs.script.script_statements.Goals as goal
 
 pub returns-clause-ok : goal.returns-clause-ok
@@ -27,3 +27,6 @@ returns-in_err-last-clause-refused c =
     let stops : first_statement c.statements.rest.now ≡ None = grind arith in
     passed_up c.from_residual-in_err-last.result c.in_err-last.field-0.0 (λ fault. IsRefusal fault (read_from c.args.is_whole 1 c.args.tokens.now)) c.from_residual-in_err-last.ensures.1
     (so_far_last c.args.is_whole c.args.tokens.now c.statements.rest.now (statements_view c.statements.list) c.statements.number c.in_err-last.field-0.0 c.statements.invariant stops c.in_err-last.ensures.refused)
+
+pub returns-clause-few : goal.returns-clause-few
+returns-clause-few c = so_far_few c.args.is_whole c.args.tokens.now c.statements.rest.now (statements_view c.statements.list) c.statements.number c.statements.invariant
