@@ -3,6 +3,7 @@ use Rattle.std.proofs.Common.{◌≡◌, ℕ, ◌<◌, Bool, true, false, List, 
 use Rattle.ct_value.specs.Bag.{copies}
 use Rattle.ct_value.specs.declared.row.Row.{Row}
 use Rattle.ct_value.specs.declared.codes.ChangeCode.{ChangeCode}
+use Rattle.command_line.specs.Words.{FileNames, files_of}
 use Rattle.ct_io.specs.Holdings.{Holdings, Loaded, Missing, Long, Whole, loaded}
 use Rattle.ct_change.specs.declared.change.Change.{Change}
 use Rattle.ct_change.specs.Changelog.{Mode, retract, fold, IsValid, AreOf, has, kinds_of}
@@ -14,21 +15,22 @@ use Rattle.job.specs.declared.ending.Ending.TheVariants as e
 use Rattle.job.specs.declared.ending.LimitName.TheVariants.{Script as ScriptLimit, Changes as ChangesLimit}
 use Rattle.job.specs.declared.printed.PrintItem.{PrintItem}
 use Rattle.job.specs.declared.printed.PrintItem.TheVariants.{Change as Printed, Quiet}
-use Rattle.job.specs.declared.script.Script.{Script}
+use Rattle.judge.specs.declared.accepted.Accepted.{Accepted}
+use Rattle.judge.specs.Judgement.{Judgement, accepted as accepted_as, refused as refused_as, judgement}
+use Rattle.judge.specs.Lawful.{IsLawful}
+use Rattle.judge.proofs.Lawful.{accepted_lawful}
 use Rattle.job.specs.Answer.{select_rows, answer_counted, answer}
 use Rattle.job.specs.Headline.{changes_in, changes_of, table, IsAnswered, CarriesKinds, Headline, IsHeadline}
 use Rattle.job.specs.Lines.{source_mode, plain_text, lines_of, taken_of}
 use Rattle.job.specs.Machine.{Plan, scan}
-use Rattle.job.specs.Outcome.{Outcome, after_load, after_lines, outcome_of_run, whole_run, with_text, with_changes, with_script, with_script_text, with_files, outcome}
+use Rattle.job.specs.Outcome.{Outcome, after_load, after_lines, outcome_of_run, whole_run, with_text, with_changes, with_judgement, with_script_text, with_files, outcome}
 use Rattle.job.specs.Plan.{columns_read, count_rule, plan_of, node, nodes_behind}
 use Rattle.job.specs.Printed.{text_of}
 use Rattle.job.specs.Replays.{emitted_where, emitted_by, outcome_of_answer}
-use Rattle.job.specs.Script.{script_of}
-use Rattle.job.specs.Words.{FileNames, files_of}
 use Rattle.job.proofs.Chains as chains
 use Rattle.job.proofs.Counts.{Counted, counted}
 use Rattle.job.proofs.Intakes.{Fits}
-use Rattle.job.proofs.Accepted.{IsRead, script_is_read}
+use Rattle.job.proofs.Accepted.{is_bag}
 use Rattle.job.proofs.Replays.{sent_by, run_comes, sent_has_width, taken-count}
 use Rattle.job.proofs.ScanFacts.{scan_valid, scan_folds, scan_kinds, taken_valid}
 use Rattle.job.proofs.Selects.{image_is_selected}
@@ -57,7 +59,7 @@ take-all (x ∷ xs) = ap (λ ys. x ∷ ys) (take-all xs)
 
 -- ---- what was printed of the changes that were taken
 
-module _ (script : Script) (read : IsRead script) (lines : List (List ℕ)) (taken : List Change) (are : AreTaken script lines taken) where
+module _ (script : Accepted) (read : IsLawful script) (lines : List (List ℕ)) (taken : List Change) (are : AreTaken script lines taken) where
   abbrev mode : Mode
   mode = source_mode script.source
 
@@ -68,7 +70,7 @@ module _ (script : Script) (read : IsRead script) (lines : List (List ℕ)) (tak
   valid = taken_valid mode [] taken are.taken_all
 
   sent_is_valid : IsValid retract sent
-  sent_is_valid = scan_valid mode read.bag (columns_read script) taken valid
+  sent_is_valid = scan_valid mode (is_bag script read) (columns_read script) taken valid
 
   declared : AreOf (kinds_of mode) taken
   declared = all-each (Fits script.source) (λ change. has (kinds_of mode) change.kind ≡ true) (λ change fits. fits.declared) taken are.fit
@@ -76,34 +78,34 @@ module _ (script : Script) (read : IsRead script) (lines : List (List ℕ)) (tak
   sent_declared : AreOf (kinds_of mode) sent
   sent_declared = scan_kinds (kinds_of mode) (columns_read script) taken declared
 
-  rows_wide : (row : Row) → 0 < copies (fold mode taken) row → length row ≡ length script.source.columns
-  rows_wide = means_rows (λ row. length row ≡ length script.source.columns) mode taken (fold mode taken) (means_fold mode taken valid)
-      (all-each (Fits script.source) (λ change. length change.row ≡ length script.source.columns) (λ change fits. fits.width) taken are.fit)
+  rows_wide : (row : Row) → 0 < copies (fold mode taken) row → length row ≡ length script.source.cols
+  rows_wide = means_rows (λ row. length row ≡ length script.source.cols) mode taken (fold mode taken) (means_fold mode taken valid)
+      (all-each (Fits script.source) (λ change. length change.row ≡ length script.source.cols) (λ change fits. fits.width) taken are.fit)
 
   -- what was sent folds to the select list of the table
   sent_selects : fold retract sent ≡ select_rows script (fold mode taken)
-  sent_selects = scan_folds mode read.bag (columns_read script) taken valid ∙ image_is_selected script read.there (fold mode taken) rows_wide
+  sent_selects = scan_folds mode (is_bag script read) (columns_read script) taken valid ∙ image_is_selected script read.there (fold mode taken) rows_wide
 
-  group_counted : (printed : List Change) → emitted_where true script.insert sent ≡ Ok printed → Counted (length script.insert.names) (kinds_of mode) sent printed
-  group_counted printed is = counted (length script.insert.names) (kinds_of mode) sent sent_is_valid sent_declared (sent_has_width script taken) printed is
+  group_counted : (printed : List Change) → emitted_where true script sent ≡ Ok printed → Counted (length script.names) (kinds_of mode) sent printed
+  group_counted printed is = counted (length script.names) (kinds_of mode) sent sent_is_valid sent_declared (sent_has_width script taken) printed is
 
-  valid_where : (counting : Bool) (printed : List Change) → emitted_where counting script.insert sent ≡ Ok printed → IsValid retract printed
+  valid_where : (counting : Bool) (printed : List Change) → emitted_where counting script sent ≡ Ok printed → IsValid retract printed
   valid_where false printed is = subst (IsValid retract) (sym (ok-same sent printed is)) sent_is_valid
   valid_where true printed is = (group_counted printed is).valid
 
-  folds_where : (counting : Bool) (printed : List Change) → emitted_where counting script.insert sent ≡ Ok printed → answer_counted script counting (fold retract sent) ≡ Some (fold retract printed)
+  folds_where : (counting : Bool) (printed : List Change) → emitted_where counting script sent ≡ Ok printed → answer_counted script counting (fold retract sent) ≡ Some (fold retract printed)
   folds_where false printed is = ap (λ (l : List Change). Some (fold retract l)) (sym (ok-same sent printed is))
   folds_where true printed is = (group_counted printed is).counts
 
   table_is : table script lines (length lines) ≡ fold mode taken
   table_is = ap (λ l. fold mode (changes_of script l)) (take-all lines) ∙ ap (fold mode) (sym are.are)
 
-  answered : (printed : List Change) → emitted_by script.insert sent ≡ Ok printed → IsAnswered script lines (length lines) printed
+  answered : (printed : List Change) → emitted_by script sent ≡ Ok printed → IsAnswered script lines (length lines) printed
   answered printed is = record {
-    valid = valid_where script.insert.counted printed is;
+    valid = valid_where script.counted printed is;
     folds =
-        ap (answer script) table_is ∙ ap (answer_counted script script.insert.counted) (sym sent_selects)
-        ∙ folds_where script.insert.counted printed is;
+        ap (answer script) table_is ∙ ap (answer_counted script script.counted) (sym sent_selects)
+        ∙ folds_where script.counted printed is;
   }
 
   -- ---- what the edges carried
@@ -111,7 +113,7 @@ module _ (script : Script) (read : IsRead script) (lines : List (List ℕ)) (tak
   abbrev plan_where : Bool → Plan
   plan_where counting = record { source = mode; nodes = node (scan (columns_read script)) [] ∷ nodes_behind script counting }
 
-  carries_where : (counting : Bool) (printed : List Change) → emitted_where counting script.insert sent ≡ Ok printed → CarriesKinds (plan_where counting) (whole_run (plan_where counting) taken).0
+  carries_where : (counting : Bool) (printed : List Change) → emitted_where counting script sent ≡ Ok printed → CarriesKinds (plan_where counting) (whole_run (plan_where counting) taken).0
   carries_where false printed is =
       let comes = chains.direct_run mode (columns_read script) retract taken are.taken_all in
       subst (λ r. CarriesKinds (plan_where false) r.0) (sym comes.1) (
@@ -128,12 +130,12 @@ module _ (script : Script) (read : IsRead script) (lines : List (List ℕ)) (tak
         (subst (AreOf behind) (sym comes.2.sent2_is) kinds, (subst (AreOf behind) (sym comes.2.sent3_is) kinds, tt)),
       )
 
-  carries : (printed : List Change) → emitted_by script.insert sent ≡ Ok printed → CarriesKinds (plan_of script) (whole_run (plan_of script) taken).0
-  carries printed is = carries_where script.insert.counted printed is
+  carries : (printed : List Change) → emitted_by script sent ≡ Ok printed → CarriesKinds (plan_of script) (whole_run (plan_of script) taken).0
+  carries printed is = carries_where script.counted printed is
 
   -- ---- what was printed
 
-  headline_of : (printed : List Change) → emitted_by script.insert sent ≡ Ok printed → length taken ≡ length lines → Headline script lines (text_of (map Printed printed ++ Quiet (length taken) ∷ []))
+  headline_of : (printed : List Change) → emitted_by script sent ≡ Ok printed → length taken ≡ length lines → Headline script lines (text_of (map Printed printed ++ Quiet (length taken) ∷ []))
   headline_of printed is count = record {
     items = map Printed printed ++ Quiet (length lines) ∷ [];
     reads = ap (λ n. text_of (map Printed printed ++ Quiet n ∷ [])) count;
@@ -146,23 +148,23 @@ module _ (script : Script) (read : IsRead script) (lines : List (List ℕ)) (tak
 
   pub headline_comes : length taken ≡ length lines → (outcome_of_run (whole_run (plan_of script) taken)).ending ≡ e.Done → Headline script lines (outcome_of_run (whole_run (plan_of script) taken)).bytes
   headline_comes count done =
-      subst (λ (o : Outcome). Headline script lines o.bytes) (sym comes) (at (emitted_by script.insert sent) refl (ap (λ (o : Outcome). o.ending) (sym comes) ∙ done))
+      subst (λ (o : Outcome). Headline script lines o.bytes) (sym comes) (at (emitted_by script sent) refl (ap (λ (o : Outcome). o.ending) (sym comes) ∙ done))
     where
-      comes : outcome_of_run (whole_run (plan_of script) taken) ≡ outcome_of_answer (length taken) (emitted_by script.insert sent)
+      comes : outcome_of_run (whole_run (plan_of script) taken) ≡ outcome_of_answer (length taken) (emitted_by script sent)
       comes = run_comes script taken are.taken_all
 
-      at : (a : Answer) → emitted_by script.insert sent ≡ a → (outcome_of_answer (length taken) a).ending ≡ e.Done → Headline script lines (outcome_of_answer (length taken) a).bytes
+      at : (a : Answer) → emitted_by script sent ≡ a → (outcome_of_answer (length taken) a).ending ≡ e.Done → Headline script lines (outcome_of_answer (length taken) a).bytes
       at (Ok printed) is ends_well = headline_of printed is count
       at (Err row) is ends_well = absurd (cc (ends_well))
 
 -- ---- from the words on
 
-at_lines : (script : Script) → IsRead script → (lines : List (List ℕ)) (r : Result (List Change) (ℕ × ChangeCode)) → taken_of script.source lines ≡ r → (after_lines (plan_of script) r).ending ≡ e.Done → Headline script lines (after_lines (plan_of script) r).bytes
+at_lines : (script : Accepted) → IsLawful script → (lines : List (List ℕ)) (r : Result (List Change) (ℕ × ChangeCode)) → taken_of script.source lines ≡ r → (after_lines (plan_of script) r).ending ≡ e.Done → Headline script lines (after_lines (plan_of script) r).bytes
 at_lines script read lines (Err refusal) is done = absurd (cc (done))
 at_lines script read lines (Ok taken) is done = headline_comes script read lines taken (are_taken script lines taken is) (taken-count script.source lines taken is) done
 
 module _ (words : List (List ℕ)) (h : Holdings) (names : FileNames) (named : files_of words ≡ Some names) (script_text : List ℕ) (script_held : loaded h names.script 262144 ≡ Whole script_text) where
-  module _ (script : Script) (accepted : script_of script_text ≡ Some script) where
+  module _ (script : Accepted) (accepted : judgement script_text ≡ accepted_as script) where
     at_text : (changes : List ℕ) → loaded h names.changes 67108864 ≡ Whole changes → (t : Option (List ℕ)) → plain_text changes ≡ t → (with_text script t).ending ≡ e.Done → IsHeadline words h (with_text script t).bytes
     at_text changes held None is done = absurd (cc (done))
     at_text changes held (Some text) is done = record {
@@ -176,7 +178,7 @@ module _ (words : List (List ℕ)) (h : Holdings) (names : FileNames) (named : f
       accepted = accepted;
       changes_held = held;
       plain = is;
-      headline = at_lines script (script_is_read script_text script accepted) (lines_of text) _ refl done;
+      headline = at_lines script (accepted_lawful script_text script accepted) (lines_of text) _ refl done;
     }
 
     at_changes : (l : Loaded) → loaded h names.changes 67108864 ≡ l → (after_load ChangesLimit (with_changes script) l).ending ≡ e.Done → IsHeadline words h (after_load ChangesLimit (with_changes script) l).bytes
@@ -184,9 +186,9 @@ module _ (words : List (List ℕ)) (h : Holdings) (names : FileNames) (named : f
     at_changes Long is done = absurd (cc (done))
     at_changes (Whole changes) is done = at_text changes is _ refl done
 
-  at_script : (o : Option Script) → script_of script_text ≡ o → (with_script h names.changes o).ending ≡ e.Done → IsHeadline words h (with_script h names.changes o).bytes
-  at_script None is done = absurd (cc (done))
-  at_script (Some script) is done = at_changes script is _ refl done
+  at_script : (j : Judgement) → judgement script_text ≡ j → (with_judgement h names.changes j).ending ≡ e.Done → IsHeadline words h (with_judgement h names.changes j).bytes
+  at_script (refused_as code number) is done = absurd (cc (done))
+  at_script (accepted_as script) is done = at_changes script is _ refl done
 
 at_files : (words : List (List ℕ)) (h : Holdings) (names : FileNames) → files_of words ≡ Some names → (l : Loaded) → loaded h names.script 262144 ≡ l → (after_load ScriptLimit (with_script_text h names.changes) l).ending ≡ e.Done
     → IsHeadline words h (after_load ScriptLimit (with_script_text h names.changes) l).bytes

@@ -14,7 +14,7 @@ use Rattle.ct_change.specs.declared.change.Change.{Change}
 use Rattle.ct_change.specs.Changelog.{Mode, append, retract, upsert, Rows, mode_of, admits, apply, fold, fold_from, IsValidFrom, IsValid}
 use Rattle.ct_change.specs.Emission.{difference}
 use Rattle.ct_change.proofs.Folds.{fold-push, total-apply, weight_of}
-use Rattle.job.specs.declared.script.Table.{Table}
+use Rattle.ct_catalog.specs.declared.table.TableDef.{TableDef}
 use Rattle.job.specs.declared.intake.Intake.{Intake}
 use Rattle.job.specs.Lines.{refusal, source_mode, text_row, kind_of, fields_of, change_of, change_of_fields, change_of_kind, line_change, taken_from, taken_then}
 use Rattle.job.specs.Machine.{scanned}
@@ -68,8 +68,8 @@ taken-push mode before (first ∷ taken) change all free =
 -- ---- the change of a line
 
 -- what is known of a change that is a line of the source
-pub record Fits (source : Table) (change : Change) : Type 0 where
-  pub width : length change.row ≡ length source.columns
+pub record Fits (source : TableDef) (change : Change) : Type 0 where
+  pub width : length change.row ≡ length source.cols
   pub declared : admits (source_mode source) change.kind ≡ true
 
 length-texts : (values : List (List ℕ)) → length (text_row values) ≡ length values
@@ -86,23 +86,23 @@ fits_kind mode values (Some kind) change e =
       | false ↦ λ a q. absurd (cc)
     ] refl e
 
-fits_fields : (source : Table) (fields : List (List ℕ)) (change : Change) → change_of_fields source fields ≡ Some change → Fits source change
+fits_fields : (source : TableDef) (fields : List (List ℕ)) (change : Change) → change_of_fields source fields ≡ Some change → Fits source change
 fits_fields source [] change e = absurd (cc)
 fits_fields source (name ∷ []) change e = absurd (cc)
 fits_fields source (name ∷ kind ∷ values) change e =
-    elim (bytes_eq source.name name && (length values == length source.columns)) as (λ b. (bytes_eq source.name name && (length values == length source.columns)) ≡ b → cond b (change_of_kind (source_mode source) values (kind_of kind)) None ≡ Some change → Fits source change) [
+    elim (bytes_eq source.name name && (length values == length source.cols)) as (λ b. (bytes_eq source.name name && (length values == length source.cols)) ≡ b → cond b (change_of_kind (source_mode source) values (kind_of kind)) None ≡ Some change → Fits source change) [
       | true ↦ λ t q.
           let fits = fits_kind (source_mode source) values (kind_of kind) change q in
           record { width = fits.0 ∙ eqb-true _ _ (second_of_both (bytes_eq source.name name) _ t); declared = fits.1 }
       | false ↦ λ t q. absurd (cc)
     ] refl e
 
-pub change_fits : (source : Table) (line : List ℕ) (change : Change) → change_of source line ≡ Some change → Fits source change
+pub change_fits : (source : TableDef) (line : List ℕ) (change : Change) → change_of source line ≡ Some change → Fits source change
 change_fits source line change e = fits_fields source (fields_of line) change e
 
 -- ---- one more change
 
-module _ (source : Table) (intake : Intake) (taken : List Change) (holds : Holds source intake taken) (change : Change) (fits : Fits source change) where
+module _ (source : TableDef) (intake : Intake) (taken : List Change) (holds : Holds source intake taken) (change : Change) (fits : Fits source change) where
   pub bag_there : IsBagMode (mode_of intake.mode [])
   bag_there = subst (λ (m : Declared). IsBagMode (mode_of m [])) (sym holds.mode_is) holds.bag
 
@@ -149,15 +149,15 @@ module _ (source : Table) (intake : Intake) (taken : List Change) (holds : Holds
     all_taken = taken-push (source_mode source) [] taken change holds.all_taken (sym refusal_seen ∙ free);
     stands = subst (λ (m : Declared). StandsFor (source_mode source) (kept_after m intake.standing change) (fold (source_mode source) (taken ++ change ∷ []))) (sym holds.mode_is) (stands_in source.mode holds.stands holds.bag);
     sent_is = ap (λ (l : List Change). l ++ scanned intake.picks change ∷ []) holds.sent_is ∙ sym (map-push (scanned intake.picks) taken change);
-    widths = all-push (λ c. length c.row ≡ length source.columns) taken change holds.widths fits.width;
+    widths = all-push (λ c. length c.row ≡ length source.cols) taken change holds.widths fits.width;
   }
 
 -- ---- lines
 
 -- the line at i is the next
-pub next_line : (source : Table) (before : List Change) (lines : List (List ℕ)) (i : ℕ) → i < length lines
+pub next_line : (source : TableDef) (before : List Change) (lines : List (List ℕ)) (i : ℕ) → i < length lines
     → taken_from source before (i + 1) (drop i lines) ≡ taken_then (λ more. taken_from source more (i + 1 + 1) (drop (i + 1) lines)) before (i + 1) (line_change source before (slice_index_or lines i []))
 next_line source before lines i below = ap (taken_from source before (i + 1)) (drop_more lines i [] below)
 
-pub no_line : (source : Table) (before : List Change) (lines : List (List ℕ)) (i : ℕ) → length lines ≤ i → taken_from source before (i + 1) (drop i lines) ≡ Ok before
+pub no_line : (source : TableDef) (before : List Change) (lines : List (List ℕ)) (i : ℕ) → length lines ≤ i → taken_from source before (i + 1) (drop i lines) ≡ Ok before
 no_line source before lines i past = ap (taken_from source before (i + 1)) (drop_all i lines past)

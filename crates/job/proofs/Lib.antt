@@ -2,11 +2,9 @@ pub mod Accepted
 pub mod Chains
 pub mod Countings
 pub mod Counts
-pub mod Cuts
 pub mod FullLines
 pub mod Headline
 pub mod Intakes
-pub mod Lists
 pub mod Plain
 pub mod Prints
 pub mod Replays

@@ -11,27 +11,28 @@ use Rattle.ct_value.specs.declared.codes.ChangeCode.{ChangeCode}
 use Rattle.ct_change.specs.declared.change.Change.{Change}
 use Rattle.ct_change.specs.Changelog.{Mode, append, retract, upsert, fold, IsValid}
 use Rattle.op_rules.specs.Rules.{Answer}
-use Rattle.job.specs.declared.script.Column.{Column}
-use Rattle.job.specs.declared.script.Table.{Table}
-use Rattle.job.specs.declared.script.Script.{Script}
+use Rattle.ct_catalog.specs.declared.table.ColDef.{ColDef}
+use Rattle.ct_catalog.specs.declared.table.TableDef.{TableDef}
+use Rattle.judge.specs.declared.accepted.Accepted.{Accepted}
 use Rattle.job.specs.declared.intake.Intake.{Intake}
 use Rattle.job.specs.declared.printed.PrintItem.TheVariants.{Change as Printed}
 use Rattle.job.specs.Intake.{AllTaken, StandsFor, Holds}
 use Rattle.job.specs.Scans.{IsBagMode}
-use Rattle.job.specs.Lawful.{IsLawful}
+use Rattle.judge.specs.Lawful.{IsLawful}
 use Rattle.job.specs.Lines.{source_mode, lines_of, taken_of, taken_from, taken_then, line_change}
 use Rattle.job.specs.Machine.{Plan, State, scan, scanned, out_of_range}
 use Rattle.job.specs.Outcome.{ends, whole_run, outcome_of_run, after_lines, with_text}
 use Rattle.job.specs.declared.ending.Ending.TheVariants as e
 use Rattle.job.specs.Plan.{place_of, places_of, columns_read, count_rule, plan_of, node, nodes_behind}
 use Rattle.job.specs.Replays.{emitted_where, emitted_by, outcome_of_answer}
-use Rattle.job.specs.Script.{is_named}
+use Rattle.judge.specs.Forms.{has_name}
+use Rattle.job.proofs.Accepted.{is_bag}
 use Rattle.job.proofs.Chains as chains
 use Rattle.job.proofs.ScanFacts.{scan_valid, taken_valid}
 use Rattle.job.proofs.Plain.{first_of_both, second_of_both}
 
 -- what the scan sends
-abbrev pub sent_by : Script → List Change → List Change
+abbrev pub sent_by : Accepted → List Change → List Change
 sent_by script taken = map (scanned (columns_read script)) taken
 
 quiet_behind : (s : State) (taken printed : List Change) → s.taken ≡ taken → s.printed ≡ map Printed printed → outcome_of_run (s, None) ≡ outcome_of_answer (length taken) (Ok printed)
@@ -40,7 +41,7 @@ quiet_behind s taken printed t p = rw (t, p)
 out_behind : (s : State) (taken : List Change) (row : Row) → s.printed ≡ [] → outcome_of_run (s, Some (out_of_range 2 0 row)) ≡ outcome_of_answer (length taken) (Err row)
 out_behind s taken row p = rw p
 
-module _ (script : Script) (taken : List Change) (all : AllTaken (source_mode script.source) [] taken) where
+module _ (script : Accepted) (taken : List Change) (all : AllTaken (source_mode script.source) [] taken) where
   abbrev plan_where : Bool → Plan
   plan_where counted = record { source = source_mode script.source; nodes = node (scan (columns_read script)) [] ∷ nodes_behind script counted }
 
@@ -48,15 +49,15 @@ module _ (script : Script) (taken : List Change) (all : AllTaken (source_mode sc
   answer_comes (Ok sent) comes = ap outcome_of_run comes.1 ∙ quiet_behind comes.0 taken sent comes.2.taken_is comes.2.printed_is
   answer_comes (Err row) comes = ap outcome_of_run comes.1 ∙ out_behind comes.0 taken row comes.2
 
-  run_where : (counted : Bool) → outcome_of_run (whole_run (plan_where counted) taken) ≡ outcome_of_answer (length taken) (emitted_where counted script.insert (sent_by script taken))
+  run_where : (counted : Bool) → outcome_of_run (whole_run (plan_where counted) taken) ≡ outcome_of_answer (length taken) (emitted_where counted script (sent_by script taken))
   run_where false =
       let comes = chains.direct_run (source_mode script.source) (columns_read script) retract taken all in
       ap outcome_of_run comes.1 ∙ quiet_behind comes.0 taken (sent_by script taken) comes.2.taken_is comes.2.printed_is
   run_where true = answer_comes _ (chains.group_run (source_mode script.source) (columns_read script) (count_rule script) retract refl taken all)
 
   -- the machine's run comes to what the scan's changes are emitted as
-  pub run_comes : outcome_of_run (whole_run (plan_of script) taken) ≡ outcome_of_answer (length taken) (emitted_by script.insert (sent_by script taken))
-  run_comes = run_where script.insert.counted
+  pub run_comes : outcome_of_run (whole_run (plan_of script) taken) ≡ outcome_of_answer (length taken) (emitted_by script (sent_by script taken))
+  run_comes = run_where script.counted
 
 -- ---- the columns that are read
 
@@ -64,18 +65,18 @@ unwrap_below : (o : Option ℕ) (n : ℕ) → ((i : ℕ) → o ≡ Some i → i 
 unwrap_below None n below some = some
 unwrap_below (Some i) n below some = below i refl
 
-place_below : (columns : List Column) (name : List ℕ) → list_any (is_named name) columns ≡ true → place_of columns name < length columns
+place_below : (columns : List ColDef) (name : List ℕ) → list_any (has_name name) columns ≡ true → place_of columns name < length columns
 place_below [] name there = absurd (cc)
-place_below (c ∷ cs) name there = unwrap_below (position (is_named name) (c ∷ cs)) (length (c ∷ cs)) (λ i e. (position-Some (is_named name) (c ∷ cs) i c e).0) (omega arith)
+place_below (c ∷ cs) name there = unwrap_below (position (has_name name) (c ∷ cs)) (length (c ∷ cs)) (λ i e. (position-Some (has_name name) (c ∷ cs) i c e).0) (omega arith)
 
-places_below : (columns : List Column) (names : List (List ℕ)) → list_all (λ n. list_any (is_named n) columns) names ≡ true → All (λ col. col < length columns) (places_of columns names)
+places_below : (columns : List ColDef) (names : List (List ℕ)) → list_all (λ n. list_any (has_name n) columns) names ≡ true → All (λ col. col < length columns) (places_of columns names)
 places_below columns [] there = All-nil (λ col. col < length columns)
 places_below columns (name ∷ names) there =
     All-cons (λ col. col < length columns) (place_of columns name) (places_of columns names)
-    (place_below columns name (first_of_both (list_any (is_named name) columns) _ there)) (places_below columns names (second_of_both (list_any (is_named name) columns) _ there))
+    (place_below columns name (first_of_both (list_any (has_name name) columns) _ there)) (places_below columns names (second_of_both (list_any (has_name name) columns) _ there))
 
-pub columns_there : (script : Script) → IsLawful script → All (λ col. col < length script.source.columns) (columns_read script)
-columns_there script lawful = places_below script.source.columns script.insert.names lawful.there
+pub columns_there : (script : Accepted) → IsLawful script → All (λ col. col < length script.source.cols) (columns_read script)
+columns_there script lawful = places_below script.source.cols script.names lawful.there
 
 -- ---- what is kept when nothing was taken
 
@@ -84,13 +85,13 @@ stands_none append bag = tt
 stands_none retract bag = refl
 stands_none (upsert key) bag = absurd bag
 
-pub holds_nothing : (script : Script) → IsLawful script → Holds script.source (record { mode = script.source.mode; picks = columns_read script; standing = none; sent = [] }) []
+pub holds_nothing : (script : Accepted) → IsLawful script → Holds script.source (record { mode = script.source.mode; picks = columns_read script; standing = none; sent = [] }) []
 holds_nothing script lawful = record {
   mode_is = refl;
   picked = columns_there script lawful;
-  bag = lawful.bag;
+  bag = is_bag script lawful;
   all_taken = tt;
-  stands = stands_none (source_mode script.source) lawful.bag;
+  stands = stands_none (source_mode script.source) (is_bag script lawful);
   sent_is = refl;
   widths = tt;
 }
@@ -102,17 +103,17 @@ then_count : (others : List Change → Result (List Change) (ℕ × ChangeCode))
 then_count others before number count (Err code) taken e more = absurd (cc)
 then_count others before number count (Ok change) taken e more = omega (arith, more (before ++ change ∷ []) e, length-append before (change ∷ []))
 
-taken_from-count : (source : Table) (before : List Change) (number : ℕ) (lines : List (List ℕ)) (taken : List Change) → taken_from source before number lines ≡ Ok taken → length taken ≡ length before + length lines
+taken_from-count : (source : TableDef) (before : List Change) (number : ℕ) (lines : List (List ℕ)) (taken : List Change) → taken_from source before number lines ≡ Ok taken → length taken ≡ length before + length lines
 taken_from-count source before number [] taken e = let same : before ≡ taken = cc in omega (arith, ap length same)
 taken_from-count source before number (line ∷ lines) taken e =
     omega (arith, then_count (λ more. taken_from source more (number + 1) lines) before number (length lines) (line_change source before line) taken e (λ more is. taken_from-count source more (number + 1) lines taken is))
 
-pub taken-count : (source : Table) (lines : List (List ℕ)) (taken : List Change) → taken_of source lines ≡ Ok taken → length taken ≡ length lines
+pub taken-count : (source : TableDef) (lines : List (List ℕ)) (taken : List Change) → taken_of source lines ≡ Ok taken → length taken ≡ length lines
 taken-count source lines taken e = omega (arith, taken_from-count source [] 1 lines taken e)
 
 -- ---- what was sent
 
-length-places : (columns : List Column) (names : List (List ℕ)) → length (places_of columns names) ≡ length names
+length-places : (columns : List ColDef) (names : List (List ℕ)) → length (places_of columns names) ≡ length names
 length-places columns [] = refl
 length-places columns (name ∷ names) = ap (λ n. suc n) (length-places columns names)
 
@@ -124,31 +125,31 @@ sent_wide : (cols : List ℕ) (n : ℕ) → length cols ≡ n → (taken : List 
 sent_wide cols n is [] = tt
 sent_wide cols n is (change ∷ taken) = (length-project cols change.row ∙ is, sent_wide cols n is taken)
 
-pub sent_has_width : (script : Script) (taken : List Change) → AllByRecursion (λ change. length change.row ≡ length script.insert.names) (sent_by script taken)
-sent_has_width script taken = sent_wide (columns_read script) (length script.insert.names) (length-places script.source.columns script.insert.names) taken
+pub sent_has_width : (script : Accepted) (taken : List Change) → AllByRecursion (λ change. length change.row ≡ length script.names) (sent_by script taken)
+sent_has_width script taken = sent_wide (columns_read script) (length script.names) (length-places script.source.cols script.names) taken
 
-length-sent : (script : Script) (changes : List Change) → length (sent_by script changes) ≡ length changes
+length-sent : (script : Accepted) (changes : List Change) → length (sent_by script changes) ≡ length changes
 length-sent script [] = refl
 length-sent script (change ∷ changes) = ap (λ n. suc n) (length-sent script changes)
 
-module _ (script : Script) (intake : Intake) (taken : List Change) (holds : Holds script.source intake taken) (picks : intake.picks ≡ columns_read script) where
+module _ (script : Accepted) (intake : Intake) (taken : List Change) (holds : Holds script.source intake taken) (picks : intake.picks ≡ columns_read script) where
   pub sent_is : intake.sent ≡ sent_by script taken
   sent_is = holds.sent_is ∙ ap (λ (cols : List ℕ). map (scanned cols) taken) picks
 
   pub sent_valid : IsValid retract intake.sent
   sent_valid = subst (IsValid retract) (sym sent_is) (scan_valid (source_mode script.source) holds.bag (columns_read script) taken (taken_valid (source_mode script.source) [] taken holds.all_taken))
 
-  pub sent_is_wide : AllByRecursion (λ change. length change.row ≡ length script.insert.names) intake.sent
-  sent_is_wide = subst (AllByRecursion (λ change. length change.row ≡ length script.insert.names)) (sym sent_is) (sent_has_width script taken)
+  pub sent_is_wide : AllByRecursion (λ change. length change.row ≡ length script.names) intake.sent
+  sent_is_wide = subst (AllByRecursion (λ change. length change.row ≡ length script.names)) (sym sent_is) (sent_has_width script taken)
 
   pub sent_few : length intake.sent ≡ length taken
   sent_few = ap length sent_is ∙ length-sent script taken
 
   -- the outcome of a text whose lines are all taken
-  pub text_comes : (text : List ℕ) → taken_of script.source (lines_of text) ≡ Ok taken → with_text script (Some text) ≡ outcome_of_answer (length taken) (emitted_by script.insert intake.sent)
+  pub text_comes : (text : List ℕ) → taken_of script.source (lines_of text) ≡ Ok taken → with_text script (Some text) ≡ outcome_of_answer (length taken) (emitted_by script intake.sent)
   text_comes text is =
       ap (after_lines (plan_of script)) is ∙ run_comes script taken holds.all_taken
-      ∙ ap (λ (l : List Change). outcome_of_answer (length taken) (emitted_by script.insert l)) (sym sent_is)
+      ∙ ap (λ (l : List Change). outcome_of_answer (length taken) (emitted_by script l)) (sym sent_is)
 
-pub text_refused : (script : Script) (text : List ℕ) (number : ℕ) (code : ChangeCode) → taken_of script.source (lines_of text) ≡ Err (number, code) → with_text script (Some text) ≡ ends (e.Change code number)
+pub text_refused : (script : Accepted) (text : List ℕ) (number : ℕ) (code : ChangeCode) → taken_of script.source (lines_of text) ≡ Err (number, code) → with_text script (Some text) ≡ ends (e.Change code number)
 text_refused script text number code is = ap (after_lines (plan_of script)) is

@@ -1,6 +1,5 @@
 -- How the parts of a run go together.
 use Rattle.std.proofs.Common.{◌≡◌, ◌⊎◌, inl, inr, ℕ, ◌≤◌, false, List, [], Option, Some, None, Result, Ok, Err, IsSomeAnd, refl, sym, ◌∙◌, ap, subst, arith}
-use Rattle.ct_value.specs.declared.codes.ScriptCode.TheVariants.{Unsupported}
 use Rattle.ct_io.specs.Counts.{Rose}
 use Rattle.ct_io.specs.Holdings.{Holdings, loaded, Missing}
 use Rattle.ct_io.specs.Written.{Appends, AppendsPart}
@@ -11,9 +10,9 @@ use Rattle.job.specs.declared.ending.Ending.TheVariants as e
 use Rattle.job.specs.declared.ending.LimitName.{LimitName}
 use Rattle.job.specs.declared.halt.Halt.{Halt}
 use Rattle.job.specs.declared.halt.Halt.TheVariants.{Script, Change, Range, Limit, ReadFault, WriteFault, Memory}
-use Rattle.job.specs.Script.{script_of}
-use Rattle.job.specs.Outcome.{Outcome, after_load, with_script, with_script_text}
-use Rattle.job.specs.Runs.{is_free, IsCaused, Runs, RunsThere, HaltsAs, IsCausedThere, ending_of, ending_of_halt}
+use Rattle.judge.specs.Judgement.{judgement}
+use Rattle.job.specs.Outcome.{Outcome, after_load, with_judgement, with_script_text}
+use Rattle.job.specs.Runs.{is_free, IsCaused, Runs, RunsThere, HaltsAs, IsCausedThere, ending_of, ending_of_halt, IsJudged}
 
 pub rose_earlier : (before mid now : ℕ) → before ≤ mid → Rose mid now → Rose before now
 rose_earlier before mid now later rose = omega arith
@@ -92,6 +91,10 @@ runs_there told of read write old new there result same runs = record {
   whole = λ free h is. subst (λ (l : List ℕ). Appends old new l) (sym (ap (λ (o : Outcome). o.bytes) (same h is))) (runs.whole free);
 }
 
+-- want of memory before anything is written
+pub memory_runs : (told : Option Holdings) (of : Holdings → Outcome) (read write : Type 0) (o : Option (List ℕ)) → Runs told of read write o o e.Memory
+memory_runs told of read write o = record { cause = tt; part = λ h is. part_none o (of h).bytes; whole = λ free. absurd (cc (free)) }
+
 -- want of memory, with nothing written
 pub memory_there : {T : Type 0} (there : Outcome) (write : Type 0) (o : Option (List ℕ)) → RunsThere {T = T} there write o o (Err Memory)
 memory_there there write o = record { cause = tt; part = part_none o there.bytes; whole = λ free. absurd (cc (free)) }
@@ -110,10 +113,14 @@ load_failed old new name limit over rose same (inr missing) next =
     let at = some_at new missing in
     inr (at.0, sym same ∙ at.1, ap (after_load over (next at.0)) at.2)
 
-pub judged_halt : (told : Option Holdings) (read : Type 0) (changes text : List ℕ) (halt : Halt) → (halt ≡ Memory) ⊎ ((halt ≡ Script Unsupported 1) × (script_of text ≡ None)) → HaltsAs told (λ h. with_script_text h changes text) read halt
-judged_halt told read changes text halt (inl is) = subst (HaltsAs told (λ h. with_script_text h changes text) read) (sym is) tt
-judged_halt told read changes text halt (inr refused) =
-    subst (HaltsAs told (λ h. with_script_text h changes text) read) (sym refused.0) (λ h is. ap (with_script h changes) refused.1)
+pub judged_halt : (told : Option Holdings) (read : Type 0) (changes text : List ℕ) (halt : Halt) → IsJudged halt (judgement text) → HaltsAs told (λ h. with_script_text h changes text) read halt
+judged_halt told read changes text Memory is = tt
+judged_halt told read changes text (Script code number) is = λ h told_is. ap (with_judgement h changes) is
+judged_halt told read changes text (Change code line) is = absurd is
+judged_halt told read changes text (Range node subtask row) is = absurd is
+judged_halt told read changes text (Limit name) is = absurd is
+judged_halt told read changes text ReadFault is = absurd is
+judged_halt told read changes text WriteFault is = absurd is
 
 pub done_is : (told : Option Holdings) (of : Holdings → Outcome) (read write : Type 0) (result ending : Ending) → (result ≡ ending) ⊎ (result ≡ e.Memory) → IsCaused told of read write ending → result ≡ e.Done → (h : Holdings) → told ≡ Some h → (of h).ending ≡ e.Done
 done_is told of read write result ending (inr memory) cause done = absurd (cc (memory, done))

@@ -9,12 +9,12 @@ use Rattle.ct_value.specs.Rows.{project}
 use Rattle.ct_value.specs.declared.row.Row.{Row}
 use Rattle.ct_value.specs.declared.value.Value.TheVariants.{Null}
 use Rattle.ct_change.specs.Changelog.{Rows}
-use Rattle.job.specs.declared.script.Column.{Column}
-use Rattle.job.specs.declared.script.Script.{Script}
+use Rattle.ct_catalog.specs.declared.table.ColDef.{ColDef}
+use Rattle.judge.specs.declared.accepted.Accepted.{Accepted}
 use Rattle.job.specs.Answer.{value_named, selected, select_rows}
 use Rattle.job.specs.Plan.{place_of, places_of, columns_read}
 use Rattle.job.specs.Scans.{image}
-use Rattle.job.specs.Script.{is_named}
+use Rattle.judge.specs.Forms.{has_name}
 use Rattle.job.proofs.Plain.{first_of_both, second_of_both}
 
 one_more : (n : ℕ) → 1 + n ≡ suc n
@@ -22,37 +22,37 @@ one_more n = omega arith
 
 module _ (name : List ℕ) where
   -- how many columns stand before the one that is named
-  abbrev before_it : List Column → ℕ
-  before_it columns = position_or_len (is_named name) columns
+  abbrev before_it : List ColDef → ℕ
+  before_it columns = position_or_len (has_name name) columns
 
-  within : (columns : List Column) → list_any (is_named name) columns ≡ true → before_it columns < length columns
+  within : (columns : List ColDef) → list_any (has_name name) columns ≡ true → before_it columns < length columns
   within [] there = absurd (cc)
   within (c ∷ cs) there =
-      elim (is_named name c) as (λ b. (b || list_any (is_named name) cs) ≡ true → cond (not b) (1 + before_it cs) 0 < suc (length cs)) [
+      elim (has_name name c) as (λ b. (b || list_any (has_name name) cs) ≡ true → cond (not b) (1 + before_it cs) 0 < suc (length cs)) [
         | true ↦ λ e. omega arith
         | false ↦ λ e. omega (arith, within cs e)
       ] there
 
-  place_is : (columns : List Column) → list_any (is_named name) columns ≡ true → place_of columns name ≡ before_it columns
+  place_is : (columns : List ColDef) → list_any (has_name name) columns ≡ true → place_of columns name ≡ before_it columns
   place_is columns there = ap (λ (b : Bool). unwrap_or (cond b (Some (before_it columns)) None) 0) (lt-ltb _ _ (within columns there))
 
-  value_before : (columns : List Column) (row : Row) → length row ≡ length columns → list_any (is_named name) columns ≡ true → slice_index_or row (before_it columns) Null ≡ value_named columns row name
+  value_before : (columns : List ColDef) (row : Row) → length row ≡ length columns → list_any (has_name name) columns ≡ true → slice_index_or row (before_it columns) Null ≡ value_named columns row name
   value_before [] row wide there = absurd (cc)
   value_before (c ∷ cs) [] wide there = absurd (omega (arith, wide))
   value_before (c ∷ cs) (v ∷ vs) wide there =
-      elim (is_named name c) as (λ b. (b || list_any (is_named name) cs) ≡ true → slice_index_or (v ∷ vs) (cond (not b) (1 + before_it cs) 0) Null ≡ cond b v (value_named cs vs name)) [
+      elim (has_name name c) as (λ b. (b || list_any (has_name name) cs) ≡ true → slice_index_or (v ∷ vs) (cond (not b) (1 + before_it cs) 0) Null ≡ cond b v (value_named cs vs name)) [
         | true ↦ λ e. refl
         | false ↦ λ e. ap (λ (n : ℕ). slice_index_or (v ∷ vs) n Null) (one_more (before_it cs)) ∙ value_before cs vs (omega (arith, wide)) e
       ] there
 
-  value_at : (columns : List Column) (row : Row) → length row ≡ length columns → list_any (is_named name) columns ≡ true → slice_index_or row (place_of columns name) Null ≡ value_named columns row name
+  value_at : (columns : List ColDef) (row : Row) → length row ≡ length columns → list_any (has_name name) columns ≡ true → slice_index_or row (place_of columns name) Null ≡ value_named columns row name
   value_at columns row wide there = ap (λ (n : ℕ). slice_index_or row n Null) (place_is columns there) ∙ value_before columns row wide there
 
-values_at : (columns : List Column) (row : Row) → length row ≡ length columns → (names : List (List ℕ)) → list_all (λ n. list_any (is_named n) columns) names ≡ true → project (places_of columns names) row ≡ map (value_named columns row) names
+values_at : (columns : List ColDef) (row : Row) → length row ≡ length columns → (names : List (List ℕ)) → list_all (λ n. list_any (has_name n) columns) names ≡ true → project (places_of columns names) row ≡ map (value_named columns row) names
 values_at columns row wide [] there = refl
 values_at columns row wide (name ∷ names) there =
-    let rest = values_at columns row wide names (second_of_both (list_any (is_named name) columns) _ there) in
-    rw (value_at name columns row wide (first_of_both (list_any (is_named name) columns) _ there), rest)
+    let rest = values_at columns row wide names (second_of_both (list_any (has_name name) columns) _ there) in
+    rw (value_at name columns row wide (first_of_both (list_any (has_name name) columns) _ there), rest)
 
 map_same : (f g : Row → Row) (rows : List Row) → ((row : Row) → 0 < occurs row_cmp row rows → f row ≡ g row) → map f rows ≡ map g rows
 map_same f g [] same = refl
@@ -62,8 +62,8 @@ map_same f g (row ∷ rows) same =
     rw (first, rest)
 
 -- rows cut to the places of the names are the answer of the select list
-pub image_is_selected : (script : Script) → list_all (λ n. list_any (is_named n) script.source.columns) script.insert.names ≡ true
-    → (rows : Rows) → ((row : Row) → 0 < copies rows row → length row ≡ length script.source.columns) → image (project (columns_read script)) rows ≡ select_rows script rows
+pub image_is_selected : (script : Accepted) → list_all (λ n. list_any (has_name n) script.source.cols) script.names ≡ true
+    → (rows : Rows) → ((row : Row) → 0 < copies rows row → length row ≡ length script.source.cols) → image (project (columns_read script)) rows ≡ select_rows script rows
 image_is_selected script there rows wide =
     ap bag_of (map_same (project (columns_read script)) (selected script) (items rows)
-    (λ row stands. values_at script.source.columns row (wide row (let e = copies-occurs rows row in omega arith)) script.insert.names there))
+    (λ row stands. values_at script.source.cols row (wide row (let e = copies-occurs rows row in omega arith)) script.names there))

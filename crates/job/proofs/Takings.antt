@@ -4,15 +4,15 @@ use Rattle.std.specs.List.{AllByRecursion}
 use Rattle.ct_value.specs.declared.codes.ChangeCode.{ChangeCode}
 use Rattle.ct_change.specs.declared.change.Change.{Change}
 use Rattle.ct_change.specs.Changelog.{fold}
-use Rattle.job.specs.declared.script.Table.{Table}
-use Rattle.job.specs.declared.script.Script.{Script}
+use Rattle.ct_catalog.specs.declared.table.TableDef.{TableDef}
+use Rattle.judge.specs.declared.accepted.Accepted.{Accepted}
 use Rattle.job.specs.Headline.{changes_of, with_change}
 use Rattle.job.specs.Intake.{AllTaken}
 use Rattle.job.specs.Lines.{source_mode, change_of, refusal, unless, checked, line_change, taken_of, taken_from, taken_then}
 use Rattle.job.proofs.Intakes.{Fits, change_fits}
 
 -- the line is a change of the source that isn't refused
-record LineTaken (source : Table) (before : List Change) (line : List ℕ) (change : Change) : Type 0 where
+record LineTaken (source : TableDef) (before : List Change) (line : List ℕ) (change : Change) : Type 0 where
   is : change_of source line ≡ Some change
   free : refusal (source_mode source) (fold (source_mode source) before) change ≡ None
 
@@ -20,7 +20,7 @@ taken_unless : (one change : Change) (o : Option ChangeCode) → unless one o �
 taken_unless one change None e = (cc, refl)
 taken_unless one change (Some code) e = absurd (cc)
 
-line_taken : (source : Table) (before : List Change) (line : List ℕ) (change : Change) → line_change source before line ≡ Ok change → LineTaken source before line change
+line_taken : (source : TableDef) (before : List Change) (line : List ℕ) (change : Change) → line_change source before line ≡ Ok change → LineTaken source before line change
 line_taken source before line change e = at (change_of source line) refl e where
   at : (o : Option Change) → change_of source line ≡ o → checked (source_mode source) before o ≡ Ok change → LineTaken source before line change
   at None is q = absurd (cc)
@@ -34,14 +34,14 @@ then_taken others before number (Ok change) all e = (change, refl, e)
 then_taken others before number (Err code) all e = absurd (cc)
 
 -- behind those before, the lines' changes were taken
-record Took (script : Script) (before : List Change) (lines : List (List ℕ)) (all : List Change) : Type 0 where
+record Took (script : Accepted) (before : List Change) (lines : List (List ℕ)) (all : List Change) : Type 0 where
   rest : List Change
   whole : all ≡ before ++ rest
   are : rest ≡ changes_of script lines
   taken : AllTaken (source_mode script.source) before rest
   fit : AllByRecursion (Fits script.source) rest
 
-took_from : (script : Script) (before : List Change) (number : ℕ) (lines : List (List ℕ)) (all : List Change) → taken_from script.source before number lines ≡ Ok all → Took script before lines all
+took_from : (script : Accepted) (before : List Change) (number : ℕ) (lines : List (List ℕ)) (all : List Change) → taken_from script.source before number lines ≡ Ok all → Took script before lines all
 took_from script before number [] all e = record { rest = []; whole = let same : before ≡ all = cc in sym same ∙ sym (append-nil before); are = refl; taken = tt; fit = tt }
 took_from script before number (line ∷ lines) all e =
     let first = then_taken (λ more. taken_from script.source more (number + 1) lines) before number (line_change script.source before line) all e in
@@ -56,12 +56,12 @@ took_from script before number (line ∷ lines) all e =
     }
 
 -- the changes of all lines, each of which was taken
-pub record AreTaken (script : Script) (lines : List (List ℕ)) (taken : List Change) : Type 0 where
+pub record AreTaken (script : Accepted) (lines : List (List ℕ)) (taken : List Change) : Type 0 where
   pub are : taken ≡ changes_of script lines
   pub taken_all : AllTaken (source_mode script.source) [] taken
   pub fit : AllByRecursion (Fits script.source) taken
 
-pub are_taken : (script : Script) (lines : List (List ℕ)) (taken : List Change) → taken_of script.source lines ≡ Ok taken → AreTaken script lines taken
+pub are_taken : (script : Accepted) (lines : List (List ℕ)) (taken : List Change) → taken_of script.source lines ≡ Ok taken → AreTaken script lines taken
 are_taken script lines taken e =
     let took = took_from script [] 1 lines taken e in
     record {

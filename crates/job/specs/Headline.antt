@@ -1,6 +1,7 @@
 -- What a run that ends well has printed, in the words of tables: before each quiet line numbered n stands a changelog whose
 -- fold is the batch answer over the first n changes, and every edge carried only the kinds of its mode.
 use Rattle.std.specs.Prelude.{◌≡◌, ℕ, ◌+◌, List, [], ◌∷◌, ◌++◌, length, take, Option, Some, None}
+use Rattle.command_line.specs.Words.{FileNames, files_of}
 use Rattle.ct_io.specs.Holdings.{Holdings, Whole, loaded}
 use Rattle.ct_change.specs.declared.kind.KindSet.{KindSet}
 use Rattle.ct_change.specs.declared.change.Change.{Change}
@@ -8,9 +9,8 @@ use Rattle.ct_change.specs.Changelog.{Mode, retract, Rows, fold, IsValid, AreOf,
 use Rattle.op_rules.specs.Rule.{output_kinds}
 use Rattle.job.specs.declared.printed.PrintItem.{PrintItem}
 use Rattle.job.specs.declared.printed.PrintItem.TheVariants.{Change as Printed, Quiet}
-use Rattle.job.specs.declared.script.Script.{Script}
-use Rattle.job.specs.Words.{FileNames, files_of}
-use Rattle.job.specs.Script.{script_of}
+use Rattle.judge.specs.declared.accepted.Accepted.{Accepted}
+use Rattle.judge.specs.Judgement.{accepted as accepted_as, judgement}
 use Rattle.job.specs.Lines.{source_mode, plain_text, lines_of, change_of}
 use Rattle.job.specs.Answer.{answer}
 use Rattle.job.specs.Printed.{text_of}
@@ -29,16 +29,16 @@ abbrev pub with_change : Option Change → List Change → List Change
 with_change None changes = changes
 with_change (Some change) changes = change ∷ changes
 
-abbrev pub changes_of : Script → List (List ℕ) → List Change
+abbrev pub changes_of : Accepted → List (List ℕ) → List Change
 changes_of script [] = []
 changes_of script (line ∷ lines) = with_change (change_of script.source line) (changes_of script lines)
 
 -- the table that the first n lines leave, by the mode that it declares
-abbrev pub table : Script → List (List ℕ) → ℕ → Rows
+abbrev pub table : Accepted → List (List ℕ) → ℕ → Rows
 table script lines n = fold (source_mode script.source) (changes_of script (take n lines))
 
 -- what was printed is a valid changelog of the sink's mode, and folds to the answer over the first n lines
-pub record IsAnswered (script : Script) (lines : List (List ℕ)) (n : ℕ) (printed : List Change) : Type 0 where
+pub record IsAnswered (script : Accepted) (lines : List (List ℕ)) (n : ℕ) (printed : List Change) : Type 0 where
   pub valid : IsValid retract printed
   pub folds : answer script (table script lines n) ≡ Some (fold retract printed)
 
@@ -57,7 +57,7 @@ abbrev pub CarriesKinds : Plan → State → Type 0
 CarriesKinds plan s = AreCarried plan.source (kinds_of plan.source) 1 plan.nodes s
 
 -- what was printed on a script and the lines of a change file
-pub record Headline (script : Script) (lines : List (List ℕ)) (bytes : List ℕ) : Type 0 where
+pub record Headline (script : Accepted) (lines : List (List ℕ)) (bytes : List ℕ) : Type 0 where
   pub items : List PrintItem
   -- each printed line is an item, one line to one item
   pub reads : bytes ≡ text_of items
@@ -71,12 +71,12 @@ pub record Headline (script : Script) (lines : List (List ℕ)) (bytes : List �
 pub record IsHeadline (words : List (List ℕ)) (holdings : Holdings) (bytes : List ℕ) : Type 0 where
   pub names : FileNames
   pub script_text : List ℕ
-  pub script : Script
+  pub script : Accepted
   pub changes : List ℕ
   pub text : List ℕ
   pub named : files_of words ≡ Some names
   pub script_held : loaded holdings names.script script_limit ≡ Whole script_text
-  pub accepted : script_of script_text ≡ Some script
+  pub accepted : judgement script_text ≡ accepted_as script
   pub changes_held : loaded holdings names.changes changes_limit ≡ Whole changes
   pub plain : plain_text changes ≡ Some text
   pub headline : Headline script (lines_of text) bytes

@@ -8,7 +8,7 @@ use Rattle.ct_change.specs.declared.change.Change.{Change}
 use Rattle.ct_change.specs.Changelog.{Mode, append, retract, upsert, Rows, fold, apply}
 use Rattle.job.specs.Machine.{scanned}
 use Rattle.job.specs.Scans.{IsBagMode}
-use Rattle.job.specs.declared.script.Table.{Table}
+use Rattle.ct_catalog.specs.declared.table.TableDef.{TableDef}
 use Rattle.job.specs.declared.intake.Intake.{Intake}
 use Rattle.job.specs.declared.intake.TakeFault.{TakeFault}
 use Rattle.job.specs.declared.intake.TakeFault.TheVariants.{Refused, Memory}
@@ -26,14 +26,14 @@ StandsFor retract kept rows = kept ≡ rows
 StandsFor (upsert key) kept rows = ⊥
 
 -- these changes of a source were taken
-pub record Holds (source : Table) (intake : Intake) (taken : List Change) : Type 0 where
+pub record Holds (source : TableDef) (intake : Intake) (taken : List Change) : Type 0 where
   pub mode_is : intake.mode ≡ source.mode
-  pub picked : All (λ col. col < length source.columns) intake.picks
+  pub picked : All (λ col. col < length source.cols) intake.picks
   pub bag : IsBagMode (source_mode source)
   pub all_taken : AllTaken (source_mode source) [] taken
   pub stands : StandsFor (source_mode source) intake.standing (fold (source_mode source) taken)
   pub sent_is : intake.sent ≡ map (scanned intake.picks) taken
-  pub widths : AllByRecursion (λ change. length change.row ≡ length source.columns) taken
+  pub widths : AllByRecursion (λ change. length change.row ≡ length source.cols) taken
 
 -- one more change sent by the scan
 abbrev pub sent_one : Intake → Change → Intake

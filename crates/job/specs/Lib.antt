@@ -2,7 +2,6 @@ pub mod Answer
 pub mod Endings
 pub mod Headline
 pub mod Intake
-pub mod Lawful
 pub mod Lines
 pub mod Machine
 pub mod Outcome
@@ -12,8 +11,5 @@ pub mod Printed
 pub mod Replays
 pub mod Runs
 pub mod Scans
-pub mod Script
 pub mod Source
 pub mod Status
-pub mod Tokens
-pub mod Words

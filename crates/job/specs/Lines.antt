@@ -11,7 +11,7 @@ use Rattle.ct_change.specs.declared.kind.Kind.{Kind}
 use Rattle.ct_change.specs.declared.kind.Kind.TheVariants.{I, UB, UA, D}
 use Rattle.ct_change.specs.declared.change.Change.{Change}
 use Rattle.ct_change.specs.Changelog.{Mode, append, retract, upsert, Rows, mode_of, adds, admits, fold}
-use Rattle.job.specs.declared.script.Table.{Table}
+use Rattle.ct_catalog.specs.declared.table.TableDef.{TableDef}
 
 -- a byte that a change file of the first form may hold
 abbrev pub is_plain : ℕ → Bool
@@ -39,7 +39,7 @@ kind_of word =
     else (if bytes_eq word (codes "-D") then Some D else None)))
 
 -- the mode of the source's changelog
-abbrev pub source_mode : Table → Mode
+abbrev pub source_mode : TableDef → Mode
 source_mode source = mode_of source.mode []
 
 abbrev pub text_row : List (List ℕ) → List Value
@@ -49,13 +49,13 @@ abbrev pub change_of_kind : Mode → List (List ℕ) → Option Kind → Option 
 change_of_kind mode values None = None
 change_of_kind mode values (Some kind) = if admits mode kind then Some (record { kind = kind; row = text_row values }) else None
 
-abbrev pub change_of_fields : Table → List (List ℕ) → Option Change
+abbrev pub change_of_fields : TableDef → List (List ℕ) → Option Change
 change_of_fields source (name ∷ kind ∷ values) =
-    if bytes_eq source.name name && (length values == length source.columns) then change_of_kind (source_mode source) values (kind_of kind) else None
+    if bytes_eq source.name name && (length values == length source.cols) then change_of_kind (source_mode source) values (kind_of kind) else None
 change_of_fields source _ = None
 
 -- the change that a line is: the source's name, a kind that it declares and one field per column
-abbrev pub change_of : Table → List ℕ → Option Change
+abbrev pub change_of : TableDef → List ℕ → Option Change
 change_of source line = change_of_fields source (fields_of line)
 
 -- why a change can't be taken where these rows stand: its kind isn't declared, or the row that it removes doesn't stand
@@ -73,7 +73,7 @@ checked mode before None = Err FieldCount
 checked mode before (Some change) = unless change (refusal mode (fold mode before) change)
 
 -- a line's change, or why it is refused, after the changes of the lines before it
-abbrev pub line_change : Table → List Change → List ℕ → Result Change ChangeCode
+abbrev pub line_change : TableDef → List Change → List ℕ → Result Change ChangeCode
 line_change source before line = checked (source_mode source) before (change_of source line)
 
 -- the changes of these lines behind those before, or the number of the first line that is refused, with its code
@@ -81,10 +81,10 @@ abbrev pub taken_then : (List Change → Result (List Change) (ℕ × ChangeCode
 taken_then others before number (Ok change) = others (before ++ change ∷ [])
 taken_then others before number (Err code) = Err (number, code)
 
-abbrev pub taken_from : Table → List Change → ℕ → List (List ℕ) → Result (List Change) (ℕ × ChangeCode)
+abbrev pub taken_from : TableDef → List Change → ℕ → List (List ℕ) → Result (List Change) (ℕ × ChangeCode)
 taken_from source before number [] = Ok before
 taken_from source before number (line ∷ lines) = taken_then (λ more. taken_from source more (number + 1) lines) before number (line_change source before line)
 
 -- the changes of a change file's lines
-abbrev pub taken_of : Table → List (List ℕ) → Result (List Change) (ℕ × ChangeCode)
+abbrev pub taken_of : TableDef → List (List ℕ) → Result (List Change) (ℕ × ChangeCode)
 taken_of source lines = taken_from source [] 1 lines

@@ -1,18 +1,17 @@
--- What a run answers and writes, composed of the script's form, the lines of the change file and the machine.
+-- What a run answers and writes, composed of the script's judgement, the lines of the change file and the machine.
 use Rattle.std.specs.Prelude.{ℕ, List, [], ◌∷◌, ◌++◌, length, map, Option, Some, None, Result, Ok, Err}
-use Rattle.ct_value.specs.declared.codes.ScriptCode.TheVariants.{Unsupported}
 use Rattle.ct_value.specs.declared.codes.ChangeCode.{ChangeCode}
 use Rattle.ct_value.specs.declared.codes.ChangeCode.TheVariants.{FieldCount}
 use Rattle.ct_change.specs.declared.change.Change.{Change as TableChange}
+use Rattle.command_line.specs.Words.{FileNames, files_of}
 use Rattle.ct_io.specs.Holdings.{Holdings, Loaded, Missing, Long, Whole, loaded}
 use Rattle.job.specs.declared.ending.Ending.{Ending}
 use Rattle.job.specs.declared.ending.Ending.TheVariants.{Done, Usage, Script, Change, Order, Range, Limit, ReadFault}
 use Rattle.job.specs.declared.ending.LimitName.{LimitName}
 use Rattle.job.specs.declared.ending.LimitName.TheVariants.{Script as ScriptLimit, Changes as ChangesLimit}
-use Rattle.job.specs.declared.script.Script.{Script as ScriptText}
+use Rattle.judge.specs.declared.accepted.Accepted.{Accepted}
+use Rattle.judge.specs.Judgement.{Judgement, accepted, refused as refused_script, judgement}
 use Rattle.job.specs.declared.printed.PrintItem.TheVariants.{Quiet}
-use Rattle.job.specs.Words.{FileNames, files_of}
-use Rattle.job.specs.Script.{script_of}
 use Rattle.job.specs.Lines.{plain_text, lines_of, taken_of}
 use Rattle.job.specs.Machine.{Plan, Event, take, Stop, refused, misplaced, out_of_range, Ran, opened, run_events, drain}
 use Rattle.job.specs.Plan.{plan_of}
@@ -60,20 +59,20 @@ abbrev pub after_lines : Plan → Result (List TableChange) (ℕ × ChangeCode) 
 after_lines plan (Err refusal) = ends (Change refusal.1 refusal.0)
 after_lines plan (Ok changes) = outcome_of_run (whole_run plan changes)
 
-abbrev pub with_text : ScriptText → Option (List ℕ) → Outcome
+abbrev pub with_text : Accepted → Option (List ℕ) → Outcome
 with_text script None = ends (Change FieldCount 0)
 with_text script (Some text) = after_lines (plan_of script) (taken_of script.source (lines_of text))
 
 -- what a script makes of a change file
-abbrev pub with_changes : ScriptText → List ℕ → Outcome
+abbrev pub with_changes : Accepted → List ℕ → Outcome
 with_changes script bytes = with_text script (plain_text bytes)
 
-abbrev pub with_script : Holdings → List ℕ → Option ScriptText → Outcome
-with_script holdings changes None = ends (Script Unsupported 1)
-with_script holdings changes (Some script) = after_load ChangesLimit (with_changes script) (loaded holdings changes changes_limit)
+abbrev pub with_judgement : Holdings → List ℕ → Judgement → Outcome
+with_judgement holdings changes (refused_script code statement) = ends (Script code statement)
+with_judgement holdings changes (accepted script) = after_load ChangesLimit (with_changes script) (loaded holdings changes changes_limit)
 
 abbrev pub with_script_text : Holdings → List ℕ → List ℕ → Outcome
-with_script_text holdings changes text = with_script holdings changes (script_of text)
+with_script_text holdings changes text = with_judgement holdings changes (judgement text)
 
 abbrev pub with_files : Holdings → Option FileNames → Outcome
 with_files holdings None = ends Usage

@@ -6,18 +6,18 @@ use Rattle.op_rules.specs.Rule.{group}
 use Rattle.op_rules.specs.Rules.{Answer, emitted_after}
 use Rattle.job.specs.declared.ending.Ending.TheVariants.{Done, Range}
 use Rattle.job.specs.declared.printed.PrintItem.TheVariants.{Change as Printed, Quiet}
-use Rattle.job.specs.declared.script.Insert.{Insert}
+use Rattle.judge.specs.declared.accepted.Accepted.{Accepted}
 use Rattle.job.specs.Outcome.{Outcome}
 use Rattle.job.specs.Pieces.{pieces_of}
 use Rattle.job.specs.Printed.{text_of}
 
-abbrev pub emitted_where : Bool → Insert → List Change → Answer
-emitted_where false insert sent = Ok sent
-emitted_where true insert sent = emitted_after (group (length insert.names) retract retract) [] (pieces_of sent)
+abbrev pub emitted_where : Bool → Accepted → List Change → Answer
+emitted_where false script sent = Ok sent
+emitted_where true script sent = emitted_after (group (length script.names) retract retract) [] (pieces_of sent)
 
 -- what comes to the sink for what the scan sent
-abbrev pub emitted_by : Insert → List Change → Answer
-emitted_by insert sent = emitted_where insert.counted insert sent
+abbrev pub emitted_by : Accepted → List Change → Answer
+emitted_by script sent = emitted_where script.counted script sent
 
 -- the changes are printed, and behind them the quiet line; a count that is out of range prints nothing
 abbrev pub outcome_of_answer : ℕ → Answer → Outcome

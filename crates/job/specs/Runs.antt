@@ -6,6 +6,7 @@ use Rattle.job.specs.declared.ending.Ending.{Ending}
 use Rattle.job.specs.declared.ending.Ending.TheVariants as e
 use Rattle.job.specs.declared.halt.Halt.{Halt}
 use Rattle.job.specs.declared.halt.Halt.TheVariants.{Script, Change, Range, Limit, ReadFault, WriteFault, Memory}
+use Rattle.judge.specs.Judgement.{Judgement, refused}
 use Rattle.job.specs.Outcome.{Outcome, ends}
 
 abbrev pub ending_of_halt : Halt → Ending
@@ -62,3 +63,9 @@ pub record RunsThere {T : Type 0} (there : Outcome) (write : Type 0) (old new : 
   pub cause : IsCausedThere there write result
   pub part : AppendsPart old new there.bytes
   pub whole : is_free (ending_of result) ≡ false → Appends old new there.bytes
+
+-- the halt is the judgement's refusal, or it is want of memory
+abbrev pub IsJudged : Halt → Judgement → Type 0
+IsJudged Memory judgement = Unit {0}
+IsJudged (Script code statement) judgement = judgement ≡ refused code statement
+IsJudged halt judgement = ⊥

@@ -7,15 +7,13 @@ mod halt;
 mod intake;
 mod laws;
 mod lines;
+mod plan;
 mod print;
 mod printed;
 mod put;
 mod replay;
 mod run;
-mod script;
 mod source;
-mod tokens;
-mod words;
 
 pub use ending::{Ending, LimitName, status};
 pub use laws::{scan_folds_to_answer, scan_kinds_stay, scan_prefixes_stand};

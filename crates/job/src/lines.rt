@@ -2,12 +2,29 @@ ghost use Rattle.std.specs.Prelude.{◌≡◌, ◌<◌, ◌≤◌, ◌+◌, ◌=
 ghost use Rattle.ct_change.specs.Changelog.{mode_of};
 ghost use Rattle.job.specs.Lines.{is_plain, is_plain_text, plain_text, lines_of, fields_of, kind_of, source_mode, text_row, change_of_kind, change_of_fields, change_of};
 
-use crate::script::Table;
-use crate::tokens::ReadFault;
+use ct_catalog::TableDef;
 use ct_change::{Change, Declared, Kind};
 use ct_value::{Memory, Row, Text, Value, Values};
 use std::alloc::{AllocError, Global};
 use std::marker::Model;
+
+/// Why a line is no change of the source.
+#[derive(Clone, Copy, Debug, PartialEq, Eq)]
+pub enum LineFault {
+    Refused,
+    Memory,
+}
+
+impl From<Memory> for LineFault {
+    ghost use Rattle.std.specs.Prelude.{◌≡◌};
+    ghost use Rattle.job.specs.declared.lines.LineFault.TheVariants.{Memory};
+
+    ghost from_gives = { λ _ fault. fault ≡ Memory };
+
+    fn from(_: Memory) -> Self {
+        LineFault::Memory
+    }
+}
 
 /// A change file without a byte that is refused, as a text.
 #[tactic(auto, using(crate::proofs::Plain::plain_is_utf8))]
@@ -105,28 +122,28 @@ fn kind_of(word: &str) -> Option<Kind>
 }
 
 /// The change that a line is, and `Refused` exactly where it is none of the source.
-pub fn change_of(alloc: Global, source: &Table, line: &str) -> Result<Change, ReadFault>
+pub fn change_of(alloc: Global, source: &TableDef, line: &str) -> Result<Change, LineFault>
     ensures ok { IfOk result (λ change. change_of source.now line.now ≡ Some change) }
-    ensures refused { IsErrOf result ReadFault.Refused → change_of source.now line.now ≡ None }
+    ensures refused { IsErrOf result LineFault.Refused → change_of source.now line.now ≡ None }
 {
     let Ok(fields) = fields_of(alloc, line) else {
-        return Err(ReadFault::Memory);
+        return Err(LineFault::Memory);
     };
     change_of_fields(alloc, source, fields.as_slice())
 }
 
-fn change_of_fields(alloc: Global, source: &Table, fields: &[&str]) -> Result<Change, ReadFault>
+fn change_of_fields(alloc: Global, source: &TableDef, fields: &[&str]) -> Result<Change, LineFault>
     ensures ok { IfOk result (λ change. change_of_fields source.now (map (λ f. f.now) fields.now) ≡ Some change) }
-    ensures refused { IsErrOf result ReadFault.Refused → change_of_fields source.now (map (λ f. f.now) fields.now) ≡ None }
+    ensures refused { IsErrOf result LineFault.Refused → change_of_fields source.now (map (λ f. f.now) fields.now) ≡ None }
 {
     let [name, kind, values @ ..] = fields else {
-        return Err(ReadFault::Refused);
+        return Err(LineFault::Refused);
     };
-    if !source.name.is(name.as_bytes()) || values.len() != source.columns.as_slice().len() {
-        return Err(ReadFault::Refused);
+    if !source.name.is(name.as_bytes()) || values.len() != source.cols.len() {
+        return Err(LineFault::Refused);
     }
     let Some(kind) = kind_of(kind) else {
-        return Err(ReadFault::Refused);
+        return Err(LineFault::Refused);
     };
     change_of_kind(alloc, source.mode, values, kind)
 }
@@ -136,12 +153,12 @@ fn change_of_kind(
     mode: Declared,
     values: &[&str],
     kind: Kind,
-) -> Result<Change, ReadFault>
+) -> Result<Change, LineFault>
     ensures ok { IfOk result (λ change. change_of_kind (mode_of mode []) (map (λ f. f.now) values.now) (Some kind) ≡ Some change) }
-    ensures refused { IsErrOf result ReadFault.Refused → change_of_kind (mode_of mode []) (map (λ f. f.now) values.now) (Some kind) ≡ None }
+    ensures refused { IsErrOf result LineFault.Refused → change_of_kind (mode_of mode []) (map (λ f. f.now) values.now) (Some kind) ≡ None }
 {
     if !mode.admits(kind) {
-        return Err(ReadFault::Refused);
+        return Err(LineFault::Refused);
     }
     let row = text_row(alloc, values)?;
     Ok(Change { kind, row })

@@ -5,7 +5,7 @@ ghost use Rattle.ct_change.specs.declared.change.Change.{Change};
 ghost use Rattle.ct_change.specs.Changelog.{retract, IsValid};
 ghost use Rattle.op_rules.specs.Faults.{IfRange};
 ghost use Rattle.job.specs.Intake.{Holds};
-ghost use Rattle.job.specs.Lawful.{IsLawful, IsKeyed};
+ghost use Rattle.judge.specs.Lawful.{IsLawful};
 ghost use Rattle.job.specs.Lines.{taken_of, lines_of};
 ghost use Rattle.job.specs.Outcome.{with_changes, with_text, after_lines};
 ghost use Rattle.job.specs.Plan.{plan_of, columns_read};
@@ -17,24 +17,24 @@ use crate::counting::count_changes;
 use crate::halt::Halt;
 use crate::intake::Intake;
 use crate::lines::{Lines, plain_text};
+use crate::plan::columns_read;
 use crate::print::{PrintFault, print_all};
-use crate::script::{Insert, Script, columns_read};
 use crate::source::{LinesFault, take_lines};
 use ct_change::Changes;
 use ct_io::Sink;
 use ct_value::ChangeCode;
+use judge::Accepted;
 use op_rules::OpFault;
 use std::alloc::Global;
 
 /// Takes all lines of a change file, and drains the job: what its sink prints is written on `out`.
 pub fn replay<K: Sink>(
     alloc: Global,
-    script: &Script,
+    script: &Accepted,
     bytes: &[u8],
     out: &mut K,
 ) -> Result<(), Halt>
     requires lawful { IsLawful script.now }
-    requires few { (length script.now.source.columns ≤ 262144) × (length script.now.insert.names ≤ 262144) }
     requires within { length bytes.now ≤ 67108864 }
     ensures { RunsThere (with_changes script.now bytes.now) (Rose (K.faults out.old) (K.faults out.new)) (K.written out.old) (K.written out.new) result }
 {
@@ -47,9 +47,13 @@ pub fn replay<K: Sink>(
     replay_text(alloc, script, text, out)
 }
 
-fn replay_text<K: Sink>(alloc: Global, script: &Script, text: &str, out: &mut K) -> Result<(), Halt>
+fn replay_text<K: Sink>(
+    alloc: Global,
+    script: &Accepted,
+    text: &str,
+    out: &mut K,
+) -> Result<(), Halt>
     requires lawful { IsLawful script.now }
-    requires few { (length script.now.source.columns ≤ 262144) × (length script.now.insert.names ≤ 262144) }
     requires within { length text.now ≤ 67108864 }
     ensures { RunsThere (with_text script.now (Some text.now)) (Rose (K.faults out.old) (K.faults out.new)) (K.written out.old) (K.written out.new) result }
 {
@@ -61,13 +65,12 @@ fn replay_text<K: Sink>(alloc: Global, script: &Script, text: &str, out: &mut K)
         Err(LinesFault::Refused { code, line }) => return Err(Halt::Change { code, line }),
         Err(LinesFault::Memory) => return Err(Halt::Memory),
     };
-    drain(alloc, &script.insert, intake.sent, lines.len() as u32, out)
+    drain(alloc, script, intake.sent, lines.len() as u32, out)
 }
 
 // What is kept of the source once all lines are taken.
-fn take_all(alloc: Global, script: &Script, lines: &Lines<'_>) -> Result<Intake, LinesFault>
+fn take_all(alloc: Global, script: &Accepted, lines: &Lines<'_>) -> Result<Intake, LinesFault>
     requires lawful { IsLawful script.now }
-    requires few_columns { length script.now.source.columns ≤ 262144 }
     requires few_lines { length lines.now + 1 < 2 ^ 32 }
     ensures ok { IfOk result (λ intake. (taken : List Change) × (taken_of script.now.source lines.now ≡ Ok taken) × Holds script.now.source intake taken × (intake.picks ≡ columns_read script.now) × (length taken ≡ length lines.now)) }
     ensures refused { IfLinesRefused result (λ code line. taken_of script.now.source lines.now ≡ Err (line, code)) }
@@ -83,19 +86,18 @@ fn take_all(alloc: Global, script: &Script, lines: &Lines<'_>) -> Result<Intake,
 // Delivers what the scan sent, node by node, and prints what comes out, with the quiet line of so many lines taken.
 fn drain<K: Sink>(
     alloc: Global,
-    insert: &Insert,
+    script: &Accepted,
     sent: Changes,
     taken: u32,
     out: &mut K,
 ) -> Result<(), Halt>
-    requires keyed { IsKeyed insert.now }
-    requires few_names { length insert.now.names ≤ 262144 }
+    requires lawful { IsLawful script.now }
     requires valid { IsValid retract sent }
-    requires wide { AllByRecursion (λ change. length change.row ≡ length insert.now.names) sent }
+    requires wide { AllByRecursion (λ change. length change.row ≡ length script.now.names) sent }
     requires few { length sent + 1 < 2 ^ 32 }
-    ensures { RunsThere (outcome_of_answer taken (emitted_by insert.now sent)) (Rose (K.faults out.old) (K.faults out.new)) (K.written out.old) (K.written out.new) result }
+    ensures { RunsThere (outcome_of_answer taken (emitted_by script.now sent)) (Rose (K.faults out.old) (K.faults out.new)) (K.written out.old) (K.written out.new) result }
 {
-    let printed = match emitted_by(alloc, insert, sent) {
+    let printed = match emitted_by(alloc, script, sent) {
         Ok(printed) => printed,
         Err(OpFault::Range(row)) => {
             return Err(Halt::Range {
@@ -114,17 +116,16 @@ fn drain<K: Sink>(
 }
 
 // What comes to the sink: the changes as the scan sent them, or what the group emitted for them.
-fn emitted_by(alloc: Global, insert: &Insert, sent: Changes) -> Result<Changes, OpFault>
-    requires keyed { IsKeyed insert.now }
-    requires few_names { length insert.now.names ≤ 262144 }
+fn emitted_by(alloc: Global, script: &Accepted, sent: Changes) -> Result<Changes, OpFault>
+    requires lawful { IsLawful script.now }
     requires valid { IsValid retract sent }
-    requires wide { AllByRecursion (λ change. length change.row ≡ length insert.now.names) sent }
+    requires wide { AllByRecursion (λ change. length change.row ≡ length script.now.names) sent }
     requires few { length sent + 1 < 2 ^ 32 }
-    ensures ok { IfOk result (λ printed. emitted_by insert.now sent ≡ Ok printed) }
-    ensures range { IfRange result (λ row. emitted_by insert.now sent ≡ Err row) }
+    ensures ok { IfOk result (λ printed. emitted_by script.now sent ≡ Ok printed) }
+    ensures range { IfRange result (λ row. emitted_by script.now sent ≡ Err row) }
 {
-    if insert.counted {
-        let keys = insert.names.as_slice().len() as u32;
+    if script.counted {
+        let keys = script.names.len() as u32;
         return count_changes(alloc, keys, sent);
     }
     Ok(sent)

@@ -1,24 +1,23 @@
 ghost use Rattle.std.specs.Prelude.{◌≡◌, ◌⊎◌, ◌≤◌, ℕ, List, Some, None, false, length, IfOk, IfErr};
+ghost use Rattle.command_line.specs.Words.{files_of};
 ghost use Rattle.ct_io.specs.Counts.{Rose};
 ghost use Rattle.ct_io.specs.Holdings.{Holdings, loaded, Whole};
 ghost use Rattle.ct_io.specs.Written.{Appends, AppendsPart};
+ghost use Rattle.judge.specs.Judgement.{accepted, judgement};
+ghost use Rattle.judge.specs.Lawful.{IsLawful};
 ghost use Rattle.job.specs.Endings.{ending_line};
 ghost use Rattle.job.specs.Headline.{IsHeadline};
-ghost use Rattle.job.specs.Lawful.{IsLawful};
-ghost use Rattle.job.specs.Outcome.{Outcome, outcome, with_files, with_script_text, with_script, after_load};
-ghost use Rattle.job.specs.Runs.{is_free, IsCaused, Runs, HaltsAs, ending_of};
-ghost use Rattle.job.specs.Script.{script_of};
-ghost use Rattle.job.specs.Words.{files_of};
+ghost use Rattle.job.specs.Outcome.{Outcome, outcome, with_files, with_script_text, with_judgement, after_load};
+ghost use Rattle.job.specs.Runs.{is_free, IsCaused, IsJudged, Runs, HaltsAs, ending_of};
 
 use crate::ending::{Ending, LimitName, ending_line};
 use crate::halt::Halt;
 use crate::put::put_all;
 use crate::replay::replay;
-use crate::script::{Script, script_of};
-use crate::tokens::ReadFault;
-use crate::words::files_of;
+use command_line::{WordsFault, files_of};
 use ct_io::{LoadFault, Shelf, Sink};
-use ct_value::{Bytes, ScriptCode, Text};
+use ct_value::{Bytes, Text};
+use judge::{Accepted, JudgeFault, judge};
 use std::alloc::Global;
 
 const SCRIPT_LIMIT: u64 = 262144;
@@ -28,7 +27,7 @@ const CHANGES_LIMIT: u64 = 67108864;
 /// Runs the job that the words name: it loads the script and the change file from the shelf, in this order, writes the
 /// changelog of the sink on `out`, each line by itself, and where it doesn't end well one line on `err`.
 ///
-/// The words are `--script NAME --changes NAME`.
+/// The words are `--script NAME --changes NAME`, in any order; `--do run` may stand there too.
 pub fn run_job<F: Shelf, K: Sink, E: Sink>(
     alloc: Global,
     words: &[Text],
@@ -75,9 +74,10 @@ fn ending<F: Shelf, K: Sink>(alloc: Global, words: &[Text], shelf: &mut F, out: 
     ensures runs { Runs (F.holdings shelf.old) (outcome words.now) (Rose (F.faults shelf.old) (F.faults shelf.new)) (Rose (K.faults out.old) (K.faults out.new)) (K.written out.old) (K.written out.new) result }
     ensures usage { result ≡ Ending.Usage → files_of words.now ≡ None }
 {
-    match files_of(words) {
-        Some(names) => ending_of(with_files(alloc, names.script, names.changes, shelf, out)),
-        None => Ending::Usage,
+    match files_of(alloc, words) {
+        Ok(names) => ending_of(with_files(alloc, &names.script, &names.changes, shelf, out)),
+        Err(WordsFault::Usage) => Ending::Usage,
+        Err(WordsFault::Memory) => Ending::Memory,
     }
 }
 
@@ -106,12 +106,12 @@ fn with_files<F: Shelf, K: Sink>(
     ensures { Runs (F.holdings shelf.old) (λ h. with_files h (Some (record { script = script.now; changes = changes.now }))) (Rose (F.faults shelf.old) (F.faults shelf.new)) (Rose (K.faults out.old) (K.faults out.new)) (K.written out.old) (K.written out.new) (ending_of result) }
 {
     let text = load(alloc, shelf, script, SCRIPT_LIMIT, LimitName::Script)?;
-    with_script_text(alloc, text.as_slice(), changes, shelf, out)
+    with_script_text(alloc, &text, changes, shelf, out)
 }
 
 fn with_script_text<F: Shelf, K: Sink>(
     alloc: Global,
-    text: &[u8],
+    text: &Bytes,
     changes: &Text,
     shelf: &mut F,
     out: &mut K,
@@ -120,38 +120,33 @@ fn with_script_text<F: Shelf, K: Sink>(
     ensures runs { Runs (F.holdings shelf.old) (λ h. with_script_text h changes.now text.now) (Rose (F.faults shelf.old) (F.faults shelf.new)) (Rose (K.faults out.old) (K.faults out.new)) (K.written out.old) (K.written out.new) (ending_of result) }
     ensures later { F.faults shelf.old ≤ F.faults shelf.new }
 {
-    let script = judge(alloc, text)?;
+    let script = judged(alloc, text)?;
     with_script(alloc, &script, changes, shelf, out)
 }
 
-// The script that a text is.
-fn judge(alloc: Global, text: &[u8]) -> Result<Script, Halt>
+// What a script asks for.
+fn judged(alloc: Global, text: &Bytes) -> Result<Accepted, Halt>
     requires { length text.now ≤ 262144 }
-    ensures ok { IfOk result (λ script. script_of text.now ≡ Some script) }
+    ensures ok { IfOk result (λ script. judgement text.now ≡ accepted script) }
     ensures lawful { IfOk result (λ script. IsLawful script) }
-    ensures few { IfOk result (λ script. (length script.source.columns ≤ 262144) × (length script.insert.names ≤ 262144)) }
-    ensures halts { IfErr result (λ halt. (halt ≡ Halt.Memory) ⊎ ((halt ≡ Halt.Script ScriptCode.Unsupported 1) × (script_of text.now ≡ None))) }
+    ensures halts { IfErr result (λ halt. IsJudged halt (judgement text.now)) }
 {
-    match script_of(alloc, text) {
+    match judge(alloc, text) {
         Ok(script) => Ok(script),
-        Err(ReadFault::Memory) => Err(Halt::Memory),
-        Err(ReadFault::Refused) => Err(Halt::Script {
-            code: ScriptCode::Unsupported,
-            statement: 1,
-        }),
+        Err(JudgeFault::Refused { code, statement }) => Err(Halt::Script { code, statement }),
+        Err(JudgeFault::Memory) => Err(Halt::Memory),
     }
 }
 
 fn with_script<F: Shelf, K: Sink>(
     alloc: Global,
-    script: &Script,
+    script: &Accepted,
     changes: &Text,
     shelf: &mut F,
     out: &mut K,
 ) -> Result<(), Halt>
     requires lawful { IsLawful script.now }
-    requires few { (length script.now.source.columns ≤ 262144) × (length script.now.insert.names ≤ 262144) }
-    ensures runs { Runs (F.holdings shelf.old) (λ h. with_script h changes.now (Some script.now)) (Rose (F.faults shelf.old) (F.faults shelf.new)) (Rose (K.faults out.old) (K.faults out.new)) (K.written out.old) (K.written out.new) (ending_of result) }
+    ensures runs { Runs (F.holdings shelf.old) (λ h. with_judgement h changes.now (accepted script.now)) (Rose (F.faults shelf.old) (F.faults shelf.new)) (Rose (K.faults out.old) (K.faults out.new)) (K.written out.old) (K.written out.new) (ending_of result) }
     ensures later { F.faults shelf.old ≤ F.faults shelf.new }
 {
     let bytes = load(alloc, shelf, changes, CHANGES_LIMIT, LimitName::Changes)?;

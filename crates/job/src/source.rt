@@ -5,9 +5,8 @@ ghost use Rattle.job.specs.Lines.{line_change, taken_of};
 ghost use Rattle.job.specs.Source.{IfLinesRefused};
 
 use crate::intake::{Intake, TakeFault};
-use crate::lines::{Lines, change_of};
-use crate::script::Table;
-use crate::tokens::ReadFault;
+use crate::lines::{LineFault, Lines, change_of};
+use ct_catalog::TableDef;
 use ct_value::ChangeCode;
 use std::alloc::Global;
 
@@ -21,7 +20,7 @@ pub enum LinesFault {
 /// Takes the changes of all lines, up to the first that is refused.
 pub fn take_lines(
     alloc: Global,
-    source: &Table,
+    source: &TableDef,
     lines: &Lines<'_>,
     intake: &mut Intake,
 ) -> Result<(), LinesFault>
@@ -45,7 +44,7 @@ pub fn take_lines(
 /// Takes the change of a line, unless it is refused after the changes that were taken before.
 pub fn take_line(
     alloc: Global,
-    source: &Table,
+    source: &TableDef,
     line: &str,
     intake: &mut Intake,
 ) -> Result<(), TakeFault>
@@ -56,8 +55,8 @@ pub fn take_line(
 {
     let change = match change_of(alloc, source, line) {
         Ok(change) => change,
-        Err(ReadFault::Refused) => return Err(TakeFault::Refused(ChangeCode::FieldCount)),
-        Err(ReadFault::Memory) => return Err(TakeFault::Memory),
+        Err(LineFault::Refused) => return Err(TakeFault::Refused(ChangeCode::FieldCount)),
+        Err(LineFault::Memory) => return Err(TakeFault::Memory),
     };
     intake.take(change)?;
     Ok(())

@@ -1,8 +1,9 @@
 // Worked runs: what is written, the line of the ending, and the status.
 use crate::files::{calls, files, files_of, filled, texts, usual_words};
 use crate::scripts::{
-    COUNT_APPEND, COUNT_RETRACT, COUNT_SECOND, SELECT_APPEND, SELECT_RETRACT, SELECT_TWO,
-    SMALL_LETTERS,
+    ANY_SPELLING, BAD_TOKEN_LATER, BEHIND_INSERT, COUNT_APPEND, COUNT_RETRACT, COUNT_SECOND,
+    INTO_APPEND, MINI_BATCHES, MORE_TABLES, NO_INSERT, ONE_HOUR, OPEN_END, SELECT_APPEND,
+    SELECT_RETRACT, SELECT_TWO, THIRTY_TWO_DEEP, TOO_DEEP, WITH_CONDITION,
 };
 use ct_io::{Calls, Files, MemShelf, MemSink, SureShelf, SureSink};
 use ct_value::{Memory, Text};
@@ -98,11 +99,11 @@ const WORKED: [Run; 14] = [
         ("", "change C7 RowAbsent line 3\n", 3),
     ),
     (
-        SMALL_LETTERS,
-        "",
-        ("", "script S18 Unsupported statement 1\n", 2),
+        ANY_SPELLING,
+        "t,+I,a\nt,+I,a\n",
+        ("+I,a,1\n-U,a,1\n+U,a,2\n=,2\n", "", 0),
     ),
-    ("", "", ("", "script S18 Unsupported statement 1\n", 2)),
+    (MORE_TABLES, "t,+I,a\n", ("+I,a\n=,1\n", "", 0)),
 ];
 
 fn leaves_by_memory(alloc: Global, run: Run) -> Result<bool, Memory> {
@@ -142,6 +143,34 @@ fn worked_runs_leave_what_is_wanted(rt: HostRuntime) -> Result<(), Fail> {
     Ok(())
 }
 
+// Scripts that are refused, and the line on `err`.
+const REFUSED_SCRIPTS: [(&str, &str); 12] = [
+    ("", "script S19 NotOneInsert statement 1\n"),
+    (TOO_DEEP, "script S20 TooDeep statement 3\n"),
+    (THIRTY_TWO_DEEP, "script S18 Unsupported statement 3\n"),
+    (ONE_HOUR, "script S10 StateTtl statement 1\n"),
+    (OPEN_END, "script S2 Syntax statement 3\n"),
+    (BEHIND_INSERT, "script S19 NotOneInsert statement 4\n"),
+    (NO_INSERT, "script S19 NotOneInsert statement 3\n"),
+    (BAD_TOKEN_LATER, "script S1 BadToken statement 2\n"),
+    (
+        "CREATE TABLE t (a INT, a INT);",
+        "script S6 DuplicateName statement 1\n",
+    ),
+    (WITH_CONDITION, "script S18 Unsupported statement 3\n"),
+    (MINI_BATCHES, "script S18 Unsupported statement 4\n"),
+    (INTO_APPEND, "script S18 Unsupported statement 3\n"),
+];
+
+#[test]
+fn bad_scripts_are_refused(rt: HostRuntime) -> Result<(), Fail> {
+    for (script, line) in REFUSED_SCRIPTS {
+        let run = (script, "t,+I,a\n", ("", line, 2));
+        assert!(rt; leaves_surely(rt.alloc(), run)?, "over {script}");
+    }
+    Ok(())
+}
+
 // Change files of an append table `t` with one column that are refused, and the line on `err`.
 const REFUSED: [(&str, &str); 11] = [
     ("t,+I,\"a\"\n", "change C1 FieldCount line 0\n"),
@@ -166,13 +195,16 @@ fn bad_lines_are_refused(rt: HostRuntime) -> Result<(), Fail> {
     Ok(())
 }
 
-const WRONG_WORDS: [&[&str]; 6] = [
+const WRONG_WORDS: [&[&str]; 9] = [
     &[],
     &["--script", "s"],
     &["--script", "s", "--changes"],
     &["--script", "s", "--script", "s", "--changes", "c"],
     &["--script", "s", "--changes", "c", "c"],
     &["--help"],
+    &["-h", "--script", "s", "--changes", "c"],
+    &["--script", "s", "--changes", "c", "--do", "explain"],
+    &["--script", "-x", "--changes", "c"],
 ];
 
 fn is_wrong_use(alloc: Global, words: &[&str]) -> Result<bool, Memory> {
@@ -185,6 +217,26 @@ fn is_wrong_use(alloc: Global, words: &[&str]) -> Result<bool, Memory> {
 fn wrong_words_are_a_wrong_use(rt: HostRuntime) -> Result<(), Fail> {
     for words in WRONG_WORDS {
         assert!(rt; is_wrong_use(rt.alloc(), words)?, "{} words", words.len());
+    }
+    Ok(())
+}
+
+const RIGHT_WORDS: [&[&str]; 3] = [
+    &["--changes", "c", "--script", "s"],
+    &["--script=s", "--changes=c"],
+    &["--do", "run", "--script", "s", "--changes", "c"],
+];
+
+fn is_right_use(alloc: Global, words: &[&str]) -> Result<bool, Memory> {
+    let words = texts(alloc, words)?;
+    let files = files_of(alloc, SELECT_APPEND, "t,+I,a\n")?;
+    surely_leaves(alloc, words.as_slice(), files, ("+I,a\n=,1\n", "", 0))
+}
+
+#[test]
+fn words_may_stand_in_any_order(rt: HostRuntime) -> Result<(), Fail> {
+    for words in RIGHT_WORDS {
+        assert!(rt; is_right_use(rt.alloc(), words)?, "{} words", words.len());
     }
     Ok(())
 }

@@ -24,6 +24,6 @@ returns g c =
     let script = c.args.script.now in
     let intake = c.in-Ok-take_all.intake in
     let all : taken_of script.source (lines_of c.args.text.now) ≡ Ok done.0 = ap (taken_of script.source) (sym c.in-Ok.ensures.lines) ∙ done.1 in
-    let comes : with_text script (Some c.args.text.now) ≡ outcome_of_answer c.len.result (emitted_by script.insert intake.sent) =
-    text_comes script intake done.0 done.2 done.3 c.args.text.now all ∙ ap (λ (n : ℕ). outcome_of_answer n (emitted_by script.insert intake.sent)) (done.4 ∙ sym c.len.ensures) in
+    let comes : with_text script (Some c.args.text.now) ≡ outcome_of_answer c.len.result (emitted_by script intake.sent) =
+    text_comes script intake done.0 done.2 done.3 c.args.text.now all ∙ ap (λ (n : ℕ). outcome_of_answer n (emitted_by script intake.sent)) (done.4 ∙ sym c.len.ensures) in
     there_moved (with_text script (Some c.args.text.now)) comes c.drain.ensures

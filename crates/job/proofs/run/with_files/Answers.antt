@@ -13,5 +13,5 @@ returns-in_err-text g c =
 pub returns : goal.returns
 returns g c =
     runs_moved _ _ _ _ _ _ _ _ _ _ c.in_ok-text.ensures.same
-    (λ h is. ap (after_load Script (with_script_text h c.args.changes.now)) (c.in_ok-text.ensures.whole h (sym c.in_ok-text.ensures.same ∙ is)) ∙ ap (with_script_text h c.args.changes.now) (sym c.as_slice.ensures))
+    (λ h is. ap (after_load Script (with_script_text h c.args.changes.now)) (c.in_ok-text.ensures.whole h (sym c.in_ok-text.ensures.same ∙ is)))
     (rose_earlier _ _ _ c.in_ok-text.ensures.later) c.with_script_text.ensures.runs

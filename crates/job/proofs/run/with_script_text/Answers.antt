@@ -1,6 +1,6 @@
 use Rattle.std.proofs.Common.{ap, refl}
 use Rattle.std.proofs.lemmas.Result.{err_from_is_err_and}
-use Rattle.job.specs.Outcome.{with_script}
+use Rattle.job.specs.Outcome.{with_judgement}
 use Rattle.job.proofs.Runs.{runs_halted, runs_moved, judged_halt}
 use Rattle.job.proofs.run.with_script_text.Goals as goal
 
@@ -11,4 +11,4 @@ returns-in_err-script-clause-runs g c =
 
 pub returns-clause-runs : goal.returns-clause-runs
 returns-clause-runs g c =
-    runs_moved _ _ _ _ _ _ _ _ _ _ refl (λ h is. ap (with_script h c.args.changes.now) c.in_ok-script.ensures.ok) (λ rose. rose) c.with_script.ensures.runs
+    runs_moved _ _ _ _ _ _ _ _ _ _ refl (λ h is. ap (with_judgement h c.args.changes.now) c.in_ok-script.ensures.ok) (λ rose. rose) c.with_script.ensures.runs
