@@ -1,3 +1,4 @@
 pub mod Lists
 pub mod Trees
 pub mod Lawful
+pub mod Texts
