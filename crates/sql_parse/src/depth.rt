@@ -5,7 +5,7 @@ ghost use Rattle.sql_grammar.specs.Reads.{readers};
 ghost use Rattle.sql_parse.specs.Readings.{IsReading};
 
 use crate::nested::Nested;
-use crate::words::Stop;
+use crate::words::{Read, Stop};
 use crate::{expressions, queries};
 use sql_syntax::{Query, Token, Tree};
 use std::alloc::Global;
@@ -20,8 +20,8 @@ struct Within<E, Q> {
 
 impl<
     't,
-    E: Fn(Global, &'t [Token]) -> Result<(Tree, &'t [Token]), Stop>,
-    Q: Fn(Global, &'t [Token]) -> Result<(Query, &'t [Token]), Stop>,
+    E: Fn(Global, &'t [Token]) -> Read<'t, Tree>,
+    Q: Fn(Global, &'t [Token]) -> Read<'t, Query>,
 > Nested<'t> for Within<E, Q> {
     ghost readers = { λ within. readers within.depth };
 
@@ -31,11 +31,11 @@ impl<
         × ((alloc : _) (tokens : _) → Q.pre within.query alloc tokens)
         × ((alloc : _) (tokens : _) (result : _) → Q.post within.query alloc tokens result → IsReading query_view ((readers within.depth).query tokens.now) tokens.now result) };
 
-    fn expr(&self, alloc: Global, tokens: &'t [Token]) -> Result<(Tree, &'t [Token]), Stop> {
+    fn expr(&self, alloc: Global, tokens: &'t [Token]) -> Read<'t, Tree> {
         (self.expr)(alloc, tokens)
     }
 
-    fn query(&self, alloc: Global, tokens: &'t [Token]) -> Result<(Query, &'t [Token]), Stop> {
+    fn query(&self, alloc: Global, tokens: &'t [Token]) -> Read<'t, Query> {
         (self.query)(alloc, tokens)
     }
 }
@@ -43,7 +43,7 @@ impl<
 // An expression within so many others.
 #[cycle(depth)]
 #[tactic(auto, using(sql_grammar::proofs::Depths::expr_none, sql_grammar::proofs::Depths::expr_below))]
-fn expr(alloc: Global, depth: usize, tokens: &[Token]) -> Result<(Tree, &[Token]), Stop>
+fn expr(alloc: Global, depth: usize, tokens: &[Token]) -> Read<'_, Tree>
     ensures ok { IfOk result (λ read. (readers depth).expr tokens.now ≡ Some (view read.0, read.1.now)) }
     ensures shorter { IfOk result (λ read. length read.1.now < length tokens.now) }
     ensures refused { IsErrOf result Stop.Refused → (readers depth).expr tokens.now ≡ None }
@@ -71,7 +71,7 @@ fn expr(alloc: Global, depth: usize, tokens: &[Token]) -> Result<(Tree, &[Token]
 /// A query within so many others.
 #[cycle(depth)]
 #[tactic(auto, using(sql_grammar::proofs::Depths::query_none, sql_grammar::proofs::Depths::query_below))]
-pub fn query(alloc: Global, depth: usize, tokens: &[Token]) -> Result<(Query, &[Token]), Stop>
+pub fn query(alloc: Global, depth: usize, tokens: &[Token]) -> Read<'_, Query>
     ensures ok { IfOk result (λ read. (readers depth).query tokens.now ≡ Some (query_view read.0, read.1.now)) }
     ensures shorter { IfOk result (λ read. length read.1.now < length tokens.now) }
     ensures refused { IsErrOf result Stop.Refused → (readers depth).query tokens.now ≡ None }

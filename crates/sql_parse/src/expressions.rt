@@ -13,8 +13,8 @@ use crate::nodes::not_node;
 use crate::operands::sum;
 use crate::shapes::is_null;
 use crate::words::{
-    NegatableWord, RestWord, Stop, after_keyword, flagged, keyword, negatable_word, rest_word,
-    symbol,
+    NegatableWord, Read, RestWord, Stop, after_keyword, flagged, keyword, negatable_word,
+    rest_word, symbol,
 };
 use ct_value::CompareOp;
 use sql_syntax::{Keyword, Symbol, Token, Tree, Trees};
@@ -27,7 +27,7 @@ fn compare<'t, N: Nested<'t>>(
     value: Box<Tree>,
     op: CompareOp,
     tokens: &'t [Token],
-) -> Result<(Tree, &'t [Token]), Stop>
+) -> Read<'t, Tree>
     requires { N.sound nested.now }
     ensures ok { IfOk result (λ read. compare_at (N.readers nested.now) (view value.value) op tokens.now ≡ Some (view read.0, read.1.now)) }
     ensures shorter { IfOk result (λ read. length read.1.now < length tokens.now) }
@@ -52,7 +52,7 @@ fn between<'t, N: Nested<'t>>(
     value: Box<Tree>,
     negated: bool,
     tokens: &'t [Token],
-) -> Result<(Tree, &'t [Token]), Stop>
+) -> Read<'t, Tree>
     requires { N.sound nested.now }
     ensures ok { IfOk result (λ read. between_at (N.readers nested.now) (view value.value) negated tokens.now ≡ Some (view read.0, read.1.now)) }
     ensures shorter { IfOk result (λ read. length read.1.now < length tokens.now) }
@@ -81,7 +81,7 @@ fn in_list<'t, N: Nested<'t>>(
     value: Box<Tree>,
     negated: bool,
     tokens: &'t [Token],
-) -> Result<(Tree, &'t [Token]), Stop>
+) -> Read<'t, Tree>
     requires { N.sound nested.now }
     ensures ok { IfOk result (λ read. in_list_at (N.readers nested.now) (view value.value) negated tokens.now ≡ Some (view read.0, read.1.now)) }
     ensures shorter { IfOk result (λ read. length read.1.now < length tokens.now) }
@@ -106,7 +106,7 @@ fn in_query<'t, N: Nested<'t>>(
     value: Box<Tree>,
     negated: bool,
     tokens: &'t [Token],
-) -> Result<(Tree, &'t [Token]), Stop>
+) -> Read<'t, Tree>
     requires { N.sound nested.now }
     ensures ok { IfOk result (λ read. in_query_at (N.readers nested.now) (view value.value) negated tokens.now ≡ Some (view read.0, read.1.now)) }
     ensures shorter { IfOk result (λ read. length read.1.now < length tokens.now) }
@@ -131,7 +131,7 @@ fn query_or_list<'t, N: Nested<'t>>(
     value: Box<Tree>,
     negated: bool,
     tokens: &'t [Token],
-) -> Result<(Tree, &'t [Token]), Stop>
+) -> Read<'t, Tree>
     requires { N.sound nested.now }
     ensures ok { IfOk result (λ read. query_or_list (N.readers nested.now) (view value.value) negated tokens.now (word_at (only SELECT) tokens.now) ≡ Some (view read.0, read.1.now)) }
     ensures shorter { IfOk result (λ read. length read.1.now < length tokens.now) }
@@ -150,7 +150,7 @@ fn in_test<'t, N: Nested<'t>>(
     value: Box<Tree>,
     negated: bool,
     tokens: &'t [Token],
-) -> Result<(Tree, &'t [Token]), Stop>
+) -> Read<'t, Tree>
     requires { N.sound nested.now }
     ensures ok { IfOk result (λ read. in_at (N.readers nested.now) (view value.value) negated tokens.now ≡ Some (view read.0, read.1.now)) }
     ensures shorter { IfOk result (λ read. length read.1.now < length tokens.now) }
@@ -167,7 +167,7 @@ fn like<'t, N: Nested<'t>>(
     value: Box<Tree>,
     negated: bool,
     tokens: &'t [Token],
-) -> Result<(Tree, &'t [Token]), Stop>
+) -> Read<'t, Tree>
     requires { N.sound nested.now }
     ensures ok { IfOk result (λ read. like_at (N.readers nested.now) (view value.value) negated tokens.now ≡ Some (view read.0, read.1.now)) }
     ensures shorter { IfOk result (λ read. length read.1.now < length tokens.now) }
@@ -193,7 +193,7 @@ fn negatable<'t, N: Nested<'t>>(
     negated: bool,
     word: NegatableWord,
     tokens: &'t [Token],
-) -> Result<(Tree, &'t [Token]), Stop>
+) -> Read<'t, Tree>
     requires { N.sound nested.now }
     ensures ok { IfOk result (λ read. negatable_at (N.readers nested.now) (view value.value) negated (negatable_view word) tokens.now ≡ Some (view read.0, read.1.now)) }
     ensures shorter { IfOk result (λ read. length read.1.now < length tokens.now) }
@@ -213,7 +213,7 @@ fn tested<'t, N: Nested<'t>>(
     value: Box<Tree>,
     word: RestWord,
     tokens: &'t [Token],
-) -> Result<(Tree, &'t [Token]), Stop>
+) -> Read<'t, Tree>
     requires { N.sound nested.now }
     ensures ok { IfOk result (λ read. tested_at (N.readers nested.now) (view value.value) (rest_view word) tokens.now ≡ Some (view read.0, read.1.now)) }
     ensures shorter { IfOk result (λ read. length read.1.now < length tokens.now) }
@@ -236,7 +236,7 @@ fn rest_of_test<'t, N: Nested<'t>>(
     nested: &N,
     value: Tree,
     tokens: &'t [Token],
-) -> Result<(Tree, &'t [Token]), Stop>
+) -> Read<'t, Tree>
     requires { N.sound nested.now }
     ensures ok { IfOk result (λ read. rest_at (N.readers nested.now) (view value) tokens.now ≡ Some (view read.0, read.1.now)) }
     ensures shorter { IfOk result (λ read. length read.1.now ≤ length tokens.now) }
@@ -252,11 +252,7 @@ fn rest_of_test<'t, N: Nested<'t>>(
 }
 
 #[tactic(auto, using(sql_syntax::proofs::Views::tree_exists), unfolding(sql_grammar::specs::Reads::exists_at))]
-fn exists<'t, N: Nested<'t>>(
-    alloc: Global,
-    nested: &N,
-    tokens: &'t [Token],
-) -> Result<(Tree, &'t [Token]), Stop>
+fn exists<'t, N: Nested<'t>>(alloc: Global, nested: &N, tokens: &'t [Token]) -> Read<'t, Tree>
     requires { N.sound nested.now }
     ensures ok { IfOk result (λ read. exists_at (N.readers nested.now) tokens.now ≡ Some (view read.0, read.1.now)) }
     ensures shorter { IfOk result (λ read. length read.1.now < length tokens.now) }
@@ -270,11 +266,7 @@ fn exists<'t, N: Nested<'t>>(
 }
 
 #[tactic(auto, unfolding(sql_grammar::specs::Reads::sum_test_at))]
-fn sum_test<'t, N: Nested<'t>>(
-    alloc: Global,
-    nested: &N,
-    tokens: &'t [Token],
-) -> Result<(Tree, &'t [Token]), Stop>
+fn sum_test<'t, N: Nested<'t>>(alloc: Global, nested: &N, tokens: &'t [Token]) -> Read<'t, Tree>
     requires { N.sound nested.now }
     ensures ok { IfOk result (λ read. sum_test_at (N.readers nested.now) tokens.now ≡ Some (view read.0, read.1.now)) }
     ensures shorter { IfOk result (λ read. length read.1.now < length tokens.now) }
@@ -285,11 +277,7 @@ fn sum_test<'t, N: Nested<'t>>(
 }
 
 #[tactic(auto, unfolding(sql_grammar::specs::Reads::test_at))]
-fn test<'t, N: Nested<'t>>(
-    alloc: Global,
-    nested: &N,
-    tokens: &'t [Token],
-) -> Result<(Tree, &'t [Token]), Stop>
+fn test<'t, N: Nested<'t>>(alloc: Global, nested: &N, tokens: &'t [Token]) -> Read<'t, Tree>
     requires { N.sound nested.now }
     ensures ok { IfOk result (λ read. test_at (N.readers nested.now) tokens.now ≡ Some (view read.0, read.1.now)) }
     ensures shorter { IfOk result (λ read. length read.1.now < length tokens.now) }
@@ -302,11 +290,7 @@ fn test<'t, N: Nested<'t>>(
 }
 
 #[tactic(auto, unfolding(sql_grammar::specs::Reads::neg_at))]
-fn neg<'t, N: Nested<'t>>(
-    alloc: Global,
-    nested: &N,
-    tokens: &'t [Token],
-) -> Result<(Tree, &'t [Token]), Stop>
+fn neg<'t, N: Nested<'t>>(alloc: Global, nested: &N, tokens: &'t [Token]) -> Read<'t, Tree>
     requires { N.sound nested.now }
     ensures ok { IfOk result (λ read. neg_at (N.readers nested.now) tokens.now ≡ Some (view read.0, read.1.now)) }
     ensures shorter { IfOk result (λ read. length read.1.now < length tokens.now) }
@@ -323,7 +307,7 @@ fn ands<'t, N: Nested<'t>>(
     nested: &N,
     first: Tree,
     tokens: &'t [Token],
-) -> Result<(Trees, &'t [Token]), Stop>
+) -> Read<'t, Trees>
     requires { N.sound nested.now }
     ensures ok { IfOk result (λ read. ands_at (N.readers nested.now) (view first) tokens.now ≡ Some (trees_view read.0, read.1.now)) }
     ensures shorter { IfOk result (λ read. length read.1.now ≤ length tokens.now) }
@@ -346,7 +330,7 @@ fn and_rest<'t, N: Nested<'t>>(
     nested: &N,
     first: Tree,
     tokens: &'t [Token],
-) -> Result<(Tree, &'t [Token]), Stop>
+) -> Read<'t, Tree>
     requires { N.sound nested.now }
     ensures ok { IfOk result (λ read. and_at (N.readers nested.now) (view first) tokens.now ≡ Some (view read.0, read.1.now)) }
     ensures shorter { IfOk result (λ read. length read.1.now ≤ length tokens.now) }
@@ -362,11 +346,7 @@ fn and_rest<'t, N: Nested<'t>>(
 }
 
 #[tactic(auto, unfolding(sql_grammar::specs::Reads::conj_at, crate::specs::Chains::and_at, crate::specs::Chains::negs_at))]
-fn conj<'t, N: Nested<'t>>(
-    alloc: Global,
-    nested: &N,
-    tokens: &'t [Token],
-) -> Result<(Tree, &'t [Token]), Stop>
+fn conj<'t, N: Nested<'t>>(alloc: Global, nested: &N, tokens: &'t [Token]) -> Read<'t, Tree>
     requires { N.sound nested.now }
     ensures ok { IfOk result (λ read. conj_at (N.readers nested.now) tokens.now ≡ Some (view read.0, read.1.now)) }
     ensures shorter { IfOk result (λ read. length read.1.now < length tokens.now) }
@@ -381,7 +361,7 @@ fn ors<'t, N: Nested<'t>>(
     nested: &N,
     first: Tree,
     tokens: &'t [Token],
-) -> Result<(Trees, &'t [Token]), Stop>
+) -> Read<'t, Trees>
     requires { N.sound nested.now }
     ensures ok { IfOk result (λ read. ors_at (N.readers nested.now) (view first) tokens.now ≡ Some (trees_view read.0, read.1.now)) }
     ensures shorter { IfOk result (λ read. length read.1.now ≤ length tokens.now) }
@@ -404,7 +384,7 @@ fn or_rest<'t, N: Nested<'t>>(
     nested: &N,
     first: Tree,
     tokens: &'t [Token],
-) -> Result<(Tree, &'t [Token]), Stop>
+) -> Read<'t, Tree>
     requires { N.sound nested.now }
     ensures ok { IfOk result (λ read. or_at (N.readers nested.now) (view first) tokens.now ≡ Some (view read.0, read.1.now)) }
     ensures shorter { IfOk result (λ read. length read.1.now ≤ length tokens.now) }
@@ -424,7 +404,7 @@ pub fn expression<'t, N: Nested<'t>>(
     alloc: Global,
     nested: &N,
     tokens: &'t [Token],
-) -> Result<(Tree, &'t [Token]), Stop>
+) -> Read<'t, Tree>
     requires { N.sound nested.now }
     ensures ok { IfOk result (λ read. expr_at (N.readers nested.now) tokens.now ≡ Some (view read.0, read.1.now)) }
     ensures shorter { IfOk result (λ read. length read.1.now < length tokens.now) }

@@ -5,15 +5,11 @@ ghost use Rattle.sql_grammar.specs.Reads.{order_by_at, sort_at, sorts_at, trees_
 
 use crate::nested::Nested;
 use crate::nodes::is_desc;
-use crate::words::{Stop, after_symbol, direction_word, keyword};
+use crate::words::{Read, Stop, after_symbol, direction_word, keyword};
 use sql_syntax::{Keyword, Sort, SortList, Symbol, Token, Trees};
 use std::alloc::Global;
 
-pub fn trees<'t, N: Nested<'t>>(
-    alloc: Global,
-    nested: &N,
-    tokens: &'t [Token],
-) -> Result<(Trees, &'t [Token]), Stop>
+pub fn trees<'t, N: Nested<'t>>(alloc: Global, nested: &N, tokens: &'t [Token]) -> Read<'t, Trees>
     requires { N.sound nested.now }
     ensures ok { IfOk result (λ read. trees_at (N.readers nested.now) tokens.now ≡ Some (trees_view read.0, read.1.now)) }
     ensures shorter { IfOk result (λ read. length read.1.now < length tokens.now) }
@@ -32,11 +28,7 @@ pub fn trees<'t, N: Nested<'t>>(
 }
 
 #[tactic(auto, using(sql_syntax::proofs::Views::sort), unfolding(sql_grammar::specs::Reads::sort_at))]
-fn sort_item<'t, N: Nested<'t>>(
-    alloc: Global,
-    nested: &N,
-    tokens: &'t [Token],
-) -> Result<(Sort, &'t [Token]), Stop>
+fn sort_item<'t, N: Nested<'t>>(alloc: Global, nested: &N, tokens: &'t [Token]) -> Read<'t, Sort>
     requires { N.sound nested.now }
     ensures ok { IfOk result (λ read. sort_at (N.readers nested.now) tokens.now ≡ Some (sort_view read.0, read.1.now)) }
     ensures shorter { IfOk result (λ read. length read.1.now < length tokens.now) }
@@ -48,11 +40,7 @@ fn sort_item<'t, N: Nested<'t>>(
     Ok((Sort { value, desc }, rest))
 }
 
-fn sorts<'t, N: Nested<'t>>(
-    alloc: Global,
-    nested: &N,
-    tokens: &'t [Token],
-) -> Result<(SortList, &'t [Token]), Stop>
+fn sorts<'t, N: Nested<'t>>(alloc: Global, nested: &N, tokens: &'t [Token]) -> Read<'t, SortList>
     requires { N.sound nested.now }
     ensures ok { IfOk result (λ read. sorts_at (N.readers nested.now) tokens.now ≡ Some (sorts_view read.0, read.1.now)) }
     ensures shorter { IfOk result (λ read. length read.1.now < length tokens.now) }
@@ -75,7 +63,7 @@ pub fn order_by<'t, N: Nested<'t>>(
     alloc: Global,
     nested: &N,
     tokens: &'t [Token],
-) -> Result<(SortList, &'t [Token]), Stop>
+) -> Read<'t, SortList>
     requires { N.sound nested.now }
     ensures ok { IfOk result (λ read. order_by_at (N.readers nested.now) tokens.now ≡ Some (sorts_view read.0, read.1.now)) }
     ensures shorter { IfOk result (λ read. length read.1.now < length tokens.now) }

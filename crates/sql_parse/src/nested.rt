@@ -3,7 +3,7 @@ ghost use Rattle.std.specs.Prelude.{◌≡◌, ◌<◌, Some, None, length, IfOk
 ghost use Rattle.sql_syntax.specs.View.{view, query_view};
 ghost use Rattle.sql_grammar.specs.Reads.{Readers};
 
-use crate::words::Stop;
+use crate::words::{Read, Stop};
 use sql_syntax::{Query, Token, Tree};
 use std::alloc::Global;
 
@@ -18,14 +18,14 @@ pub trait Nested<'t> {
     ghost sound: { Self → Type 0 };
 
     /// Reads an expression, and answers what follows it.
-    fn expr(&self, alloc: Global, tokens: &'t [Token]) -> Result<(Tree, &'t [Token]), Stop>
+    fn expr(&self, alloc: Global, tokens: &'t [Token]) -> Read<'t, Tree>
         requires { sound self.now }
         ensures ok { IfOk result (λ read. (readers self.now).expr tokens.now ≡ Some (view read.0, read.1.now)) }
         ensures shorter { IfOk result (λ read. length read.1.now < length tokens.now) }
         ensures refused { IsErrOf result Stop.Refused → (readers self.now).expr tokens.now ≡ None };
 
     /// Reads a query, and answers what follows it.
-    fn query(&self, alloc: Global, tokens: &'t [Token]) -> Result<(Query, &'t [Token]), Stop>
+    fn query(&self, alloc: Global, tokens: &'t [Token]) -> Read<'t, Query>
         requires { sound self.now }
         ensures ok { IfOk result (λ read. (readers self.now).query tokens.now ≡ Some (query_view read.0, read.1.now)) }
         ensures shorter { IfOk result (λ read. length read.1.now < length tokens.now) }

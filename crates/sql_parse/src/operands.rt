@@ -11,8 +11,8 @@ use crate::nested::Nested;
 use crate::nodes::{product_node, sign_node, sum_node};
 use crate::shapes::{column, type_name};
 use crate::words::{
-    PrimaryWord, Stop, after_keyword, after_symbol, flagged, keyword, primary_word, product_word,
-    sign_word, sum_word, symbol,
+    PrimaryWord, Read, Stop, after_keyword, after_symbol, flagged, keyword, primary_word,
+    product_word, sign_word, sum_word, symbol,
 };
 use ct_value::Text;
 use sql_syntax::{
@@ -22,11 +22,7 @@ use sql_syntax::{
 use std::alloc::Global;
 
 #[tactic(auto, using(sql_syntax::proofs::Views::args_list))]
-fn values<'t, N: Nested<'t>>(
-    alloc: Global,
-    nested: &N,
-    tokens: &'t [Token],
-) -> Result<(Args, &'t [Token]), Stop>
+fn values<'t, N: Nested<'t>>(alloc: Global, nested: &N, tokens: &'t [Token]) -> Read<'t, Args>
     requires { N.sound nested.now }
     ensures ok { IfOk result (λ read. values_at (N.readers nested.now) tokens.now ≡ Some (args_view read.0, read.1.now)) }
     ensures shorter { IfOk result (λ read. length read.1.now < length tokens.now) }
@@ -42,7 +38,7 @@ fn closed_or_values<'t, N: Nested<'t>>(
     alloc: Global,
     nested: &N,
     tokens: &'t [Token],
-) -> Result<(Args, &'t [Token]), Stop>
+) -> Read<'t, Args>
     requires { N.sound nested.now }
     ensures ok { IfOk result (λ read. closed_or_values (N.readers nested.now) tokens.now (word_at (only CLOSE) tokens.now) ≡ Some (args_view read.0, read.1.now)) }
     ensures shorter { IfOk result (λ read. length read.1.now ≤ length tokens.now) }
@@ -55,11 +51,7 @@ fn closed_or_values<'t, N: Nested<'t>>(
 }
 
 #[tactic(auto, using(sql_syntax::proofs::Views::args_star), unfolding(sql_grammar::specs::Reads::args_at))]
-fn args<'t, N: Nested<'t>>(
-    alloc: Global,
-    nested: &N,
-    tokens: &'t [Token],
-) -> Result<(Args, &'t [Token]), Stop>
+fn args<'t, N: Nested<'t>>(alloc: Global, nested: &N, tokens: &'t [Token]) -> Read<'t, Args>
     requires { N.sound nested.now }
     ensures ok { IfOk result (λ read. args_at (N.readers nested.now) tokens.now ≡ Some (args_view read.0, read.1.now)) }
     ensures shorter { IfOk result (λ read. length read.1.now ≤ length tokens.now) }
@@ -72,11 +64,7 @@ fn args<'t, N: Nested<'t>>(
 }
 
 #[tactic(auto, unfolding(sql_grammar::specs::Reads::kept_at))]
-fn kept<'t, N: Nested<'t>>(
-    alloc: Global,
-    nested: &N,
-    tokens: &'t [Token],
-) -> Result<(Tree, &'t [Token]), Stop>
+fn kept<'t, N: Nested<'t>>(alloc: Global, nested: &N, tokens: &'t [Token]) -> Read<'t, Tree>
     requires { N.sound nested.now }
     ensures ok { IfOk result (λ read. kept_at (N.readers nested.now) tokens.now ≡ Some (view read.0, read.1.now)) }
     ensures shorter { IfOk result (λ read. length read.1.now < length tokens.now) }
@@ -94,7 +82,7 @@ fn filter<'t, N: Nested<'t>>(
     alloc: Global,
     nested: &N,
     tokens: &'t [Token],
-) -> Result<(Option<Box<Tree>>, &'t [Token]), Stop>
+) -> Read<'t, Option<Box<Tree>>>
     requires { N.sound nested.now }
     ensures ok { IfOk result (λ read. filter_at (N.readers nested.now) tokens.now ≡ Some (option_map (λ y. view y.value) read.0, read.1.now)) }
     ensures shorter { IfOk result (λ read. length read.1.now ≤ length tokens.now) }
@@ -111,11 +99,7 @@ fn filter<'t, N: Nested<'t>>(
 }
 
 #[tactic(auto, unfolding(sql_grammar::specs::Reads::partition_at))]
-fn partition<'t, N: Nested<'t>>(
-    alloc: Global,
-    nested: &N,
-    tokens: &'t [Token],
-) -> Result<(Trees, &'t [Token]), Stop>
+fn partition<'t, N: Nested<'t>>(alloc: Global, nested: &N, tokens: &'t [Token]) -> Read<'t, Trees>
     requires { N.sound nested.now }
     ensures ok { IfOk result (λ read. partition_at (N.readers nested.now) tokens.now ≡ Some (trees_view read.0, read.1.now)) }
     ensures shorter { IfOk result (λ read. length read.1.now ≤ length tokens.now) }
@@ -131,11 +115,7 @@ fn partition<'t, N: Nested<'t>>(
 }
 
 #[tactic(auto, using(sql_syntax::proofs::Views::over_made), unfolding(sql_grammar::specs::Reads::window_at))]
-fn window<'t, N: Nested<'t>>(
-    alloc: Global,
-    nested: &N,
-    tokens: &'t [Token],
-) -> Result<(Over, &'t [Token]), Stop>
+fn window<'t, N: Nested<'t>>(alloc: Global, nested: &N, tokens: &'t [Token]) -> Read<'t, Over>
     requires { N.sound nested.now }
     ensures ok { IfOk result (λ read. window_at (N.readers nested.now) tokens.now ≡ Some (over_view read.0, read.1.now)) }
     ensures shorter { IfOk result (λ read. length read.1.now < length tokens.now) }
@@ -152,7 +132,7 @@ fn over_part<'t, N: Nested<'t>>(
     alloc: Global,
     nested: &N,
     tokens: &'t [Token],
-) -> Result<(Option<Over>, &'t [Token]), Stop>
+) -> Read<'t, Option<Over>>
     requires { N.sound nested.now }
     ensures ok { IfOk result (λ read. over_at (N.readers nested.now) tokens.now ≡ Some (option_map over_view read.0, read.1.now)) }
     ensures shorter { IfOk result (λ read. length read.1.now ≤ length tokens.now) }
@@ -175,7 +155,7 @@ fn call<'t, N: Nested<'t>>(
     nested: &N,
     name: Text,
     tokens: &'t [Token],
-) -> Result<(Tree, &'t [Token]), Stop>
+) -> Read<'t, Tree>
     requires { N.sound nested.now }
     ensures ok { IfOk result (λ read. call_at (N.readers nested.now) name tokens.now ≡ Some (view read.0, read.1.now)) }
     ensures shorter { IfOk result (λ read. length read.1.now < length tokens.now) }
@@ -203,7 +183,7 @@ fn called_or_plain<'t, N: Nested<'t>>(
     name: Text,
     quoted: bool,
     tokens: &'t [Token],
-) -> Result<(Tree, &'t [Token]), Stop>
+) -> Read<'t, Tree>
     requires { N.sound nested.now }
     ensures ok { IfOk result (λ read. called_or_plain (N.readers nested.now) name quoted tokens.now (word_at (only OPEN) tokens.now) ≡ Some (view read.0, read.1.now)) }
     ensures shorter { IfOk result (λ read. length read.1.now ≤ length tokens.now) }
@@ -229,7 +209,7 @@ fn named<'t, N: Nested<'t>>(
     name: Text,
     quoted: bool,
     tokens: &'t [Token],
-) -> Result<(Tree, &'t [Token]), Stop>
+) -> Read<'t, Tree>
     requires { N.sound nested.now }
     ensures ok { IfOk result (λ read. named_at (N.readers nested.now) name quoted tokens.now ≡ Some (view read.0, read.1.now)) }
     ensures shorter { IfOk result (λ read. length read.1.now ≤ length tokens.now) }
@@ -242,11 +222,7 @@ fn named<'t, N: Nested<'t>>(
 }
 
 #[tactic(auto, using(sql_syntax::proofs::Views::tree_cast), unfolding(sql_grammar::specs::Reads::cast_at, sql_grammar::specs::Reads::cast_inner_at))]
-fn cast<'t, N: Nested<'t>>(
-    alloc: Global,
-    nested: &N,
-    tokens: &'t [Token],
-) -> Result<(Tree, &'t [Token]), Stop>
+fn cast<'t, N: Nested<'t>>(alloc: Global, nested: &N, tokens: &'t [Token]) -> Read<'t, Tree>
     requires { N.sound nested.now }
     ensures ok { IfOk result (λ read. cast_at (N.readers nested.now) tokens.now ≡ Some (view read.0, read.1.now)) }
     ensures shorter { IfOk result (λ read. length read.1.now < length tokens.now) }
@@ -262,11 +238,7 @@ fn cast<'t, N: Nested<'t>>(
 }
 
 #[tactic(auto, using(sql_syntax::proofs::Views::tree_sub), unfolding(sql_grammar::specs::Reads::sub_at))]
-fn sub<'t, N: Nested<'t>>(
-    alloc: Global,
-    nested: &N,
-    tokens: &'t [Token],
-) -> Result<(Tree, &'t [Token]), Stop>
+fn sub<'t, N: Nested<'t>>(alloc: Global, nested: &N, tokens: &'t [Token]) -> Read<'t, Tree>
     requires { N.sound nested.now }
     ensures ok { IfOk result (λ read. sub_at (N.readers nested.now) tokens.now ≡ Some (view read.0, read.1.now)) }
     ensures shorter { IfOk result (λ read. length read.1.now < length tokens.now) }
@@ -279,11 +251,7 @@ fn sub<'t, N: Nested<'t>>(
 }
 
 #[tactic(auto, using(sql_syntax::proofs::Views::tree_paren), unfolding(sql_grammar::specs::Reads::paren_at))]
-fn paren<'t, N: Nested<'t>>(
-    alloc: Global,
-    nested: &N,
-    tokens: &'t [Token],
-) -> Result<(Tree, &'t [Token]), Stop>
+fn paren<'t, N: Nested<'t>>(alloc: Global, nested: &N, tokens: &'t [Token]) -> Read<'t, Tree>
     requires { N.sound nested.now }
     ensures ok { IfOk result (λ read. paren_at (N.readers nested.now) tokens.now ≡ Some (view read.0, read.1.now)) }
     ensures shorter { IfOk result (λ read. length read.1.now < length tokens.now) }
@@ -296,11 +264,7 @@ fn paren<'t, N: Nested<'t>>(
 }
 
 #[tactic(auto, unfolding(sql_grammar::specs::Reads::opened_at))]
-fn opened<'t, N: Nested<'t>>(
-    alloc: Global,
-    nested: &N,
-    tokens: &'t [Token],
-) -> Result<(Tree, &'t [Token]), Stop>
+fn opened<'t, N: Nested<'t>>(alloc: Global, nested: &N, tokens: &'t [Token]) -> Read<'t, Tree>
     requires { N.sound nested.now }
     ensures ok { IfOk result (λ read. opened_at (N.readers nested.now) tokens.now ≡ Some (view read.0, read.1.now)) }
     ensures shorter { IfOk result (λ read. length read.1.now < length tokens.now) }
@@ -313,11 +277,7 @@ fn opened<'t, N: Nested<'t>>(
 }
 
 #[tactic(auto, using(sql_syntax::proofs::Views::tree_when), unfolding(sql_grammar::specs::Reads::when_at))]
-fn branch<'t, N: Nested<'t>>(
-    alloc: Global,
-    nested: &N,
-    tokens: &'t [Token],
-) -> Result<(TreeWhen, &'t [Token]), Stop>
+fn branch<'t, N: Nested<'t>>(alloc: Global, nested: &N, tokens: &'t [Token]) -> Read<'t, TreeWhen>
     requires { N.sound nested.now }
     ensures ok { IfOk result (λ read. when_at (N.readers nested.now) tokens.now ≡ Some (when_view read.0, read.1.now)) }
     ensures shorter { IfOk result (λ read. length read.1.now < length tokens.now) }
@@ -333,7 +293,7 @@ fn first_branch<'t, N: Nested<'t>>(
     alloc: Global,
     nested: &N,
     tokens: &'t [Token],
-) -> Result<(TreeWhen, &'t [Token]), Stop>
+) -> Read<'t, TreeWhen>
     requires { N.sound nested.now }
     ensures ok { IfOk result (λ read. after WHEN (when_at (N.readers nested.now)) tokens.now ≡ Some (when_view read.0, read.1.now)) }
     ensures shorter { IfOk result (λ read. length read.1.now < length tokens.now) }
@@ -347,7 +307,7 @@ fn branches<'t, N: Nested<'t>>(
     alloc: Global,
     nested: &N,
     tokens: &'t [Token],
-) -> Result<(TreeWhens, &'t [Token]), Stop>
+) -> Read<'t, TreeWhens>
     requires { N.sound nested.now }
     ensures ok { IfOk result (λ read. whens_at (N.readers nested.now) tokens.now ≡ Some (whens_view read.0, read.1.now)) }
     ensures shorter { IfOk result (λ read. length read.1.now < length tokens.now) }
@@ -370,7 +330,7 @@ fn otherwise<'t, N: Nested<'t>>(
     alloc: Global,
     nested: &N,
     tokens: &'t [Token],
-) -> Result<(Option<Box<Tree>>, &'t [Token]), Stop>
+) -> Read<'t, Option<Box<Tree>>>
     requires { N.sound nested.now }
     ensures ok { IfOk result (λ read. else_at (N.readers nested.now) tokens.now ≡ Some (option_map (λ y. view y.value) read.0, read.1.now)) }
     ensures shorter { IfOk result (λ read. length read.1.now ≤ length tokens.now) }
@@ -387,11 +347,7 @@ fn otherwise<'t, N: Nested<'t>>(
 }
 
 #[tactic(auto, using(sql_syntax::proofs::Views::tree_case), unfolding(sql_grammar::specs::Reads::case_at))]
-fn case<'t, N: Nested<'t>>(
-    alloc: Global,
-    nested: &N,
-    tokens: &'t [Token],
-) -> Result<(Tree, &'t [Token]), Stop>
+fn case<'t, N: Nested<'t>>(alloc: Global, nested: &N, tokens: &'t [Token]) -> Read<'t, Tree>
     requires { N.sound nested.now }
     ensures ok { IfOk result (λ read. case_at (N.readers nested.now) tokens.now ≡ Some (view read.0, read.1.now)) }
     ensures shorter { IfOk result (λ read. length read.1.now < length tokens.now) }
@@ -409,7 +365,7 @@ fn begun<'t, N: Nested<'t>>(
     nested: &N,
     word: PrimaryWord,
     tokens: &'t [Token],
-) -> Result<(Tree, &'t [Token]), Stop>
+) -> Read<'t, Tree>
     requires { N.sound nested.now }
     ensures ok { IfOk result (λ read. begun_at (N.readers nested.now) (primary_view word) tokens.now ≡ Some (view read.0, read.1.now)) }
     ensures shorter { IfOk result (λ read. length read.1.now ≤ length tokens.now) }
@@ -428,11 +384,7 @@ fn begun<'t, N: Nested<'t>>(
 }
 
 #[tactic(auto, unfolding(sql_grammar::specs::Reads::primary_at))]
-fn primary<'t, N: Nested<'t>>(
-    alloc: Global,
-    nested: &N,
-    tokens: &'t [Token],
-) -> Result<(Tree, &'t [Token]), Stop>
+fn primary<'t, N: Nested<'t>>(alloc: Global, nested: &N, tokens: &'t [Token]) -> Read<'t, Tree>
     requires { N.sound nested.now }
     ensures ok { IfOk result (λ read. primary_at (N.readers nested.now) tokens.now ≡ Some (view read.0, read.1.now)) }
     ensures shorter { IfOk result (λ read. length read.1.now < length tokens.now) }
@@ -443,11 +395,7 @@ fn primary<'t, N: Nested<'t>>(
 }
 
 #[tactic(auto, unfolding(sql_grammar::specs::Reads::sign_at))]
-fn sign<'t, N: Nested<'t>>(
-    alloc: Global,
-    nested: &N,
-    tokens: &'t [Token],
-) -> Result<(Tree, &'t [Token]), Stop>
+fn sign<'t, N: Nested<'t>>(alloc: Global, nested: &N, tokens: &'t [Token]) -> Read<'t, Tree>
     requires { N.sound nested.now }
     ensures ok { IfOk result (λ read. sign_at (N.readers nested.now) tokens.now ≡ Some (view read.0, read.1.now)) }
     ensures shorter { IfOk result (λ read. length read.1.now < length tokens.now) }
@@ -465,7 +413,7 @@ fn product_tail<'t, N: Nested<'t>>(
     nested: &N,
     word: ProductWord,
     tokens: &'t [Token],
-) -> Result<(ProductTail, &'t [Token]), Stop>
+) -> Read<'t, ProductTail>
     requires { N.sound nested.now }
     ensures ok { IfOk result (λ read. product_tail_at (N.readers nested.now) (product_word_view word) tokens.now ≡ Some (product_view read.0, read.1.now)) }
     ensures shorter { IfOk result (λ read. length read.1.now < length tokens.now) }
@@ -480,7 +428,7 @@ fn product_tails<'t, N: Nested<'t>>(
     alloc: Global,
     nested: &N,
     tokens: &'t [Token],
-) -> Result<(ProductTails, &'t [Token]), Stop>
+) -> Read<'t, ProductTails>
     requires { N.sound nested.now }
     ensures ok { IfOk result (λ read. repeated product_word (product_tail_at (N.readers nested.now)) tokens.now ≡ Some (product_tails_view read.0, read.1.now)) }
     ensures shorter { IfOk result (λ read. length read.1.now ≤ length tokens.now) }
@@ -497,11 +445,7 @@ fn product_tails<'t, N: Nested<'t>>(
 }
 
 #[tactic(auto, unfolding(sql_grammar::specs::Reads::product_at))]
-fn product<'t, N: Nested<'t>>(
-    alloc: Global,
-    nested: &N,
-    tokens: &'t [Token],
-) -> Result<(Tree, &'t [Token]), Stop>
+fn product<'t, N: Nested<'t>>(alloc: Global, nested: &N, tokens: &'t [Token]) -> Read<'t, Tree>
     requires { N.sound nested.now }
     ensures ok { IfOk result (λ read. product_at (N.readers nested.now) tokens.now ≡ Some (view read.0, read.1.now)) }
     ensures shorter { IfOk result (λ read. length read.1.now < length tokens.now) }
@@ -519,7 +463,7 @@ fn sum_tail<'t, N: Nested<'t>>(
     nested: &N,
     word: SumWord,
     tokens: &'t [Token],
-) -> Result<(SumTail, &'t [Token]), Stop>
+) -> Read<'t, SumTail>
     requires { N.sound nested.now }
     ensures ok { IfOk result (λ read. sum_tail_at (N.readers nested.now) (sum_word_view word) tokens.now ≡ Some (sum_view read.0, read.1.now)) }
     ensures shorter { IfOk result (λ read. length read.1.now < length tokens.now) }
@@ -534,7 +478,7 @@ fn sum_tails<'t, N: Nested<'t>>(
     alloc: Global,
     nested: &N,
     tokens: &'t [Token],
-) -> Result<(SumTails, &'t [Token]), Stop>
+) -> Read<'t, SumTails>
     requires { N.sound nested.now }
     ensures ok { IfOk result (λ read. repeated sum_word (sum_tail_at (N.readers nested.now)) tokens.now ≡ Some (sum_tails_view read.0, read.1.now)) }
     ensures shorter { IfOk result (λ read. length read.1.now ≤ length tokens.now) }
@@ -551,11 +495,7 @@ fn sum_tails<'t, N: Nested<'t>>(
 }
 
 #[tactic(auto, unfolding(sql_grammar::specs::Reads::sum_at))]
-pub fn sum<'t, N: Nested<'t>>(
-    alloc: Global,
-    nested: &N,
-    tokens: &'t [Token],
-) -> Result<(Tree, &'t [Token]), Stop>
+pub fn sum<'t, N: Nested<'t>>(alloc: Global, nested: &N, tokens: &'t [Token]) -> Read<'t, Tree>
     requires { N.sound nested.now }
     ensures ok { IfOk result (λ read. sum_at (N.readers nested.now) tokens.now ≡ Some (view read.0, read.1.now)) }
     ensures shorter { IfOk result (λ read. length read.1.now < length tokens.now) }

@@ -9,7 +9,7 @@ use crate::lists::{order_by, trees};
 use crate::nested::Nested;
 use crate::shapes::{alias, limit, star_of, table};
 use crate::words::{
-    Stop, after_keyword, after_symbol, flagged, join_word, keyword, name_word, symbol,
+    Read, Stop, after_keyword, after_symbol, flagged, join_word, keyword, name_word, symbol,
 };
 use sql_syntax::{
     Item, Items, JoinItem, JoinItems, JoinWord, Keyword, Query, Select, Selects, SortList, Source,
@@ -18,11 +18,7 @@ use sql_syntax::{
 use std::alloc::Global;
 
 #[tactic(auto, using(sql_syntax::proofs::Views::item_one), unfolding(sql_grammar::specs::Reads::value_item_at))]
-fn value_item<'t, N: Nested<'t>>(
-    alloc: Global,
-    nested: &N,
-    tokens: &'t [Token],
-) -> Result<(Item, &'t [Token]), Stop>
+fn value_item<'t, N: Nested<'t>>(alloc: Global, nested: &N, tokens: &'t [Token]) -> Read<'t, Item>
     requires { N.sound nested.now }
     ensures ok { IfOk result (λ read. value_item_at (N.readers nested.now) tokens.now ≡ Some (item_view read.0, read.1.now)) }
     ensures shorter { IfOk result (λ read. length read.1.now < length tokens.now) }
@@ -38,7 +34,7 @@ fn star_of_or_value<'t, N: Nested<'t>>(
     alloc: Global,
     nested: &N,
     tokens: &'t [Token],
-) -> Result<(Item, &'t [Token]), Stop>
+) -> Read<'t, Item>
     requires { N.sound nested.now }
     ensures ok { IfOk result (λ read. star_of_or_value (N.readers nested.now) tokens.now (star_of_at tokens.now) ≡ Some (item_view read.0, read.1.now)) }
     ensures shorter { IfOk result (λ read. length read.1.now < length tokens.now) }
@@ -51,11 +47,7 @@ fn star_of_or_value<'t, N: Nested<'t>>(
 }
 
 #[tactic(auto, using(sql_syntax::proofs::Views::item_all), unfolding(sql_grammar::specs::Reads::item_at))]
-fn select_item<'t, N: Nested<'t>>(
-    alloc: Global,
-    nested: &N,
-    tokens: &'t [Token],
-) -> Result<(Item, &'t [Token]), Stop>
+fn select_item<'t, N: Nested<'t>>(alloc: Global, nested: &N, tokens: &'t [Token]) -> Read<'t, Item>
     requires { N.sound nested.now }
     ensures ok { IfOk result (λ read. item_at (N.readers nested.now) tokens.now ≡ Some (item_view read.0, read.1.now)) }
     ensures shorter { IfOk result (λ read. length read.1.now < length tokens.now) }
@@ -71,7 +63,7 @@ fn select_items<'t, N: Nested<'t>>(
     alloc: Global,
     nested: &N,
     tokens: &'t [Token],
-) -> Result<(Items, &'t [Token]), Stop>
+) -> Read<'t, Items>
     requires { N.sound nested.now }
     ensures ok { IfOk result (λ read. items_at (N.readers nested.now) tokens.now ≡ Some (items_view read.0, read.1.now)) }
     ensures shorter { IfOk result (λ read. length read.1.now < length tokens.now) }
@@ -90,11 +82,7 @@ fn select_items<'t, N: Nested<'t>>(
 }
 
 #[tactic(auto, using(sql_syntax::proofs::Views::source_sub), unfolding(sql_grammar::specs::Reads::from_query_at))]
-fn from_query<'t, N: Nested<'t>>(
-    alloc: Global,
-    nested: &N,
-    tokens: &'t [Token],
-) -> Result<(Source, &'t [Token]), Stop>
+fn from_query<'t, N: Nested<'t>>(alloc: Global, nested: &N, tokens: &'t [Token]) -> Read<'t, Source>
     requires { N.sound nested.now }
     ensures ok { IfOk result (λ read. from_query_at (N.readers nested.now) tokens.now ≡ Some (source_view read.0, read.1.now)) }
     ensures shorter { IfOk result (λ read. length read.1.now < length tokens.now) }
@@ -113,7 +101,7 @@ fn source_item<'t, N: Nested<'t>>(
     alloc: Global,
     nested: &N,
     tokens: &'t [Token],
-) -> Result<(Source, &'t [Token]), Stop>
+) -> Read<'t, Source>
     requires { N.sound nested.now }
     ensures ok { IfOk result (λ read. source_at (N.readers nested.now) tokens.now ≡ Some (source_view read.0, read.1.now)) }
     ensures shorter { IfOk result (λ read. length read.1.now < length tokens.now) }
@@ -131,7 +119,7 @@ fn on_part<'t, N: Nested<'t>>(
     nested: &N,
     kind: JoinWord,
     tokens: &'t [Token],
-) -> Result<(JoinItem, &'t [Token]), Stop>
+) -> Read<'t, JoinItem>
     requires { N.sound nested.now }
     ensures ok { IfOk result (λ read. on_at (N.readers nested.now) (join_word_view kind) tokens.now ≡ Some (join_view read.0, read.1.now)) }
     ensures shorter { IfOk result (λ read. length read.1.now < length tokens.now) }
@@ -149,7 +137,7 @@ fn outer<'t, N: Nested<'t>>(
     nested: &N,
     kind: JoinWord,
     tokens: &'t [Token],
-) -> Result<(JoinItem, &'t [Token]), Stop>
+) -> Read<'t, JoinItem>
     requires { N.sound nested.now }
     ensures ok { IfOk result (λ read. outer_at (N.readers nested.now) (join_word_view kind) tokens.now ≡ Some (join_view read.0, read.1.now)) }
     ensures shorter { IfOk result (λ read. length read.1.now < length tokens.now) }
@@ -166,7 +154,7 @@ fn joined<'t, N: Nested<'t>>(
     nested: &N,
     word: Option<JoinWord>,
     tokens: &'t [Token],
-) -> Result<(JoinItem, &'t [Token]), Stop>
+) -> Read<'t, JoinItem>
     requires { N.sound nested.now }
     ensures ok { IfOk result (λ read. joined_at (N.readers nested.now) (option_map join_word_view word) tokens.now ≡ Some (join_view read.0, read.1.now)) }
     ensures shorter { IfOk result (λ read. length read.1.now < length tokens.now) }
@@ -189,7 +177,7 @@ fn join_items<'t, N: Nested<'t>>(
     alloc: Global,
     nested: &N,
     tokens: &'t [Token],
-) -> Result<(JoinItems, &'t [Token]), Stop>
+) -> Read<'t, JoinItems>
     requires { N.sound nested.now }
     ensures ok { IfOk result (λ read. repeated join_word (joined_at (N.readers nested.now)) tokens.now ≡ Some (joins_view read.0, read.1.now)) }
     ensures shorter { IfOk result (λ read. length read.1.now ≤ length tokens.now) }
@@ -243,7 +231,7 @@ fn where_part<'t, N: Nested<'t>>(
     alloc: Global,
     nested: &N,
     tokens: &'t [Token],
-) -> Result<(Option<Tree>, &'t [Token]), Stop>
+) -> Read<'t, Option<Tree>>
     requires { N.sound nested.now }
     ensures ok { IfOk result (λ read. where_at (N.readers nested.now) tokens.now ≡ Some (option_map view read.0, read.1.now)) }
     ensures shorter { IfOk result (λ read. length read.1.now ≤ length tokens.now) }
@@ -259,11 +247,7 @@ fn where_part<'t, N: Nested<'t>>(
 }
 
 #[tactic(auto, unfolding(sql_grammar::specs::Reads::group_at))]
-fn group_part<'t, N: Nested<'t>>(
-    alloc: Global,
-    nested: &N,
-    tokens: &'t [Token],
-) -> Result<(Trees, &'t [Token]), Stop>
+fn group_part<'t, N: Nested<'t>>(alloc: Global, nested: &N, tokens: &'t [Token]) -> Read<'t, Trees>
     requires { N.sound nested.now }
     ensures ok { IfOk result (λ read. group_at (N.readers nested.now) tokens.now ≡ Some (trees_view read.0, read.1.now)) }
     ensures shorter { IfOk result (λ read. length read.1.now ≤ length tokens.now) }
@@ -283,7 +267,7 @@ fn having_part<'t, N: Nested<'t>>(
     alloc: Global,
     nested: &N,
     tokens: &'t [Token],
-) -> Result<(Option<Tree>, &'t [Token]), Stop>
+) -> Read<'t, Option<Tree>>
     requires { N.sound nested.now }
     ensures ok { IfOk result (λ read. having_at (N.readers nested.now) tokens.now ≡ Some (option_map view read.0, read.1.now)) }
     ensures shorter { IfOk result (λ read. length read.1.now ≤ length tokens.now) }
@@ -316,11 +300,7 @@ fn filters<'t, N: Nested<'t>>(
 }
 
 #[tactic(auto, using(sql_syntax::proofs::Views::select_made), unfolding(sql_grammar::specs::Reads::selected_at))]
-fn selected<'t, N: Nested<'t>>(
-    alloc: Global,
-    nested: &N,
-    tokens: &'t [Token],
-) -> Result<(Select, &'t [Token]), Stop>
+fn selected<'t, N: Nested<'t>>(alloc: Global, nested: &N, tokens: &'t [Token]) -> Read<'t, Select>
     requires { N.sound nested.now }
     ensures ok { IfOk result (λ read. selected_at (N.readers nested.now) tokens.now ≡ Some (select_view read.0, read.1.now)) }
     ensures shorter { IfOk result (λ read. length read.1.now < length tokens.now) }
@@ -348,7 +328,7 @@ fn select_part<'t, N: Nested<'t>>(
     alloc: Global,
     nested: &N,
     tokens: &'t [Token],
-) -> Result<(Select, &'t [Token]), Stop>
+) -> Read<'t, Select>
     requires { N.sound nested.now }
     ensures ok { IfOk result (λ read. select_at (N.readers nested.now) tokens.now ≡ Some (select_view read.0, read.1.now)) }
     ensures shorter { IfOk result (λ read. length read.1.now < length tokens.now) }
@@ -359,11 +339,7 @@ fn select_part<'t, N: Nested<'t>>(
 }
 
 #[tactic(auto, unfolding(sql_grammar::specs::Reads::union_at))]
-fn union_part<'t, N: Nested<'t>>(
-    alloc: Global,
-    nested: &N,
-    tokens: &'t [Token],
-) -> Result<(Select, &'t [Token]), Stop>
+fn union_part<'t, N: Nested<'t>>(alloc: Global, nested: &N, tokens: &'t [Token]) -> Read<'t, Select>
     requires { N.sound nested.now }
     ensures ok { IfOk result (λ read. union_at (N.readers nested.now) tokens.now ≡ Some (select_view read.0, read.1.now)) }
     ensures shorter { IfOk result (λ read. length read.1.now < length tokens.now) }
@@ -377,7 +353,7 @@ fn select_parts<'t, N: Nested<'t>>(
     alloc: Global,
     nested: &N,
     tokens: &'t [Token],
-) -> Result<(Selects, &'t [Token]), Stop>
+) -> Read<'t, Selects>
     requires { N.sound nested.now }
     ensures ok { IfOk result (λ read. selects_at (N.readers nested.now) tokens.now ≡ Some (selects_view read.0, read.1.now)) }
     ensures shorter { IfOk result (λ read. length read.1.now < length tokens.now) }
@@ -400,7 +376,7 @@ fn order_part<'t, N: Nested<'t>>(
     alloc: Global,
     nested: &N,
     tokens: &'t [Token],
-) -> Result<(SortList, &'t [Token]), Stop>
+) -> Read<'t, SortList>
     requires { N.sound nested.now }
     ensures ok { IfOk result (λ read. order_at (N.readers nested.now) tokens.now ≡ Some (sorts_view read.0, read.1.now)) }
     ensures shorter { IfOk result (λ read. length read.1.now ≤ length tokens.now) }
@@ -413,11 +389,7 @@ fn order_part<'t, N: Nested<'t>>(
 }
 
 #[tactic(auto, using(sql_syntax::proofs::Views::query_made), unfolding(sql_grammar::specs::Reads::query_at))]
-pub fn query<'t, N: Nested<'t>>(
-    alloc: Global,
-    nested: &N,
-    tokens: &'t [Token],
-) -> Result<(Query, &'t [Token]), Stop>
+pub fn query<'t, N: Nested<'t>>(alloc: Global, nested: &N, tokens: &'t [Token]) -> Read<'t, Query>
     requires { N.sound nested.now }
     ensures ok { IfOk result (λ read. query_at (N.readers nested.now) tokens.now ≡ Some (query_view read.0, read.1.now)) }
     ensures shorter { IfOk result (λ read. length read.1.now < length tokens.now) }

@@ -12,7 +12,7 @@ use crate::depth::query;
 use crate::shapes::{create, set};
 use crate::statements::{is_too_deep, split_statement};
 use crate::tokens::tokens_of;
-use crate::words::{StatementWord, Stop, keyword, name, statement_word};
+use crate::words::{Read, StatementWord, Stop, keyword, name, statement_word};
 use ct_value::{Bytes, Memory, ScriptCode};
 use sql_syntax::{Keyword, Script, Statement, Statements, Token};
 use std::alloc::Global;
@@ -36,7 +36,7 @@ impl From<Memory> for ParseFault {
 }
 
 #[tactic(auto, unfolding(sql_grammar::specs::Reads::insert_at))]
-fn insert(alloc: Global, depth: usize, tokens: &[Token]) -> Result<(Statement, &[Token]), Stop>
+fn insert(alloc: Global, depth: usize, tokens: &[Token]) -> Read<'_, Statement>
     ensures ok { IfOk result (λ read. insert_at (readers depth) tokens.now ≡ Some (statement_view read.0, read.1.now)) }
     ensures refused { IsErrOf result Stop.Refused → insert_at (readers depth) tokens.now ≡ None }
 {
@@ -47,12 +47,7 @@ fn insert(alloc: Global, depth: usize, tokens: &[Token]) -> Result<(Statement, &
 }
 
 #[tactic(auto, unfolding(sql_grammar::specs::Reads::stated_at))]
-fn stated(
-    alloc: Global,
-    depth: usize,
-    word: StatementWord,
-    tokens: &[Token],
-) -> Result<(Statement, &[Token]), Stop>
+fn stated(alloc: Global, depth: usize, word: StatementWord, tokens: &[Token]) -> Read<'_, Statement>
     ensures ok { IfOk result (λ read. stated_at (readers depth) (stated_view word) tokens.now ≡ Some (statement_view read.0, read.1.now)) }
     ensures refused { IsErrOf result Stop.Refused → stated_at (readers depth) (stated_view word) tokens.now ≡ None }
 {
@@ -64,11 +59,7 @@ fn stated(
 }
 
 #[tactic(auto, unfolding(sql_grammar::specs::Reads::statement_at))]
-fn begun_statement(
-    alloc: Global,
-    depth: usize,
-    tokens: &[Token],
-) -> Result<(Statement, &[Token]), Stop>
+fn begun_statement(alloc: Global, depth: usize, tokens: &[Token]) -> Read<'_, Statement>
     ensures ok { IfOk result (λ read. statement_at (readers depth) tokens.now ≡ Some (statement_view read.0, read.1.now)) }
     ensures refused { IsErrOf result Stop.Refused → statement_at (readers depth) tokens.now ≡ None }
 {

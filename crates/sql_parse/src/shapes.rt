@@ -6,7 +6,8 @@ ghost use Rattle.sql_grammar.specs.Reading.{word_at, maybe};
 ghost use Rattle.sql_grammar.specs.Reads.{one_or_two, sizes_at, numbers_at, type_at, alias_at, column_at, is_null_at, star_of_at, table_at, limit_at, not_null_at, key_flag_at, column_def_at, names_at, key_at, element_at, elements_at, pair_at, pairs_at, options_at, create_at, set_at};
 
 use crate::words::{
-    Stop, after_keyword, after_symbol, flagged, keyword, name, name_word, number, symbol, text,
+    Read, Stop, after_keyword, after_symbol, flagged, keyword, name, name_word, number, symbol,
+    text,
 };
 use ct_value::Text;
 use sql_syntax::{
@@ -15,7 +16,7 @@ use sql_syntax::{
 };
 use std::alloc::Global;
 
-fn second_number(tokens: &[Token]) -> Result<(Option<Text>, &[Token]), Stop>
+fn second_number(tokens: &[Token]) -> Read<'_, Option<Text>>
     ensures ok { IfOk result (λ read. maybe (only COMMA) (λ w. word_at number_word) tokens.now ≡ Some (read.0, read.1.now)) }
     ensures shorter { IfOk result (λ read. length read.1.now ≤ length tokens.now) }
     ensures refused { IsErrOf result Stop.Refused → maybe (only COMMA) (λ w. word_at number_word) tokens.now ≡ None }
@@ -42,7 +43,7 @@ fn one_or_two(alloc: Global, first: Text, second: Option<Text>) -> Result<Texts,
 }
 
 #[tactic(auto, unfolding(sql_grammar::specs::Reads::sizes_at))]
-fn sizes(alloc: Global, tokens: &[Token]) -> Result<(Texts, &[Token]), Stop>
+fn sizes(alloc: Global, tokens: &[Token]) -> Read<'_, Texts>
     ensures ok { IfOk result (λ read. sizes_at tokens.now ≡ Some (read.0, read.1.now)) }
     ensures shorter { IfOk result (λ read. length read.1.now < length tokens.now) }
     ensures refused { IsErrOf result Stop.Refused → sizes_at tokens.now ≡ None }
@@ -55,7 +56,7 @@ fn sizes(alloc: Global, tokens: &[Token]) -> Result<(Texts, &[Token]), Stop>
 }
 
 #[tactic(auto, unfolding(sql_grammar::specs::Reads::numbers_at))]
-fn numbers(alloc: Global, tokens: &[Token]) -> Result<(Texts, &[Token]), Stop>
+fn numbers(alloc: Global, tokens: &[Token]) -> Read<'_, Texts>
     ensures ok { IfOk result (λ read. numbers_at tokens.now ≡ Some (read.0, read.1.now)) }
     ensures shorter { IfOk result (λ read. length read.1.now ≤ length tokens.now) }
     ensures refused { IsErrOf result Stop.Refused → numbers_at tokens.now ≡ None }
@@ -68,7 +69,7 @@ fn numbers(alloc: Global, tokens: &[Token]) -> Result<(Texts, &[Token]), Stop>
 
 /// The name of a type, with the numbers behind it.
 #[tactic(auto, unfolding(sql_grammar::specs::Reads::type_at))]
-pub fn type_name(alloc: Global, tokens: &[Token]) -> Result<(TypeName, &[Token]), Stop>
+pub fn type_name(alloc: Global, tokens: &[Token]) -> Read<'_, TypeName>
     ensures ok { IfOk result (λ read. type_at tokens.now ≡ Some (type_view read.0, read.1.now)) }
     ensures shorter { IfOk result (λ read. length read.1.now < length tokens.now) }
     ensures refused { IsErrOf result Stop.Refused → type_at tokens.now ≡ None }
@@ -79,7 +80,7 @@ pub fn type_name(alloc: Global, tokens: &[Token]) -> Result<(TypeName, &[Token])
 }
 
 #[tactic(auto, unfolding(sql_grammar::specs::Reads::alias_at))]
-fn bare_alias(tokens: &[Token]) -> Result<(Option<Text>, &[Token]), Stop>
+fn bare_alias(tokens: &[Token]) -> Read<'_, Option<Text>>
     requires { word_at (only AS) tokens.now ≡ None }
     ensures ok { IfOk result (λ read. alias_at tokens.now ≡ Some (read.0, read.1.now)) }
     ensures shorter { IfOk result (λ read. length read.1.now ≤ length tokens.now) }
@@ -93,7 +94,7 @@ fn bare_alias(tokens: &[Token]) -> Result<(Option<Text>, &[Token]), Stop>
 
 /// A name with AS or without it, if it stands there.
 #[tactic(auto, unfolding(sql_grammar::specs::Reads::alias_at))]
-pub fn alias(tokens: &[Token]) -> Result<(Option<Text>, &[Token]), Stop>
+pub fn alias(tokens: &[Token]) -> Read<'_, Option<Text>>
     ensures ok { IfOk result (λ read. alias_at tokens.now ≡ Some (read.0, read.1.now)) }
     ensures shorter { IfOk result (λ read. length read.1.now ≤ length tokens.now) }
     ensures refused { IsErrOf result Stop.Refused → alias_at tokens.now ≡ None }
@@ -109,7 +110,7 @@ pub fn alias(tokens: &[Token]) -> Result<(Option<Text>, &[Token]), Stop>
 
 /// The column behind a name and its point.
 #[tactic(auto, using(sql_syntax::proofs::Views::tree_name), unfolding(sql_grammar::specs::Reads::column_at))]
-pub fn column(of: Text, tokens: &[Token]) -> Result<(Tree, &[Token]), Stop>
+pub fn column(of: Text, tokens: &[Token]) -> Read<'_, Tree>
     ensures ok { IfOk result (λ read. column_at of tokens.now ≡ Some (view read.0, read.1.now)) }
     ensures shorter { IfOk result (λ read. length read.1.now < length tokens.now) }
     ensures refused { IsErrOf result Stop.Refused → column_at of tokens.now ≡ None }
@@ -129,7 +130,7 @@ pub fn column(of: Text, tokens: &[Token]) -> Result<(Tree, &[Token]), Stop>
 
 /// What follows the sum and IS.
 #[tactic(auto, using(sql_syntax::proofs::Views::tree_is_null), unfolding(sql_grammar::specs::Reads::is_null_at))]
-pub fn is_null<'t>(value: Box<Tree>, tokens: &'t [Token]) -> Result<(Tree, &'t [Token]), Stop>
+pub fn is_null<'t>(value: Box<Tree>, tokens: &'t [Token]) -> Read<'t, Tree>
     ensures ok { IfOk result (λ read. is_null_at (view value.value) tokens.now ≡ Some (view read.0, read.1.now)) }
     ensures shorter { IfOk result (λ read. length read.1.now < length tokens.now) }
     ensures refused { IsErrOf result Stop.Refused → is_null_at (view value.value) tokens.now ≡ None }
@@ -159,7 +160,7 @@ pub fn star_of(tokens: &[Token]) -> Result<Option<(Text, &[Token])>, Stop>
 
 /// What follows the name of a table.
 #[tactic(auto, using(sql_syntax::proofs::Views::source_table), unfolding(sql_grammar::specs::Reads::table_at))]
-pub fn table(name: Text, tokens: &[Token]) -> Result<(Source, &[Token]), Stop>
+pub fn table(name: Text, tokens: &[Token]) -> Read<'_, Source>
     ensures ok { IfOk result (λ read. table_at name tokens.now ≡ Some (source_view read.0, read.1.now)) }
     ensures shorter { IfOk result (λ read. length read.1.now ≤ length tokens.now) }
     ensures refused { IsErrOf result Stop.Refused → table_at name tokens.now ≡ None }
@@ -170,7 +171,7 @@ pub fn table(name: Text, tokens: &[Token]) -> Result<(Source, &[Token]), Stop>
 
 /// LIMIT and its number, if they stand there.
 #[tactic(auto, unfolding(sql_grammar::specs::Reads::limit_at))]
-pub fn limit(tokens: &[Token]) -> Result<(Option<Text>, &[Token]), Stop>
+pub fn limit(tokens: &[Token]) -> Read<'_, Option<Text>>
     ensures ok { IfOk result (λ read. limit_at tokens.now ≡ Some (read.0, read.1.now)) }
     ensures shorter { IfOk result (λ read. length read.1.now ≤ length tokens.now) }
     ensures refused { IsErrOf result Stop.Refused → limit_at tokens.now ≡ None }
@@ -185,7 +186,7 @@ pub fn limit(tokens: &[Token]) -> Result<(Option<Text>, &[Token]), Stop>
 }
 
 #[tactic(auto, unfolding(sql_grammar::specs::Reads::not_null_at))]
-fn not_null(tokens: &[Token]) -> Result<(bool, &[Token]), Stop>
+fn not_null(tokens: &[Token]) -> Read<'_, bool>
     ensures ok { IfOk result (λ read. not_null_at tokens.now ≡ Some (read.0, read.1.now)) }
     ensures shorter { IfOk result (λ read. length read.1.now ≤ length tokens.now) }
     ensures refused { IsErrOf result Stop.Refused → not_null_at tokens.now ≡ None }
@@ -200,7 +201,7 @@ fn not_null(tokens: &[Token]) -> Result<(bool, &[Token]), Stop>
 }
 
 #[tactic(auto, unfolding(sql_grammar::specs::Reads::key_flag_at))]
-fn key_flag(tokens: &[Token]) -> Result<(bool, &[Token]), Stop>
+fn key_flag(tokens: &[Token]) -> Read<'_, bool>
     ensures ok { IfOk result (λ read. key_flag_at tokens.now ≡ Some (read.0, read.1.now)) }
     ensures shorter { IfOk result (λ read. length read.1.now ≤ length tokens.now) }
     ensures refused { IsErrOf result Stop.Refused → key_flag_at tokens.now ≡ None }
@@ -217,7 +218,7 @@ fn key_flag(tokens: &[Token]) -> Result<(bool, &[Token]), Stop>
 }
 
 #[tactic(auto, unfolding(sql_grammar::specs::Reads::column_def_at))]
-fn column_def(alloc: Global, tokens: &[Token]) -> Result<(Element, &[Token]), Stop>
+fn column_def(alloc: Global, tokens: &[Token]) -> Read<'_, Element>
     ensures ok { IfOk result (λ read. column_def_at tokens.now ≡ Some (element_view read.0, read.1.now)) }
     ensures shorter { IfOk result (λ read. length read.1.now < length tokens.now) }
     ensures refused { IsErrOf result Stop.Refused → column_def_at tokens.now ≡ None }
@@ -237,7 +238,7 @@ fn column_def(alloc: Global, tokens: &[Token]) -> Result<(Element, &[Token]), St
     ))
 }
 
-fn names(alloc: Global, tokens: &[Token]) -> Result<(Texts, &[Token]), Stop>
+fn names(alloc: Global, tokens: &[Token]) -> Read<'_, Texts>
     ensures ok { IfOk result (λ read. names_at tokens.now ≡ Some (read.0, read.1.now)) }
     ensures shorter { IfOk result (λ read. length read.1.now < length tokens.now) }
     ensures refused { IsErrOf result Stop.Refused → names_at tokens.now ≡ None }
@@ -255,7 +256,7 @@ fn names(alloc: Global, tokens: &[Token]) -> Result<(Texts, &[Token]), Stop>
 }
 
 #[tactic(auto, unfolding(sql_grammar::specs::Reads::key_at))]
-fn key(alloc: Global, tokens: &[Token]) -> Result<(Element, &[Token]), Stop>
+fn key(alloc: Global, tokens: &[Token]) -> Read<'_, Element>
     ensures ok { IfOk result (λ read. key_at tokens.now ≡ Some (element_view read.0, read.1.now)) }
     ensures shorter { IfOk result (λ read. length read.1.now < length tokens.now) }
     ensures refused { IsErrOf result Stop.Refused → key_at tokens.now ≡ None }
@@ -270,7 +271,7 @@ fn key(alloc: Global, tokens: &[Token]) -> Result<(Element, &[Token]), Stop>
 }
 
 #[tactic(auto, unfolding(sql_grammar::specs::Reads::element_at))]
-fn element(alloc: Global, tokens: &[Token]) -> Result<(Element, &[Token]), Stop>
+fn element(alloc: Global, tokens: &[Token]) -> Read<'_, Element>
     ensures ok { IfOk result (λ read. element_at tokens.now ≡ Some (element_view read.0, read.1.now)) }
     ensures shorter { IfOk result (λ read. length read.1.now < length tokens.now) }
     ensures refused { IsErrOf result Stop.Refused → element_at tokens.now ≡ None }
@@ -281,7 +282,7 @@ fn element(alloc: Global, tokens: &[Token]) -> Result<(Element, &[Token]), Stop>
     }
 }
 
-fn elements(alloc: Global, tokens: &[Token]) -> Result<(Elements, &[Token]), Stop>
+fn elements(alloc: Global, tokens: &[Token]) -> Read<'_, Elements>
     ensures ok { IfOk result (λ read. elements_at tokens.now ≡ Some (map element_view read.0, read.1.now)) }
     ensures shorter { IfOk result (λ read. length read.1.now < length tokens.now) }
     ensures refused { IsErrOf result Stop.Refused → elements_at tokens.now ≡ None }
@@ -299,7 +300,7 @@ fn elements(alloc: Global, tokens: &[Token]) -> Result<(Elements, &[Token]), Sto
 }
 
 #[tactic(auto, unfolding(sql_grammar::specs::Reads::pair_at))]
-fn pair(tokens: &[Token]) -> Result<(TextPair, &[Token]), Stop>
+fn pair(tokens: &[Token]) -> Read<'_, TextPair>
     ensures ok { IfOk result (λ read. pair_at tokens.now ≡ Some (pair_view read.0, read.1.now)) }
     ensures shorter { IfOk result (λ read. length read.1.now < length tokens.now) }
     ensures refused { IsErrOf result Stop.Refused → pair_at tokens.now ≡ None }
@@ -310,7 +311,7 @@ fn pair(tokens: &[Token]) -> Result<(TextPair, &[Token]), Stop>
     Ok((TextPair { left, right }, rest))
 }
 
-fn pairs(alloc: Global, tokens: &[Token]) -> Result<(TextPairs, &[Token]), Stop>
+fn pairs(alloc: Global, tokens: &[Token]) -> Read<'_, TextPairs>
     ensures ok { IfOk result (λ read. pairs_at tokens.now ≡ Some (map pair_view read.0, read.1.now)) }
     ensures shorter { IfOk result (λ read. length read.1.now < length tokens.now) }
     ensures refused { IsErrOf result Stop.Refused → pairs_at tokens.now ≡ None }
@@ -328,7 +329,7 @@ fn pairs(alloc: Global, tokens: &[Token]) -> Result<(TextPairs, &[Token]), Stop>
 }
 
 #[tactic(auto, unfolding(sql_grammar::specs::Reads::options_at))]
-fn options(alloc: Global, tokens: &[Token]) -> Result<(TextPairs, &[Token]), Stop>
+fn options(alloc: Global, tokens: &[Token]) -> Read<'_, TextPairs>
     ensures ok { IfOk result (λ read. options_at tokens.now ≡ Some (map pair_view read.0, read.1.now)) }
     ensures shorter { IfOk result (λ read. length read.1.now ≤ length tokens.now) }
     ensures refused { IsErrOf result Stop.Refused → options_at tokens.now ≡ None }
@@ -346,7 +347,7 @@ fn options(alloc: Global, tokens: &[Token]) -> Result<(TextPairs, &[Token]), Sto
 
 /// What follows CREATE.
 #[tactic(auto, unfolding(sql_grammar::specs::Reads::create_at))]
-pub fn create(alloc: Global, tokens: &[Token]) -> Result<(Statement, &[Token]), Stop>
+pub fn create(alloc: Global, tokens: &[Token]) -> Read<'_, Statement>
     ensures ok { IfOk result (λ read. create_at tokens.now ≡ Some (statement_view read.0, read.1.now)) }
     ensures shorter { IfOk result (λ read. length read.1.now < length tokens.now) }
     ensures refused { IsErrOf result Stop.Refused → create_at tokens.now ≡ None }
@@ -369,7 +370,7 @@ pub fn create(alloc: Global, tokens: &[Token]) -> Result<(Statement, &[Token]), 
 
 /// What follows SET.
 #[tactic(auto, unfolding(sql_grammar::specs::Reads::set_at))]
-pub fn set(tokens: &[Token]) -> Result<(Statement, &[Token]), Stop>
+pub fn set(tokens: &[Token]) -> Read<'_, Statement>
     ensures ok { IfOk result (λ read. set_at tokens.now ≡ Some (statement_view read.0, read.1.now)) }
     ensures shorter { IfOk result (λ read. length read.1.now < length tokens.now) }
     ensures refused { IsErrOf result Stop.Refused → set_at tokens.now ≡ None }

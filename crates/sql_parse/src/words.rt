@@ -38,6 +38,9 @@ impl<T: Drop> From<AllocFailed<T>> for Stop {
     }
 }
 
+/// What was read at the head of tokens, and those behind it.
+pub type Read<'t, T> = Result<(T, &'t [Token]), Stop>;
+
 /// What follows a keyword, if it stands there.
 pub fn after_keyword(tokens: &[Token], wanted: Keyword) -> Option<&[Token]>
     ensures word { option_map (λ rest. (tt, rest.now)) result ≡ word_at (only (t.Keyword wanted)) tokens.now }
@@ -113,7 +116,7 @@ pub fn name_word(tokens: &[Token]) -> Result<Option<(Text, bool, &[Token])>, Sto
 
 /// A name, which has to stand there.
 #[tactic(auto, unfolding(sql_grammar::specs::Reads::name_at))]
-pub fn name(tokens: &[Token]) -> Result<(Text, &[Token]), Stop>
+pub fn name(tokens: &[Token]) -> Read<'_, Text>
     ensures ok { IfOk result (λ read. name_at tokens.now ≡ Some (read.0, read.1.now)) }
     ensures shorter { IfOk result (λ read. length read.1.now < length tokens.now) }
     ensures refused { IsErrOf result Stop.Refused → name_at tokens.now ≡ None }
@@ -125,7 +128,7 @@ pub fn name(tokens: &[Token]) -> Result<(Text, &[Token]), Stop>
 }
 
 /// A text, which has to stand there.
-pub fn text(tokens: &[Token]) -> Result<(Text, &[Token]), Stop>
+pub fn text(tokens: &[Token]) -> Read<'_, Text>
     ensures ok { IfOk result (λ read. word_at text_word tokens.now ≡ Some (read.0, read.1.now)) }
     ensures shorter { IfOk result (λ read. length read.1.now < length tokens.now) }
     ensures refused { IsErrOf result Stop.Refused → word_at text_word tokens.now ≡ None }
@@ -137,7 +140,7 @@ pub fn text(tokens: &[Token]) -> Result<(Text, &[Token]), Stop>
 }
 
 /// A number, which has to stand there.
-pub fn number(tokens: &[Token]) -> Result<(Text, &[Token]), Stop>
+pub fn number(tokens: &[Token]) -> Read<'_, Text>
     ensures ok { IfOk result (λ read. word_at number_word tokens.now ≡ Some (read.0, read.1.now)) }
     ensures shorter { IfOk result (λ read. length read.1.now < length tokens.now) }
     ensures refused { IsErrOf result Stop.Refused → word_at number_word tokens.now ≡ None }
@@ -227,7 +230,7 @@ pub enum PrimaryWord {
 }
 
 /// The first token of a primary, which has to stand there.
-pub fn primary_word(tokens: &[Token]) -> Result<(PrimaryWord, &[Token]), Stop>
+pub fn primary_word(tokens: &[Token]) -> Read<'_, PrimaryWord>
     ensures ok { IfOk result (λ read. word_at primary_word tokens.now ≡ Some (primary_view read.0, read.1.now)) }
     ensures shorter { IfOk result (λ read. length read.1.now < length tokens.now) }
     ensures refused { IsErrOf result Stop.Refused → word_at primary_word tokens.now ≡ None }
@@ -257,7 +260,7 @@ pub enum NegatableWord {
 }
 
 /// The word of a test before which NOT may stand; it has to stand there.
-pub fn negatable_word(tokens: &[Token]) -> Result<(NegatableWord, &[Token]), Stop>
+pub fn negatable_word(tokens: &[Token]) -> Read<'_, NegatableWord>
     ensures ok { IfOk result (λ read. word_at negatable_word tokens.now ≡ Some (negatable_view read.0, read.1.now)) }
     ensures shorter { IfOk result (λ read. length read.1.now < length tokens.now) }
     ensures refused { IsErrOf result Stop.Refused → word_at negatable_word tokens.now ≡ None }
@@ -330,7 +333,7 @@ pub enum StatementWord {
 }
 
 /// The first token of a statement, which has to stand there.
-pub fn statement_word(tokens: &[Token]) -> Result<(StatementWord, &[Token]), Stop>
+pub fn statement_word(tokens: &[Token]) -> Read<'_, StatementWord>
     ensures ok { IfOk result (λ read. word_at statement_word tokens.now ≡ Some (stated_view read.0, read.1.now)) }
     ensures shorter { IfOk result (λ read. length read.1.now < length tokens.now) }
     ensures refused { IsErrOf result Stop.Refused → word_at statement_word tokens.now ≡ None }
