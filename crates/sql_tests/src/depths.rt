@@ -1,0 +1,159 @@
+// Parentheses and CASEs within one another, of which 32 may be open at once.
+use crate::reading::{ITEM, SCRIPT, check_tree, repeated};
+use ct_value::Memory;
+use std::alloc::Global;
+use std::process::Abort;
+use std::test::Fail;
+
+// What stands before, within and behind, first of an item and then of its tree.
+type Nest = (
+    &'static str,
+    &'static str,
+    &'static str,
+    &'static str,
+    &'static str,
+    &'static str,
+);
+
+const NESTS: [Nest; 7] = [
+    ("(", "word", ")", "(paren ", "word", ")"),
+    (
+        "CASE WHEN a THEN ",
+        "b",
+        " END",
+        "(case (when a ",
+        "b",
+        "))",
+    ),
+    (
+        "CASE WHEN ",
+        "a",
+        " THEN b END",
+        "(case (when ",
+        "a",
+        " b))",
+    ),
+    ("f(", "a", ")", "(call f ", "a", ")"),
+    ("a IN (", "b", ")", "(in a ", "b", ")"),
+    (
+        "(SELECT ",
+        "a",
+        " FROM t)",
+        "(sub (query (select ",
+        "a",
+        " (from t))))",
+    ),
+    (
+        "EXISTS (SELECT a FROM t WHERE ",
+        "b",
+        ")",
+        "(exists (query (select a (from t) (where ",
+        "b",
+        "))))",
+    ),
+];
+
+// A text within so many others.
+fn nested(
+    alloc: Global,
+    count: usize,
+    front: &str,
+    inner: &str,
+    back: &str,
+) -> Result<String, Memory> {
+    let text = repeated(alloc, "", count, front, inner)?;
+    repeated(alloc, text.as_str(), count, back, "")
+}
+
+fn check_nest(rt: &impl Abort, alloc: Global, nest: Nest) -> Result<(), Memory> {
+    let text = nested(alloc, 32, nest.0, nest.1, nest.2)?;
+    let tree = nested(alloc, 32, nest.3, nest.4, nest.5)?;
+    check_tree(rt, alloc, ITEM, text.as_str(), tree.as_str())
+}
+
+// One more is too many, and a fault within 32 is found.
+fn check_refused_nest(rt: &impl Abort, alloc: Global, nest: Nest) -> Result<(), Memory> {
+    let deeper = nested(alloc, 33, nest.0, nest.1, nest.2)?;
+    check_tree(
+        rt,
+        alloc,
+        ITEM.refused(),
+        deeper.as_str(),
+        "S20 TooDeep at 1",
+    )?;
+    let faulty = nested(alloc, 32, nest.0, "a + ", nest.2)?;
+    check_tree(rt, alloc, ITEM.refused(), faulty.as_str(), "S2 Syntax at 1")
+}
+
+fn check_nests(rt: &impl Abort, alloc: Global, nests: &[Nest]) -> Result<(), Memory> {
+    for nest in nests {
+        check_nest(rt, alloc, *nest)?;
+        check_refused_nest(rt, alloc, *nest)?;
+    }
+    Ok(())
+}
+
+#[test]
+fn thirty_two_may_be_open_and_no_more(rt: HostRuntime) -> Result<(), Fail> {
+    check_nests(&rt, rt.alloc(), &NESTS)?;
+    Ok(())
+}
+
+// A front, a piece so many times, a back, and what the text is read as.
+type Counted = (
+    &'static str,
+    usize,
+    &'static str,
+    &'static str,
+    &'static str,
+);
+
+const COUNTED: [Counted; 19] = [
+    ("", 32, "(", ";", "S2 Syntax at 1"),
+    ("", 33, "(", ";", "S20 TooDeep at 1"),
+    ("", 32, "case ", ";", "S2 Syntax at 1"),
+    ("", 33, "case ", ";", "S20 TooDeep at 1"),
+    ("", 16, "(CASE ", ";", "S2 Syntax at 1"),
+    ("(", 16, "(CASE ", ";", "S20 TooDeep at 1"),
+    // without a `;`
+    ("", 33, "(", "", "S20 TooDeep at 1"),
+    // what closes, also where none is open
+    ("", 40, "()", ";", "S2 Syntax at 1"),
+    ("", 40, "CASE END ", ";", "S2 Syntax at 1"),
+    ("", 40, "(END CASE)", ";", "S2 Syntax at 1"),
+    (")END)", 32, "(", ";", "S2 Syntax at 1"),
+    (")END)", 33, "(", ");", "S20 TooDeep at 1"),
+    // a bad place counts before, and a missing tree behind
+    ("", 33, "(", "#;", "S1 BadToken at 1"),
+    ("#", 33, "(", ";", "S1 BadToken at 1"),
+    ("SET 'a' = 'b';", 33, "(", "; #", "S20 TooDeep at 2"),
+    ("SET;", 33, "(", ";", "S2 Syntax at 1"),
+    // within comments and texts they aren't tokens
+    ("SET 'a' = 'b'; -- ", 33, "(", "", "(set a b)"),
+    ("/*", 33, "CASE ", "*/ SET 'a' = 'b';", "(set a b)"),
+    (
+        "SET '",
+        5,
+        "(((((((",
+        "' = 'b';",
+        "(set ((((((((((((((((((((((((((((((((((( b)",
+    ),
+];
+
+fn check_counted(rt: &impl Abort, alloc: Global, case: Counted) -> Result<(), Memory> {
+    let text = repeated(alloc, case.0, case.1, case.2, case.3)?;
+    check_tree(rt, alloc, SCRIPT, text.as_str(), case.4)
+}
+
+fn check_all_counted(rt: &impl Abort, alloc: Global, cases: &[Counted]) -> Result<(), Memory> {
+    for case in cases {
+        check_counted(rt, alloc, *case)?;
+    }
+    Ok(())
+}
+
+#[test]
+fn open_ones_are_counted(rt: HostRuntime) -> Result<(), Fail> {
+    check_all_counted(&rt, rt.alloc(), &COUNTED)?;
+    Ok(())
+}

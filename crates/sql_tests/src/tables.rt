@@ -1,0 +1,262 @@
+// Tables that scripts declare, and tables that are refused.
+use crate::declaring::{check_declared, describe};
+use ct_value::Memory;
+use std::alloc::Global;
+use std::process::Abort;
+use std::test::Fail;
+
+// A script, and the tables that it declares.
+const DECLARED: [(&str, &str); 15] = [
+    ("", ""),
+    ("CREATE TABLE t (a INT);", "(append t, a INT)"),
+    (
+        "CREATE TABLE t (a INT) WITH ('changelog' = 'append'); CREATE TABLE u (b STRING) WITH ('changelog' = 'retract');",
+        "(append t, a INT)(retract u, b STRING)",
+    ),
+    // types in any case of letters
+    (
+        "CREATE TABLE t (a boolean, b Int, c INTEGER, d bigint, e String);",
+        "(append t, a BOOLEAN, b INT, c INT, d BIGINT, e STRING)",
+    ),
+    (
+        "CREATE TABLE t (a decimal, b Dec(5), c NUMERIC(38, 38), d DECIMAL(1, 0), e DECIMAL(05, 02));",
+        "(append t, a DECIMAL(10,0), b DECIMAL(5,0), c DECIMAL(38,38), d DECIMAL(1,0), e DECIMAL(5,2))",
+    ),
+    // names in the case in which they are written
+    (
+        "CREATE TABLE t (a INT, A INT); CREATE TABLE T (`a b` INT);",
+        "(append t, a INT, A INT)(append T, a b INT)",
+    ),
+    // keys, whose columns are NOT NULL
+    (
+        "CREATE TABLE t (a INT NOT NULL, b INT PRIMARY KEY NOT ENFORCED, c INT);",
+        "(append t, a INT NOT NULL, b INT NOT NULL, c INT, key 1)",
+    ),
+    (
+        "CREATE TABLE t (a INT, b INT, c INT NOT NULL, PRIMARY KEY (c, a) NOT ENFORCED);",
+        "(append t, a INT NOT NULL, b INT, c INT NOT NULL, key 0 2)",
+    ),
+    (
+        "CREATE TABLE t (PRIMARY KEY (b) NOT ENFORCED, a INT, `b` INT) WITH ('changelog' = 'upsert');",
+        "(upsert t, a INT, b INT NOT NULL, key 1)",
+    ),
+    // the last mode counts, and other options have no effect
+    (
+        "CREATE TABLE t (a INT) WITH ('changelog' = 'upsert', 'connector' = 'x', 'changelog' = 'retract');",
+        "(retract t, a INT)",
+    ),
+    (
+        "CREATE TABLE t (a INT PRIMARY KEY NOT ENFORCED) WITH ('changelog' = 'append', 'changelog' = 'upsert');",
+        "(upsert t, a INT NOT NULL, key 0)",
+    ),
+    (
+        "CREATE TABLE t (a INT) WITH ('CHANGELOG' = 'retract', 'changelog ' = 'x');",
+        "(append t, a INT)",
+    ),
+    // SET and INSERT declare no table
+    (
+        "SET 'pipeline.name' = 'x'; CREATE TABLE t (a INT); INSERT INTO t SELECT a FROM u;",
+        "(append t, a INT)",
+    ),
+    ("CREATE TABLE t (a INT); SET", "S2 Syntax at 2"),
+    (
+        "SET 'table.exec.state.ttl' = '0 ms'; CREATE TABLE t (a INT);",
+        "(append t, a INT)",
+    ),
+];
+
+fn check_all_declared(
+    rt: &impl Abort,
+    alloc: Global,
+    cases: &[(&str, &str)],
+) -> Result<(), Memory> {
+    for case in cases {
+        check_declared(rt, alloc, case.0, case.1)?;
+    }
+    Ok(())
+}
+
+#[test]
+fn tables_are_declared(rt: HostRuntime) -> Result<(), Fail> {
+    check_all_declared(&rt, rt.alloc(), &DECLARED)?;
+    Ok(())
+}
+
+// A script, and its refusal.
+const REFUSED: [(&str, &str); 20] = [
+    // names
+    (
+        "CREATE TABLE t (a INT); CREATE TABLE u (a INT); CREATE TABLE `t` (b INT);",
+        "S6 DuplicateName at 3",
+    ),
+    (
+        "CREATE TABLE t (a INT, b INT, a INT);",
+        "S6 DuplicateName at 1",
+    ),
+    (
+        "CREATE TABLE t (a INT, `a` BIGINT);",
+        "S6 DuplicateName at 1",
+    ),
+    // keys
+    (
+        "CREATE TABLE t (a INT); CREATE TABLE u (a INT) WITH ('changelog' = 'upsert');",
+        "S16 KeyMissing at 2",
+    ),
+    (
+        "CREATE TABLE t (a INT) WITH ('changelog' = 'append', 'changelog' = 'upsert');",
+        "S16 KeyMissing at 1",
+    ),
+    (
+        "CREATE TABLE t (a INT, PRIMARY KEY (A) NOT ENFORCED);",
+        "S16 KeyMissing at 1",
+    ),
+    (
+        "CREATE TABLE t (PRIMARY KEY (a) NOT ENFORCED);",
+        "S16 KeyMissing at 1",
+    ),
+    (
+        "CREATE TABLE t (a INT, b INT, PRIMARY KEY (a, b, a) NOT ENFORCED);",
+        "S16 KeyMissing at 1",
+    ),
+    (
+        "CREATE TABLE t (a INT PRIMARY KEY NOT ENFORCED, PRIMARY KEY (a) NOT ENFORCED);",
+        "S16 KeyMissing at 1",
+    ),
+    (
+        "CREATE TABLE t (a INT PRIMARY KEY NOT ENFORCED, b INT PRIMARY KEY NOT ENFORCED);",
+        "S16 KeyMissing at 1",
+    ),
+    // modes
+    (
+        "CREATE TABLE t (a INT) WITH ('changelog' = 'Append');",
+        "S17 BadSetting at 1",
+    ),
+    (
+        "CREATE TABLE t (a INT) WITH ('changelog' = '', 'changelog' = 'append');",
+        "S17 BadSetting at 1",
+    ),
+    // settings
+    (
+        "SET 'table.exec.state.ttl' = '1 h'; CREATE TABLE t (a INT); CREATE TABLE t (a INT);",
+        "S10 StateTtl at 1",
+    ),
+    (
+        "CREATE TABLE t (a INT); SET 'no.such.key' = ''; CREATE TABLE t (a INT);",
+        "S17 BadSetting at 2",
+    ),
+    // the order of refusals
+    ("CREATE TABLE t (a x, a INT);", "S6 DuplicateName at 1"),
+    (
+        "CREATE TABLE t (a INT); CREATE TABLE t (a x);",
+        "S6 DuplicateName at 2",
+    ),
+    (
+        "CREATE TABLE t (a x, PRIMARY KEY (b) NOT ENFORCED);",
+        "S18 Unsupported at 1",
+    ),
+    (
+        "CREATE TABLE t (a x) WITH ('changelog' = 'x');",
+        "S18 Unsupported at 1",
+    ),
+    (
+        "CREATE TABLE t (a INT, PRIMARY KEY (b) NOT ENFORCED) WITH ('changelog' = 'x');",
+        "S16 KeyMissing at 1",
+    ),
+    (
+        "CREATE TABLE t (a INT) WITH ('changelog' = 'x', 'changelog' = 'upsert');",
+        "S16 KeyMissing at 1",
+    ),
+];
+
+#[test]
+fn tables_are_refused(rt: HostRuntime) -> Result<(), Fail> {
+    check_all_declared(&rt, rt.alloc(), &REFUSED)?;
+    Ok(())
+}
+
+// Scripts with an unknown type or wrong numbers of one.
+const NO_TYPES: [&str; 14] = [
+    "CREATE TABLE t (a FLOAT);",
+    "CREATE TABLE t (a VARCHAR(10));",
+    "CREATE TABLE t (a TEXT);",
+    "CREATE TABLE t (a INT(3));",
+    "CREATE TABLE t (a STRING(5));",
+    "CREATE TABLE t (a BOOLEAN(1));",
+    "CREATE TABLE t (a `INT `);",
+    "CREATE TABLE t (a DECIMAL(0));",
+    "CREATE TABLE t (a DECIMAL(39));",
+    "CREATE TABLE t (a DECIMAL(5, 6));",
+    "CREATE TABLE t (a DECIMAL(0, 0));",
+    "CREATE TABLE t (a DECIMAL(1.5));",
+    "CREATE TABLE t (a DECIMAL(5, 1.0));",
+    "CREATE TABLE t (a DECIMAL(99999999999999999999));",
+];
+
+fn check_unsupported(rt: &impl Abort, alloc: Global, texts: &[&str]) -> Result<(), Memory> {
+    for text in texts {
+        check_declared(rt, alloc, text, "S18 Unsupported at 1")?;
+    }
+    Ok(())
+}
+
+#[test]
+fn other_types_are_refused(rt: HostRuntime) -> Result<(), Fail> {
+    check_unsupported(&rt, rt.alloc(), &NO_TYPES)?;
+    Ok(())
+}
+
+// A table of so many columns and what stands behind them.
+fn wide(alloc: Global, count: u32, rest: &str) -> Result<String, Memory> {
+    let mut text = String::from_str(alloc, "CREATE TABLE t (c0 INT")?;
+    for i in 1..count {
+        write!(text, ", c{i} INT")?;
+    }
+    text.push_str(rest)?;
+    Ok(text)
+}
+
+// A number of columns, what stands behind them, and the refusal or the first of what is declared.
+type Wide = (u32, &'static str, &'static str);
+
+const WIDE: [Wide; 7] = [
+    (64, ");", "(append t, c0 INT, c1 INT, "),
+    (65, ");", "S24 TooManyColumns at 1"),
+    (
+        63,
+        ", a INT PRIMARY KEY NOT ENFORCED);",
+        "(append t, c0 INT, c1 INT, ",
+    ),
+    (
+        64,
+        ", PRIMARY KEY (c63) NOT ENFORCED);",
+        "(append t, c0 INT, c1 INT, ",
+    ),
+    (64, ", c0 INT);", "S6 DuplicateName at 1"),
+    (64, ", a x);", "S18 Unsupported at 1"),
+    (
+        64,
+        ", a INT, PRIMARY KEY (b) NOT ENFORCED);",
+        "S24 TooManyColumns at 1",
+    ),
+];
+
+// Of what is declared, the beginning is enough.
+fn check_wide(rt: &impl Abort, alloc: Global, case: Wide) -> Result<(), Memory> {
+    let text = wide(alloc, case.0, case.1)?;
+    let found = describe(alloc, text.as_str())?;
+    assert!(rt; found.as_str().starts_with(case.2), "{text} gives {found}");
+    Ok(())
+}
+
+fn check_all_wide(rt: &impl Abort, alloc: Global, cases: &[Wide]) -> Result<(), Memory> {
+    for case in cases {
+        check_wide(rt, alloc, *case)?;
+    }
+    Ok(())
+}
+
+#[test]
+fn tables_have_at_most_64_columns(rt: HostRuntime) -> Result<(), Fail> {
+    check_all_wide(&rt, rt.alloc(), &WIDE)?;
+    Ok(())
+}
