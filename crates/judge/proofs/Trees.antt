@@ -51,10 +51,10 @@ selects_back (x ∷ xs) = ap (λ (l : List t.Select). x ∷ l) (selects_back xs)
 pub selects_seen : (x : Query) → selects_of (query_view x) ≡ selects_view (out-Query x).selects
 selects_seen x = ap selects_of (query x) ∙ selects_back (selects_view (out-Query x).selects)
 
-unordered_of : (selects : t.Selects) (order : List t.Sort) (limit : Option (List ℕ)) → is_unordered (t.query_of selects (t.sort_list order) limit) ≡ ((length order == 0) && is_none limit)
-unordered_of selects (o ∷ order) limit = let some : (length (o ∷ order) == 0) ≡ false = grind arith in ap (λ b. b && is_none limit) (sym some)
-unordered_of selects [] (Some n) = refl
-unordered_of selects [] None = refl
+unordered_of : (all : t.Selects) (order : List t.Sort) (limit : Option (List ℕ)) → is_unordered (t.query_of all (t.sort_list order) limit) ≡ ((length order == 0) && is_none limit)
+unordered_of all (o ∷ order) limit = let some : (length (o ∷ order) == 0) ≡ false = grind arith in ap (λ b. b && is_none limit) (sym some)
+unordered_of all [] (Some n) = refl
+unordered_of all [] None = refl
 
 pub unordered_parts : (x : Query) → is_unordered (query_view x) ≡ ((length (sorts_view (out-Query x).order) == 0) && is_none (out-Query x).limit)
 unordered_parts x = ap is_unordered (query x) ∙ unordered_of (t.selects (selects_view (out-Query x).selects)) (sorts_view (out-Query x).order) (out-Query x).limit

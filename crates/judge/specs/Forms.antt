@@ -68,11 +68,11 @@ plain_select select = if is_bare select then option_map (plain_table select) (ta
 
 -- neither ORDER BY nor LIMIT
 abbrev pub is_unordered : t.Query → Bool
-is_unordered (t.query_of selects t.no_sorts None) = true
+is_unordered (t.query_of _ t.no_sorts None) = true
 is_unordered _ = false
 
 abbrev pub selects_of : t.Query → List t.Select
-selects_of (t.query_of selects order limit) = selects_in selects
+selects_of (t.query_of all order limit) = selects_in all
 
 abbrev pub one_select : List t.Select → Option t.Select
 one_select (x ∷ []) = Some x
