@@ -6,8 +6,8 @@ use Rattle.ct_change.specs.Changelog.{mode_of}
 use Rattle.judge.specs.declared.accepted.Accepted.{Accepted}
 use Rattle.judge.specs.Forms.{is_of_bag}
 use Rattle.judge.specs.Lawful.{IsLawful}
-use Rattle.job.specs.Lines.{source_mode}
-use Rattle.job.specs.Scans.{IsBagMode}
+use Rattle.job_text.specs.Lines.{source_mode}
+use Rattle.exec_core.specs.Scans.{IsBagMode}
 
 bag_of_mode : (mode : Declared) → is_of_bag mode ≡ true → IsBagMode (mode_of mode [])
 bag_of_mode Append e = tt

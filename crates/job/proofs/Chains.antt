@@ -5,14 +5,15 @@ use Rattle.ct_change.specs.Changelog.{Mode, fold}
 use Rattle.op_rules.specs.History.{Arrival, joined}
 use Rattle.op_rules.specs.Rule.{Rule, sink}
 use Rattle.op_rules.specs.Rules.{Answer, appended, emits, emitted_after, opening}
-use Rattle.job.specs.Lines.{refusal}
-use Rattle.job.specs.Intake.{AllTaken}
-use Rattle.job.specs.Machine.{scan, run, Plan, State, Event, take, move, Stop, out_of_range, Ran, scanned, scan_from, take_unless, put_between, consumed, print, send, answered, take_front, step, run_events, opened, deliver, drain_edges, drain}
-use Rattle.job.specs.Pieces.{piece_of, pieces_of}
+use Rattle.job_text.specs.Lines.{refusal}
+use Rattle.exec_core.specs.Intake.{AllTaken}
+use Rattle.exec_core.specs.Machine.{scan, run, Plan, State, Event, take, move, Stop, out_of_range, Ran, scanned, scan_from, take_unless, put_between, consumed, print, send, answered, take_front, step, run_events, opened, deliver, drain_edges, drain}
+use Rattle.exec_core.proofs.Countings.{joined-append, joined-push}
+use Rattle.exec_core.specs.Pieces.{piece_of, pieces_of}
 use Rattle.job.specs.Plan.{node}
 use Rattle.job.specs.Outcome.{takes, whole_run}
-use Rattle.job.specs.declared.printed.PrintItem.{PrintItem}
-use Rattle.job.specs.declared.printed.PrintItem.TheVariants.{Change as Printed}
+use Rattle.job_text.specs.declared.printed.PrintItem.{PrintItem}
+use Rattle.job_text.specs.declared.printed.PrintItem.TheVariants.{Change as Printed}
 
 -- what stands at the places of a state that these plans use
 pub record View : Type 0 where
@@ -53,13 +54,6 @@ leads_both plan s t u xs ys first then = record { on = λ more. ap (run_events p
 -- where events lead, they are run
 pub leads_run : (plan : Plan) (s t : State) (events : List Event) → Leads plan s events t → run_events plan s events ≡ (t, None)
 leads_run plan s t events l = ap (run_events plan s) (sym (append-nil events)) ∙ l.on []
-
-pub joined-append : (xs ys : List (List Arrival)) → joined (xs ++ ys) ≡ joined xs ++ joined ys
-joined-append [] ys = refl
-joined-append (x ∷ xs) ys = ap (λ zs. x ++ zs) (joined-append xs ys) ∙ sym (append_assoc x (joined xs) (joined ys))
-
-pub joined-push : (xs : List (List Arrival)) (x : List Arrival) → joined (xs ++ x ∷ []) ≡ joined xs ++ x
-joined-push xs x = joined-append xs (x ∷ []) ∙ ap (λ zs. joined xs ++ zs) (append-nil x)
 
 -- one more behind a list, and then the others
 push-append : {A : Type 0} (xs : List A) (x : A) (ys : List A) → (xs ++ x ∷ []) ++ ys ≡ xs ++ x ∷ ys

@@ -13,26 +13,26 @@ use Rattle.op_rules.specs.Rules.{Answer}
 use Rattle.op_rules.proofs.Histories.{all-each, ok-same}
 use Rattle.job.specs.declared.ending.Ending.TheVariants as e
 use Rattle.job.specs.declared.ending.LimitName.TheVariants.{Script as ScriptLimit, Changes as ChangesLimit}
-use Rattle.job.specs.declared.printed.PrintItem.{PrintItem}
-use Rattle.job.specs.declared.printed.PrintItem.TheVariants.{Change as Printed, Quiet}
+use Rattle.job_text.specs.declared.printed.PrintItem.{PrintItem}
+use Rattle.job_text.specs.declared.printed.PrintItem.TheVariants.{Change as Printed, Quiet}
 use Rattle.judge.specs.declared.accepted.Accepted.{Accepted}
 use Rattle.judge.specs.Judgement.{Judgement, accepted as accepted_as, refused as refused_as, judgement}
 use Rattle.judge.specs.Lawful.{IsLawful}
 use Rattle.judge.proofs.Lawful.{accepted_lawful}
 use Rattle.job.specs.Answer.{select_rows, answer_counted, answer}
 use Rattle.job.specs.Headline.{changes_in, changes_of, table, IsAnswered, CarriesKinds, Headline, IsHeadline}
-use Rattle.job.specs.Lines.{source_mode, plain_text, lines_of, taken_of}
-use Rattle.job.specs.Machine.{Plan, scan}
+use Rattle.job_text.specs.Lines.{source_mode, plain_text, lines_of, taken_of}
+use Rattle.exec_core.specs.Machine.{Plan, scan}
 use Rattle.job.specs.Outcome.{Outcome, after_load, after_lines, outcome_of_run, whole_run, with_text, with_changes, with_judgement, with_script_text, with_files, outcome}
 use Rattle.job.specs.Plan.{columns_read, count_rule, plan_of, node, nodes_behind}
-use Rattle.job.specs.Printed.{text_of}
+use Rattle.job_text.specs.Printed.{text_of}
 use Rattle.job.specs.Replays.{emitted_where, emitted_by, outcome_of_answer}
 use Rattle.job.proofs.Chains as chains
-use Rattle.job.proofs.Counts.{Counted, counted}
-use Rattle.job.proofs.Intakes.{Fits}
+use Rattle.exec_core.proofs.Counts.{Counted, counted}
+use Rattle.exec_core.proofs.Intakes.{Fits}
 use Rattle.job.proofs.Accepted.{is_bag}
 use Rattle.job.proofs.Replays.{sent_by, run_comes, sent_has_width, taken-count}
-use Rattle.job.proofs.ScanFacts.{scan_valid, scan_folds, scan_kinds, taken_valid}
+use Rattle.exec_core.proofs.ScanFacts.{scan_valid, scan_folds, scan_kinds, taken_valid}
 use Rattle.job.proofs.Selects.{image_is_selected}
 use Rattle.job.proofs.Takings.{AreTaken, are_taken}
 

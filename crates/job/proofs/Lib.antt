@@ -1,14 +1,7 @@
 pub mod Accepted
 pub mod Chains
-pub mod Countings
-pub mod Counts
-pub mod FullLines
 pub mod Headline
-pub mod Intakes
-pub mod Plain
-pub mod Prints
 pub mod Replays
 pub mod Runs
-pub mod ScanFacts
 pub mod Selects
 pub mod Takings

@@ -14,13 +14,13 @@ use Rattle.op_rules.specs.Rules.{Answer}
 use Rattle.ct_catalog.specs.declared.table.ColDef.{ColDef}
 use Rattle.ct_catalog.specs.declared.table.TableDef.{TableDef}
 use Rattle.judge.specs.declared.accepted.Accepted.{Accepted}
-use Rattle.job.specs.declared.intake.Intake.{Intake}
-use Rattle.job.specs.declared.printed.PrintItem.TheVariants.{Change as Printed}
-use Rattle.job.specs.Intake.{AllTaken, StandsFor, Holds}
-use Rattle.job.specs.Scans.{IsBagMode}
+use Rattle.exec_core.specs.declared.intake.Intake.{Intake}
+use Rattle.job_text.specs.declared.printed.PrintItem.TheVariants.{Change as Printed}
+use Rattle.exec_core.specs.Intake.{AllTaken, StandsFor, Holds}
+use Rattle.exec_core.specs.Scans.{IsBagMode}
 use Rattle.judge.specs.Lawful.{IsLawful}
-use Rattle.job.specs.Lines.{source_mode, lines_of, taken_of, taken_from, taken_then, line_change}
-use Rattle.job.specs.Machine.{Plan, State, scan, scanned, out_of_range}
+use Rattle.job_text.specs.Lines.{source_mode, lines_of, taken_of, taken_from, taken_then, line_change}
+use Rattle.exec_core.specs.Machine.{Plan, State, scan, scanned, out_of_range}
 use Rattle.job.specs.Outcome.{ends, whole_run, outcome_of_run, after_lines, with_text}
 use Rattle.job.specs.declared.ending.Ending.TheVariants as e
 use Rattle.job.specs.Plan.{place_of, places_of, columns_read, count_rule, plan_of, node, nodes_behind}
@@ -28,8 +28,8 @@ use Rattle.job.specs.Replays.{emitted_where, emitted_by, outcome_of_answer}
 use Rattle.judge.specs.Forms.{has_name}
 use Rattle.job.proofs.Accepted.{is_bag}
 use Rattle.job.proofs.Chains as chains
-use Rattle.job.proofs.ScanFacts.{scan_valid, taken_valid}
-use Rattle.job.proofs.Plain.{first_of_both, second_of_both}
+use Rattle.exec_core.proofs.ScanFacts.{scan_valid, taken_valid}
+use Rattle.job_text.proofs.Plain.{first_of_both, second_of_both}
 
 -- what the scan sends
 abbrev pub sent_by : Accepted → List Change → List Change

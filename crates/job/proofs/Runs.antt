@@ -4,7 +4,7 @@ use Rattle.ct_io.specs.Counts.{Rose}
 use Rattle.ct_io.specs.Holdings.{Holdings, loaded, Missing}
 use Rattle.ct_io.specs.Written.{Appends, AppendsPart}
 use Rattle.ct_io.proofs.Written.{appends_nothing, up_to_start}
-use Rattle.job.proofs.Prints.{part_none}
+use Rattle.job_text.proofs.Prints.{part_none}
 use Rattle.job.specs.declared.ending.Ending.{Ending}
 use Rattle.job.specs.declared.ending.Ending.TheVariants as e
 use Rattle.job.specs.declared.ending.LimitName.{LimitName}

@@ -13,9 +13,9 @@ use Rattle.ct_catalog.specs.declared.table.ColDef.{ColDef}
 use Rattle.judge.specs.declared.accepted.Accepted.{Accepted}
 use Rattle.job.specs.Answer.{value_named, selected, select_rows}
 use Rattle.job.specs.Plan.{place_of, places_of, columns_read}
-use Rattle.job.specs.Scans.{image}
+use Rattle.exec_core.specs.Scans.{image}
 use Rattle.judge.specs.Forms.{has_name}
-use Rattle.job.proofs.Plain.{first_of_both, second_of_both}
+use Rattle.job_text.proofs.Plain.{first_of_both, second_of_both}
 
 one_more : (n : ℕ) → 1 + n ≡ suc n
 one_more n = omega arith

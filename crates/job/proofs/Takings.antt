@@ -7,9 +7,9 @@ use Rattle.ct_change.specs.Changelog.{fold}
 use Rattle.ct_catalog.specs.declared.table.TableDef.{TableDef}
 use Rattle.judge.specs.declared.accepted.Accepted.{Accepted}
 use Rattle.job.specs.Headline.{changes_of, with_change}
-use Rattle.job.specs.Intake.{AllTaken}
-use Rattle.job.specs.Lines.{source_mode, change_of, refusal, unless, checked, line_change, taken_of, taken_from, taken_then}
-use Rattle.job.proofs.Intakes.{Fits, change_fits}
+use Rattle.exec_core.specs.Intake.{AllTaken}
+use Rattle.job_text.specs.Lines.{source_mode, change_of, refusal, unless, checked, line_change, taken_of, taken_from, taken_then}
+use Rattle.exec_core.proofs.Intakes.{Fits, change_fits}
 
 -- the line is a change of the source that isn't refused
 record LineTaken (source : TableDef) (before : List Change) (line : List ℕ) (change : Change) : Type 0 where

@@ -8,7 +8,7 @@ use Rattle.ct_value.specs.declared.codes.ChangeCode.{ChangeCode}
 use Rattle.ct_value.specs.declared.codes.ChangeCode.TheVariants.{BadField, NullNotAllowed}
 use Rattle.ct_value.specs.declared.codes.OrderCode.{OrderCode}
 use Rattle.ct_value.specs.declared.codes.OrderCode.TheVariants.{TooFew}
-use Rattle.job.specs.Printed.{record_text}
+use Rattle.job_text.specs.Printed.{record_text}
 use Rattle.job.specs.declared.ending.Ending.{Ending}
 use Rattle.job.specs.declared.ending.Ending.TheVariants.{Done, Usage, Script, Change, Order, Range, Limit, ReadFault, WriteFault, Memory}
 use Rattle.job.specs.declared.ending.LimitName.{LimitName}

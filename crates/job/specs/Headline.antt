@@ -7,14 +7,14 @@ use Rattle.ct_change.specs.declared.kind.KindSet.{KindSet}
 use Rattle.ct_change.specs.declared.change.Change.{Change}
 use Rattle.ct_change.specs.Changelog.{Mode, retract, Rows, fold, IsValid, AreOf, kinds_of}
 use Rattle.op_rules.specs.Rule.{output_kinds}
-use Rattle.job.specs.declared.printed.PrintItem.{PrintItem}
-use Rattle.job.specs.declared.printed.PrintItem.TheVariants.{Change as Printed, Quiet}
+use Rattle.job_text.specs.declared.printed.PrintItem.{PrintItem}
+use Rattle.job_text.specs.declared.printed.PrintItem.TheVariants.{Change as Printed, Quiet}
 use Rattle.judge.specs.declared.accepted.Accepted.{Accepted}
 use Rattle.judge.specs.Judgement.{accepted as accepted_as, judgement}
-use Rattle.job.specs.Lines.{source_mode, plain_text, lines_of, change_of}
+use Rattle.job_text.specs.Lines.{source_mode, plain_text, lines_of, change_of}
 use Rattle.job.specs.Answer.{answer}
-use Rattle.job.specs.Printed.{text_of}
-use Rattle.job.specs.Machine.{Op, scan, run, Node, Plan, State}
+use Rattle.job_text.specs.Printed.{text_of}
+use Rattle.exec_core.specs.Machine.{Op, scan, run, Node, Plan, State}
 use Rattle.job.specs.Plan.{plan_of}
 use Rattle.job.specs.Outcome.{script_limit, changes_limit, whole_run}
 

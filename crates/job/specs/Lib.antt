@@ -1,15 +1,8 @@
 pub mod Answer
 pub mod Endings
 pub mod Headline
-pub mod Intake
-pub mod Lines
-pub mod Machine
 pub mod Outcome
-pub mod Pieces
 pub mod Plan
-pub mod Printed
 pub mod Replays
 pub mod Runs
-pub mod Scans
-pub mod Source
 pub mod Status

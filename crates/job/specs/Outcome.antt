@@ -11,11 +11,11 @@ use Rattle.job.specs.declared.ending.LimitName.{LimitName}
 use Rattle.job.specs.declared.ending.LimitName.TheVariants.{Script as ScriptLimit, Changes as ChangesLimit}
 use Rattle.judge.specs.declared.accepted.Accepted.{Accepted}
 use Rattle.judge.specs.Judgement.{Judgement, accepted, refused as refused_script, judgement}
-use Rattle.job.specs.declared.printed.PrintItem.TheVariants.{Quiet}
-use Rattle.job.specs.Lines.{plain_text, lines_of, taken_of}
-use Rattle.job.specs.Machine.{Plan, Event, take, Stop, refused, misplaced, out_of_range, Ran, opened, run_events, drain}
+use Rattle.job_text.specs.declared.printed.PrintItem.TheVariants.{Quiet}
+use Rattle.job_text.specs.Lines.{plain_text, lines_of, taken_of}
+use Rattle.exec_core.specs.Machine.{Plan, Event, take, Stop, refused, misplaced, out_of_range, Ran, opened, run_events, drain}
 use Rattle.job.specs.Plan.{plan_of}
-use Rattle.job.specs.Printed.{text_of}
+use Rattle.job_text.specs.Printed.{text_of}
 
 -- an ending, and the bytes that were written before it
 pub record Outcome : Type 0 where

@@ -5,8 +5,8 @@ use Rattle.op_rules.specs.Rule.{Rule, group, sink}
 use Rattle.ct_catalog.specs.declared.table.ColDef.{ColDef}
 use Rattle.judge.specs.declared.accepted.Accepted.{Accepted}
 use Rattle.judge.specs.Forms.{has_name}
-use Rattle.job.specs.Lines.{source_mode}
-use Rattle.job.specs.Machine.{Op, scan, run, Node, Plan}
+use Rattle.job_text.specs.Lines.{source_mode}
+use Rattle.exec_core.specs.Machine.{Op, scan, run, Node, Plan}
 
 -- the position of a named column, which exists
 abbrev pub place_of : List ColDef → List ℕ → ℕ

@@ -5,11 +5,11 @@ use Rattle.ct_change.specs.Changelog.{retract}
 use Rattle.op_rules.specs.Rule.{group}
 use Rattle.op_rules.specs.Rules.{Answer, emitted_after}
 use Rattle.job.specs.declared.ending.Ending.TheVariants.{Done, Range}
-use Rattle.job.specs.declared.printed.PrintItem.TheVariants.{Change as Printed, Quiet}
+use Rattle.job_text.specs.declared.printed.PrintItem.TheVariants.{Change as Printed, Quiet}
 use Rattle.judge.specs.declared.accepted.Accepted.{Accepted}
 use Rattle.job.specs.Outcome.{Outcome}
-use Rattle.job.specs.Pieces.{pieces_of}
-use Rattle.job.specs.Printed.{text_of}
+use Rattle.exec_core.specs.Pieces.{pieces_of}
+use Rattle.job_text.specs.Printed.{text_of}
 
 abbrev pub emitted_where : Bool → Accepted → List Change → Answer
 emitted_where false script sent = Ok sent

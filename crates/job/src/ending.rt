@@ -2,8 +2,8 @@ ghost use Rattle.std.specs.Prelude.{◌≡◌, IfOk};
 ghost use Rattle.job.specs.Endings.{ending_line, script_line, change_line, column_of_code, order_line, in_flight_of, range_line, limit_text};
 ghost use Rattle.job.specs.Status.{status_of};
 
-use crate::printed::push_record;
 use ct_value::{Bytes, ChangeCode, Memory, OrderCode, Row, ScriptCode};
+use job_text::push_record;
 use std::alloc::Global;
 
 /// How a run ends.

@@ -12,11 +12,11 @@ ghost use Rattle.job.specs.Runs.{is_free, IsCaused, IsJudged, Runs, HaltsAs, end
 
 use crate::ending::{Ending, LimitName, ending_line};
 use crate::halt::Halt;
-use crate::put::put_all;
 use crate::replay::replay;
 use command_line::{WordsFault, files_of};
 use ct_io::{LoadFault, Shelf, Sink};
 use ct_value::{Bytes, Text};
+use job_text::put_all;
 use judge::{Accepted, JudgeFault, judge};
 use std::alloc::Global;
 

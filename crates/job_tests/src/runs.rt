@@ -9,37 +9,48 @@ use ct_io::{Calls, Files, MemShelf, MemSink, SureShelf, SureSink};
 use ct_value::{Memory, Text};
 use job::{run_job, status};
 use std::alloc::Global;
-use std::test::Fail;
 
 // What a run leaves on `out` and on `err`, and its status.
 type Left = (&'static str, &'static str, u8);
 
-fn is_left(left: Left, out: &[u8], err: &[u8], status: u8) -> bool {
-    let (wanted_out, wanted_err, wanted_status) = left;
-    out == wanted_out.as_bytes() && err == wanted_err.as_bytes() && status == wanted_status
+fn is_left(left: &Left, out: &[u8], err: &[u8], status: u8) -> bool {
+    out == left.0.as_bytes() && err == left.1.as_bytes() && status == left.2
 }
 
 // Whether a run over a shelf, to an `out` of which the listed calls fail, leaves this.
-fn leaves(
-    alloc: Global,
-    words: &[Text],
-    shelf: &mut MemShelf,
-    puts: &[u64],
-    left: Left,
-) -> Result<bool, Memory> {
-    let mut out = MemSink::new(alloc, calls(alloc, puts)?)?;
-    let mut err = MemSink::new(alloc, Calls::new(alloc))?;
-    let ending = run_job(alloc, words, shelf, &mut out, &mut err);
-    Ok(is_left(left, out.written(), err.written(), status(&ending)))
+fn leaves(alloc: Global, words: &[Text], shelf: &mut MemShelf, puts: Calls, left: &Left) -> bool {
+    let Ok(mut out) = MemSink::new(alloc, puts) else {
+        return false;
+    };
+    match MemSink::new(alloc, Calls::new(alloc)) {
+        Ok(mut err) => {
+            let ending = run_job(alloc, words, shelf, &mut out, &mut err);
+            is_left(left, out.written(), err.written(), status(&ending))
+        }
+        Err(_) => false,
+    }
 }
 
 // Whether a run over files, to sinks that never fail, leaves this.
-fn surely_leaves(alloc: Global, words: &[Text], files: Files, left: Left) -> Result<bool, Memory> {
-    let mut shelf = SureShelf::new(files);
-    let mut out = SureSink::new(alloc)?;
-    let mut err = SureSink::new(alloc)?;
-    let ending = run_job(alloc, words, &mut shelf, &mut out, &mut err);
-    Ok(is_left(left, out.written(), err.written(), status(&ending)))
+fn surely_leaves(alloc: Global, words: &[Text], files: Files, left: &Left) -> bool {
+    let Ok(mut out) = SureSink::new(alloc) else {
+        return false;
+    };
+    match SureSink::new(alloc) {
+        Ok(mut err) => {
+            let mut shelf = SureShelf::new(files);
+            let ending = run_job(alloc, words, &mut shelf, &mut out, &mut err);
+            is_left(left, out.written(), err.written(), status(&ending))
+        }
+        Err(_) => false,
+    }
+}
+
+fn usually_leaves(alloc: Global, files: Files, left: &Left) -> bool {
+    match usual_words(alloc) {
+        Ok(words) => surely_leaves(alloc, words.as_slice(), files, left),
+        Err(_) => false,
+    }
 }
 
 // A script, a change file, and what the run over them leaves.
@@ -106,41 +117,44 @@ const WORKED: [Run; 14] = [
     (MORE_TABLES, "t,+I,a\n", ("+I,a\n=,1\n", "", 0)),
 ];
 
-fn leaves_by_memory(alloc: Global, run: Run) -> Result<bool, Memory> {
-    let (script, changes, left) = run;
-    let words = usual_words(alloc)?;
-    let mut shelf = MemShelf::new(files_of(alloc, script, changes)?, Calls::new(alloc));
-    leaves(alloc, words.as_slice(), &mut shelf, &[], left)
+fn shelf_leaves(alloc: Global, shelf: &mut MemShelf, puts: Calls, left: &Left) -> bool {
+    match usual_words(alloc) {
+        Ok(words) => leaves(alloc, words.as_slice(), shelf, puts, left),
+        Err(_) => false,
+    }
 }
 
-fn leaves_surely(alloc: Global, run: Run) -> Result<bool, Memory> {
-    let (script, changes, left) = run;
-    let words = usual_words(alloc)?;
-    surely_leaves(
-        alloc,
-        words.as_slice(),
-        files_of(alloc, script, changes)?,
-        left,
-    )
+// Whether a run to an `out` of which the listed calls fail leaves what is wanted.
+fn leaves_by_memory(alloc: Global, run: &Run, puts: &[u64]) -> bool {
+    let Ok(puts) = calls(alloc, puts) else {
+        return false;
+    };
+    match files_of(alloc, run.0, run.1) {
+        Ok(files) => {
+            let mut shelf = MemShelf::new(files, Calls::new(alloc));
+            shelf_leaves(alloc, &mut shelf, puts, &run.2)
+        }
+        Err(_) => false,
+    }
+}
+
+fn leaves_surely(alloc: Global, run: &Run) -> bool {
+    match files_of(alloc, run.0, run.1) {
+        Ok(files) => usually_leaves(alloc, files, &run.2),
+        Err(_) => false,
+    }
 }
 
 #[test]
-fn worked_runs_leave_what_is_wanted(rt: HostRuntime) -> Result<(), Fail> {
-    for run in WORKED {
+fn worked_runs_leave_what_is_wanted(rt: HostRuntime) {
+    for run in &WORKED {
         assert!(rt;
-            leaves_by_memory(rt.alloc(), run)?,
+            leaves_by_memory(rt.alloc(), run, &[]) && leaves_surely(rt.alloc(), run),
             "{} over {}",
             run.0,
             run.1
         );
-        assert!(rt;
-            leaves_surely(rt.alloc(), run)?,
-            "surely {} over {}",
-            run.0,
-            run.1
-        );
     }
-    Ok(())
 }
 
 // Scripts that are refused, and the line on `err`.
@@ -162,15 +176,6 @@ const REFUSED_SCRIPTS: [(&str, &str); 12] = [
     (INTO_APPEND, "script S18 Unsupported statement 3\n"),
 ];
 
-#[test]
-fn bad_scripts_are_refused(rt: HostRuntime) -> Result<(), Fail> {
-    for (script, line) in REFUSED_SCRIPTS {
-        let run = (script, "t,+I,a\n", ("", line, 2));
-        assert!(rt; leaves_surely(rt.alloc(), run)?, "over {script}");
-    }
-    Ok(())
-}
-
 // Change files of an append table `t` with one column that are refused, and the line on `err`.
 const REFUSED: [(&str, &str); 11] = [
     ("t,+I,\"a\"\n", "change C1 FieldCount line 0\n"),
@@ -186,13 +191,28 @@ const REFUSED: [(&str, &str); 11] = [
     ("t,+U,a\n", "change C1 FieldCount line 1\n"),
 ];
 
+fn is_refused_script(alloc: Global, script: &'static str, line: &'static str) -> bool {
+    leaves_surely(alloc, &(script, "t,+I,a\n", ("", line, 2)))
+}
+
+fn is_refused_line(alloc: Global, changes: &'static str, line: &'static str) -> bool {
+    leaves_surely(alloc, &(SELECT_APPEND, changes, ("", line, 3)))
+}
+
 #[test]
-fn bad_lines_are_refused(rt: HostRuntime) -> Result<(), Fail> {
-    for (changes, line) in REFUSED {
-        let run = (SELECT_APPEND, changes, ("", line, 3));
-        assert!(rt; leaves_surely(rt.alloc(), run)?, "over {changes}");
+fn bad_scripts_and_lines_are_refused(rt: HostRuntime) {
+    for (script, line) in &REFUSED_SCRIPTS {
+        assert!(rt;
+            is_refused_script(rt.alloc(), script, line),
+            "over {script}"
+        );
     }
-    Ok(())
+    for (changes, line) in &REFUSED {
+        assert!(rt;
+            is_refused_line(rt.alloc(), changes, line),
+            "over {changes}"
+        );
+    }
 }
 
 const WRONG_WORDS: [&[&str]; 9] = [
@@ -207,72 +227,57 @@ const WRONG_WORDS: [&[&str]; 9] = [
     &["--script", "-x", "--changes", "c"],
 ];
 
-fn is_wrong_use(alloc: Global, words: &[&str]) -> Result<bool, Memory> {
-    let words = texts(alloc, words)?;
-    let files = files_of(alloc, SELECT_APPEND, "")?;
-    surely_leaves(alloc, words.as_slice(), files, ("", "usage\n", 1))
-}
-
-#[test]
-fn wrong_words_are_a_wrong_use(rt: HostRuntime) -> Result<(), Fail> {
-    for words in WRONG_WORDS {
-        assert!(rt; is_wrong_use(rt.alloc(), words)?, "{} words", words.len());
-    }
-    Ok(())
-}
-
 const RIGHT_WORDS: [&[&str]; 3] = [
     &["--changes", "c", "--script", "s"],
     &["--script=s", "--changes=c"],
     &["--do", "run", "--script", "s", "--changes", "c"],
 ];
 
-fn is_right_use(alloc: Global, words: &[&str]) -> Result<bool, Memory> {
-    let words = texts(alloc, words)?;
-    let files = files_of(alloc, SELECT_APPEND, "t,+I,a\n")?;
-    surely_leaves(alloc, words.as_slice(), files, ("+I,a\n=,1\n", "", 0))
+fn words_leave(alloc: Global, words: &[&str], changes: &str, left: &Left) -> bool {
+    let Ok(words) = texts(alloc, words) else {
+        return false;
+    };
+    match files_of(alloc, SELECT_APPEND, changes) {
+        Ok(files) => surely_leaves(alloc, words.as_slice(), files, left),
+        Err(_) => false,
+    }
 }
 
+const WRONG_USE: Left = ("", "usage\n", 1);
+
+const RIGHT_USE: Left = ("+I,a\n=,1\n", "", 0);
+
 #[test]
-fn words_may_stand_in_any_order(rt: HostRuntime) -> Result<(), Fail> {
-    for words in RIGHT_WORDS {
-        assert!(rt; is_right_use(rt.alloc(), words)?, "{} words", words.len());
+fn wrong_words_are_a_wrong_use_and_others_stand_in_any_order(rt: HostRuntime) {
+    for words in &WRONG_WORDS {
+        let is_wrong = words_leave(rt.alloc(), words, "", &WRONG_USE);
+        assert!(rt; is_wrong, "{} words", words.len());
     }
-    Ok(())
+    for words in &RIGHT_WORDS {
+        let is_right = words_leave(rt.alloc(), words, "t,+I,a\n", &RIGHT_USE);
+        assert!(rt; is_right, "{} words", words.len());
+    }
 }
 
 // Runs of which the third `put` fails, and what they wrote before.
-const THIRD_PUT: [(&str, &str, &str); 2] = [
-    (SELECT_APPEND, "t,+I,a\nt,+I,b\nt,+I,c\n", "+I,a\n+I,b\n"),
-    (COUNT_APPEND, "t,+I,a\nt,+I,a\n", "+I,a,1\n-U,a,1\n"),
+const THIRD_PUT: [Run; 2] = [
+    (
+        SELECT_APPEND,
+        "t,+I,a\nt,+I,b\nt,+I,c\n",
+        ("+I,a\n+I,b\n", "write fault\n", 8),
+    ),
+    (
+        COUNT_APPEND,
+        "t,+I,a\nt,+I,a\n",
+        ("+I,a,1\n-U,a,1\n", "write fault\n", 8),
+    ),
 ];
 
-fn stops_at_third_put(
-    alloc: Global,
-    script: &str,
-    changes: &str,
-    out: &'static str,
-) -> Result<bool, Memory> {
-    let words = usual_words(alloc)?;
-    let mut shelf = MemShelf::new(files_of(alloc, script, changes)?, Calls::new(alloc));
-    leaves(
-        alloc,
-        words.as_slice(),
-        &mut shelf,
-        &[3],
-        (out, "write fault\n", 8),
-    )
-}
-
 #[test]
-fn a_put_that_fails_is_a_write_fault(rt: HostRuntime) -> Result<(), Fail> {
-    for (script, changes, out) in THIRD_PUT {
-        assert!(rt;
-            stops_at_third_put(rt.alloc(), script, changes, out)?,
-            "over {changes}"
-        );
+fn a_put_that_fails_is_a_write_fault(rt: HostRuntime) {
+    for run in &THIRD_PUT {
+        assert!(rt; leaves_by_memory(rt.alloc(), run, &[3]), "over {}", run.1);
     }
-    Ok(())
 }
 
 // The names of a script and of a change file of which only `s` and `c` are held, and the load that fails besides.
@@ -283,26 +288,35 @@ const BAD_LOADS: [(&str, &str, u64); 4] = [
     ("s", "x", 3),
 ];
 
-fn is_read_fault(alloc: Global, script: &str, changes: &str, failing: u64) -> Result<bool, Memory> {
-    let words = texts(alloc, &["--script", script, "--changes", changes])?;
-    let files = files_of(alloc, COUNT_APPEND, "t,+I,a\nt,+I,a\n")?;
-    let mut shelf = MemShelf::new(files, calls(alloc, &[failing])?);
-    leaves(
-        alloc,
-        words.as_slice(),
-        &mut shelf,
-        &[],
-        ("", "read fault\n", 7),
-    )
+const READ_FAULT: Left = ("", "read fault\n", 7);
+
+// Whether a run, of which this load fails, is a read fault.
+fn faults_over(alloc: Global, words: &[Text], failing: u64) -> bool {
+    let Ok(fails) = calls(alloc, &[failing]) else {
+        return false;
+    };
+    match files_of(alloc, COUNT_APPEND, "t,+I,a\nt,+I,a\n") {
+        Ok(files) => {
+            let mut shelf = MemShelf::new(files, fails);
+            leaves(alloc, words, &mut shelf, Calls::new(alloc), &READ_FAULT)
+        }
+        Err(_) => false,
+    }
+}
+
+fn is_read_fault(alloc: Global, script: &str, changes: &str, failing: u64) -> bool {
+    match texts(alloc, &["--script", script, "--changes", changes]) {
+        Ok(words) => faults_over(alloc, words.as_slice(), failing),
+        Err(_) => false,
+    }
 }
 
 #[test]
-fn a_load_that_fails_is_a_read_fault(rt: HostRuntime) -> Result<(), Fail> {
-    for (script, changes, failing) in BAD_LOADS {
-        let ends = is_read_fault(rt.alloc(), script, changes, failing)?;
+fn a_load_that_fails_is_a_read_fault(rt: HostRuntime) {
+    for (script, changes, failing) in &BAD_LOADS {
+        let ends = is_read_fault(rt.alloc(), script, changes, *failing);
         assert!(rt; ends, "load {failing} of {script} and {changes}");
     }
-    Ok(())
 }
 
 // Lengths to which a script and a change file of two lines are filled, and what the run over them leaves.
@@ -312,38 +326,50 @@ const FILLED: [(usize, usize, Left); 3] = [
     (262144, 67108865, ("", "limit changes\n", 6)),
 ];
 
-fn filled_leaves(
-    alloc: Global,
-    script_len: usize,
-    changes_len: usize,
-    left: Left,
-) -> Result<bool, Memory> {
-    let words = usual_words(alloc)?;
+fn filled_files(alloc: Global, script_len: usize, changes_len: usize) -> Result<Files, Memory> {
     let script = filled(alloc, COUNT_APPEND, script_len)?;
     let changes = filled(alloc, "t,+I,a\nt,+I,a\n", changes_len)?;
-    surely_leaves(
-        alloc,
-        words.as_slice(),
-        files(alloc, script, changes)?,
-        left,
-    )
+    files(alloc, script, changes)
+}
+
+fn filled_leaves(alloc: Global, script_len: usize, changes_len: usize, left: &Left) -> bool {
+    match filled_files(alloc, script_len, changes_len) {
+        Ok(files) => usually_leaves(alloc, files, left),
+        Err(_) => false,
+    }
 }
 
 #[test]
-fn files_are_limited(rt: HostRuntime) -> Result<(), Fail> {
-    for (script_len, changes_len, left) in FILLED {
-        let is_left = filled_leaves(rt.alloc(), script_len, changes_len, left)?;
+fn files_are_limited(rt: HostRuntime) {
+    for (script_len, changes_len, left) in &FILLED {
+        let is_left = filled_leaves(rt.alloc(), *script_len, *changes_len, left);
         assert!(rt; is_left, "lengths {script_len} and {changes_len}");
     }
-    Ok(())
+}
+
+// Whether a wrong use stays one where its line can't be written.
+fn keeps_ending(alloc: Global, err: &mut MemSink) -> bool {
+    match SureSink::new(alloc) {
+        Ok(mut out) => {
+            let mut shelf = SureShelf::new(Files::new(alloc));
+            let ending = run_job(alloc, &[], &mut shelf, &mut out, err);
+            status(&ending) == 1 && err.written().is_empty()
+        }
+        Err(_) => false,
+    }
+}
+
+fn keeps_ending_without_line(alloc: Global) -> bool {
+    let Ok(fails) = calls(alloc, &[1]) else {
+        return false;
+    };
+    match MemSink::new(alloc, fails) {
+        Ok(mut err) => keeps_ending(alloc, &mut err),
+        Err(_) => false,
+    }
 }
 
 #[test]
-fn an_ending_stays_where_its_line_cannot_be_written(rt: HostRuntime) -> Result<(), Fail> {
-    let mut shelf = SureShelf::new(Files::new(rt.alloc()));
-    let mut out = SureSink::new(rt.alloc())?;
-    let mut err = MemSink::new(rt.alloc(), calls(rt.alloc(), &[1])?)?;
-    let ending = run_job(rt.alloc(), &[], &mut shelf, &mut out, &mut err);
-    assert!(rt; status(&ending) == 1 && err.written().is_empty());
-    Ok(())
+fn an_ending_stays_where_its_line_cannot_be_written(rt: HostRuntime) {
+    assert!(rt; keeps_ending_without_line(rt.alloc()));
 }

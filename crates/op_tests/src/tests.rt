@@ -16,7 +16,6 @@ use std::alloc::Global;
 use std::marker::Brand;
 use std::process::Abort;
 use std::sync::ledger::{Blank, Ledger};
-use std::test::Fail;
 
 // The row of one text.
 fn row(alloc: Global, word: &str) -> Result<Row, Memory>
@@ -55,16 +54,15 @@ fn has_count(row: &Row, count: i128) -> bool {
     }
 }
 
-fn is_change(change: &Change, wanted: Wanted) -> bool {
-    let (kind, word, count) = wanted;
-    change.kind == kind && has_word(&change.row, word) && has_count(&change.row, count)
+fn is_change(change: &Change, wanted: &Wanted) -> bool {
+    change.kind == wanted.0 && has_word(&change.row, wanted.1) && has_count(&change.row, wanted.2)
 }
 
 // Whether these are the changes, in this order.
 fn are(changes: &Changes, wanted: &[Wanted]) -> bool {
     for (i, change) in wanted.iter().enumerate() {
         match changes.get(i) {
-            Some(found) if is_change(found, *change) => {}
+            Some(found) if is_change(found, change) => {}
             _ => return false,
         }
     }
@@ -79,92 +77,109 @@ const KINDS: [(Kind, bool, [bool; 3]); 4] = [
     (Kind::D, false, [false, true, true]),
 ];
 
-fn admitted(kind: Kind) -> [bool; 3] {
-    [
-        Declared::Append.admits(kind),
-        Declared::Retract.admits(kind),
-        Declared::Upsert.admits(kind),
-    ]
+const ADDITIONS: KindSet = KindSet {
+    i: true,
+    ub: false,
+    ua: true,
+    d: false,
+};
+
+fn is_addition(kind: Kind, adding: bool) -> bool {
+    kind.is_addition() == adding && ADDITIONS.contains(kind) == adding
+}
+
+fn is_admitted(kind: Kind, modes: &[bool; 3]) -> bool {
+    Declared::Append.admits(kind) == modes[0]
+        && Declared::Retract.admits(kind) == modes[1]
+        && Declared::Upsert.admits(kind) == modes[2]
+        && Retract.admits(kind)
 }
 
 #[test]
 fn kinds_add_or_remove(rt: HostRuntime) {
-    for (kind, adds, modes) in KINDS {
-        assert!(rt; kind.is_addition() == adds);
-        assert!(rt; admitted(kind) == modes);
-        assert!(rt; Retract.admits(kind));
+    for (kind, adding, modes) in &KINDS {
+        assert!(rt; is_addition(*kind, *adding) && is_admitted(*kind, modes));
     }
 }
 
-#[test]
-fn sets_of_kinds_contain_their_kinds(rt: HostRuntime) {
-    let kinds = KindSet {
-        i: true,
-        ub: false,
-        ua: true,
-        d: false,
-    };
-    for (kind, adds, _) in KINDS {
-        assert!(rt; kinds.contains(kind) == adds);
+fn push_copy(changes: &mut Changes, change: &Change) -> bool {
+    match change.dup() {
+        Ok(copy) => changes.push(copy).is_ok(),
+        Err(_) => false,
+    }
+}
+
+fn push_word(alloc: Global, changes: &mut Changes, kind: Kind, word: &str) -> bool {
+    match row(alloc, word) {
+        Ok(row) => push_copy(changes, &Change::new(kind, row)),
+        Err(_) => false,
     }
 }
 
 // An added word and a removed one.
-fn two_changes(alloc: Global) -> Result<Changes, Memory> {
-    let mut changes = Changes::new(alloc);
-    changes.push(Change::new(Kind::I, row(alloc, "a")?))?;
-    let removal = Change::new(Kind::D, row(alloc, "b")?);
-    changes.push(removal.dup()?)?;
-    Ok(changes)
-}
+const TWO_CHANGES: [Wanted; 2] = [(Kind::I, "a", 0), (Kind::D, "b", 0)];
 
-#[test]
-fn changes_are_kept_in_order(rt: HostRuntime) -> Result<(), Fail> {
-    assert!(rt; Changes::new(rt.alloc()).is_empty());
-    let changes = two_changes(rt.alloc())?;
-    let copy = changes.dup()?;
-    assert!(rt; are(&copy, &[(Kind::I, "a", 0), (Kind::D, "b", 0)]));
-    assert!(rt; copy.len() == 2 && copy.get(2).is_none());
-    Ok(())
-}
-
-#[test]
-fn changes_are_handed_out_in_order(rt: HostRuntime) -> Result<(), Fail> {
-    let mut kinds = [Kind::UA, Kind::UA];
-    for (i, change) in two_changes(rt.alloc())?.into_vec().into_iter().enumerate() {
-        if i < 2 {
-            kinds[i] = change.kind;
-        }
+fn copies_changes(changes: &Changes) -> bool {
+    match changes.dup() {
+        Ok(copy) => are(&copy, &TWO_CHANGES) && copy.len() == 2 && copy.get(2).is_none(),
+        Err(_) => false,
     }
-    assert!(rt; kinds == [Kind::I, Kind::D]);
-    Ok(())
 }
 
-// The counts of a bag's two rows, and whether the rows ascend; `None` where there are fewer or more.
-fn two_rows<L: Ledger>(bag: &Bag, blank: Blank) -> Option<(u64, u64, bool)>
+fn hands_out_changes(changes: Changes) -> bool {
+    match changes.into_vec().as_slice() {
+        [first, second] => first.kind == Kind::I && second.kind == Kind::D,
+        _ => false,
+    }
+}
+
+fn keeps_changes(alloc: Global) -> bool {
+    let mut changes = Changes::new(alloc);
+    push_word(alloc, &mut changes, Kind::I, "a")
+        && push_word(alloc, &mut changes, Kind::D, "b")
+        && copies_changes(&changes)
+        && hands_out_changes(changes)
+}
+
+#[test]
+fn changes_are_kept_in_order(rt: HostRuntime) {
+    assert!(rt; Changes::new(rt.alloc()).is_empty());
+    assert!(rt; keeps_changes(rt.alloc()));
+}
+
+// Whether a bag has two rows, which ascend, with these counts.
+fn has_two_rows<L: Ledger>(bag: &Bag, first_wanted: u64, second_wanted: u64, blank: Blank) -> bool
     requires name { blank.name ≡ L.name }
     requires parts { blank.parts ≡ L.parts }
     requires some { 0 < L.parts }
 {
     let mut steps = Steps::<L>::new(blank);
     let mut rows = bag.rows();
-    let (first, first_count) = rows.next_row(&mut steps)?;
-    let (second, second_count) = rows.next_row(&mut steps)?;
-    if rows.next_row(&mut steps).is_some() {
-        return None;
-    }
-    Some((first_count, second_count, first < second))
+    let Some((first, first_count)) = rows.next_row(&mut steps) else {
+        return false;
+    };
+    let Some((second, second_count)) = rows.next_row(&mut steps) else {
+        return false;
+    };
+    rows.next_row(&mut steps).is_none()
+        && first_count == first_wanted
+        && second_count == second_wanted
+        && first < second
 }
 
-fn counts_of(bag: &Bag) -> Option<(u64, u64, bool)> {
-    two_rows::<Brand>(bag, Blank::new(1))
+fn has_counts(bag: &Bag, first_wanted: u64, second_wanted: u64) -> bool {
+    has_two_rows::<Brand>(bag, first_wanted, second_wanted, Blank::new(1))
 }
 
-fn put(bag: &mut Bag, row: Row) -> Result<(), Memory> {
-    if bag.count(&row) < 9 {
-        bag.add(row)?;
+fn put(bag: &mut Bag, row: Row) -> bool {
+    bag.count(&row) < 9 && bag.add(row).is_ok()
+}
+
+fn put_word(alloc: Global, bag: &mut Bag, word: &str) -> bool {
+    match row(alloc, word) {
+        Ok(row) => put(bag, row),
+        Err(_) => false,
     }
-    Ok(())
 }
 
 fn put_again(bag: &mut Bag, row: &Row) {
@@ -180,30 +195,39 @@ fn take(bag: &mut Bag, row: &Row) {
     }
 }
 
-// A bag of two rows, the greater one put first.
-fn two_in_bag(alloc: Global) -> Result<Bag, Memory> {
+// Whether the greater row of two is counted as it comes and goes.
+fn counts_second(bag: &mut Bag, second: &Row) -> bool {
+    put_again(bag, second);
+    if !has_counts(bag, 1, 2) {
+        return false;
+    }
+    take(bag, second);
+    if bag.count(second) != 1 {
+        return false;
+    }
+    take(bag, second);
+    bag.count(second) == 0 && !bag.is_empty()
+}
+
+// The greater row is put first.
+fn counts_two(alloc: Global, second: &Row) -> bool {
     let mut bag = Bag::new(alloc);
-    put(&mut bag, row(alloc, "b")?)?;
-    put(&mut bag, row(alloc, "a")?)?;
-    Ok(bag)
+    put_word(alloc, &mut bag, "b")
+        && put_word(alloc, &mut bag, "a")
+        && counts_second(&mut bag, second)
+}
+
+fn counts_rows(alloc: Global) -> bool {
+    match row(alloc, "b") {
+        Ok(second) => counts_two(alloc, &second),
+        Err(_) => false,
+    }
 }
 
 #[test]
-fn bags_count_their_rows(rt: HostRuntime) -> Result<(), Fail> {
-    let b = row(rt.alloc(), "b")?;
-    let mut bag = two_in_bag(rt.alloc())?;
-    put_again(&mut bag, &b);
-    assert!(rt; counts_of(&bag) == Some((1, 2, true)));
-    take(&mut bag, &b);
-    assert!(rt; bag.count(&b) == 1);
-    take(&mut bag, &b);
-    assert!(rt; bag.count(&b) == 0 && !bag.is_empty());
-    Ok(())
-}
-
-#[test]
-fn new_bags_are_empty(rt: HostRuntime) {
+fn bags_count_their_rows(rt: HostRuntime) {
     assert!(rt; Bag::new(rt.alloc()).is_empty());
+    assert!(rt; counts_rows(rt.alloc()));
 }
 
 const SUM: Agg = Agg {
@@ -212,22 +236,35 @@ const SUM: Agg = Agg {
     filter: None,
 };
 
-#[test]
-fn aggregates_are_kept_in_order(rt: HostRuntime) -> Result<(), Fail> {
-    let mut aggs = Aggs::new(rt.alloc());
-    assert!(rt; aggs.is_empty());
-    aggs.push(SUM)?;
-    let copy = aggs.dup()?;
-    assert!(rt; copy.len() == 1 && copy.get(0) == Some(SUM) && copy.get(1).is_none());
-    Ok(())
+fn copies_sum(aggs: &Aggs) -> bool {
+    match aggs.dup() {
+        Ok(copy) => copy.len() == 1 && copy.get(0) == Some(SUM) && copy.get(1).is_none(),
+        Err(_) => false,
+    }
 }
 
-fn put_under(keyed: &mut KeyedBag, key: &Row, row: &Row) -> Result<(), Memory> {
-    if keyed.count(key, row) < 9 {
-        let new_key = key.dup()?;
-        keyed.add(new_key, row.dup()?)?;
+fn keeps_sum(alloc: Global) -> bool {
+    let mut aggs = Aggs::new(alloc);
+    aggs.push(SUM).is_ok() && copies_sum(&aggs)
+}
+
+#[test]
+fn aggregates_are_kept_in_order(rt: HostRuntime) {
+    assert!(rt; Aggs::new(rt.alloc()).is_empty());
+    assert!(rt; keeps_sum(rt.alloc()));
+}
+
+fn put_under(keyed: &mut KeyedBag, key: &Row, row: &Row) -> bool {
+    if keyed.count(key, row) >= 9 {
+        return false;
     }
-    Ok(())
+    let Ok(new_key) = key.dup() else {
+        return false;
+    };
+    match row.dup() {
+        Ok(copy) => keyed.add(new_key, copy).is_ok(),
+        Err(_) => false,
+    }
 }
 
 fn take_under(keyed: &mut KeyedBag, key: &Row, row: &Row) {
@@ -236,32 +273,38 @@ fn take_under(keyed: &mut KeyedBag, key: &Row, row: &Row) {
     }
 }
 
-// Two copies of a row under a key.
-fn two_under(alloc: Global, key: &Row, row: &Row) -> Result<KeyedBag, Memory> {
-    let mut keyed = KeyedBag::new(alloc);
-    put_under(&mut keyed, key, row)?;
-    put_under(&mut keyed, key, row)?;
-    Ok(keyed)
+// Whether a key is there as long as one of two copies of a row under it.
+fn drops_empty_key(keyed: &mut KeyedBag, key: &Row, row: &Row) -> bool {
+    if !put_under(keyed, key, row) || !put_under(keyed, key, row) || keyed.count(key, row) != 2 {
+        return false;
+    }
+    take_under(keyed, key, row);
+    if keyed.rows_of(key).is_none() {
+        return false;
+    }
+    take_under(keyed, key, row);
+    keyed.rows_of(key).is_none()
+}
+
+fn drops_empty_keys(alloc: Global) -> bool {
+    let Ok(key) = row(alloc, "k") else {
+        return false;
+    };
+    match row(alloc, "a") {
+        Ok(row) => drops_empty_key(&mut KeyedBag::new(alloc), &key, &row),
+        Err(_) => false,
+    }
 }
 
 #[test]
-fn keyed_bags_drop_empty_keys(rt: HostRuntime) -> Result<(), Fail> {
-    let key = row(rt.alloc(), "k")?;
-    let a = row(rt.alloc(), "a")?;
-    let mut keyed = two_under(rt.alloc(), &key, &a)?;
-    assert!(rt; keyed.count(&key, &a) == 2);
-    take_under(&mut keyed, &key, &a);
-    assert!(rt; keyed.rows_of(&key).is_some());
-    take_under(&mut keyed, &key, &a);
-    assert!(rt; keyed.rows_of(&key).is_none());
-    Ok(())
+fn keyed_bags_drop_empty_keys(rt: HostRuntime) {
+    assert!(rt; drops_empty_keys(rt.alloc()));
 }
 
-// What replaces one row, or none, by another, or none, in retract mode.
-fn told(alloc: Global, old: Option<Row>, fresh: Option<Row>) -> Result<Changes, Memory> {
+// Whether these changes replace one row, or none, by another, or none, in retract mode.
+fn replaces(alloc: Global, old: Option<Row>, fresh: Option<Row>, wanted: &[Wanted]) -> bool {
     let mut told = Changes::new(alloc);
-    Retract.emit(old, fresh, &mut told)?;
-    Ok(told)
+    Retract.emit(old, fresh, &mut told).is_ok() && are(&told, wanted)
 }
 
 // What goes and what comes by an addition in retract mode.
@@ -272,19 +315,24 @@ fn absorbed(change: Change) -> Result<Diff, Memory>
     Retract.absorb(&mut kept, change)
 }
 
-// Whether a word, or none, that is replaced by another, or none, is told by these changes.
-fn is_told(
-    alloc: Global,
-    old: Option<&str>,
-    fresh: Option<&str>,
-    wanted: &[Wanted],
-) -> Result<bool, Memory> {
-    let old = some_row(alloc, old)?;
-    let fresh = some_row(alloc, fresh)?;
-    Ok(are(&told(alloc, old, fresh)?, wanted))
+// A word, or none, another that replaces it, or none, and the changes that tell it.
+type Replaced = (
+    Option<&'static str>,
+    Option<&'static str>,
+    &'static [Wanted],
+);
+
+fn is_replaced(alloc: Global, case: &Replaced) -> bool {
+    let Ok(old) = some_row(alloc, case.0) else {
+        return false;
+    };
+    match some_row(alloc, case.1) {
+        Ok(fresh) => replaces(alloc, old, fresh, case.2),
+        Err(_) => false,
+    }
 }
 
-const REPLACED: [(Option<&str>, Option<&str>, &[Wanted]); 5] = [
+const REPLACED: [Replaced; 5] = [
     (None, None, &[]),
     (None, Some("a"), &[(Kind::I, "a", 0)]),
     (
@@ -296,19 +344,26 @@ const REPLACED: [(Option<&str>, Option<&str>, &[Wanted]); 5] = [
     (Some("b"), None, &[(Kind::D, "b", 0)]),
 ];
 
-#[test]
-fn a_retraction_comes_before_its_update(rt: HostRuntime) -> Result<(), Fail> {
-    for (old, fresh, wanted) in REPLACED {
-        assert!(rt; is_told(rt.alloc(), old, fresh, wanted)?);
+fn addition_comes(row: Row) -> bool {
+    match absorbed(Change::new(Kind::UA, row)) {
+        Ok(diff) => diff.gone.is_none() && diff.come.is_some(),
+        Err(_) => false,
     }
-    Ok(())
+}
+
+fn added_word_comes(alloc: Global) -> bool {
+    match row(alloc, "a") {
+        Ok(row) => addition_comes(row),
+        Err(_) => false,
+    }
 }
 
 #[test]
-fn an_addition_comes(rt: HostRuntime) -> Result<(), Fail> {
-    let diff = absorbed(Change::new(Kind::UA, row(rt.alloc(), "a")?))?;
-    assert!(rt; diff.gone.is_none() && diff.come.is_some());
-    Ok(())
+fn a_retraction_comes_before_its_update(rt: HostRuntime) {
+    for case in &REPLACED {
+        assert!(rt; is_replaced(rt.alloc(), case));
+    }
+    assert!(rt; added_word_comes(rt.alloc()));
 }
 
 // What an operator that took nothing emits for two changes at its first port.
@@ -372,7 +427,7 @@ fn is_counted(alloc: Global, kind: Kind, first: &[Wanted], second: &[Wanted]) ->
 
 #[test]
 fn groups_tell_their_counts(rt: HostRuntime) {
-    for (kind, first, second) in COUNTED {
-        assert!(rt; is_counted(rt.alloc(), kind, first, second));
+    for (kind, first, second) in &COUNTED {
+        assert!(rt; is_counted(rt.alloc(), *kind, first, second));
     }
 }

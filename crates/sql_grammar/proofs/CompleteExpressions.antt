@@ -2,7 +2,7 @@
 use Rattle.std.proofs.Common.{◌≡◌, ℕ, ◌<◌, ◌≤◌, Bool, true, false, List, [], ◌∷◌, ◌++◌, Option, Some, None, refl, sym, ap, ◌∙◌, subst, append_assoc, arith, inl, inr}
 use Rattle.ct_value.specs.declared.value.CompareOp.{CompareOp}
 use Rattle.ct_value.specs.declared.value.CompareOp.TheVariants.{Eq, Ne, Lt, Le, Gt, Ge}
-use Rattle.sql_syntax.specs.declared.token.Token.{Token}
+use Rattle.sql_tokens.specs.declared.token.Token.{Token}
 use Rattle.sql_syntax.specs.Tree.{Text, Tree, Query, Args, Empty, Star, Values, sort_of, Number, Str, Truth, Null, Name, Call, Cast, Paren, Sub, Case, TreeWhen, tree_when_of, SumWord, Plus, Minus, Concat, ProductWord, Times, Divide, Modulo, sum_tail_of, product_tail_of, over_of, trees, sort_list, optional_tree, optional_over, Between, InList, InQuery, Like}
 use Rattle.sql_grammar.specs.Words.{AND, AS, BETWEEN, BY, CASE, DISTINCT, ELSE, END, EXISTS, FILTER, IN, LIKE, NOT, OR, ORDER, OVER, PARTITION, SELECT, THEN, WHEN, WHERE, OPEN, CLOSE, DOT, TIMES, NAME, only, name_word, name_token, sign_word, sign_token, product_word, product_token, sum_word, sum_token, compare_token, direction_word, direction_token}
 use Rattle.sql_grammar.specs.Shapes.{Spelling, Word, WordOf, After, Seq3, Made, Maybe, Flag, OrNone, Series, Listed, Bracketed}

@@ -1,6 +1,6 @@
 -- What tokens spell as a query, or as a part of one, is read, whatever follows that doesn't go on.
 use Rattle.std.proofs.Common.{◌≡◌, ℕ, ◌<◌, ◌≤◌, true, false, List, ◌∷◌, ◌++◌, Option, Some, None, refl, sym, ap, ◌∙◌, subst, append_assoc, arith}
-use Rattle.sql_syntax.specs.declared.token.Token.{Token}
+use Rattle.sql_tokens.specs.declared.token.Token.{Token}
 use Rattle.sql_syntax.specs.Tree.{Text, JoinWord, Inner, Left, Right, Full, Tree, query_of, All, AllOf, One, Table, FromQuery, selects, sort_list}
 use Rattle.sql_grammar.specs.Words.{ALL, BY, DISTINCT, FROM, GROUP, HAVING, JOIN, LIMIT, ON, ORDER, UNION, WHERE, OPEN, CLOSE, DOT, TIMES, NAME, NUMBER, only, name_word, number_word, join_word, join_token}
 use Rattle.sql_grammar.specs.Shapes.{Spelling, WordOf, After, Seq2, Seq3, Maybe, OrNone, Many, Listed, Bracketed}

@@ -1,6 +1,6 @@
 -- What tokens spell as a statement is read, whatever follows that doesn't go on.
 use Rattle.std.proofs.Common.{◌≡◌, ℕ, zero, suc, true, false, List, [], ◌∷◌, ◌++◌, refl, sym, ap, ◌∙◌, subst, append_assoc, arith}
-use Rattle.sql_syntax.specs.declared.token.Token.{Token}
+use Rattle.sql_tokens.specs.declared.token.Token.{Token}
 use Rattle.sql_syntax.specs.Tree.{Column, Key, Create, Set, Insert}
 use Rattle.sql_grammar.specs.Words.{CREATE, ENFORCED, KEY, NOT, NULL, PRIMARY, TABLE, WITH, NAME, only}
 use Rattle.sql_grammar.specs.Shapes.{Words, Flag, OrNone, Listed, Bracketed}

@@ -1,6 +1,6 @@
 -- What is spelled within any number of things is spelled within as many as there are tokens.
 use Rattle.std.proofs.Common.{◌≡◌, ℕ, zero, suc, ◌+◌, ◌<◌, ◌≤◌, Bool, true, false, List, [], ◌∷◌, ◌++◌, length, Option, Some, None, ap, ◌∙◌, length-append, arith, inl, inr}
-use Rattle.sql_syntax.specs.declared.token.Token.{Token}
+use Rattle.sql_tokens.specs.declared.token.Token.{Token}
 use Rattle.sql_syntax.specs.Tree.{JoinWord, Inner, Left, Right, Full, Empty, Star, Values, sort_of, Number, Str, Truth, Null, Name, Call, Cast, Paren, Sub, Case, Exists, All, AllOf, One, Table, FromQuery, Statement, Create, Set, Insert, product_tail_of, sum_tail_of}
 use Rattle.sql_grammar.specs.Words.{ALL, AND, AS, BETWEEN, BY, CASE, CAST, DISTINCT, ELSE, END, EXISTS, FILTER, GROUP, HAVING, IN, JOIN, LIKE, LIMIT, NOT, ON, OR, ORDER, OUTER, OVER, PARTITION, THEN, UNION, WHERE, OPEN, CLOSE, COMMA, NUMBER, product_token, sum_token, compare_token, sign_token, join_token}
 use Rattle.sql_grammar.specs.Shapes.{Spelling, Word, WordOf, Led, After, Seq2, Seq3, Seq4, Made, Maybe, Flag, OrNone, Many, Series, Listed, Bracketed, Chain}

@@ -1,6 +1,6 @@
 -- How the readers of a depth read: nothing at depth 0, and else by those one less deep.
 use Rattle.std.proofs.Common.{◌≡◌, ℕ, zero, suc, ◌+◌, ◌-◌, ◌<◌, List, length, None, refl, sym, ap, arith}
-use Rattle.sql_syntax.specs.declared.token.Token.{Token}
+use Rattle.sql_tokens.specs.declared.token.Token.{Token}
 use Rattle.sql_grammar.specs.Reads.{readers, expr_at, query_at, statement_at, whole, parse}
 
 pub expr_none : (depth : ℕ) (ts : List Token) → depth ≡ 0 → (readers depth).expr ts ≡ None

@@ -1,6 +1,6 @@
 -- The reading answers the statement that the tokens spell, and nothing exactly where they spell none.
 use Rattle.std.proofs.Common.{◌≡◌, suc, List, [], ◌∷◌, length, Option, Some, None, refl, sym, ap, ◌∙◌, subst, append-nil}
-use Rattle.sql_syntax.specs.declared.token.Token.{Token}
+use Rattle.sql_tokens.specs.declared.token.Token.{Token}
 use Rattle.sql_syntax.specs.Tree.{Statement}
 use Rattle.sql_grammar.specs.Spells.{Spells, StatementOf, within}
 use Rattle.sql_grammar.specs.Reads.{statement_at, readers, whole, parse}

@@ -1,6 +1,6 @@
 -- Loops that read { word item }: what holds when one starts, after a turn, at its end, and where a turn fails.
 use Rattle.std.proofs.Common.{◌≡◌, ℕ, zero, suc, ◌<◌, ◌≤◌, List, [], ◌∷◌, ◌++◌, length, Option, Some, None, refl, sym, ap, ◌∙◌, append_assoc, append-nil, arith}
-use Rattle.sql_syntax.specs.declared.token.Token.{Token}
+use Rattle.sql_tokens.specs.declared.token.Token.{Token}
 use Rattle.sql_grammar.specs.Reading.{Reader, ◌>>=◌, first_word, word_at, many, many_item, repeated, series}
 use Rattle.sql_grammar.proofs.CompleteShapes.{bind_is}
 use Rattle.sql_grammar.proofs.CompleteExpressions.{fail_bind}

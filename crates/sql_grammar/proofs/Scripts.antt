@@ -1,6 +1,6 @@
 -- The reading of a script answers its statements exactly where the tokens spell them, and else the number of the first that isn't one.
 use Rattle.std.proofs.Common.{◌≡◌, ◌≢◌, ℕ, suc, ◌+◌, List, [], ◌∷◌, ◌++◌, length, Option, Some, None, refl, sym, ap, ◌∙◌, subst, append_assoc, arith}
-use Rattle.sql_syntax.specs.declared.token.Token.{Token}
+use Rattle.sql_tokens.specs.declared.token.Token.{Token}
 use Rattle.sql_syntax.specs.Tree.{Statement, Script}
 use Rattle.sql_grammar.specs.Words.{SEMICOLON, only}
 use Rattle.sql_grammar.specs.Spells.{Spells}

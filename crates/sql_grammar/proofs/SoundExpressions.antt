@@ -2,7 +2,7 @@
 use Rattle.std.proofs.Common.{◌≡◌, Bool, true, false, List, [], ◌∷◌, ◌++◌, Option, Some, None, refl, sym, ap, subst, ◌∙◌, append_assoc}
 use Rattle.std.proofs.Common.{inl, inr}
 use Rattle.ct_value.specs.declared.value.CompareOp.{CompareOp}
-use Rattle.sql_syntax.specs.declared.token.Token.{Token}
+use Rattle.sql_tokens.specs.declared.token.Token.{Token}
 use Rattle.sql_syntax.specs.Tree.{Text, TreeWhen, IsNull, Between, InList, InQuery, Tree, Values, tree_when_of, sort_of, sum_tail_of, product_tail_of, over_of, trees, sort_list, SumWord, ProductWord, Call, Case, Sub, Paren, optional_tree, optional_over, tree_whens}
 use Rattle.sql_grammar.specs.Words.{AND, AS, BETWEEN, BY, CASE, CAST, DISTINCT, ELSE, END, EXISTS, FILTER, IN, IS, LIKE, NOT, NULL, OR, ORDER, OVER, PARTITION, SELECT, THEN, WHEN, WHERE, OPEN, CLOSE, COMMA, DOT, TIMES, NAME, NUMBER, only, name_word, name_token, number_word, sign_word, sign_token, product_word, product_token, sum_word, sum_token, compare_token, direction_word, direction_token}
 use Rattle.sql_grammar.specs.Shapes.{Spelling, Word, WordOf, Led, After, Seq2, Seq3, Made, Maybe, Flag, OrNone, Series, Listed, Bracketed}

@@ -1,6 +1,6 @@
 -- What is read as a query, or as a part of one, is spelled by the tokens that were taken.
 use Rattle.std.proofs.Common.{◌≡◌, Bool, List, [], ◌∷◌, ◌++◌, Option, Some, None, refl, sym, ap, ◌∙◌, append_assoc}
-use Rattle.sql_syntax.specs.declared.token.Token.{Token}
+use Rattle.sql_tokens.specs.declared.token.Token.{Token}
 use Rattle.sql_syntax.specs.Tree.{Text, JoinWord, Inner, Left, Right, Full, Tree, query_of, Select, Item, One, Source, FromQuery, JoinItem, join_of, selects, sort_list}
 use Rattle.sql_grammar.specs.Words.{ALL, BY, DISTINCT, FROM, GROUP, HAVING, JOIN, LIMIT, ON, ORDER, OUTER, SELECT, UNION, WHERE, DOT, TIMES, NUMBER, only, name_word, name_token, number_word, join_word, join_token}
 use Rattle.sql_grammar.specs.Shapes.{Spelling, Word, WordOf, After, Seq3, Maybe, Flag, OrNone, Many, Listed, Bracketed}

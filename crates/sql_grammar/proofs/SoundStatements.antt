@@ -1,6 +1,6 @@
 -- What is read as a statement is spelled by the tokens that were taken.
 use Rattle.std.proofs.Common.{◌≡◌, ℕ, zero, suc, List, [], ◌∷◌, ◌++◌, Option, Some, None, refl, sym, ap, subst, ◌∙◌}
-use Rattle.sql_syntax.specs.declared.token.Token.{Token}
+use Rattle.sql_tokens.specs.declared.token.Token.{Token}
 use Rattle.sql_syntax.specs.Tree.{Element, Column, Key, Create, Insert}
 use Rattle.sql_grammar.specs.Words.{CREATE, ENFORCED, INSERT, INTO, KEY, NOT, NULL, PRIMARY, TABLE, WITH, EQUAL, STR, only, text_word}
 use Rattle.sql_grammar.specs.Shapes.{Word, Words, WordOf, Led, After, Flag, OrNone, Listed, Bracketed}

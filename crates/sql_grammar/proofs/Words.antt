@@ -2,12 +2,12 @@
 use Rattle.std.proofs.Common.{◌≡◌, Bool, true, false, Option, Some, None, refl, rules, ap}
 use denote.Enum.Bare.{same_true}
 use Rattle.ct_value.specs.declared.value.CompareOp.TheVariants.{Eq, Ne, Lt, Le, Gt, Ge}
-use Rattle.sql_syntax.specs.declared.token.Token.{Token}
-use Rattle.sql_syntax.specs.declared.token.Token.TheVariants as t
-use Rattle.sql_syntax.specs.declared.token.Keyword.{Keyword}
-use Rattle.sql_syntax.specs.declared.token.Symbol.{Symbol}
-use Rattle.sql_syntax.specs.contracts.token.Keyword.{the_type as keyword_type}
-use Rattle.sql_syntax.specs.contracts.token.Symbol.{the_type as symbol_type}
+use Rattle.sql_tokens.specs.declared.token.Token.{Token}
+use Rattle.sql_tokens.specs.declared.token.Token.TheVariants as t
+use Rattle.sql_tokens.specs.declared.token.Keyword.{Keyword}
+use Rattle.sql_tokens.specs.declared.token.Symbol.{Symbol}
+use Rattle.sql_tokens.specs.contracts.token.Keyword.{the_type as keyword_type}
+use Rattle.sql_tokens.specs.contracts.token.Symbol.{the_type as symbol_type}
 use Rattle.sql_syntax.specs.Tree.{Text, JoinWord, Inner, Left, Right, Full, SumWord, Plus, Minus, Concat, ProductWord, Times, Divide, Modulo}
 use Rattle.sql_grammar.specs.Words.{same_keyword, same_symbol, there, only, NAME, STR, NUMBER, PLUS, MINUS, CONCAT, TIMES, DIVIDE, MODULO, ASC, DESC, JOIN, INNER, LEFT, RIGHT, FULL, TRUE, FALSE, NULL, CAST, OPEN, CASE, BETWEEN, IN, LIKE, IS, NOT, EQUAL, NOT_EQUAL, LESS, LESS_EQUAL, GREATER, GREATER_EQUAL, CREATE, SET, INSERT, name_word, name_token, text_word, number_word, sign_word, sign_token, product_word, product_token, sum_word, sum_token, compare_token, direction_word, direction_token, join_word, join_token}
 use Rattle.sql_grammar.specs.Reads.{PrimaryWord, number_first, text_first, truth_first, null_first, name_first, cast_first, bracket_first, case_first, primary_word, NegatableWord, between_word, in_word, like_word, negatable_word, RestWord, compare_first, is_first, not_first, negatable_first, rest_word, StatementWord, create_first, set_first, insert_first, statement_word}

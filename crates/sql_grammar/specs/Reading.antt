@@ -1,7 +1,7 @@
 -- How tokens are read from the left: a reader answers what it read and the tokens behind it.
 --     Each form stands for the form of rules with the same name in Shapes.
 use Rattle.std.specs.Prelude.{ℕ, zero, suc, Bool, true, false, List, [], ◌∷◌, length, Option, Some, None}
-use Rattle.sql_syntax.specs.declared.token.Token.{Token}
+use Rattle.sql_tokens.specs.declared.token.Token.{Token}
 use Rattle.sql_grammar.specs.Words.{OPEN, CLOSE, COMMA, only}
 
 -- what is read from the head of the tokens, and the tokens behind it

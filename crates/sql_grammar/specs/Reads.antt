@@ -2,7 +2,7 @@
 use Rattle.std.specs.Prelude.{ℕ, zero, suc, Bool, true, false, List, [], ◌∷◌, length, Option, Some, None}
 use Rattle.ct_value.specs.declared.value.CompareOp.{CompareOp}
 use Rattle.ct_value.specs.declared.value.CompareOp.TheVariants.{Eq, Ne, Lt, Le, Gt, Ge}
-use Rattle.sql_syntax.specs.declared.token.Token.{Token}
+use Rattle.sql_tokens.specs.declared.token.Token.{Token}
 use Rattle.sql_syntax.specs.Tree.{Text, JoinWord, Inner, Left, Right, Full, SumWord, ProductWord, TypeName, Query, query_of, Select, Item, All, AllOf, One, Source, Table, FromQuery, JoinItem, join_of, Sort, sort_of, Tree, Exists, Compare, IsNull, Between, InList, InQuery, Like, Number, Str, Truth, Null, Name, Call, Cast, Paren, Sub, Case, SumTail, sum_tail_of, ProductTail, product_tail_of, TreeWhen, tree_when_of, Args, Empty, Star, Values, Over, over_of, TextPair, Element, Column, Key, Statement, Create, Set, Insert, selects, sort_list, trees, tree_whens, optional_tree, optional_over}
 use Rattle.sql_grammar.specs.Words.{ALL, AND, AS, BETWEEN, BY, CASE, CAST, CREATE, DISTINCT, ELSE, END, ENFORCED, EXISTS, FALSE, FILTER, FROM, GROUP, HAVING, IN, INSERT, INTO, IS, JOIN, KEY, LIKE, LIMIT, NOT, NULL, ON, OR, ORDER, OUTER, OVER, PARTITION, PRIMARY, SELECT, SET, TABLE, THEN, TRUE, UNION, WHEN, WHERE, WITH, OPEN, CLOSE, COMMA, DOT, EQUAL, NOT_EQUAL, LESS, LESS_EQUAL, GREATER, GREATER_EQUAL, TIMES, NAME, STR, NUMBER, only, name_word, text_word, number_word, sign_word, product_word, sum_word, direction_word, join_word}
 use Rattle.sql_grammar.specs.Spells.{or_node, and_node, not_node, sign_node, sum_node, product_node, select_node, is_desc}

@@ -1,6 +1,6 @@
 -- How rules are put together from others: which tokens stand for which things.
 use Rattle.std.specs.Prelude.{◌≡◌, Bool, true, false, List, [], ◌∷◌, ◌++◌, Option, Some, None}
-use Rattle.sql_syntax.specs.declared.token.Token.{Token}
+use Rattle.sql_tokens.specs.declared.token.Token.{Token}
 use Rattle.sql_grammar.specs.Words.{OPEN, CLOSE, COMMA}
 
 -- which tokens stand for which things

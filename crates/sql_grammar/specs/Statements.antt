@@ -1,6 +1,6 @@
 -- Scripts: how their tokens are cut into statements, and what they spell.
 use Rattle.std.specs.Prelude.{◌≡◌, ◌≢◌, ℕ, length, suc, List, [], ◌∷◌, ◌++◌, Option, Some, None}
-use Rattle.sql_syntax.specs.declared.token.Token.{Token}
+use Rattle.sql_tokens.specs.declared.token.Token.{Token}
 use Rattle.sql_syntax.specs.Tree.{Statement, Script}
 use Rattle.sql_grammar.specs.Words.{SEMICOLON, only}
 use Rattle.sql_grammar.specs.Shapes.{Spelling}

@@ -3,14 +3,14 @@ use Rattle.std.specs.Prelude.{Bool, true, false, Option, Some, None}
 use denote.Enum.Bare.{sameb}
 use Rattle.ct_value.specs.declared.value.CompareOp.{CompareOp}
 use Rattle.ct_value.specs.declared.value.CompareOp.TheVariants.{Eq, Ne, Lt, Le, Gt, Ge}
-use Rattle.sql_syntax.specs.declared.token.Token.{Token}
-use Rattle.sql_syntax.specs.declared.token.Token.TheVariants as t
-use Rattle.sql_syntax.specs.declared.token.Keyword.{Keyword}
-use Rattle.sql_syntax.specs.declared.token.Keyword.TheVariants as k
-use Rattle.sql_syntax.specs.declared.token.Symbol.{Symbol}
-use Rattle.sql_syntax.specs.declared.token.Symbol.TheVariants as s
-use Rattle.sql_syntax.specs.contracts.token.Keyword.{the_type as keyword_type}
-use Rattle.sql_syntax.specs.contracts.token.Symbol.{the_type as symbol_type}
+use Rattle.sql_tokens.specs.declared.token.Token.{Token}
+use Rattle.sql_tokens.specs.declared.token.Token.TheVariants as t
+use Rattle.sql_tokens.specs.declared.token.Keyword.{Keyword}
+use Rattle.sql_tokens.specs.declared.token.Keyword.TheVariants as k
+use Rattle.sql_tokens.specs.declared.token.Symbol.{Symbol}
+use Rattle.sql_tokens.specs.declared.token.Symbol.TheVariants as s
+use Rattle.sql_tokens.specs.contracts.token.Keyword.{the_type as keyword_type}
+use Rattle.sql_tokens.specs.contracts.token.Symbol.{the_type as symbol_type}
 use Rattle.sql_syntax.specs.Tree.{Text, JoinWord, Inner, Left, Right, Full, SumWord, Plus, Minus, Concat, ProductWord, Times, Divide, Modulo}
 
 -- keywords

@@ -2,7 +2,7 @@
 #![tactic(auto)]
 
 ghost use Rattle.std.specs.Prelude.{◌≡◌, ◌↔◌, ℕ, List, Some, None};
-ghost use Rattle.sql_syntax.specs.declared.token.Token.{Token};
+ghost use Rattle.sql_tokens.specs.declared.token.Token.{Token};
 ghost use Rattle.sql_syntax.specs.Tree.{Script, Statement};
 ghost use Rattle.sql_grammar.specs.Spells.{Spells};
 ghost use Rattle.sql_grammar.specs.Reads.{parse};

@@ -3,17 +3,17 @@ use Rattle.std.proofs.Common.{◌≡◌, ℕ, zero, suc, ◌+◌, ◌<◌, ◌�
 use Rattle.std.specs.Prelude.{option_map}
 use Rattle.ct_value.specs.declared.codes.ScriptCode.{ScriptCode}
 use Rattle.ct_value.specs.declared.codes.ScriptCode.TheVariants.{BadToken, TooDeep, Syntax}
-use Rattle.sql_syntax.specs.declared.token.Symbol.TheVariants.{Semicolon}
-use Rattle.sql_syntax.specs.declared.token.Token.{Token}
-use Rattle.sql_syntax.specs.declared.token.Token.TheVariants.{Symbol}
+use Rattle.sql_tokens.specs.declared.token.Symbol.TheVariants.{Semicolon}
+use Rattle.sql_tokens.specs.declared.token.Token.{Token}
+use Rattle.sql_tokens.specs.declared.token.Token.TheVariants.{Symbol}
 use Rattle.sql_syntax.specs.declared.statement.Script.{Script}
 use Rattle.sql_syntax.specs.Tree.{Statement}
 use Rattle.sql_syntax.specs.Tree as t
-use Rattle.sql_syntax.specs.Tokens.{Front, nothing, bad, gap, token, read_on, read_fronts, tokens_of, front}
-use Rattle.sql_syntax.specs.Statements.{Piece, ended, unended, spoiled, first_statement, statements_of}
-use Rattle.sql_syntax.specs.Depth.{too_deep}
+use Rattle.sql_tokens.specs.Tokens.{Front, nothing, bad, gap, token, read_on, read_fronts, tokens_of, front}
+use Rattle.sql_tokens.specs.Statements.{Piece, ended, unended, spoiled, first_statement, statements_of}
+use Rattle.sql_tokens.specs.Depth.{too_deep}
 use Rattle.sql_syntax.specs.View.{script_view, statements_view}
-use Rattle.sql_syntax.proofs.Pieces.{cut, pieces-cut}
+use Rattle.sql_tokens.proofs.Pieces.{cut, pieces-cut}
 use Rattle.sql_grammar.specs.Reads.{readers, statement_at, whole, parse}
 use Rattle.sql_grammar.proofs.Depths.{parse_reads}
 use Rattle.sql_grammar.proofs.Grammar.{parse_spelled, spelled_parse, no_statement, unread_statement}

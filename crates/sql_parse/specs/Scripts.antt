@@ -2,11 +2,11 @@
 use Rattle.std.specs.Prelude.{◌≡◌, ℕ, suc, ◌+◌, Bool, true, false, List, [], ◌∷◌, ◌++◌, length, Option, Some, None}
 use Rattle.ct_value.specs.declared.codes.ScriptCode.{ScriptCode}
 use Rattle.ct_value.specs.declared.codes.ScriptCode.TheVariants.{BadToken, TooDeep, Syntax}
-use Rattle.sql_syntax.specs.declared.token.Token.{Token}
-use Rattle.sql_syntax.specs.Tokens.{tokens_of}
+use Rattle.sql_tokens.specs.declared.token.Token.{Token}
+use Rattle.sql_tokens.specs.Tokens.{tokens_of}
 use Rattle.sql_syntax.specs.Tree.{Statement, Script}
-use Rattle.sql_syntax.specs.Statements.{Piece, ended, unended, spoiled, pieces, statements_of}
-use Rattle.sql_syntax.specs.Depth.{too_deep}
+use Rattle.sql_tokens.specs.Statements.{Piece, ended, unended, spoiled, pieces, statements_of}
+use Rattle.sql_tokens.specs.Depth.{too_deep}
 use Rattle.sql_grammar.specs.Spells.{Spells}
 use Rattle.sql_grammar.specs.Reads.{parse}
 use Rattle.sql_parse.specs.declared.script.ParseFault.{ParseFault}

@@ -4,10 +4,11 @@ ghost use Rattle.sql_syntax.specs.View.{view, query_view};
 ghost use Rattle.sql_grammar.specs.Reads.{readers};
 ghost use Rattle.sql_parse.specs.Readings.{IsReading};
 
-use crate::nested::Nested;
-use crate::words::{Read, Stop};
-use crate::{expressions, queries};
-use sql_syntax::{Query, Token, Tree};
+use sql_expressions::expression;
+use sql_shapes::Nested;
+use sql_syntax::{Query, Tree};
+use sql_tokens::Token;
+use sql_words::{Read, Stop};
 use std::alloc::Global;
 
 // Two readers of what stands within so many others.
@@ -65,7 +66,7 @@ fn expr(alloc: Global, depth: usize, tokens: &[Token]) -> Read<'_, Tree>
             ensures refused { IsErrOf result Stop.Refused → (readers below).query tokens.now ≡ None }
         { query(alloc, below, tokens) },
     };
-    expressions::expression(alloc, &within, tokens)
+    expression(alloc, &within, tokens)
 }
 
 /// A query within so many others.
@@ -93,5 +94,5 @@ pub fn query(alloc: Global, depth: usize, tokens: &[Token]) -> Read<'_, Query>
             ensures refused { IsErrOf result Stop.Refused → (readers below).query tokens.now ≡ None }
         { query(alloc, below, tokens) },
     };
-    queries::query(alloc, &within, tokens)
+    sql_queries::query(alloc, &within, tokens)
 }

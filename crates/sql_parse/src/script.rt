@@ -2,19 +2,18 @@
 ghost use Rattle.std.specs.Prelude.{◌≡◌, ℕ, ◌<◌, ◌≤◌, ◌+◌, Some, None, [], length, option_map, IfSome, IfOk, IfErr, IsErrOf};
 ghost use Rattle.ct_value.specs.declared.codes.ScriptCode.{ScriptCode as Code};
 ghost use Rattle.sql_syntax.specs.Tree.{Script as ScriptTree};
-ghost use Rattle.sql_syntax.specs.Statements.{first_statement};
+ghost use Rattle.sql_tokens.specs.Statements.{first_statement};
 ghost use Rattle.sql_syntax.specs.View.{script_view, statement_view, statements_view};
 ghost use Rattle.sql_grammar.specs.Reads.{readers, insert_at, stated_at, statement_at, whole, parse};
-ghost use Rattle.sql_parse.specs.Firsts.{stated_view};
+ghost use Rattle.sql_words.specs.Firsts.{stated_view};
 ghost use Rattle.sql_parse.specs.Scripts.{Answer, IsRefusal, IsScript, IfRefused, TextRefusal, and_others, answered, read_ended, read_from, read_last, read_text};
 
 use crate::depth::query;
-use crate::shapes::{create, set};
-use crate::statements::{is_too_deep, split_statement};
-use crate::tokens::tokens_of;
-use crate::words::{Read, StatementWord, Stop, keyword, name, statement_word};
 use ct_value::{Bytes, Memory, ScriptCode};
-use sql_syntax::{Keyword, Script, Statement, Statements, Token};
+use sql_definitions::{create, set};
+use sql_syntax::{Script, Statement, Statements};
+use sql_tokens::{Keyword, Token, is_too_deep, split_statement, tokens_of};
+use sql_words::{Read, StatementWord, Stop, keyword, name, statement_word};
 use std::alloc::Global;
 
 /// Why a text is no script.

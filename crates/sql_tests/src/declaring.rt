@@ -9,7 +9,6 @@ use ct_value::{Bytes, ColTy, Cols, Memory, ScriptCode, Ty};
 use sql_parse::{ParseFault, parse_script};
 use sql_syntax::Statement;
 use std::alloc::Global;
-use std::process::Abort;
 
 /// The catalogue behind the statements of a script, or the first refusal.
 pub fn declared(alloc: Global, text: &str) -> Result<Catalog, ParseFault> {
@@ -63,16 +62,12 @@ pub fn describe(alloc: Global, text: &str) -> Result<String, Memory> {
     }
 }
 
-/// Asserts that a script declares these tables, or is refused so.
-pub fn check_declared(
-    rt: &impl Abort,
-    alloc: Global,
-    text: &str,
-    wanted: &str,
-) -> Result<(), Memory> {
-    let found = describe(alloc, text)?;
-    assert!(rt; found.as_str() == wanted, "{text} gives {found}");
-    Ok(())
+/// Whether a script declares these tables, or is refused so.
+pub fn declares(alloc: Global, text: &str, wanted: &str) -> bool {
+    match describe(alloc, text) {
+        Ok(found) => found.as_str() == wanted,
+        Err(_) => false,
+    }
 }
 
 fn describe_all(alloc: Global, tables: &[TableDef]) -> Result<String, Memory> {

@@ -1,9 +1,7 @@
 // Parentheses and CASEs within one another, of which 32 may be open at once.
-use crate::reading::{ITEM, SCRIPT, check_tree, repeated};
+use crate::reading::{ITEM, SCRIPT, gives, is_read, repeated};
 use ct_value::Memory;
 use std::alloc::Global;
-use std::process::Abort;
-use std::test::Fail;
 
 // What stands before, within and behind, first of an item and then of its tree.
 type Nest = (
@@ -65,38 +63,38 @@ fn nested(
     repeated(alloc, text.as_str(), count, back, "")
 }
 
-fn check_nest(rt: &impl Abort, alloc: Global, nest: Nest) -> Result<(), Memory> {
-    let text = nested(alloc, 32, nest.0, nest.1, nest.2)?;
-    let tree = nested(alloc, 32, nest.3, nest.4, nest.5)?;
-    check_tree(rt, alloc, ITEM, text.as_str(), tree.as_str())
+fn is_nest(alloc: Global, nest: &Nest) -> bool {
+    let Ok(text) = nested(alloc, 32, nest.0, nest.1, nest.2) else {
+        return false;
+    };
+    match nested(alloc, 32, nest.3, nest.4, nest.5) {
+        Ok(tree) => is_read(alloc, &ITEM, text.as_str(), tree.as_str()),
+        Err(_) => false,
+    }
+}
+
+fn is_refused_nest(alloc: Global, nest: &Nest, count: usize, inner: &str, refusal: &str) -> bool {
+    match nested(alloc, count, nest.0, inner, nest.2) {
+        Ok(text) => gives(alloc, &ITEM, text.as_str(), refusal),
+        Err(_) => false,
+    }
 }
 
 // One more is too many, and a fault within 32 is found.
-fn check_refused_nest(rt: &impl Abort, alloc: Global, nest: Nest) -> Result<(), Memory> {
-    let deeper = nested(alloc, 33, nest.0, nest.1, nest.2)?;
-    check_tree(
-        rt,
-        alloc,
-        ITEM.refused(),
-        deeper.as_str(),
-        "S20 TooDeep at 1",
-    )?;
-    let faulty = nested(alloc, 32, nest.0, "a + ", nest.2)?;
-    check_tree(rt, alloc, ITEM.refused(), faulty.as_str(), "S2 Syntax at 1")
-}
-
-fn check_nests(rt: &impl Abort, alloc: Global, nests: &[Nest]) -> Result<(), Memory> {
-    for nest in nests {
-        check_nest(rt, alloc, *nest)?;
-        check_refused_nest(rt, alloc, *nest)?;
-    }
-    Ok(())
+fn refuses_nests(alloc: Global, nest: &Nest) -> bool {
+    is_refused_nest(alloc, nest, 33, nest.1, "S20 TooDeep at 1")
+        && is_refused_nest(alloc, nest, 32, "a + ", "S2 Syntax at 1")
 }
 
 #[test]
-fn thirty_two_may_be_open_and_no_more(rt: HostRuntime) -> Result<(), Fail> {
-    check_nests(&rt, rt.alloc(), &NESTS)?;
-    Ok(())
+fn thirty_two_may_be_open_and_no_more(rt: HostRuntime) {
+    for nest in &NESTS {
+        assert!(rt;
+            is_nest(rt.alloc(), nest) && refuses_nests(rt.alloc(), nest),
+            "{}",
+            nest.0
+        );
+    }
 }
 
 // A front, a piece so many times, a back, and what the text is read as.
@@ -140,20 +138,22 @@ const COUNTED: [Counted; 19] = [
     ),
 ];
 
-fn check_counted(rt: &impl Abort, alloc: Global, case: Counted) -> Result<(), Memory> {
-    let text = repeated(alloc, case.0, case.1, case.2, case.3)?;
-    check_tree(rt, alloc, SCRIPT, text.as_str(), case.4)
-}
-
-fn check_all_counted(rt: &impl Abort, alloc: Global, cases: &[Counted]) -> Result<(), Memory> {
-    for case in cases {
-        check_counted(rt, alloc, *case)?;
+fn is_counted(alloc: Global, case: &Counted) -> bool {
+    match repeated(alloc, case.0, case.1, case.2, case.3) {
+        Ok(text) => is_read(alloc, &SCRIPT, text.as_str(), case.4),
+        Err(_) => false,
     }
-    Ok(())
 }
 
 #[test]
-fn open_ones_are_counted(rt: HostRuntime) -> Result<(), Fail> {
-    check_all_counted(&rt, rt.alloc(), &COUNTED)?;
-    Ok(())
+fn open_ones_are_counted(rt: HostRuntime) {
+    for case in &COUNTED {
+        assert!(rt;
+            is_counted(rt.alloc(), case),
+            "{}{}{}",
+            case.0,
+            case.2,
+            case.3
+        );
+    }
 }

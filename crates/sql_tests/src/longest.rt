@@ -2,8 +2,6 @@
 use crate::reading::{LONGEST, read_bytes, repeated};
 use ct_value::{Bytes, Memory};
 use std::alloc::Global;
-use std::process::Abort;
-use std::test::Fail;
 
 // A text of the longest length: a front, one byte so often as fits, and a back.
 fn filled(alloc: Global, front: &str, byte: u8, back: &str) -> Result<Bytes, Memory> {
@@ -13,21 +11,18 @@ fn filled(alloc: Global, front: &str, byte: u8, back: &str) -> Result<Bytes, Mem
     Ok(Bytes::from_vec(bytes))
 }
 
-fn check_filled(
-    rt: &impl Abort,
-    alloc: Global,
-    front: &str,
-    byte: u8,
-    back: &str,
-    wanted: &str,
-) -> Result<(), Memory> {
-    let bytes = filled(alloc, front, byte, back)?;
-    let found = read_bytes(alloc, &bytes)?;
-    assert!(rt;
-        found.as_str() == wanted,
-        "{front}, the byte {byte}, and {back} give {found}"
-    );
-    Ok(())
+fn are_read(alloc: Global, bytes: &Bytes, wanted: &str) -> bool {
+    match read_bytes(alloc, bytes) {
+        Ok(found) => found.as_str() == wanted,
+        Err(_) => false,
+    }
+}
+
+fn is_filled(alloc: Global, front: &str, byte: u8, back: &str, wanted: &str) -> bool {
+    match filled(alloc, front, byte, back) {
+        Ok(bytes) => are_read(alloc, &bytes, wanted),
+        Err(_) => false,
+    }
 }
 
 // A front, the byte behind it, a back, and what the script is read as.
@@ -60,17 +55,12 @@ const FILLED: [Filled; 15] = [
     ("SET 'a' = 'b';", b' ', "", "(set a b)"),
 ];
 
-fn check_all_filled(rt: &impl Abort, alloc: Global, cases: &[Filled]) -> Result<(), Memory> {
-    for case in cases {
-        check_filled(rt, alloc, case.0, case.1, case.2, case.3)?;
-    }
-    Ok(())
-}
-
 #[test]
-fn longest_scripts_are_read(rt: HostRuntime) -> Result<(), Fail> {
-    check_all_filled(&rt, rt.alloc(), &FILLED)?;
-    Ok(())
+fn longest_scripts_are_read(rt: HostRuntime) {
+    for (front, byte, back, wanted) in &FILLED {
+        let is_read = is_filled(rt.alloc(), front, *byte, back, wanted);
+        assert!(rt; is_read, "{front}, the byte {byte}, and {back}");
+    }
 }
 
 // What stands between two operands of a chain, the tree up to its first one, and what stands before each other.
@@ -83,30 +73,26 @@ const CHAINS: [Chain; 4] = [
     ("AND a", "(insert o (query (select (and a", " a"),
 ];
 
-// A select of 512 operands, with blanks before each and at the end.
-fn check_chain(rt: &impl Abort, alloc: Global, case: Chain) -> Result<(), Memory> {
-    let next = repeated(alloc, "", 500, " ", case.0)?;
-    let operands = repeated(alloc, "INSERT INTO o SELECT a", 511, next.as_str(), "")?;
-    let wanted = repeated(alloc, case.1, 511, case.2, ") (from t))))")?;
-    check_filled(
-        rt,
-        alloc,
-        operands.as_str(),
-        b' ',
-        " FROM t;",
-        wanted.as_str(),
-    )
+// The operands of a select of 512, with blanks before each.
+fn operands(alloc: Global, operand: &str) -> Result<String, Memory> {
+    let next = repeated(alloc, "", 500, " ", operand)?;
+    repeated(alloc, "INSERT INTO o SELECT a", 511, next.as_str(), "")
 }
 
-fn check_chains(rt: &impl Abort, alloc: Global, cases: &[Chain]) -> Result<(), Memory> {
-    for case in cases {
-        check_chain(rt, alloc, *case)?;
+// A select of 512 operands, with blanks before each and at the end.
+fn is_chain(alloc: Global, chain: &Chain) -> bool {
+    let Ok(operands) = operands(alloc, chain.0) else {
+        return false;
+    };
+    match repeated(alloc, chain.1, 511, chain.2, ") (from t))))") {
+        Ok(wanted) => is_filled(alloc, operands.as_str(), b' ', " FROM t;", wanted.as_str()),
+        Err(_) => false,
     }
-    Ok(())
 }
 
 #[test]
-fn longest_chains_are_read(rt: HostRuntime) -> Result<(), Fail> {
-    check_chains(&rt, rt.alloc(), &CHAINS)?;
-    Ok(())
+fn longest_chains_are_read(rt: HostRuntime) {
+    for chain in &CHAINS {
+        assert!(rt; is_chain(rt.alloc(), chain), "the chain of {}", chain.0);
+    }
 }

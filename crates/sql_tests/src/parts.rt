@@ -63,6 +63,12 @@ impl<'t> Parts<'t> {
             Part::Sums(tails) => self.sums(tails),
             Part::Products(tails) => self.products(tails),
             Part::Whens(whens) => self.whens(whens),
+            part => self.open_call_or_query(part),
+        }
+    }
+
+    fn open_call_or_query(&mut self, part: Part<'t>) -> Result<(), Memory> {
+        match part {
             Part::Args(args) => self.args(args),
             Part::Over(over) => self.over(over),
             Part::Type(ty) => self.node_of_two(
@@ -73,12 +79,19 @@ impl<'t> Parts<'t> {
             Part::Sorts(word, sorts) => self.sorts(word, sorts),
             Part::Query(query) => self.query(query),
             Part::Selects(selects) => self.selects(selects),
+            part => self.open_list(part),
+        }
+    }
+
+    fn open_list(&mut self, part: Part<'t>) -> Result<(), Memory> {
+        match part {
             Part::Items(items) => self.items(items),
             Part::Source(source) => self.source(source),
             Part::Joins(joins) => self.joins(joins),
             Part::Elements(elements) => self.elements(elements),
             Part::Texts(texts) => self.texts(texts),
             Part::Pairs(pairs) => self.pairs(pairs),
+            _ => self.word("(unknown part)"),
         }
     }
 
@@ -135,6 +148,12 @@ impl<'t> Parts<'t> {
             Tree::Compare { op, left, right } => {
                 self.node_of_two(compare_word(*op), Part::Tree(left), Part::Tree(right))
             }
+            _ => self.condition(tree),
+        }
+    }
+
+    fn condition(&mut self, tree: &'t Tree) -> Result<(), Memory> {
+        match tree {
             Tree::IsNull { value, negated } => {
                 let word = either(*negated, "(is-not-null", "(is-null");
                 self.node(word, Part::Tree(value))
@@ -156,6 +175,12 @@ impl<'t> Parts<'t> {
                 let word = either(*negated, "(not-in", "(in");
                 self.node_of_two(word, Part::Tree(value), Part::Trees(items))
             }
+            _ => self.sum_or_query(tree),
+        }
+    }
+
+    fn sum_or_query(&mut self, tree: &'t Tree) -> Result<(), Memory> {
+        match tree {
             Tree::InQuery {
                 value,
                 query,
@@ -178,6 +203,12 @@ impl<'t> Parts<'t> {
             Tree::Product { first, rest } => {
                 self.node_of_two("(product", Part::Tree(first), Part::Products(rest))
             }
+            _ => self.operand(tree),
+        }
+    }
+
+    fn operand(&mut self, tree: &'t Tree) -> Result<(), Memory> {
+        match tree {
             Tree::Sign { minus, value } => {
                 self.node(either(*minus, "(minus", "(plus"), Part::Tree(value))
             }
@@ -185,6 +216,12 @@ impl<'t> Parts<'t> {
             Tree::Str(text) => self.node("(text", word_of(text)),
             Tree::Bool(truth) => self.word(either(*truth, "true", "false")),
             Tree::Null => self.word("null"),
+            _ => self.name_or_call(tree),
+        }
+    }
+
+    fn name_or_call(&mut self, tree: &'t Tree) -> Result<(), Memory> {
+        match tree {
             Tree::Name { of, name, quoted } => self.name(of, name, *quoted),
             Tree::Call {
                 name,
@@ -196,6 +233,12 @@ impl<'t> Parts<'t> {
                 self.two(Part::Args(args), Maybe("(filter", filter.as_deref()))?;
                 self.two(Part::Over(over), Word(")"))
             }
+            _ => self.built(tree),
+        }
+    }
+
+    fn built(&mut self, tree: &'t Tree) -> Result<(), Memory> {
+        match tree {
             Tree::Cast { value, ty } => {
                 self.node_of_two("(cast", Part::Tree(value), Part::Type(ty))
             }
@@ -205,6 +248,7 @@ impl<'t> Parts<'t> {
                 let otherwise = Maybe("(else", otherwise.as_deref());
                 self.node_of_two("(case", Part::Whens(whens), otherwise)
             }
+            _ => self.word("(unknown tree)"),
         }
     }
 

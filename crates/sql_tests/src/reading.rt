@@ -3,7 +3,6 @@ use crate::render::render;
 use ct_value::{Bytes, Memory, ScriptCode};
 use sql_parse::{ParseFault, parse_script};
 use std::alloc::Global;
-use std::process::Abort;
 
 /// The length of the longest script.
 pub const LONGEST: usize = 262_144;
@@ -34,23 +33,11 @@ pub fn read(alloc: Global, text: &str) -> Result<String, Memory> {
 }
 
 /// What stands round a part of a script, and round its tree.
-#[derive(Clone, Copy)]
 pub struct Frame {
     front: &'static str,
     back: &'static str,
     tree_front: &'static str,
     tree_back: &'static str,
-}
-
-impl Frame {
-    /// The frame of texts without a tree.
-    pub fn refused(self) -> Frame {
-        Frame {
-            tree_front: "",
-            tree_back: "",
-            ..self
-        }
-    }
 }
 
 /// Round an item of the only select.
@@ -94,7 +81,7 @@ pub fn repeated(
 }
 
 // What a text is read as within a frame.
-fn read_in(alloc: Global, frame: Frame, text: &str) -> Result<String, Memory> {
+fn read_in(alloc: Global, frame: &Frame, text: &str) -> Result<String, Memory> {
     let text = framed(alloc, frame.front, text, frame.back)?;
     read(alloc, text.as_str())
 }
@@ -106,43 +93,18 @@ fn framed(alloc: Global, front: &str, text: &str, back: &str) -> Result<String, 
     Ok(framed)
 }
 
-/// Asserts that a text is read as a tree within a frame.
-pub fn check_tree(
-    rt: &impl Abort,
-    alloc: Global,
-    frame: Frame,
-    text: &str,
-    tree: &str,
-) -> Result<(), Memory> {
-    let found = read_in(alloc, frame, text)?;
-    let wanted = framed(alloc, frame.tree_front, tree, frame.tree_back)?;
-    assert!(rt; found.as_str() == wanted.as_str(), "{text} gives {found}");
-    Ok(())
+/// Whether this, such as a refusal, is all that a text within a frame gives.
+pub fn gives(alloc: Global, frame: &Frame, text: &str, wanted: &str) -> bool {
+    match read_in(alloc, frame, text) {
+        Ok(found) => found.as_str() == wanted,
+        Err(_) => false,
+    }
 }
 
-/// Asserts that texts are read as their trees within a frame.
-pub fn check_trees(
-    rt: &impl Abort,
-    alloc: Global,
-    frame: Frame,
-    cases: &[(&str, &str)],
-) -> Result<(), Memory> {
-    for case in cases {
-        check_tree(rt, alloc, frame, case.0, case.1)?;
+/// Whether a text is read as a tree within a frame.
+pub fn is_read(alloc: Global, frame: &Frame, text: &str, tree: &str) -> bool {
+    match framed(alloc, frame.tree_front, tree, frame.tree_back) {
+        Ok(wanted) => gives(alloc, frame, text, wanted.as_str()),
+        Err(_) => false,
     }
-    Ok(())
-}
-
-/// Asserts that texts are refused so within a frame.
-pub fn check_refused(
-    rt: &impl Abort,
-    alloc: Global,
-    frame: Frame,
-    texts: &[&str],
-    refusal: &str,
-) -> Result<(), Memory> {
-    for text in texts {
-        check_tree(rt, alloc, frame.refused(), text, refusal)?;
-    }
-    Ok(())
 }

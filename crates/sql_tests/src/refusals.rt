@@ -1,9 +1,7 @@
 // Texts that are no scripts.
-use crate::reading::{ITEM, QUERY, SCRIPT, check_refused, read_bytes};
-use ct_value::{Bytes, Memory};
+use crate::reading::{ITEM, QUERY, SCRIPT, gives, read_bytes};
+use ct_value::Bytes;
 use std::alloc::Global;
-use std::process::Abort;
-use std::test::Fail;
 
 // Scripts with a bad place in their first statement.
 const BAD_PLACES: [&str; 24] = [
@@ -38,9 +36,13 @@ const BAD_PLACES: [&str; 24] = [
 ];
 
 #[test]
-fn bad_places_are_refused(rt: HostRuntime) -> Result<(), Fail> {
-    check_refused(&rt, rt.alloc(), SCRIPT, &BAD_PLACES, "S1 BadToken at 1")?;
-    Ok(())
+fn bad_places_are_refused(rt: HostRuntime) {
+    for text in &BAD_PLACES {
+        assert!(rt;
+            gives(rt.alloc(), &SCRIPT, text, "S1 BadToken at 1"),
+            "{text}"
+        );
+    }
 }
 
 // Scripts of bytes that aren't all UTF-8, and what they are read as.
@@ -57,19 +59,25 @@ const BYTES: [(&[u8], &str); 7] = [
     (b"SET 'a' = '\xc3\xa9';", "(set a \u{e9})"),
 ];
 
-fn check_bytes(rt: &impl Abort, alloc: Global, cases: &[(&[u8], &str)]) -> Result<(), Memory> {
-    for (bytes, wanted) in cases {
-        let bytes = Bytes::from_slice(alloc, bytes)?;
-        let found = read_bytes(alloc, &bytes)?;
-        assert!(rt; found.as_str() == *wanted, "{found} and not {wanted}");
+fn are_read(alloc: Global, bytes: &Bytes, wanted: &str) -> bool {
+    match read_bytes(alloc, bytes) {
+        Ok(found) => found.as_str() == wanted,
+        Err(_) => false,
     }
-    Ok(())
+}
+
+fn is_case(alloc: Global, bytes: &[u8], wanted: &str) -> bool {
+    match Bytes::from_slice(alloc, bytes) {
+        Ok(bytes) => are_read(alloc, &bytes, wanted),
+        Err(_) => false,
+    }
 }
 
 #[test]
-fn bytes_within_quotes_are_utf8(rt: HostRuntime) -> Result<(), Fail> {
-    check_bytes(&rt, rt.alloc(), &BYTES)?;
-    Ok(())
+fn bytes_within_quotes_are_utf8(rt: HostRuntime) {
+    for (bytes, wanted) in &BYTES {
+        assert!(rt; is_case(rt.alloc(), bytes, wanted), "not {wanted}");
+    }
 }
 
 // Items without a tree.
@@ -144,9 +152,10 @@ const BAD_ITEMS: [&str; 62] = [
 ];
 
 #[test]
-fn items_without_a_tree_are_refused(rt: HostRuntime) -> Result<(), Fail> {
-    check_refused(&rt, rt.alloc(), ITEM, &BAD_ITEMS, "S2 Syntax at 1")?;
-    Ok(())
+fn items_without_a_tree_are_refused(rt: HostRuntime) {
+    for text in &BAD_ITEMS {
+        assert!(rt; gives(rt.alloc(), &ITEM, text, "S2 Syntax at 1"), "{text}");
+    }
 }
 
 // Queries without a tree.
@@ -195,9 +204,10 @@ const BAD_QUERIES: [&str; 41] = [
 ];
 
 #[test]
-fn queries_without_a_tree_are_refused(rt: HostRuntime) -> Result<(), Fail> {
-    check_refused(&rt, rt.alloc(), QUERY, &BAD_QUERIES, "S2 Syntax at 1")?;
-    Ok(())
+fn queries_without_a_tree_are_refused(rt: HostRuntime) {
+    for text in &BAD_QUERIES {
+        assert!(rt; gives(rt.alloc(), &QUERY, text, "S2 Syntax at 1"), "{text}");
+    }
 }
 
 // Scripts of which the first statement has no tree.
@@ -241,7 +251,11 @@ const BAD_STATEMENTS: [&str; 36] = [
 ];
 
 #[test]
-fn statements_without_a_tree_are_refused(rt: HostRuntime) -> Result<(), Fail> {
-    check_refused(&rt, rt.alloc(), SCRIPT, &BAD_STATEMENTS, "S2 Syntax at 1")?;
-    Ok(())
+fn statements_without_a_tree_are_refused(rt: HostRuntime) {
+    for text in &BAD_STATEMENTS {
+        assert!(rt;
+            gives(rt.alloc(), &SCRIPT, text, "S2 Syntax at 1"),
+            "{text}"
+        );
+    }
 }

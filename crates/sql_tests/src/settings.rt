@@ -1,11 +1,8 @@
 // What scripts set.
-use crate::declaring::{check_declared, declared};
+use crate::declaring::{declared, declares};
 use ct_catalog::{Materialize, Settings};
 use ct_value::Memory;
-use sql_parse::ParseFault;
 use std::alloc::Global;
-use std::process::Abort;
-use std::test::Fail;
 
 const DEFAULTS: Settings = Settings {
     batching: false,
@@ -110,25 +107,11 @@ const SET: [(&str, &str, Settings); 27] = [
 ];
 
 // Whether these are the settings behind a script.
-fn gives(alloc: Global, text: &str, wanted: Settings) -> Result<bool, Memory> {
+fn gives(alloc: Global, text: &str, wanted: &Settings) -> bool {
     match declared(alloc, text) {
-        Ok(catalog) => Ok(*catalog.settings() == wanted),
-        Err(ParseFault::Refused { .. }) => Ok(false),
-        Err(ParseFault::Memory) => Err(Memory),
+        Ok(catalog) => *catalog.settings() == *wanted,
+        Err(_) => false,
     }
-}
-
-fn check_set(
-    rt: &impl Abort,
-    alloc: Global,
-    key: &str,
-    value: &str,
-    wanted: Settings,
-) -> Result<(), Memory> {
-    let text = set_text(alloc, key, value)?;
-    let given = gives(alloc, text.as_str(), wanted)?;
-    assert!(rt; given, "{text}");
-    Ok(())
 }
 
 fn set_text(alloc: Global, key: &str, value: &str) -> Result<String, Memory> {
@@ -136,21 +119,18 @@ fn set_text(alloc: Global, key: &str, value: &str) -> Result<String, Memory> {
     Ok(text)
 }
 
-fn check_all_set(
-    rt: &impl Abort,
-    alloc: Global,
-    cases: &[(&str, &str, Settings)],
-) -> Result<(), Memory> {
-    for case in cases {
-        check_set(rt, alloc, case.0, case.1, case.2)?;
+fn sets(alloc: Global, key: &str, value: &str, wanted: &Settings) -> bool {
+    match set_text(alloc, key, value) {
+        Ok(text) => gives(alloc, text.as_str(), wanted),
+        Err(_) => false,
     }
-    Ok(())
 }
 
 #[test]
-fn settings_are_set(rt: HostRuntime) -> Result<(), Fail> {
-    check_all_set(&rt, rt.alloc(), &SET)?;
-    Ok(())
+fn settings_are_set(rt: HostRuntime) {
+    for (key, value, wanted) in &SET {
+        assert!(rt; sets(rt.alloc(), key, value, wanted), "{key} and {value}");
+    }
 }
 
 // A script, and the settings behind it.
@@ -185,18 +165,11 @@ const BEHIND: [(&str, Settings); 5] = [
     ),
 ];
 
-fn check_behind(rt: &impl Abort, alloc: Global, cases: &[(&str, Settings)]) -> Result<(), Memory> {
-    for (text, wanted) in cases {
-        let given = gives(alloc, text, *wanted)?;
-        assert!(rt; given, "{text}");
-    }
-    Ok(())
-}
-
 #[test]
-fn the_last_value_of_a_key_counts(rt: HostRuntime) -> Result<(), Fail> {
-    check_behind(&rt, rt.alloc(), &BEHIND)?;
-    Ok(())
+fn the_last_value_of_a_key_counts(rt: HostRuntime) {
+    for (text, wanted) in &BEHIND {
+        assert!(rt; gives(rt.alloc(), text, wanted), "{text}");
+    }
 }
 
 const BAD_SETTING: &str = "S17 BadSetting at 1";
@@ -252,30 +225,19 @@ const BAD: [(&str, &str, &str); 37] = [
     ("table.exec.state.ttl", "0 m s", STATE_TTL),
 ];
 
-fn check_bad(
-    rt: &impl Abort,
-    alloc: Global,
-    key: &str,
-    value: &str,
-    refusal: &str,
-) -> Result<(), Memory> {
-    let text = set_text(alloc, key, value)?;
-    check_declared(rt, alloc, text.as_str(), refusal)
-}
-
-fn check_all_bad(
-    rt: &impl Abort,
-    alloc: Global,
-    cases: &[(&str, &str, &str)],
-) -> Result<(), Memory> {
-    for case in cases {
-        check_bad(rt, alloc, case.0, case.1, case.2)?;
+fn is_refused(alloc: Global, key: &str, value: &str, refusal: &str) -> bool {
+    match set_text(alloc, key, value) {
+        Ok(text) => declares(alloc, text.as_str(), refusal),
+        Err(_) => false,
     }
-    Ok(())
 }
 
 #[test]
-fn other_settings_are_refused(rt: HostRuntime) -> Result<(), Fail> {
-    check_all_bad(&rt, rt.alloc(), &BAD)?;
-    Ok(())
+fn other_settings_are_refused(rt: HostRuntime) {
+    for (key, value, refusal) in &BAD {
+        assert!(rt;
+            is_refused(rt.alloc(), key, value, refusal),
+            "{key} and {value}"
+        );
+    }
 }

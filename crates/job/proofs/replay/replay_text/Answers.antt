@@ -1,5 +1,5 @@
 use Rattle.std.proofs.Common.{◌≡◌, ◌∙◌, Ok, ℕ, ap, sym, Some}
-use Rattle.job.specs.Lines.{taken_of, lines_of}
+use Rattle.job_text.specs.Lines.{taken_of, lines_of}
 use Rattle.job.specs.Outcome.{with_text}
 use Rattle.job.specs.Replays.{outcome_of_answer, emitted_by}
 use Rattle.job.proofs.Runs.{memory_there, there_moved}

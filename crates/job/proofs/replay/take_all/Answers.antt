@@ -1,5 +1,5 @@
 use Rattle.std.proofs.Common.{◌∙◌, ap}
-use Rattle.job.specs.declared.intake.Intake.{Intake}
+use Rattle.exec_core.specs.declared.intake.Intake.{Intake}
 use Rattle.job.proofs.Replays.{holds_nothing, taken-count}
 use Rattle.job.proofs.replay.take_all.Goals as goal
 

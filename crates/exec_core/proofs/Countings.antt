@@ -1,0 +1,82 @@
+-- A group takes changes one after the other.
+use Rattle.std.proofs.Common.{◌≡◌, ℕ, List, [], ◌∷◌, ◌++◌, length, Result, Ok, Err, refl, sym, ap, subst, ◌∙◌, arith, append_assoc, append-nil}
+use Rattle.std.specs.List.{AllByRecursion}
+use Rattle.ct_value.specs.declared.row.Row.{Row}
+use Rattle.ct_change.specs.declared.change.Change.{Change}
+use Rattle.ct_change.specs.Changelog.{retract, Rows, fold, MayCome, IsValidFrom, IsValid}
+use Rattle.ct_change.proofs.Folds.{fold-push}
+use Rattle.op_rules.specs.Faults.{IfRange}
+use Rattle.op_rules.specs.declared.operator.OpFault.{OpFault}
+use Rattle.op_rules.specs.declared.operator.OpFault.TheVariants.{Range, Memory}
+use Rattle.op_rules.specs.History.{Arrival, at_port, joined}
+use Rattle.op_rules.specs.Rule.{Rule, group}
+use Rattle.op_rules.specs.Rules.{Answer, appended, emits, emitted_after, ArriveAfter}
+use Rattle.exec_core.specs.Pieces.{piece_of, pieces_of}
+
+pub joined-append : (xs ys : List (List Arrival)) → joined (xs ++ ys) ≡ joined xs ++ joined ys
+joined-append [] ys = refl
+joined-append (x ∷ xs) ys = ap (λ zs. x ++ zs) (joined-append xs ys) ∙ sym (append_assoc x (joined xs) (joined ys))
+
+pub joined-push : (xs : List (List Arrival)) (x : List Arrival) → joined (xs ++ x ∷ []) ≡ joined xs ++ x
+joined-push xs x = joined-append xs (x ∷ []) ∙ ap (λ zs. joined xs ++ zs) (append-nil x)
+
+pub at_port-pieces_of : (changes : List Change) → at_port 0 (joined (pieces_of changes)) ≡ changes
+at_port-pieces_of [] = refl
+at_port-pieces_of (change ∷ changes) = ap (λ (l : List Change). change ∷ l) (at_port-pieces_of changes)
+
+pub pieces_of-push : (done : List Change) (change : Change) → pieces_of (done ++ change ∷ []) ≡ pieces_of done ++ piece_of change ∷ []
+pieces_of-push [] change = refl
+pieces_of-push (first ∷ done) change = ap (λ (l : List (List Arrival)). piece_of first ∷ l) (pieces_of-push done change)
+
+pub history-push : (done : List Change) (change : Change) → joined (pieces_of (done ++ change ∷ [])) ≡ joined (pieces_of done) ++ piece_of change
+history-push done change = ap joined (pieces_of-push done change) ∙ joined-push (pieces_of done) (piece_of change)
+
+pub length-history : (done : List Change) → length (joined (pieces_of done)) ≡ length done
+length-history [] = refl
+length-history (change ∷ done) = let e = length-history done in omega arith
+
+-- changes of a valid changelog may all come to a group
+arrive_from : (keys : ℕ) (done rest : List Change) → IsValidFrom retract (fold retract done) rest → AllByRecursion (λ change. length change.row ≡ keys) rest → ArriveAfter (group keys retract retract) (joined (pieces_of done)) (joined (pieces_of rest))
+arrive_from keys done [] valid wide = tt
+arrive_from keys done (change ∷ rest) valid wide = (
+  record {
+    port = omega arith;
+    change = subst (λ (l : List Change). MayCome retract (fold retract l) change) (sym (at_port-pieces_of done)) valid.0;
+    wide = omega (arith, wide.0);
+    key = tt;
+  },
+  subst (λ (l : List Arrival). ArriveAfter (group keys retract retract) l (joined (pieces_of rest))) (history-push done change)
+      (arrive_from keys (done ++ change ∷ []) rest (subst (λ (rows : Rows). IsValidFrom retract rows rest) (sym (fold-push retract done change)) valid.1) wide.1),
+)
+
+pub all_arrive : (keys : ℕ) (changes : List Change) → IsValid retract changes → AllByRecursion (λ change. length change.row ≡ keys) changes → ArriveAfter (group keys retract retract) [] (joined (pieces_of changes))
+all_arrive keys changes valid wide = arrive_from keys [] changes valid wide
+
+appended-more : (xs ys : List Change) (answer : Answer) → appended (Ok xs) (appended (Ok ys) answer) ≡ appended (Ok (xs ++ ys)) answer
+appended-more xs ys (Ok zs) = ap Ok (sym (append_assoc xs ys zs))
+appended-more xs ys (Err row) = refl
+
+-- what was emitted so far, and what comes
+pub emitted_more : (rule : Rule) (done rest sent emitted : List Change) (change : Change) → emits rule (joined (pieces_of done)) (piece_of change) ≡ Ok sent
+    → appended (Ok emitted) (emitted_after rule (joined (pieces_of done)) (pieces_of (change ∷ rest))) ≡ appended (Ok (emitted ++ sent)) (emitted_after rule (joined (pieces_of (done ++ change ∷ []))) (pieces_of rest))
+emitted_more rule done rest sent emitted change is =
+    ap (λ (a : Answer). appended (Ok emitted) (appended a (emitted_after rule (joined (pieces_of done) ++ piece_of change) (pieces_of rest)))) is
+    ∙ appended-more emitted sent (emitted_after rule (joined (pieces_of done) ++ piece_of change) (pieces_of rest))
+    ∙ ap (λ (l : List Arrival). appended (Ok (emitted ++ sent)) (emitted_after rule l (pieces_of rest))) (sym (history-push done change))
+
+pub emitted_out : (rule : Rule) (done rest emitted : List Change) (change : Change) (row : Row) → emits rule (joined (pieces_of done)) (piece_of change) ≡ Err row
+    → appended (Ok emitted) (emitted_after rule (joined (pieces_of done)) (pieces_of (change ∷ rest))) ≡ Err row
+emitted_out rule done rest emitted change row is = ap (λ (a : Answer). appended (Ok emitted) (appended a (emitted_after rule (joined (pieces_of done) ++ piece_of change) (pieces_of rest)))) is
+
+pub appended-nothing : (answer : Answer) → appended (Ok []) answer ≡ answer
+appended-nothing (Ok changes) = refl
+appended-nothing (Err row) = refl
+
+pub appended-end : (emitted : List Change) → appended (Ok emitted) (Ok []) ≡ Ok emitted
+appended-end emitted = ap Ok (append-nil emitted)
+
+-- what holds of the row that is out of range
+pub range-weaker : {T : Type 0} (r : Result T OpFault) (P Q : Row → Type 0) → ((row : Row) → P row → Q row) → IfRange r P → IfRange r Q
+range-weaker (Ok answer) P Q h p = tt
+range-weaker (Err (Range row)) P Q h p = h row p
+range-weaker (Err Memory) P Q h p = tt

@@ -1,0 +1,4 @@
+pub mod Countings
+pub mod Counts
+pub mod Intakes
+pub mod ScanFacts

@@ -1,0 +1,5 @@
+use Rattle.exec_core.proofs.ScanFacts as facts
+use Rattle.exec_core.proofs.laws.scan_kinds_stay.Goals as goal
+
+pub returns : goal.returns
+returns c = facts.scan_kinds

@@ -1,0 +1,5 @@
+pub mod Intake
+pub mod Machine
+pub mod Pieces
+pub mod Scans
+pub mod Source

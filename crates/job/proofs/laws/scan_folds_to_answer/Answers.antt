@@ -1,5 +1,0 @@
-use Rattle.job.proofs.ScanFacts as facts
-use Rattle.job.proofs.laws.scan_folds_to_answer.Goals as goal
-
-pub returns : goal.returns
-returns c = λ mode cols taken bag valid. facts.scan_means mode bag cols taken valid

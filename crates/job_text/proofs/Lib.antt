@@ -1,0 +1,3 @@
+pub mod FullLines
+pub mod Plain
+pub mod Prints

@@ -1,0 +1,2 @@
+pub mod ChainNodes
+pub mod Chains

@@ -1,5 +1,0 @@
-use Rattle.sql_parse.proofs.Ascii.{number_is_ascii}
-use Rattle.sql_parse.proofs.tokens.number.Goals as goal
-
-pub ascii_text-requires : goal.ascii_text-requires
-ascii_text-requires c = number_is_ascii c.args.text.now _ _ c.split_at.ensures.front c.number_len.ensures.value

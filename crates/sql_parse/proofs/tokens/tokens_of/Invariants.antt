@@ -1,9 +1,0 @@
-use Rattle.std.proofs.Common.{length}
-use Rattle.sql_parse.proofs.Turns.{ReadFrom}
-use Rattle.sql_parse.proofs.tokens.tokens_of.Given as goal
-
-abbrev pub invariant-fronts : goal.invariant-fronts
-invariant-fronts l = ReadFrom l.text l.items.items l.rest
-
-abbrev pub decreases-fronts : goal.decreases-fronts
-decreases-fronts l = length l.rest

@@ -1,0 +1,6 @@
+//! Reads queries.
+#![tactic(auto)]
+
+mod queries;
+
+pub use queries::query;

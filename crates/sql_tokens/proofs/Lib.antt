@@ -1,0 +1,5 @@
+pub mod Ascii
+pub mod Pieces
+pub mod Quotes
+pub mod Splits
+pub mod Turns

@@ -1,0 +1,4 @@
+pub mod Depth
+pub mod Fronts
+pub mod Statements
+pub mod Tokens
