@@ -3,7 +3,8 @@
 
 mod bytes;
 mod codes;
-mod cols;
+mod dup;
+mod list;
 mod memory;
 mod row;
 mod text;
@@ -12,9 +13,10 @@ mod value;
 
 pub use bytes::Bytes;
 pub use codes::{ChangeCode, OrderCode, ScriptCode};
-pub use cols::Cols;
+pub use dup::Dup;
+pub use list::List;
 pub use memory::Memory;
-pub use row::{Row, Values};
+pub use row::{Cols, Row, Values};
 pub use text::{Text, TextFault};
 pub use ty::{ColTy, ColTys, Ty};
 pub use value::{CompareOp, Value};

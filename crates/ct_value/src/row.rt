@@ -3,77 +3,16 @@ ghost use Rattle.std.specs.Ordering.{eq_by_cmp};
 ghost use Rattle.std.specs.Cmp.{eq_by_cmp_equiv, partial_equiv_from_equiv, po};
 ghost use Rattle.std.proofs.Common.{refl};
 
-use crate::{Cols, Memory, Value};
+use crate::{List, Memory, Value};
 use std::alloc::Global;
 use std::cmp::Ordering;
 use std::marker::Model;
 
-/// A list of values.
-#[derive(Debug, Drop)]
-pub struct Values {
-    items: Vec<Value>,
-}
+/// Column positions, counted from 0.
+pub type Cols = List<u32>;
 
-impl Model for Values {
-    ghost use Rattle.std.specs.Prelude.{List};
-    ghost use Rattle.ct_value.specs.declared.value.Value.{Value as Cell};
-
-    ghost Value = { List Cell };
-
-    ghost view = { λ v. v.items.items };
-}
-
-impl Values {
-    /// No values. It takes no memory.
-    pub fn new(alloc: Global) -> Self
-        ensures { result ≡ [] }
-    {
-        Values {
-            items: Vec::new(alloc),
-        }
-    }
-
-    /// How many values it has.
-    pub fn len(&self) -> usize
-        ensures { result ≡ length self.now }
-    {
-        self.items.len()
-    }
-
-    /// Whether it has no values.
-    pub fn is_empty(&self) -> bool
-        ensures { result ≡ (length self.now == 0) }
-    {
-        self.items.is_empty()
-    }
-
-    /// The value at an index, and `None` exactly past the end.
-    pub fn get(&self, index: usize) -> Option<&Value>
-        ensures { option_copied result ≡ slice_get self.now index }
-    {
-        self.items.get(index)
-    }
-
-    /// Puts a value behind the others.
-    pub fn push(&mut self, value: Value) -> Result<(), Memory>
-        ensures ok { OnOk result (self.new ≡ self.old ++ value ∷ []) }
-        ensures err { OnErr result (self.new ≡ self.old) }
-    {
-        self.items.push(value)?;
-        Ok(())
-    }
-
-    /// An equal list.
-    pub fn dup(&self) -> Result<Self, Memory>
-        ensures { IfOk result (λ copy. copy ≡ self.now) }
-    {
-        let mut values = Values::new(*self.items.allocator());
-        for value in &self.items {
-            values.push(value.dup()?)?;
-        }
-        Ok(values)
-    }
-}
+/// The values of a row, column by column.
+pub type Values = List<Value>;
 
 /// A row of a table: one value for each column.
 #[derive(Debug, Drop)]
@@ -126,7 +65,7 @@ impl Row {
     pub fn as_slice(&self) -> &[Value]
         ensures { result.now ≡ self.now }
     {
-        self.values.items.as_slice()
+        self.values.as_slice()
     }
 
     /// An equal row.
@@ -143,8 +82,8 @@ impl Row {
         requires { All (λ col. col < length self.now) cols.now }
         ensures { IfOk result (λ row. row ≡ project cols.now self.now) }
     {
-        let cells = self.values.items.as_slice();
-        let mut values = Values::new(*self.values.items.allocator());
+        let cells = self.values.as_slice();
+        let mut values = Values::with_capacity(self.values.alloc(), cols.len())?;
         for col in cols.as_slice() {
             values.push(cells[*col as usize].dup()?)?;
         }
@@ -156,8 +95,8 @@ impl Row {
         ensures { IfOk result (λ row. row ≡ take count self.now) }
     {
         let end = self.values.len().min(count as usize);
-        let mut values = Values::new(*self.values.items.allocator());
-        for value in &self.values.items.as_slice()[..end] {
+        let mut values = Values::with_capacity(self.values.alloc(), end)?;
+        for value in &self.values.as_slice()[..end] {
             values.push(value.dup()?)?;
         }
         Ok(Row { values })
@@ -168,7 +107,7 @@ impl Row {
         ensures { result ≡ take count self }
     {
         let Row { mut values } = self;
-        values.items.truncate(count as usize);
+        values.truncate(count as usize);
         Row { values }
     }
 
@@ -186,7 +125,7 @@ impl Row {
     pub fn compare(&self, other: &Row) -> Ordering
         ensures { result ≡ row_cmp self.now other.now }
     {
-        self.values.items.cmp(&other.values.items)
+        self.values.as_slice().cmp(other.values.as_slice())
     }
 }
 
