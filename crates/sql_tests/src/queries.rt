@@ -2,67 +2,26 @@
 use crate::reading::{QUERY, is_read};
 
 // A query, and the trees of its selects, of its order and of its limit.
-const QUERIES: [(&str, &str); 36] = [
+const QUERIES: [(&str, &str); 12] = [
     // items
-    ("SELECT * FROM t", "(select * (from t))"),
     (
         "SELECT t.*, a, u . * FROM t",
         "(select (all-of t) a (all-of u) (from t))",
     ),
-    ("SELECT DISTINCT a FROM t", "(select-distinct a (from t))"),
     ("select*from t", "(select * (from t))"),
-    ("SELECT count FROM value", "(select count (from value))"),
     // sources
-    ("SELECT a FROM t AS x", "(select a (from (as t x)))"),
-    ("SELECT a FROM t x", "(select a (from (as t x)))"),
     (
         "SELECT a FROM `t u` `x y`",
         "(select a (from (as t u x y)))",
     ),
     (
-        "SELECT a FROM (SELECT b FROM u)",
-        "(select a (from (query (select b (from u)))))",
-    ),
-    (
-        "SELECT a FROM (SELECT b FROM u) AS x",
-        "(select a (from (as (query (select b (from u))) x)))",
-    ),
-    (
         "SELECT a FROM (SELECT b FROM (SELECT c FROM v) y) x",
         "(select a (from (as (query (select b (from (as (query (select c (from v))) y)))) x)))",
     ),
-    (
-        "SELECT a FROM (SELECT b FROM u UNION ALL SELECT c FROM v LIMIT 1)",
-        "(select a (from (query (select b (from u)) (select c (from v)) (limit 1))))",
-    ),
     // joins
-    (
-        "SELECT a FROM t JOIN u ON b",
-        "(select a (from t (inner u b)))",
-    ),
-    (
-        "SELECT a FROM t INNER JOIN u ON b",
-        "(select a (from t (inner u b)))",
-    ),
-    (
-        "SELECT a FROM t LEFT JOIN u ON b",
-        "(select a (from t (left u b)))",
-    ),
-    (
-        "SELECT a FROM t LEFT OUTER JOIN u ON b",
-        "(select a (from t (left u b)))",
-    ),
-    (
-        "SELECT a FROM t RIGHT JOIN u ON b",
-        "(select a (from t (right u b)))",
-    ),
     (
         "SELECT a FROM t RIGHT OUTER JOIN u ON b",
         "(select a (from t (right u b)))",
-    ),
-    (
-        "SELECT a FROM t FULL JOIN u ON b",
-        "(select a (from t (full u b)))",
     ),
     (
         "SELECT a FROM t full outer join u ON b",
@@ -72,53 +31,19 @@ const QUERIES: [(&str, &str); 36] = [
         "SELECT a FROM t AS x JOIN u AS y ON x.k = y.k AND b LEFT JOIN v ON TRUE",
         "(select a (from (as t x) (inner (as u y) (and (= (of x k) (of y k)) b)) (left v true)))",
     ),
-    (
-        "SELECT a FROM t JOIN (SELECT b FROM u) AS y ON c",
-        "(select a (from t (inner (as (query (select b (from u))) y) c)))",
-    ),
     // conditions and groups
-    (
-        "SELECT a FROM t WHERE b = 1 OR c",
-        "(select a (from t) (where (or (= b 1) c)))",
-    ),
-    (
-        "SELECT a FROM t GROUP BY a",
-        "(select a (from t) (group a))",
-    ),
-    (
-        "SELECT a FROM t GROUP BY a, b + 1 HAVING COUNT(*) > 1",
-        "(select a (from t) (group a (sum b + 1)) (having (> (call COUNT *) 1)))",
-    ),
-    ("SELECT a FROM t HAVING b", "(select a (from t) (having b))"),
     (
         "SELECT DISTINCT a b, c FROM t JOIN u ON d WHERE e GROUP BY f HAVING g",
         "(select-distinct (as a b) c (from t (inner u d)) (where e) (group f) (having g))",
     ),
-    (
-        "SELECT a FROM t WHERE EXISTS (SELECT 1 FROM u WHERE u.k = t.k)",
-        "(select a (from t) (where (exists (query (select 1 (from u) (where (= (of u k) (of t k))))))))",
-    ),
     // UNION ALL, order and limit
-    (
-        "SELECT a FROM t UNION ALL SELECT b FROM u",
-        "(select a (from t)) (select b (from u))",
-    ),
     (
         "SELECT a FROM t WHERE b UNION ALL SELECT c FROM u GROUP BY d UNION ALL SELECT * FROM v",
         "(select a (from t) (where b)) (select c (from u) (group d)) (select * (from v))",
     ),
     (
-        "SELECT a FROM t ORDER BY b",
-        "(select a (from t)) (order (asc b))",
-    ),
-    (
         "SELECT a FROM t ORDER BY b DESC, c asc, d + 1",
         "(select a (from t)) (order (desc b) (asc c) (asc (sum d + 1)))",
-    ),
-    ("SELECT a FROM t LIMIT 10", "(select a (from t)) (limit 10)"),
-    (
-        "SELECT a FROM t HAVING b ORDER BY c LIMIT 1.5",
-        "(select a (from t) (having b)) (order (asc c)) (limit 1.5)",
     ),
     (
         "SELECT a FROM t UNION ALL SELECT b FROM u ORDER BY c LIMIT 0",

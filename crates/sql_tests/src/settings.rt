@@ -13,29 +13,12 @@ const DEFAULTS: Settings = Settings {
 };
 
 // A key, a value, and the settings with it.
-const SET: [(&str, &str, Settings); 27] = [
-    (
-        "table.exec.mini-batch.enabled",
-        "true",
-        Settings {
-            batching: true,
-            ..DEFAULTS
-        },
-    ),
+const SET: [(&str, &str, Settings); 13] = [
     (
         "table.exec.mini-batch.enabled",
         "TRUE",
         Settings {
             batching: true,
-            ..DEFAULTS
-        },
-    ),
-    ("table.exec.mini-batch.enabled", "False", DEFAULTS),
-    (
-        "table.exec.mini-batch.size",
-        "1",
-        Settings {
-            batch_size: 1,
             ..DEFAULTS
         },
     ),
@@ -47,18 +30,8 @@ const SET: [(&str, &str, Settings); 27] = [
             ..DEFAULTS
         },
     ),
-    ("table.exec.mini-batch.allow-latency", "", DEFAULTS),
     ("table.exec.mini-batch.allow-latency", "5 s", DEFAULTS),
     ("table.optimizer.agg-phase-strategy", "auto", DEFAULTS),
-    ("table.optimizer.agg-phase-strategy", "One_Phase", DEFAULTS),
-    (
-        "table.optimizer.agg-phase-strategy",
-        "TWO_PHASE",
-        Settings {
-            two_phase: true,
-            ..DEFAULTS
-        },
-    ),
     (
         "table.optimizer.agg-phase-strategy",
         "two_phase",
@@ -67,7 +40,6 @@ const SET: [(&str, &str, Settings); 27] = [
             ..DEFAULTS
         },
     ),
-    ("table.exec.sink.upsert-materialize", "AUTO", DEFAULTS),
     (
         "table.exec.sink.upsert-materialize",
         "none",
@@ -84,12 +56,8 @@ const SET: [(&str, &str, Settings); 27] = [
             ..DEFAULTS
         },
     ),
-    ("table.exec.state.ttl", "0", DEFAULTS),
     ("table.exec.state.ttl", "0 ms", DEFAULTS),
-    ("table.exec.state.ttl", "0s", DEFAULTS),
     ("table.exec.state.ttl", "0   Days", DEFAULTS),
-    ("table.exec.state.ttl", "0 parsecs", DEFAULTS),
-    ("table.exec.resource.default-parallelism", "1", DEFAULTS),
     (
         "table.exec.resource.default-parallelism",
         "16",
@@ -98,11 +66,8 @@ const SET: [(&str, &str, Settings); 27] = [
             ..DEFAULTS
         },
     ),
-    ("execution.runtime-mode", "streaming", DEFAULTS),
     ("execution.runtime-mode", "STREAMING", DEFAULTS),
-    ("pipeline.name", "", DEFAULTS),
     ("pipeline.name", "my job", DEFAULTS),
-    ("execution.checkpointing.interval", "", DEFAULTS),
     ("execution.checkpointing.interval", "3 min", DEFAULTS),
 ];
 
@@ -134,22 +99,14 @@ fn settings_are_set(rt: HostRuntime) {
 }
 
 // A script, and the settings behind it.
-const BEHIND: [(&str, Settings); 5] = [
+const BEHIND: [(&str, Settings); 3] = [
     ("", DEFAULTS),
-    (
-        "SET 'table.exec.mini-batch.enabled' = 'true'; SET 'table.exec.mini-batch.enabled' = 'false';",
-        DEFAULTS,
-    ),
     (
         "SET 'table.exec.mini-batch.size' = '5'; SET 'table.exec.mini-batch.size' = '7'; SET 'pipeline.name' = '';",
         Settings {
             batch_size: 7,
             ..DEFAULTS
         },
-    ),
-    (
-        "SET 'table.optimizer.agg-phase-strategy' = 'TWO_PHASE'; SET 'table.optimizer.agg-phase-strategy' = 'AUTO';",
-        DEFAULTS,
     ),
     (
         "SET 'table.exec.resource.default-parallelism' = '4'; CREATE TABLE t (a INT);\
@@ -177,22 +134,12 @@ const BAD_SETTING: &str = "S17 BadSetting at 1";
 const STATE_TTL: &str = "S10 StateTtl at 1";
 
 // A key, a value that it doesn't take, and the refusal.
-const BAD: [(&str, &str, &str); 37] = [
-    ("", "", BAD_SETTING),
-    ("table.exec", "1", BAD_SETTING),
+const BAD: [(&str, &str, &str); 15] = [
     ("Pipeline.Name", "x", BAD_SETTING),
-    ("TABLE.EXEC.STATE.TTL", "1 h", BAD_SETTING),
-    ("pipeline.name ", "x", BAD_SETTING),
-    ("table.exec.mini-batch.enabled", "", BAD_SETTING),
     ("table.exec.mini-batch.enabled", "yes", BAD_SETTING),
-    ("table.exec.mini-batch.enabled", "true ", BAD_SETTING),
-    ("table.exec.mini-batch.size", "", BAD_SETTING),
     ("table.exec.mini-batch.size", "0", BAD_SETTING),
     ("table.exec.mini-batch.size", "01", BAD_SETTING),
     ("table.exec.mini-batch.size", "+1", BAD_SETTING),
-    ("table.exec.mini-batch.size", "-1", BAD_SETTING),
-    ("table.exec.mini-batch.size", "1.0", BAD_SETTING),
-    ("table.exec.mini-batch.size", " 1", BAD_SETTING),
     ("table.exec.mini-batch.size", "1000001", BAD_SETTING),
     (
         "table.exec.mini-batch.size",
@@ -204,25 +151,13 @@ const BAD: [(&str, &str, &str); 37] = [
         "TWO PHASE",
         BAD_SETTING,
     ),
-    ("table.optimizer.agg-phase-strategy", "", BAD_SETTING),
     ("table.exec.sink.upsert-materialize", "true", BAD_SETTING),
-    ("table.exec.resource.default-parallelism", "0", BAD_SETTING),
     ("table.exec.resource.default-parallelism", "17", BAD_SETTING),
-    ("table.exec.resource.default-parallelism", "4 ", BAD_SETTING),
     ("execution.runtime-mode", "batch", BAD_SETTING),
-    ("execution.runtime-mode", "", BAD_SETTING),
     ("table.exec.state.ttl", "1 h", STATE_TTL),
-    ("table.exec.state.ttl", "", STATE_TTL),
-    ("table.exec.state.ttl", "ms", STATE_TTL),
     ("table.exec.state.ttl", "00", STATE_TTL),
-    ("table.exec.state.ttl", "0.0", STATE_TTL),
-    ("table.exec.state.ttl", "-0", STATE_TTL),
-    ("table.exec.state.ttl", " 0", STATE_TTL),
-    ("table.exec.state.ttl", "0 ", STATE_TTL),
     ("table.exec.state.ttl", "0 1", STATE_TTL),
     ("table.exec.state.ttl", "0 ms ", STATE_TTL),
-    ("table.exec.state.ttl", "0\tms", STATE_TTL),
-    ("table.exec.state.ttl", "0 m s", STATE_TTL),
 ];
 
 fn is_refused(alloc: Global, key: &str, value: &str, refusal: &str) -> bool {

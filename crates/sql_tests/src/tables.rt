@@ -4,9 +4,7 @@ use ct_value::Memory;
 use std::alloc::Global;
 
 // A script, and the tables that it declares.
-const DECLARED: [(&str, &str); 15] = [
-    ("", ""),
-    ("CREATE TABLE t (a INT);", "(append t, a INT)"),
+const DECLARED: [(&str, &str); 9] = [
     (
         "CREATE TABLE t (a INT) WITH ('changelog' = 'append'); CREATE TABLE u (b STRING) WITH ('changelog' = 'retract');",
         "(append t, a INT)(retract u, b STRING)",
@@ -34,15 +32,7 @@ const DECLARED: [(&str, &str); 15] = [
         "CREATE TABLE t (a INT, b INT, c INT NOT NULL, PRIMARY KEY (c, a) NOT ENFORCED);",
         "(append t, a INT NOT NULL, b INT, c INT NOT NULL, key 0 2)",
     ),
-    (
-        "CREATE TABLE t (PRIMARY KEY (b) NOT ENFORCED, a INT, `b` INT) WITH ('changelog' = 'upsert');",
-        "(upsert t, a INT, b INT NOT NULL, key 1)",
-    ),
     // the last mode counts, and other options have no effect
-    (
-        "CREATE TABLE t (a INT) WITH ('changelog' = 'upsert', 'connector' = 'x', 'changelog' = 'retract');",
-        "(retract t, a INT)",
-    ),
     (
         "CREATE TABLE t (a INT PRIMARY KEY NOT ENFORCED) WITH ('changelog' = 'append', 'changelog' = 'upsert');",
         "(upsert t, a INT NOT NULL, key 0)",
@@ -56,11 +46,6 @@ const DECLARED: [(&str, &str); 15] = [
         "SET 'pipeline.name' = 'x'; CREATE TABLE t (a INT); INSERT INTO t SELECT a FROM u;",
         "(append t, a INT)",
     ),
-    ("CREATE TABLE t (a INT); SET", "S2 Syntax at 2"),
-    (
-        "SET 'table.exec.state.ttl' = '0 ms'; CREATE TABLE t (a INT);",
-        "(append t, a INT)",
-    ),
 ];
 
 #[test]
@@ -71,25 +56,17 @@ fn tables_are_declared(rt: HostRuntime) {
 }
 
 // A script, and its refusal.
-const REFUSED: [(&str, &str); 20] = [
+const REFUSED: [(&str, &str); 12] = [
     // names
     (
         "CREATE TABLE t (a INT); CREATE TABLE u (a INT); CREATE TABLE `t` (b INT);",
         "S6 DuplicateName at 3",
     ),
     (
-        "CREATE TABLE t (a INT, b INT, a INT);",
-        "S6 DuplicateName at 1",
-    ),
-    (
         "CREATE TABLE t (a INT, `a` BIGINT);",
         "S6 DuplicateName at 1",
     ),
     // keys
-    (
-        "CREATE TABLE t (a INT); CREATE TABLE u (a INT) WITH ('changelog' = 'upsert');",
-        "S16 KeyMissing at 2",
-    ),
     (
         "CREATE TABLE t (a INT) WITH ('changelog' = 'append', 'changelog' = 'upsert');",
         "S16 KeyMissing at 1",
@@ -99,19 +76,11 @@ const REFUSED: [(&str, &str); 20] = [
         "S16 KeyMissing at 1",
     ),
     (
-        "CREATE TABLE t (PRIMARY KEY (a) NOT ENFORCED);",
-        "S16 KeyMissing at 1",
-    ),
-    (
         "CREATE TABLE t (a INT, b INT, PRIMARY KEY (a, b, a) NOT ENFORCED);",
         "S16 KeyMissing at 1",
     ),
     (
         "CREATE TABLE t (a INT PRIMARY KEY NOT ENFORCED, PRIMARY KEY (a) NOT ENFORCED);",
-        "S16 KeyMissing at 1",
-    ),
-    (
-        "CREATE TABLE t (a INT PRIMARY KEY NOT ENFORCED, b INT PRIMARY KEY NOT ENFORCED);",
         "S16 KeyMissing at 1",
     ),
     // modes
@@ -128,30 +97,14 @@ const REFUSED: [(&str, &str); 20] = [
         "SET 'table.exec.state.ttl' = '1 h'; CREATE TABLE t (a INT); CREATE TABLE t (a INT);",
         "S10 StateTtl at 1",
     ),
-    (
-        "CREATE TABLE t (a INT); SET 'no.such.key' = ''; CREATE TABLE t (a INT);",
-        "S17 BadSetting at 2",
-    ),
     // the order of refusals
     ("CREATE TABLE t (a x, a INT);", "S6 DuplicateName at 1"),
-    (
-        "CREATE TABLE t (a INT); CREATE TABLE t (a x);",
-        "S6 DuplicateName at 2",
-    ),
     (
         "CREATE TABLE t (a x, PRIMARY KEY (b) NOT ENFORCED);",
         "S18 Unsupported at 1",
     ),
     (
-        "CREATE TABLE t (a x) WITH ('changelog' = 'x');",
-        "S18 Unsupported at 1",
-    ),
-    (
         "CREATE TABLE t (a INT, PRIMARY KEY (b) NOT ENFORCED) WITH ('changelog' = 'x');",
-        "S16 KeyMissing at 1",
-    ),
-    (
-        "CREATE TABLE t (a INT) WITH ('changelog' = 'x', 'changelog' = 'upsert');",
         "S16 KeyMissing at 1",
     ),
 ];
@@ -164,21 +117,13 @@ fn tables_are_refused(rt: HostRuntime) {
 }
 
 // Scripts with an unknown type or wrong numbers of one.
-const NO_TYPES: [&str; 14] = [
+const NO_TYPES: [&str; 6] = [
     "CREATE TABLE t (a FLOAT);",
-    "CREATE TABLE t (a VARCHAR(10));",
-    "CREATE TABLE t (a TEXT);",
     "CREATE TABLE t (a INT(3));",
-    "CREATE TABLE t (a STRING(5));",
-    "CREATE TABLE t (a BOOLEAN(1));",
-    "CREATE TABLE t (a `INT `);",
     "CREATE TABLE t (a DECIMAL(0));",
     "CREATE TABLE t (a DECIMAL(39));",
     "CREATE TABLE t (a DECIMAL(5, 6));",
-    "CREATE TABLE t (a DECIMAL(0, 0));",
-    "CREATE TABLE t (a DECIMAL(1.5));",
     "CREATE TABLE t (a DECIMAL(5, 1.0));",
-    "CREATE TABLE t (a DECIMAL(99999999999999999999));",
 ];
 
 #[test]
@@ -204,21 +149,14 @@ fn wide(alloc: Global, count: u32, rest: &str) -> Result<String, Memory> {
 // A number of columns, what stands behind them, and the refusal or the first of what is declared.
 type Wide = (u32, &'static str, &'static str);
 
-const WIDE: [Wide; 7] = [
+const WIDE: [Wide; 4] = [
     (64, ");", "(append t, c0 INT, c1 INT, "),
     (65, ");", "S24 TooManyColumns at 1"),
-    (
-        63,
-        ", a INT PRIMARY KEY NOT ENFORCED);",
-        "(append t, c0 INT, c1 INT, ",
-    ),
     (
         64,
         ", PRIMARY KEY (c63) NOT ENFORCED);",
         "(append t, c0 INT, c1 INT, ",
     ),
-    (64, ", c0 INT);", "S6 DuplicateName at 1"),
-    (64, ", a x);", "S18 Unsupported at 1"),
     (
         64,
         ", a INT, PRIMARY KEY (b) NOT ENFORCED);",
