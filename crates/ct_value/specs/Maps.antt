@@ -1,4 +1,4 @@
--- An ordered map of the program, seen as a finite map: what a look-up finds, one entry put, one gone.
+-- An ordered map of the program, seen as a finite map: what a look-up finds, one entry put, one gone; and such a map by rows.
 use Rattle.std.proofs.Common.{◌≡◌, cond, List, [], ◌∷◌, Some, None, refl, sym, ap, ◌∙◌}
 use Rattle.std.specs.declared.cmp.Ordering.{Ordering}
 use Rattle.std.specs.Ordering.{eq_by_cmp}
@@ -6,6 +6,8 @@ use Rattle.std.specs.Cmp.{IsTotalOrder, eq_by_cmp_equiv}
 use Rattle.std.specs.BTreeMap as tree
 use Rattle.std.specs.BTreeMap.{BTreeMap, is_at}
 use Rattle.std.specs.Map.{lookup}
+use Rattle.ct_value.specs.Order.{row_cmp, row_total, row_exact}
+use Rattle.ct_value.specs.declared.row.Row.{Row}
 use Rattle.std.specs.FinMap.{FinMap, IsAntisymmetric, find, get, insert, remove, from_entries, get-from_entries, get-insert, get-remove, same_map}
 
 module _ {K X : Type 0} {R : K → K → Ordering} (total : IsTotalOrder R) (exact : IsAntisymmetric R) where
@@ -28,3 +30,19 @@ module _ {K X : Type 0} {R : K → K → Ordering} (total : IsTotalOrder R) (exa
   gone-map_of m n k h = same_map total exact _ _ (λ q.
       get-map_of n q ∙ h q ∙ ap (λ b. cond b None (tree.get R m q)) ((eq_by_cmp_equiv total).symm k q)
       ∙ sym (get-remove total (map_of m) k q ∙ ap (cond (eq_by_cmp R q k) None) (get-map_of m q)))
+
+module _ {X : Type 0} where
+  abbrev pub map_in : BTreeMap Row X → FinMap row_cmp X
+  map_in m = from_entries m.entries
+
+  -- what a look-up finds
+  pub get-map_in : (m : BTreeMap Row X) (q : Row) → get (map_in m) q ≡ tree.get row_cmp m q
+  get-map_in m q = get-map_of row_total row_exact m q
+
+  -- one entry put
+  pub one_put : (m n : BTreeMap Row X) (k : Row) (v : X) → ((q : Row) → tree.get row_cmp n q ≡ cond (is_at (row_cmp k) q) (Some v) (tree.get row_cmp m q)) → map_in n ≡ insert (map_in m) k v
+  one_put m n k v h = put-map_of row_total row_exact m n k v h
+
+  -- one entry gone
+  pub one_gone : (m n : BTreeMap Row X) (k : Row) → ((q : Row) → tree.get row_cmp n q ≡ cond (is_at (row_cmp k) q) None (tree.get row_cmp m q)) → map_in n ≡ remove (map_in m) k
+  one_gone m n k h = gone-map_of row_total row_exact m n k h
