@@ -2,8 +2,8 @@
 use Rattle.std.proofs.Common.{◌≡◌, true, false, ◌==◌, List, [], ◌∷◌, length, refl, ◌∙◌, arith}
 use Rattle.std.specs.Prelude.{Box}
 use Rattle.std.specs.declared.alloc.Global.{Global}
-use Rattle.sql_syntax.specs.declared.tree.ProductTails.{ProductTails}
-use Rattle.sql_syntax.specs.declared.tree.SumTails.{SumTails}
+use Rattle.sql_syntax.specs.declared.tree.ProductTail.{ProductTail}
+use Rattle.sql_syntax.specs.declared.tree.SumTail.{SumTail}
 use Rattle.sql_syntax.specs.declared.tree.Tree.{Tree}
 use Rattle.sql_syntax.specs.declared.tree.Tree.TheVariants as trees
 use Rattle.sql_syntax.specs.Tree as t
@@ -30,14 +30,14 @@ product_of_more : (u : t.Tree) (xs : List t.ProductTail) → (length xs == 0) �
 product_of_more u [] e = absurd (cc)
 product_of_more u (x ∷ xs) e = refl
 
-pub sum_alone : (u : Tree) (xs : SumTails) → (length (sum_tails_view xs) == 0) ≡ true → view u ≡ sum_node (view u) (sum_tails_view xs)
+pub sum_alone : (u : Tree) (xs : List SumTail) → (length (sum_tails_view xs) == 0) ≡ true → view u ≡ sum_node (view u) (sum_tails_view xs)
 sum_alone u xs e = sum_of_none (view u) (sum_tails_view xs) e
 
-pub sum_more : (u : Box Tree Global) (xs : SumTails) → (length (sum_tails_view xs) == 0) ≡ false → view (trees.Sum u xs) ≡ sum_node (view u.value) (sum_tails_view xs)
+pub sum_more : (u : Box Tree Global) (xs : List SumTail) → (length (sum_tails_view xs) == 0) ≡ false → view (trees.Sum u xs) ≡ sum_node (view u.value) (sum_tails_view xs)
 sum_more u xs e = tree_sum u xs ∙ sum_of_more (view u.value) (sum_tails_view xs) e
 
-pub product_alone : (u : Tree) (xs : ProductTails) → (length (product_tails_view xs) == 0) ≡ true → view u ≡ product_node (view u) (product_tails_view xs)
+pub product_alone : (u : Tree) (xs : List ProductTail) → (length (product_tails_view xs) == 0) ≡ true → view u ≡ product_node (view u) (product_tails_view xs)
 product_alone u xs e = product_of_none (view u) (product_tails_view xs) e
 
-pub product_more : (u : Box Tree Global) (xs : ProductTails) → (length (product_tails_view xs) == 0) ≡ false → view (trees.Product u xs) ≡ product_node (view u.value) (product_tails_view xs)
+pub product_more : (u : Box Tree Global) (xs : List ProductTail) → (length (product_tails_view xs) == 0) ≡ false → view (trees.Product u xs) ≡ product_node (view u.value) (product_tails_view xs)
 product_more u xs e = tree_product u xs ∙ product_of_more (view u.value) (product_tails_view xs) e

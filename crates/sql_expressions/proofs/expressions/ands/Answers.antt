@@ -1,4 +1,5 @@
 use Rattle.std.proofs.Common.{◌≡◌, Some, None, rules, arith}
+use Rattle.std.proofs.lemmas.List.{map_push}
 use Rattle.sql_syntax.specs.View.{view, trees_view}
 use Rattle.sql_grammar.specs.Words.{only, AND}
 use Rattle.sql_grammar.specs.Reading.{word_at}
@@ -20,7 +21,7 @@ pub items-preserved : goal.items-preserved
 items-preserved g c =
     let begins : word_at (only AND) c.items.rest.now ≡ Some (tt, c.in-Some.after.now) = grind arith in
     chain_turn (only AND) (λ w. neg_at (g.N.Nested.readers c.args.nested.now)) (view c.args.first) c.args.tokens.now c.items.rest.now c.in-Some.after.now c.in_ok-item.after.now tt (view c.in_ok-item.item) (trees_view c.items.list) (trees_view c.push-in-Some.new.self)
-    c.items.invariant begins c.in_ok-item.ensures.ok c.in_ok-item.ensures.shorter (search rules)
+    c.items.invariant begins c.in_ok-item.ensures.ok c.in_ok-item.ensures.shorter (search (rules, map_push))
 
 pub returns-in_err-item-clause-refused : goal.returns-in_err-item-clause-refused
 unfolding ands_at negs_at

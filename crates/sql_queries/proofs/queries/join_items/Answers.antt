@@ -1,4 +1,5 @@
 use Rattle.std.proofs.Common.{◌≡◌, Some, None, rules, arith}
+use Rattle.std.proofs.lemmas.List.{map_push}
 use Rattle.std.specs.Prelude.{option_map}
 use Rattle.sql_syntax.specs.View.{join_word_view, join_view, joins_view}
 use Rattle.sql_grammar.specs.Words.{join_word}
@@ -16,7 +17,7 @@ pub items-preserved : goal.items-preserved
 items-preserved g c =
     let begins : word_at join_word c.items.rest.now ≡ Some (option_map join_word_view c.in-Some.word, c.in-Some.after.now) = grind arith in
     loop_turn join_word (joined_at (g.N.Nested.readers c.args.nested.now)) c.args.tokens.now c.items.rest.now c.in-Some.after.now c.in_ok-item.after.now (option_map join_word_view c.in-Some.word) (join_view c.in_ok-item.item) (joins_view c.items.list) (joins_view c.push.new.self)
-    c.items.invariant begins c.in_ok-item.ensures.ok c.in_ok-item.ensures.shorter (search rules)
+    c.items.invariant begins c.in_ok-item.ensures.ok c.in_ok-item.ensures.shorter (search (rules, map_push))
 
 pub returns-in_err-item-clause-refused : goal.returns-in_err-item-clause-refused
 returns-in_err-item-clause-refused g c refused =

@@ -1,4 +1,5 @@
 use Rattle.std.proofs.Common.{◌≡◌, Some, None, rules, arith}
+use Rattle.std.proofs.lemmas.List.{map_push}
 use Rattle.sql_syntax.specs.View.{item_view, items_view}
 use Rattle.sql_grammar.specs.Words.{only, COMMA}
 use Rattle.sql_grammar.specs.Reading.{word_at}
@@ -29,7 +30,7 @@ pub items-preserved : goal.items-preserved
 items-preserved g c =
     let begins : word_at (only COMMA) c.items.rest.now ≡ Some (tt, c.in-Some.after.now) = grind arith in
     series_turn (item_at (g.N.Nested.readers c.args.nested.now)) (only COMMA) (λ w. item_at (g.N.Nested.readers c.args.nested.now)) c.args.tokens.now c.items.rest.now c.in-Some.after.now c.in_ok-item.after.now tt (item_view c.in_ok-item.item) (items_view c.items.list) (items_view c.push-in-Some.new.self)
-    c.items.invariant begins c.in_ok-item.ensures.ok c.in_ok-item.ensures.shorter (search rules)
+    c.items.invariant begins c.in_ok-item.ensures.ok c.in_ok-item.ensures.shorter (search (rules, map_push))
 
 pub returns-in_err-item-clause-refused : goal.returns-in_err-item-clause-refused
 unfolding items_at
