@@ -1,4 +1,5 @@
 use Rattle.std.proofs.Common.{◌≡◌, ◌+◌, Some, None, rules, arith, refl}
+use Rattle.std.proofs.lemmas.List.{map_push}
 use Rattle.sql_tokens.specs.Statements.{first_statement}
 use Rattle.sql_syntax.specs.View.{statements_view, statement_view}
 use Rattle.sql_parse.specs.Scripts.{IsRefusal, read_from}
@@ -14,7 +15,7 @@ pub statements-preserved : goal.statements-preserved
 statements-preserved c =
     let cuts : first_statement c.statements.rest.now ≡ Some (c.in-Some.piece.now, c.in-Some.after.now) = grind arith in
     so_far_turn c.args.is_whole c.args.tokens.now c.statements.rest.now c.in-Some.piece.now c.in-Some.after.now (statements_view c.statements.list) (statements_view c.push.new.self) (statement_view c.in_ok-item.item) c.statements.number (c.statements.number + 1)
-    c.statements.invariant cuts (λ others. search rules) (search rules) refl
+    c.statements.invariant cuts (λ others. search rules) (search (rules, map_push)) refl
 
 pub returns-in_err-item-clause-refused : goal.returns-in_err-item-clause-refused
 returns-in_err-item-clause-refused c =
