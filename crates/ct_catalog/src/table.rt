@@ -2,7 +2,6 @@ ghost use Rattle.std.specs.Prelude.{◌≡◌, map, IfOk};
 
 use ct_change::Declared;
 use ct_value::{ColTy, ColTys, Cols, Dup, List, Memory, Text};
-use std::alloc::Global;
 
 /// A column of a table.
 #[derive(Debug, Drop)]
@@ -56,11 +55,11 @@ impl TableDef {
     }
 
     /// The types of its columns.
-    pub fn types(&self, alloc: Global) -> Result<ColTys, Memory>
+    pub fn types(&self) -> Result<ColTys, Memory>
         ensures { IfOk result (λ types. types ≡ map (λ c. c.ty) self.now.cols) }
     {
-        let mut types = ColTys::with_capacity(alloc, self.cols.len())?;
-        for column in &self.cols {
+        let mut types = self.cols.beside();
+        for column in self.cols.as_slice() {
             types.push(column.ty)?;
         }
         Ok(types)

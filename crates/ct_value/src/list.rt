@@ -79,6 +79,13 @@ impl<T> List<T> {
         *self.items.allocator()
     }
 
+    /// No items, for a list in the memory that this one lies in. It takes no memory.
+    pub fn beside<U>(&self) -> List<U>
+        ensures { result ≡ [] }
+    {
+        List::new(self.alloc())
+    }
+
     /// The items, to be moved out one by one. It takes no memory.
     pub fn into_vec(self) -> Vec<T>
         ensures { result.items ≡ self }
