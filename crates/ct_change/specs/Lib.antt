@@ -1,3 +1,4 @@
 pub mod Changelog
 pub mod Counts
 pub mod Emission
+pub mod laws

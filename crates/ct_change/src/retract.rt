@@ -1,6 +1,5 @@
 ghost use Rattle.std.specs.Prelude.{◌≡◌};
-ghost use Rattle.ct_change.specs.Changelog.{retract, adds};
-ghost use Rattle.ct_change.specs.Emission.{as_it_is};
+ghost use Rattle.ct_change.specs.Changelog.{retract};
 
 use crate::{Change, ChangeMode, Changes, Diff, InMode, Kind, OutMode};
 use ct_value::{Memory, Row};
@@ -29,7 +28,17 @@ impl InMode for Retract {
     }
 
     fn absorb(&self, _kept: &mut (), change: Change) -> Result<Diff, Memory> {
-        Ok(difference_of(change))
+        if change.kind.is_addition() {
+            Ok(Diff {
+                gone: None,
+                come: Some(change),
+            })
+        } else {
+            Ok(Diff {
+                gone: Some(change),
+                come: None,
+            })
+        }
     }
 }
 
@@ -46,23 +55,6 @@ impl OutMode for Retract {
                 }
                 Ok(())
             }
-        }
-    }
-}
-
-// What goes or comes by a change that is taken as it is.
-fn difference_of(change: Change) -> Diff
-    ensures { result ≡ as_it_is (adds change.kind) change }
-{
-    if change.kind.is_addition() {
-        Diff {
-            gone: None,
-            come: Some(change),
-        }
-    } else {
-        Diff {
-            gone: Some(change),
-            come: None,
         }
     }
 }

@@ -6,12 +6,12 @@ use Rattle.ct_value.specs.declared.row.Row.{Row}
 use Rattle.ct_change.specs.declared.change.Change.{Change}
 use Rattle.ct_change.specs.Changelog.{Mode, Rows, apply, fold, MayCome}
 use Rattle.ct_change.specs.Emission.{emission}
-use Rattle.ct_change.proofs.Folds.{fold-push}
+use Rattle.ct_change.specs.laws.Folds.{fold-push}
 use Rattle.rel_algebra.specs.Groups.{in_group, group_size, result_row}
 use Rattle.op_rules.specs.History.{Arrival, arrival, at_port}
 use Rattle.op_rules.specs.Rule.{group, KeepsGroups}
 use Rattle.op_rules.specs.Rules.{Answer, appended, answers, groups_of, group_emits, emits, MayArrive}
-use Rattle.op_rules.proofs.Histories.{at_port-push, at_port-one}
+use Rattle.op_rules.specs.laws.Histories.{at_port-push, at_port-one}
 use Rattle.op_group.specs.State.{IsCounted, MayTake}
 
 -- the one port

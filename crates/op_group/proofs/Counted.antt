@@ -1,5 +1,5 @@
 -- What a group keeps after one more change, and what it tells of it.
-use Rattle.std.proofs.Common.{◌≡◌, ℕ, ◌==◌, ◌+◌, ◌-◌, ◌<◌, ◌≤◌, ◌^◌, Bool, true, false, cond, [], length, take, pos, Option, Some, None, refl, sym, ap, subst, ◌∙◌, arith}
+use Rattle.std.proofs.Common.{◌≡◌, ℕ, ◌==◌, ◌+◌, ◌-◌, ◌<◌, ◌≤◌, ◌^◌, Bool, true, false, cond, length, take, pos, Option, Some, None, refl, sym, ap, subst, ◌∙◌, arith}
 use Rattle.std.specs.Option.{is_some}
 use Rattle.std.proofs.lemmas.List.{length-take-le}
 use Rattle.ct_value.specs.Bag.{copies, one_at, one_at_itself, add, remove, none, copies-none, copies-add, copies-remove, total-none, total-le}
@@ -8,13 +8,12 @@ use Rattle.ct_value.specs.declared.row.Row.{Row}
 use Rattle.ct_value.specs.declared.value.Value.TheVariants.{Num}
 use Rattle.ct_change.specs.declared.change.Change.{Change}
 use Rattle.ct_change.specs.Changelog.{Mode, append, retract, upsert, Rows, adds, apply, row_at}
-use Rattle.ct_change.specs.Emission.{difference, as_it_is, put_in, put_over, replaced_by, row_of, emission, update, CanTell}
-use Rattle.ct_change.proofs.Folds.{total-apply, weight-come, row_at-key, row_at-stands}
-use Rattle.ct_change.proofs.Meanings.{same_row-itself}
-use Rattle.rel_algebra.specs.Groups.{in_group, group_size, counted, sized, result_row}
-use Rattle.rel_algebra.proofs.Results.{in_it}
+use Rattle.ct_change.specs.Emission.{difference, as_it_is, put_in, put_over, replaced_by, row_of, emission, CanTell}
+use Rattle.ct_change.specs.laws.Folds.{total-apply, weight-come, row_at-key, row_at-stands}
+use Rattle.ct_change.specs.laws.Emissions.{emission-same}
+use Rattle.rel_algebra.specs.Groups.{in_group, group_size, counted, sized, result_row, in_it}
 use Rattle.op_rules.specs.Rule.{KeepsGroups, TellsGroups}
-use Rattle.op_rules.proofs.Sizes.{size_after, wide_after}
+use Rattle.op_rules.specs.laws.Sizes.{size_after, wide_after}
 use Rattle.op_group.specs.declared.results.Results.{Results}
 use Rattle.op_group.specs.State.{IsCounted, MayTake, TellsFor}
 
@@ -91,10 +90,6 @@ tells_nothing : (output : Mode) → CanTell output None None
 tells_nothing append = refl
 tells_nothing retract = tt
 tells_nothing (upsert key) = tt
-
-emission-same : (output : Mode) (o : Option Row) → emission output o o ≡ []
-emission-same output None = refl
-emission-same output (Some row) = ap (λ b. cond b [] (update output row row)) (same_row-itself row)
 
 module _ (mode : Mode) (keys : ℕ) (rows sizes : Rows) (held : ℕ) (change : Change) (m : MayTake mode keys rows sizes held change) where
   abbrev key : Row

@@ -1,9 +1,9 @@
 ghost use Rattle.std.specs.Prelude.{◌≡◌, ℕ, ◌+◌, ◌<◌, [], ◌∷◌, take, false, IfOk};
 ghost use Rattle.ct_change.specs.Changelog.{Rows, apply};
-ghost use Rattle.ct_change.specs.Emission.{emission, CanTell};
+ghost use Rattle.ct_change.specs.Emission.{emission};
 ghost use Rattle.rel_algebra.specs.Groups.{result_row};
 
-use crate::results::{Results, count_in, count_out};
+use crate::results::{Results, count_in, count_out, tell};
 use ct_change::{Bag, Change, Changes, InMode, OutMode, Steps};
 use ct_value::Memory;
 use op_rules::{OpFault, Operator};
@@ -81,16 +81,6 @@ impl<I: InMode, O: OutMode> Group<I, O> {
         }
     }
 
-    // The changes that replace one result by the other.
-    fn tell(&self, results: Results) -> Result<Changes, Memory>
-        requires { CanTell (O.mode self.now.output) results.old results.fresh }
-        ensures { IfOk result (λ sent. sent ≡ emission (O.mode self.now.output) results.old results.fresh) }
-    {
-        let mut sent = Changes::new(self.alloc);
-        self.output.emit(results.old, results.fresh, &mut sent)?;
-        Ok(sent)
-    }
-
     // Takes a change, and answers what is emitted for it.
     fn take(&mut self, change: Change) -> Result<Changes, Memory>
         requires ready { (rows : Rows) × (held : ℕ) × I.stands_for self.old.input self.old.kept rows × MayTake (I.mode self.old.input) self.old.keys rows self.old.sizes held change }
@@ -100,7 +90,7 @@ impl<I: InMode, O: OutMode> Group<I, O> {
         ensures same { (self.new.keys ≡ self.old.keys) × (self.new.input ≡ self.old.input) × (self.new.output ≡ self.old.output) × (self.new.broken ≡ self.old.broken) }
     {
         let results = self.absorb(change)?;
-        let sent = self.tell(results)?;
+        let sent = tell(self.alloc, &self.output, results)?;
         Ok(sent)
     }
 }

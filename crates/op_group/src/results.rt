@@ -1,9 +1,11 @@
 ghost use Rattle.std.specs.Prelude.{◌≡◌, ◌+◌, ◌-◌, ◌<◌, ◌^◌, None, IfOk, OnOk};
 ghost use Rattle.ct_value.specs.Bag.{copies, add, remove};
+ghost use Rattle.ct_change.specs.Emission.{emission, CanTell};
 ghost use Rattle.rel_algebra.specs.Groups.{counted, sized};
 
-use ct_change::Bag;
+use ct_change::{Bag, Changes, OutMode};
 use ct_value::{Memory, Row, Value};
+use std::alloc::Global;
 
 /// The result of a group before and after a change, none where it has no row.
 #[derive(Debug, Drop)]
@@ -23,6 +25,16 @@ impl Results {
             fresh: None,
         }
     }
+}
+
+/// The changes that replace one result by the other.
+pub fn tell<O: OutMode>(alloc: Global, output: &O, results: Results) -> Result<Changes, Memory>
+    requires { CanTell (O.mode output.now) results.old results.fresh }
+    ensures { IfOk result (λ sent. sent ≡ emission (O.mode output.now) results.old results.fresh) }
+{
+    let mut sent = Changes::new(alloc);
+    output.emit(results.old, results.fresh, &mut sent)?;
+    Ok(sent)
 }
 
 /// Counts one more row of a group, and answers its results.

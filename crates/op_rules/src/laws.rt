@@ -2,8 +2,7 @@
 ghost use Rattle.std.specs.Prelude.{ℕ};
 ghost use Rattle.ct_change.specs.Changelog.{Mode};
 ghost use Rattle.op_rules.specs.Rule.{group, sink};
-ghost use Rattle.op_rules.specs.Facts.{HoldsOf, FoldsToAnswer, PrefixesStand, KindsStay, WidthsStay};
-ghost use Rattle.op_rules.specs.Laws.{GroupDifference, ReadyArrives, ReadySettles};
+ghost use Rattle.op_rules.specs.Facts.{HoldsOf, FoldsToAnswer, PrefixesStand, KindsStay, WidthsStay, GroupDifference, ReadyArrives, ReadySettles};
 
 /// All that a group emitted means the groups' counts of what it took.
 pub fn group_folds_to_answer()

@@ -1,5 +1,8 @@
 //! The rules by which operators emit, as functions of all that came to them, the facts that hold of each rule, and
 //! what an operator is.
+//!
+//! Promised: the facts of each rule, as contracts of the functions of `laws`. They stand on the batch answers of `rel_algebra`
+//! and on the laws of changelogs of `ct_change`.
 #![tactic(auto)]
 
 mod laws;

@@ -238,7 +238,7 @@ const SUM: Agg = Agg {
 
 fn copies_sum(aggs: &Aggs) -> bool {
     match aggs.dup() {
-        Ok(copy) => copy.len() == 1 && copy.get(0) == Some(SUM) && copy.get(1).is_none(),
+        Ok(copy) => copy.len() == 1 && copy.get(0).copied() == Some(SUM) && copy.get(1).is_none(),
         Err(_) => false,
     }
 }

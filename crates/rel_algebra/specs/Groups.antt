@@ -1,8 +1,10 @@
 -- The rows of a bag counted by group: the batch answer of `SELECT columns, COUNT(*) .. GROUP BY columns`.
-use Rattle.std.specs.Prelude.{ℕ, pos, Bool, cond, not, nat_lt, ◌==◌, ◌^◌, List, [], ◌∷◌, ◌++◌, Option, Some, None, map, take, filter}
+use Rattle.std.specs.Prelude.{ℕ, pos, ◌≤◌, ◌<◌, Bool, cond, not, nat_lt, ◌==◌, ◌^◌, List, [], ◌∷◌, ◌++◌, length, Option, Some, None, map, take, filter}
 use Rattle.std.specs.List.{list_all}
-use Rattle.ct_value.specs.Bag.{total, items, bag_of}
+use Rattle.ct_value.specs.Bag.{copies, total, one_at, items, bag_of}
+use Rattle.ct_value.specs.Order.{row_cmp}
 use Rattle.ct_value.specs.declared.row.Row.{Row}
+use Rattle.ct_value.specs.declared.value.Value.{Value}
 use Rattle.ct_value.specs.declared.value.Value.TheVariants.{Num}
 use Rattle.ct_change.specs.Changelog.{Rows, same_row}
 use Rattle.rel_algebra.specs.declared.agg.Agg.{Agg}
@@ -17,9 +19,17 @@ first_seen (row ∷ rows) = row ∷ filter (λ other. not (same_row row other)) 
 abbrev pub in_group : ℕ → Row → Row → Bool
 in_group keys group row = same_row group (take keys row)
 
+-- 1 for a row of the group, and 0 for others
+abbrev pub in_it : ℕ → Row → Row → ℕ
+in_it keys group row = cond (in_group keys group row) 1 0
+
 -- how many rows of the group stand
 abbrev pub group_size : ℕ → Rows → Row → ℕ
-group_size keys rows group = total (λ row. cond (in_group keys group row) 1 0) rows
+group_size keys rows group = total (in_it keys group) rows
+
+-- each row has the columns that name its group
+abbrev pub AreWide : ℕ → Rows → Type 0
+AreWide keys rows = (row : Row) → 0 < copies rows row → keys ≤ length row
 
 -- the group's columns and its count
 abbrev pub counted : Row → ℕ → Row
@@ -28,6 +38,21 @@ counted group size = group ++ Num (pos size) ∷ []
 -- the result of a group of this size, and none where it has no row
 abbrev pub sized : Row → ℕ → Option Row
 sized group size = cond (size == 0) None (Some (counted group size))
+
+-- all but the last value, this value being before the others
+abbrev pub front_of : Value → Row → Row
+front_of x [] = []
+front_of x (y ∷ ys) = x ∷ front_of y ys
+
+-- all but the last value: the group that a result names
+abbrev pub front : Row → Row
+front [] = []
+front (x ∷ xs) = front_of x xs
+
+-- 1 if the row is this one
+abbrev pub one_of : Option Row → Row → ℕ
+one_of None row = 0
+one_of (Some other) row = one_at row_cmp row other
 
 -- a group's result
 abbrev pub result_row : ℕ → Rows → Row → Option Row

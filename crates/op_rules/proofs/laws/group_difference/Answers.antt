@@ -1,4 +1,4 @@
-use Rattle.op_rules.proofs.GroupFacts as facts
+use Rattle.op_rules.specs.laws.GroupFacts as facts
 use Rattle.op_rules.proofs.laws.group_difference.Goals as goal
 
 pub returns : goal.returns

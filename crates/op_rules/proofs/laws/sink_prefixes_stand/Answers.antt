@@ -1,4 +1,4 @@
-use Rattle.op_rules.proofs.SinkFacts as facts
+use Rattle.op_rules.specs.laws.SinkFacts as facts
 use Rattle.op_rules.proofs.laws.sink_prefixes_stand.Goals as goal
 
 pub returns : goal.returns

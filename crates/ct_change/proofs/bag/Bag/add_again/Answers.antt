@@ -1,4 +1,4 @@
-use Rattle.std.proofs.Common.{◌≡◌, ◌+◌, ◌<◌, ℕ, Option, refl, ap, subst, ◌∙◌, arith, Some, None}
+use Rattle.std.proofs.Common.{◌≡◌, ◌+◌, ℕ, Option, refl, ap, subst, ◌∙◌, arith, Some}
 use Rattle.std.specs.Option.{unwrap_or, IsSome}
 use Rattle.ct_value.specs.Bag as bag
 use Rattle.ct_change.proofs.Counts.{copies_in, one_added, count_at}

@@ -1,0 +1,5 @@
+pub mod GroupFacts
+pub mod Histories
+pub mod SentResults
+pub mod SinkFacts
+pub mod Sizes
