@@ -4,5 +4,9 @@
 #![tactic(auto)]
 
 mod number;
+mod read;
+mod write;
 
-pub use number::{in_range, rescale};
+pub use number::{in_range, is_type, rescale};
+pub use read::{FieldFault, MAX_FIELD, read_field};
+pub use write::{push_field, write_field};

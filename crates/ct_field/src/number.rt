@@ -1,11 +1,24 @@
 //! Numbers of types and of scales.
 ghost use Rattle.std.specs.Prelude.{◌≡◌, ◌<◌, ◌≤◌, ◌+◌, ◌*◌, ◌/◌, ◌-◌, ◌^◌, ℕ, ℤ, nat_lt, unsigned_abs, Some, cond};
-ghost use Rattle.ct_field.specs.Numbers.{in_range, rescale, raised, nearest, nearest_magnitude, signed};
+ghost use Rattle.ct_field.specs.Numbers.{is_type, in_range, rescale, raised, nearest, nearest_magnitude, signed};
 
 use ct_value::Ty;
 
+// The least number of 38 digits.
+pub(crate) const DIGITS_38: u128 = 10_000_000_000_000_000_000_000_000_000_000_000_000;
+
 // The least number of 39 digits.
-const DIGITS_39: u128 = 100_000_000_000_000_000_000_000_000_000_000_000_000;
+pub(crate) const DIGITS_39: u128 = 100_000_000_000_000_000_000_000_000_000_000_000_000;
+
+/// Whether a type is one that a column may have: a decimal has 1 to 38 digits, at most all of them behind the point.
+pub fn is_type(ty: Ty) -> bool
+    ensures { result ≡ is_type ty }
+{
+    match ty {
+        Ty::Decimal { p, s } => 1 <= p && p <= 38 && s <= p,
+        _ => true,
+    }
+}
 
 /// Whether a number, unscaled, is one of a type: 32 bits, 64 bits, or at most as many digits as the decimal has.
 pub fn in_range(ty: Ty, num: i128) -> bool
