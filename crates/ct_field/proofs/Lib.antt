@@ -1,0 +1,4 @@
+pub mod Bounded
+pub mod Digits
+pub mod Powers
+pub mod Texts

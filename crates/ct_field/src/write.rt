@@ -1,0 +1,94 @@
+//! The one text of a value.
+ghost use Rattle.std.specs.Prelude.{◌≡◌, ◌≤◌, ◌++◌, ◌∷◌, ◌^◌, [], IsTrue, IfOk, OnOk};
+ghost use Rattle.ct_field.specs.Numbers.{is_type};
+ghost use Rattle.ct_field.specs.Fields.{field_text, number_text, unsigned_text, last_digits, escaped, scale_of};
+
+use crate::number::power_of_ten;
+use ct_value::{Bytes, Memory, Text, Ty, Value};
+use std::alloc::Global;
+
+/// The field text of a value: no plus sign, no leading zeros, no -0, all decimals of the type, TRUE or FALSE, `\N` for
+/// NULL, and one more backslash in front of a text that begins with one. It may be longer than a field that is read.
+pub fn write_field(alloc: Global, ty: Ty, value: &Value) -> Result<Bytes, Memory>
+    requires { IsTrue (is_type ty) }
+    ensures { IfOk result (λ text. text ≡ field_text ty value.now) }
+{
+    let mut text = Bytes::new(alloc);
+    push_field(alloc, &mut text, ty, value)?;
+    Ok(text)
+}
+
+/// Puts the field text of a value behind a text.
+pub fn push_field(alloc: Global, text: &mut Bytes, ty: Ty, value: &Value) -> Result<(), Memory>
+    requires { IsTrue (is_type ty) }
+    ensures { OnOk result (text.new ≡ text.old ++ field_text ty value.now) }
+{
+    match value {
+        Value::Null => text.extend(b"\\N"),
+        Value::Bool(false) => text.extend(b"FALSE"),
+        Value::Bool(true) => text.extend(b"TRUE"),
+        Value::Num(number) => push_number(alloc, text, scale_of(ty), *number),
+        Value::Text(value) => push_text(text, value),
+    }
+}
+
+// The decimals of a type's numbers.
+pub(crate) fn scale_of(ty: Ty) -> u32
+    requires { IsTrue (is_type ty) }
+    ensures value { result ≡ scale_of ty }
+    ensures most { result ≤ 38 }
+{
+    match ty {
+        Ty::Decimal { s, .. } => s,
+        _ => 0,
+    }
+}
+
+#[tactic(auto, using(std::proofs::Common::append_assoc))]
+fn push_number(alloc: Global, text: &mut Bytes, scale: u32, number: i128) -> Result<(), Memory>
+    requires { scale ≤ 38 }
+    ensures { OnOk result (text.new ≡ text.old ++ number_text scale number) }
+{
+    if number.is_negative() {
+        text.push(b'-')?;
+    }
+    push_unsigned(alloc, text, scale, number.unsigned_abs())
+}
+
+#[tactic(auto, using(std::proofs::Common::append_assoc))]
+fn push_unsigned(alloc: Global, text: &mut Bytes, scale: u32, number: u128) -> Result<(), Memory>
+    requires { scale ≤ 38 }
+    ensures { OnOk result (text.new ≡ text.old ++ unsigned_text scale number) }
+{
+    let whole = number / power_of_ten(scale);
+    let whole = format!(in alloc; "{whole}")?;
+    text.extend(whole.as_bytes())?;
+    if scale == 0 {
+        return Ok(());
+    }
+    text.push(b'.')?;
+    push_last_digits(text, scale, number)
+}
+
+// Puts the last digits of a number, so many, behind a text.
+#[tactic(auto, using(std::proofs::Common::append_assoc))]
+fn push_last_digits(text: &mut Bytes, digits: u32, number: u128) -> Result<(), Memory>
+    ensures { OnOk result (text.new ≡ text.old ++ last_digits digits number) }
+{
+    if digits == 0 {
+        return Ok(());
+    }
+    push_last_digits(text, digits - 1, number / 10)?;
+    text.push(b'0' + (number % 10) as u8)
+}
+
+#[tactic(auto, using(std::proofs::Common::append_assoc))]
+fn push_text(text: &mut Bytes, value: &Text) -> Result<(), Memory>
+    ensures { OnOk result (text.new ≡ text.old ++ escaped value.now) }
+{
+    let bytes = value.as_slice();
+    if let [b'\\', ..] = bytes {
+        text.push(b'\\')?;
+    }
+    text.extend(bytes)
+}
