@@ -28,7 +28,7 @@ fn is_filled(alloc: Global, front: &str, byte: u8, back: &str, wanted: &str) -> 
 // A front, the byte behind it, a back, and what the script is read as.
 type Filled = (&'static str, u8, &'static str, &'static str);
 
-const FILLED: [Filled; 8] = [
+const FILLED: [Filled; 9] = [
     // one comment
     ("--", b'x', "", ""),
     ("/*", b'*', "x", "S1 BadToken at 1"),
