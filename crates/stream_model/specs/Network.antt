@@ -76,6 +76,8 @@ pub record IsWired (g : Network) : Type 0 where
   pub scan_opens : (v table : ℕ) → g.scans v ≡ Some table → (j : ℕ) → g.opening v j ≡ []
   pub opens : (v j : ℕ) → g.count ≤ v → g.opening v j ≡ []
   pub formed : (v : ℕ) → IsWellFormed g.subtasks (g.edge v)
+  -- each change of a table has a subtask
+  pub routed : (table : ℕ) (t : Table) → g.tables table ≡ Some t → (key : Row) → t.route key < g.subtasks
 
 -- what a node's subtasks sent stands for rows that are together these, and these are settled
 pub record IsAnswered (many : ℕ) (edge : Edge) (sent : ℕ → List Change) (whole : Rows) : Type 0 where
@@ -97,3 +99,8 @@ pub record ScanFacts (many : ℕ) (table : Table) (edge : Edge) : Type 0 where
 pub record MeetsFacts (g : Network) : Type 0 where
   pub facts : (v : ℕ) → 0 < g.ports v → Facts (task g v)
   pub scans : (v table : ℕ) (t : Table) → g.scans v ≡ Some table → g.tables table ≡ Some t → ScanFacts g.subtasks t (g.edge v)
+
+-- the answer of a node, from the rows of the tables, by the batch answers of the nodes
+pub data IsAnswer (g : Network) (tables : ℕ → Rows) : ℕ → Rows → Type 0 where
+  of_scan : {v table : ℕ} → g.scans v ≡ Some table → IsAnswer g tables v (tables table)
+  of_node : {v : ℕ} {answer : Rows} (whole : ℕ → Rows) → 0 < g.ports v → ((p : ℕ) → p < g.ports v → IsAnswer g tables (g.source v p) (whole p)) → g.batch v whole ≡ Some answer → IsAnswer g tables v answer

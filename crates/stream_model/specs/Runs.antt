@@ -4,7 +4,8 @@ use Rattle.ct_change.specs.declared.change.Change.{Change}
 use Rattle.stream_model.specs.declared.events.Event.{Event}
 use Rattle.stream_model.specs.declared.events.Event.TheVariants.{Take, Move, Flush}
 use Rattle.stream_model.specs.declared.events.StepFault.{StepFault}
-use Rattle.stream_model.specs.declared.events.PrintItem.TheVariants.{Quiet}
+use Rattle.stream_model.specs.declared.events.PrintItem.{PrintItem}
+use Rattle.stream_model.specs.declared.events.PrintItem.TheVariants.{Change as Printed, Quiet}
 use Rattle.stream_model.specs.Tables.{Table}
 use Rattle.stream_model.specs.Network.{Network}
 use Rattle.stream_model.specs.Machine.{State, step}
@@ -20,6 +21,12 @@ told_quiet s = record s { printed = s.printed ++ Quiet s.took ∷ [] }
 abbrev pub step_item : Network → ℕ → State → Item → Result State StepFault
 step_item g limit s (happens event) = step g limit s event
 step_item g limit s quiet = Ok (told_quiet s)
+
+-- the changes among printed items
+abbrev pub changes_in : List PrintItem → List Change
+changes_in [] = []
+changes_in (Printed change ∷ items) = change ∷ changes_in items
+changes_in (Quiet n ∷ items) = changes_in items
 
 -- the state after an event, or the same where it can't be
 abbrev pub state_in : State → Result State StepFault → State

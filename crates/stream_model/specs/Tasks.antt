@@ -8,7 +8,7 @@ use Rattle.ct_change.specs.declared.change.Change.{Change}
 use Rattle.ct_change.specs.Changelog.{Rows, AreOf}
 use Rattle.op_rules.specs.History.{Arrival, at_port, joined}
 use Rattle.op_rules.specs.Rules.{Answer, appended}
-use Rattle.stream_model.specs.Edges.{Meaning, bag, last_rows, partials, ReadsAs, Exchange, forward, hash, Edge, belongs, IsRouted, IsUnique, IsApart, HoldsOver, IsSeen, AreApartBy}
+use Rattle.stream_model.specs.Edges.{Meaning, bag, last_rows, partials, ReadsAs, Exchange, forward, hash, Edge, belongs_by, IsRouted, IsUnique, IsApart, HoldsOver, IsSeen, AreApartBy}
 
 -- the sum of f over the numbers below n
 abbrev pub total : ℕ → (ℕ → ℕ) → ℕ
@@ -67,13 +67,13 @@ pub record IsSettled (edge : Edge) (rows : Rows) : Type 0 where
   pub keys : (key : List ℕ) → Contains edge.unique key ⊎ HoldsOver edge key → IsUnique key (copies rows)
   pub types : (row : Row) → 0 < copies rows row → edge.holds row ≡ true
 
-abbrev pub IsSplitBy : Exchange → ℕ → Edge → (ℕ → Rows) → Rows → Type 0
-IsSplitBy forward many edge parts whole = (row : Row) → copies whole row ≡ total many (λ j. copies (parts j) row)
-IsSplitBy (hash columns) many edge parts whole = (j : ℕ) → j < many → (row : Row) → copies (parts j) row ≡ cond (belongs edge 0 j row) (copies whole row) 0
+abbrev pub IsSplitBy : Meaning → Exchange → (Row → ℕ) → ℕ → (ℕ → Rows) → Rows → Type 0
+IsSplitBy meaning forward route many parts whole = (row : Row) → copies whole row ≡ total many (λ j. copies (parts j) row)
+IsSplitBy meaning (hash columns) route many parts whole = (j : ℕ) → j < many → (row : Row) → copies (parts j) row ≡ cond (belongs_by meaning (hash columns) route 0 j row) (copies whole row) 0
 
 -- how the rows of an edge are split over the subtasks of its consumer
 abbrev pub IsSplit : ℕ → Edge → (ℕ → Rows) → Rows → Type 0
-IsSplit many edge parts whole = IsSplitBy edge.exchange many edge parts whole
+IsSplit many edge parts whole = IsSplitBy edge.meaning edge.exchange edge.route many parts whole
 
 abbrev pub ComeFixedBy : Exchange → ℕ → Edge → (ℕ → List Change) → Type 0
 ComeFixedBy forward many edge came = (columns : List ℕ) → Contains edge.fixing columns → IsApart columns many came
@@ -83,13 +83,13 @@ ComeFixedBy (hash columns) many edge came = Unit {0}
 abbrev pub ComeFixed : ℕ → Edge → (ℕ → List Change) → Type 0
 ComeFixed many edge came = ComeFixedBy edge.exchange many edge came
 
-abbrev pub ComeApartBy : Exchange → ℕ → Edge → (ℕ → List Change) → Type 0
-ComeApartBy forward many edge came = AreApartBy edge.meaning many came
-ComeApartBy (hash columns) many edge came = Unit {0}
+abbrev pub ComeApartBy : Exchange → Meaning → ℕ → (ℕ → List Change) → Type 0
+ComeApartBy forward meaning many came = AreApartBy meaning many came
+ComeApartBy (hash columns) meaning many came = Unit {0}
 
 -- on a forward edge of last rows each key comes to one subtask
 abbrev pub ComeApart : ℕ → Edge → (ℕ → List Change) → Type 0
-ComeApart many edge came = ComeApartBy edge.exchange many edge came
+ComeApart many edge came = ComeApartBy edge.exchange edge.meaning many came
 
 -- ---- what is known
 
