@@ -51,7 +51,7 @@ both_ways m a n b e f q =
     false≢true (sym q ∙ and_from (eqb m a) (eqb n b) x z)
 
 -- a sum in which one term grows
-total_more : (n a w : ℕ) (f h : ℕ → ℕ) → a < n → h a ≡ f a + w → ((k : ℕ) → (k ≡ a → ⊥) → h k ≡ f k) → total n h ≡ total n f + w
+pub total_more : (n a w : ℕ) (f h : ℕ → ℕ) → a < n → h a ≡ f a + w → ((k : ℕ) → (k ≡ a → ⊥) → h k ≡ f k) → total n h ≡ total n f + w
 total_more n a w f h l here there =
     total-same n h (λ k. f k + cond (eqb k a) w 0) (λ k m.
       elim (cases_eq k a) [
@@ -103,7 +103,7 @@ module _ (g : Network) (wired : IsWired g) where
       counted = refl;
     }
 
-  no_scan : (v : ℕ) → 0 < g.ports v → g.scans v ≡ None
+  pub no_scan : (v : ℕ) → 0 < g.ports v → g.scans v ≡ None
   no_scan v some = go (g.scans v) refl
     where
       go : (o : Option ℕ) → g.scans v ≡ o → o ≡ None

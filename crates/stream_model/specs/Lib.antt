@@ -5,3 +5,4 @@ pub mod Partials
 pub mod Runs
 pub mod Tables
 pub mod Tasks
+pub mod Theorem

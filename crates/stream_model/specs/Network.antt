@@ -10,7 +10,7 @@ use Rattle.ct_change.specs.declared.change.Change.{Change}
 use Rattle.ct_change.specs.Changelog.{Rows, fold}
 use Rattle.op_rules.specs.History.{Arrival}
 use Rattle.op_rules.specs.Rules.{Answer}
-use Rattle.stream_model.specs.Edges.{Edge, ReadsAs, IsWellFormed}
+use Rattle.stream_model.specs.Edges.{Edge, IsPartial, ReadsAs, IsWellFormed}
 use Rattle.stream_model.specs.Tasks.{Task, total, IsFine, IsSettled, Facts}
 use Rattle.stream_model.specs.Tables.{Table, scanned_at, AllTaken}
 
@@ -62,7 +62,7 @@ abbrev pub IsNode : Network → ℕ → Type 0
 IsNode g v = ((table : ℕ) × (g.scans v ≡ Some table)) ⊎ (0 < g.ports v)
 
 -- the shape of a plan: each port is fed by one node, which stands before it, and each node but the sink feeds one port;
--- scans have no ports, scan a table and open with nothing, and so does the sink
+-- scans have no ports, scan a table and open with nothing, and so does the sink, whose changes aren't partial results
 pub record IsWired (g : Network) : Type 0 where
   pub parallel : 0 < g.subtasks
   pub below : (v p : ℕ) → p < g.ports v → g.source v p < v
@@ -70,6 +70,8 @@ pub record IsWired (g : Network) : Type 0 where
   pub feeds : (v p : ℕ) → p < g.ports v → g.fed (g.source v p) ≡ Some (record { node = v; port = p })
   pub feeds_port : (e : ℕ) (feed : Feed) → g.fed e ≡ Some feed → (feed.port < g.ports feed.node) × (g.source feed.node feed.port ≡ e)
   pub counted : (v : ℕ) → 0 < g.ports v → v ≤ g.count
+  pub sink : 0 < g.ports g.count
+  pub sink_whole : IsPartial (g.edge g.count).meaning → ⊥
   pub scan_ports : (v table : ℕ) → g.scans v ≡ Some table → g.ports v ≡ 0
   pub scan_counted : (v table : ℕ) → g.scans v ≡ Some table → v < g.count
   pub scan_table : (v table : ℕ) → g.scans v ≡ Some table → (t : Table) × (g.tables table ≡ Some t)

@@ -3,5 +3,7 @@
 #![tactic(auto)]
 
 mod events;
+mod laws;
 
 pub use events::{Event, PrintItem, PrintList, StepFault, Stopped};
+pub use laws::plans_compose;
