@@ -6,3 +6,4 @@ pub mod Runs
 pub mod Tables
 pub mod Tasks
 pub mod Theorem
+pub mod Scans

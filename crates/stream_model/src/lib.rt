@@ -6,4 +6,4 @@ mod events;
 mod laws;
 
 pub use events::{Event, PrintItem, PrintList, StepFault, Stopped};
-pub use laws::plans_compose;
+pub use laws::{plans_compose, scans_stand};
