@@ -14,8 +14,8 @@ use Rattle.ct_value.specs.declared.value.Value.{Value}
 use Rattle.ct_value.specs.declared.row.Row.{Row}
 use Rattle.ct_change.specs.declared.change.Change.{Change}
 use Rattle.ct_change.specs.Changelog.{Rows, same_row, adds, addition, removal}
-use Rattle.stream_model.specs.Tasks.{total}
-use Rattle.stream_model.specs.Partials.{Worth, nothing, plus, Partials, sum_of, worth_in, worth_of}
+use Rattle.op_rules.specs.Tasks.{total}
+use Rattle.op_rules.specs.Partials.{Worth, nothing, plus, Partials, sum_of, worth_in, worth_of}
 use Rattle.stream_model.proofs.Sums.{total-same}
 
 pub same-true : (a b : Row) → same_row a b ≡ true → a ≡ b

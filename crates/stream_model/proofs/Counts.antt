@@ -6,8 +6,8 @@ use Rattle.std.proofs.lemmas.List.{length-append}
 use Rattle.std.proofs.lemmas.Bool.{eq-eqb, ne_eqb, cases_eq}
 use Rattle.ct_change.specs.declared.change.Change.{Change}
 use Rattle.op_rules.specs.History.{Arrival, from_port}
-use Rattle.stream_model.specs.Edges.{goes}
-use Rattle.stream_model.specs.Tasks.{total}
+use Rattle.op_rules.specs.Edges.{goes}
+use Rattle.op_rules.specs.Tasks.{total}
 use Rattle.stream_model.specs.Network.{Feed, Network, IsWired}
 use Rattle.stream_model.specs.Machine.{State, consumed}
 use Rattle.stream_model.proofs.Sums.{total-zero, total-sum, total-same, total_le, total_one}

@@ -10,9 +10,9 @@ use Rattle.ct_value.specs.declared.row.Row.{Row}
 use Rattle.ct_change.specs.declared.change.Change.{Change}
 use Rattle.ct_change.specs.Changelog.{Rows, same_row, adds, addition, removal, additions, removals, last_shown}
 use Rattle.op_rules.specs.History.{Arrival, at_port, from_port}
-use Rattle.stream_model.specs.Partials.{Worth, nothing, plus, Partials, sum_of, worth_of}
-use Rattle.stream_model.specs.Edges.{Meaning, bag, last_rows, partials, IsPartial, ReadsAs, Exchange, forward, hash, goes_by, belongs_by, IsUnique, IsApart, AreApartBy, IsKeyedBy}
-use Rattle.stream_model.specs.Tasks.{total}
+use Rattle.op_rules.specs.Partials.{Worth, nothing, plus, Partials, sum_of, worth_of}
+use Rattle.op_rules.specs.Edges.{Meaning, bag, last_rows, partials, IsPartial, ReadsAs, Exchange, forward, hash, goes_by, belongs_by, IsUnique, IsApart, AreApartBy, IsKeyedBy}
+use Rattle.op_rules.specs.Tasks.{total}
 use Rattle.stream_model.proofs.Sums.{weigh-filter, take-filter, filter-take, total-zero, total-sum, total-same, total_le, total_one, total_part, total_some, total_only, all-take, all-append_left, all-filter, filter_passes, all-weaker, take_end, cond_sum}
 use Rattle.stream_model.proofs.Bags.{same-true, same-itself, agree, agree_from, either, no_more, weigh-rows, about_addition, about_removal, restricted, sum_rows, copies-restricted, copies-sum, plus_nothing, nothing_plus, plus_comm, plus_assoc, total_worth, worth-none, worth-total, worth-near}
 

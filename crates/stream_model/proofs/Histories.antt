@@ -11,7 +11,7 @@ use Rattle.op_rules.specs.History.{Arrival, arrival, at_port, from_port, joined}
 use Rattle.op_rules.specs.Rules.{Answer, appended}
 use Rattle.stream_model.specs.declared.events.PrintItem.{PrintItem}
 use Rattle.stream_model.specs.declared.events.PrintItem.TheVariants.{Change as Printed, Quiet}
-use Rattle.stream_model.specs.Tasks.{Task, along, emitted_by}
+use Rattle.op_rules.specs.Tasks.{Task, along, emitted_by}
 use Rattle.stream_model.specs.Tables.{Table, refusal, AllTaken}
 use Rattle.stream_model.specs.Runs.{changes_in}
 

@@ -10,8 +10,8 @@ use Rattle.ct_value.specs.declared.row.Row.{Row}
 use Rattle.ct_change.specs.declared.change.Change.{Change}
 use Rattle.ct_change.specs.Changelog.{Rows, has}
 use Rattle.op_rules.specs.History.{Arrival, at_port, from_port, joined}
-use Rattle.stream_model.specs.Edges.{Meaning, bag, last_rows, partials, IsPartial, ReadsAs, Exchange, forward, hash, Edge, goes_by, goes, belongs_by, belongs, IsRoutedBy, IsUnique, IsApart, HoldsOver, IsSeenBy, IsSeen, AreApartBy, IsKeyedBy}
-use Rattle.stream_model.specs.Tasks.{Task, total, emitted_by, IsFine, IsReady, IsSettled, IsSplitBy, ComeFixedBy, ComeApartBy, Emitted, Facts}
+use Rattle.op_rules.specs.Edges.{Meaning, bag, last_rows, partials, IsPartial, ReadsAs, Exchange, forward, hash, Edge, goes_by, goes, belongs_by, belongs, IsRoutedBy, IsUnique, IsApart, HoldsOver, IsSeenBy, IsSeen, AreApartBy, IsKeyedBy}
+use Rattle.op_rules.specs.Tasks.{Task, total, emitted_by, IsFine, IsReady, IsSettled, IsSplitBy, ComeFixedBy, ComeApartBy, Emitted, Facts}
 use Rattle.stream_model.specs.Network.{Network, task, IsNode, IsWired, IsAnswered, IsAnswer, of_scan, of_node}
 use Rattle.stream_model.proofs.Sums.{reach, take-filter, total-same, total_le, total_some, total_only, total_at, total_cond, all-take, all-append_left, all-filter, filter_passes, all-weaker, take_end, take_both, cond_below}
 use Rattle.stream_model.proofs.Bags.{restricted, sum_rows, copies-restricted, copies-sum}

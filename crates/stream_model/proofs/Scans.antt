@@ -16,8 +16,8 @@ use Rattle.ct_change.specs.declared.change.Change.{Change}
 use Rattle.ct_change.specs.Changelog.{Mode, append, retract, upsert, Rows, same_row, adds, has, admits, row_at, apply, fold, MayCome, IsValidFrom, IsValid, addition, removal, additions, removals, last_shown, Means}
 use Rattle.ct_change.proofs.Folds.{fold-push, append_only}
 use Rattle.ct_change.proofs.Meanings.{means_fold}
-use Rattle.stream_model.specs.Edges.{Meaning, bag, last_rows, partials, IsPartial, ReadsAs, Edge, IsUnique, IsApart, HoldsOver, AreApartBy, LiesIn}
-use Rattle.stream_model.specs.Tasks.{total, IsFine, IsSettled}
+use Rattle.op_rules.specs.Edges.{Meaning, bag, last_rows, partials, IsPartial, ReadsAs, Edge, IsUnique, IsApart, HoldsOver, AreApartBy, LiesIn}
+use Rattle.op_rules.specs.Tasks.{total, IsFine, IsSettled}
 use Rattle.stream_model.specs.Tables.{Table, scanned_at, kind_refusal, null_refusal, row_refusal, key_refusal_by, is_there, or_else, refusal, AllTaken}
 use Rattle.stream_model.specs.Network.{IsAnswered, scanned_by, ScanFacts}
 use Rattle.stream_model.specs.Scans.{meaning_of, IsKeyBy, IsKeyOf, KeepsKeys, CarriesTable, ScansStand}

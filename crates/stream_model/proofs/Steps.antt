@@ -16,8 +16,8 @@ use Rattle.ct_value.specs.declared.codes.ChangeCode.{ChangeCode}
 use Rattle.ct_value.specs.declared.codes.OrderCode.TheVariants.{NoSuchPlace}
 use Rattle.stream_model.specs.declared.events.StepFault.TheVariants.{Order, Limit}
 use Rattle.stream_model.specs.declared.events.PrintItem.TheVariants.{Change as Printed, Quiet}
-use Rattle.stream_model.specs.Edges.{goes}
-use Rattle.stream_model.specs.Tasks.{total, emitted_by}
+use Rattle.op_rules.specs.Edges.{goes}
+use Rattle.op_rules.specs.Tasks.{total, emitted_by}
 use Rattle.stream_model.specs.Tables.{Table, scanned_at, refusal, AllTaken}
 use Rattle.stream_model.specs.Network.{Feed, Network, task, IsWired, scanned_by}
 use Rattle.stream_model.specs.Machine.{State, consumed, put, opened, send, print, joins, folded, hand_on, answered, flushed, size_of, flushed_if_full, is_channel, move_front, move_to, flush_held, flush_bundle, is_place, flush, is_number, is_scan_of, scan_count, scanned, take_within, take_unless, take_of, step}

@@ -5,7 +5,7 @@ use Rattle.std.specs.List.{AllByRecursion, filter}
 use Rattle.std.proofs.lemmas.List.{take_at}
 use Rattle.std.proofs.lemmas.Bool.{cases_Bool, eqb-true, eqb-false, eq-eqb, ne_eqb, cases_eq}
 use Rattle.ct_value.specs.Bag.{weigh}
-use Rattle.stream_model.specs.Tasks.{total}
+use Rattle.op_rules.specs.Tasks.{total}
 
 -- how far one has to go into the list for the first n that pass
 abbrev pub reach : {A : Type 0} → (A → Bool) → ℕ → List A → ℕ

@@ -11,8 +11,8 @@ use Rattle.ct_value.specs.declared.row.Row.{Row}
 use Rattle.ct_change.specs.declared.change.Change.{Change}
 use Rattle.ct_change.specs.Changelog.{Rows, has, fold}
 use Rattle.op_rules.specs.History.{Arrival, arrival, at_port, from_port, joined}
-use Rattle.stream_model.specs.Edges.{Meaning, bag, last_rows, partials, IsPartial, ReadsAs, Exchange, hash, Edge, goes_by, goes, belongs_by, AreApartBy, IsKeyedBy}
-use Rattle.stream_model.specs.Tasks.{total, emitted_by, IsFine, IsReady}
+use Rattle.op_rules.specs.Edges.{Meaning, bag, last_rows, partials, IsPartial, ReadsAs, Exchange, hash, Edge, goes_by, goes, belongs_by, AreApartBy, IsKeyedBy}
+use Rattle.op_rules.specs.Tasks.{total, emitted_by, IsFine, IsReady}
 use Rattle.stream_model.specs.Tables.{Table}
 use Rattle.stream_model.specs.Network.{Feed, Network, task, IsNode, IsWired, IsAnswered, scanned_by, MeetsFacts, IsAnswer}
 use Rattle.stream_model.specs.Machine.{State, consumed, joins, opened, IsQuiet}

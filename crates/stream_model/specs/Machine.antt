@@ -14,8 +14,8 @@ use Rattle.stream_model.specs.declared.events.StepFault.{StepFault}
 use Rattle.stream_model.specs.declared.events.StepFault.TheVariants.{Change as Refused, Order, Range, Limit}
 use Rattle.stream_model.specs.declared.events.PrintItem.{PrintItem}
 use Rattle.stream_model.specs.declared.events.PrintItem.TheVariants.{Change as Printed}
-use Rattle.stream_model.specs.Edges.{Exchange, forward, hash, goes}
-use Rattle.stream_model.specs.Tasks.{total}
+use Rattle.op_rules.specs.Edges.{Exchange, forward, hash, goes}
+use Rattle.op_rules.specs.Tasks.{total}
 use Rattle.stream_model.specs.Tables.{Table, scanned_at, refusal}
 use Rattle.stream_model.specs.Network.{Feed, Network}
 

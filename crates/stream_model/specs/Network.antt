@@ -10,8 +10,8 @@ use Rattle.ct_change.specs.declared.change.Change.{Change}
 use Rattle.ct_change.specs.Changelog.{Rows, fold}
 use Rattle.op_rules.specs.History.{Arrival}
 use Rattle.op_rules.specs.Rules.{Answer}
-use Rattle.stream_model.specs.Edges.{Edge, IsPartial, ReadsAs, IsWellFormed}
-use Rattle.stream_model.specs.Tasks.{Task, total, IsFine, IsSettled, Facts}
+use Rattle.op_rules.specs.Edges.{Edge, IsPartial, ReadsAs, IsWellFormed}
+use Rattle.op_rules.specs.Tasks.{Task, total, IsFine, IsSettled, Facts}
 use Rattle.stream_model.specs.Tables.{Table, scanned_at, AllTaken}
 
 -- a port of a node

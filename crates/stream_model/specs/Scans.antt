@@ -5,7 +5,7 @@ use Rattle.ct_value.specs.declared.row.Row.{Row}
 use Rattle.ct_change.specs.declared.kind.Kind.{Kind}
 use Rattle.ct_change.specs.declared.change.Change.{Change}
 use Rattle.ct_change.specs.Changelog.{Mode, append, retract, upsert, adds, admits, has}
-use Rattle.stream_model.specs.Edges.{Meaning, bag, last_rows, Edge, LiesIn}
+use Rattle.op_rules.specs.Edges.{Meaning, bag, last_rows, Edge, LiesIn}
 use Rattle.stream_model.specs.Tables.{Table}
 use Rattle.stream_model.specs.Network.{ScanFacts}
 

@@ -6,8 +6,8 @@ use Rattle.ct_value.specs.declared.row.Row.{Row}
 use Rattle.ct_change.specs.declared.change.Change.{Change}
 use Rattle.ct_change.specs.Changelog.{Rows, AreOf, fold}
 use Rattle.op_rules.specs.History.{Arrival, arrival}
-use Rattle.stream_model.specs.Edges.{Edge, ReadsAs, IsUnique, HoldsOver}
-use Rattle.stream_model.specs.Tasks.{total, IsFine, IsReady}
+use Rattle.op_rules.specs.Edges.{Edge, ReadsAs, IsUnique, HoldsOver}
+use Rattle.op_rules.specs.Tasks.{total, IsFine, IsReady}
 use Rattle.stream_model.specs.Tables.{Table}
 use Rattle.stream_model.specs.Network.{Feed, Network, task, IsNode, IsWired, IsAnswered, MeetsFacts, IsAnswer}
 use Rattle.stream_model.specs.Machine.{State, consumed, opened, IsQuiet}

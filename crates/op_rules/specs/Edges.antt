@@ -6,7 +6,7 @@ use Rattle.ct_value.specs.declared.row.Row.{Row}
 use Rattle.ct_change.specs.declared.kind.KindSet.{KindSet}
 use Rattle.ct_change.specs.declared.change.Change.{Change}
 use Rattle.ct_change.specs.Changelog.{Rows, retract, upsert, Means}
-use Rattle.stream_model.specs.Partials.{Partials, sum_of, worth_of}
+use Rattle.op_rules.specs.Partials.{Partials, sum_of, worth_of}
 
 -- how a list of changes is read: as a bag, as the last row of each key, or as partial results
 pub data Meaning : Type 0 where
