@@ -1,22 +1,20 @@
 -- Rows that are one, bags as sums and as parts of others, and what partial results are worth together.
-use Rattle.std.specs.Prelude.{◌≡◌, ℕ, ◌+◌, ◌<◌, ◌≤◌, ◌==◌, ◌||◌, ℤ, pos, ◌+ℤ◌, Bool, cond, List, ◌++◌}
-use Rattle.std.proofs.Common.{zero, suc, true, false, [], ◌∷◌, refl, sym, ap, subst, ◌∙◌, arith, inl, inr, ◌⊎◌}
-use Rattle.std.specs.List.{AllByRecursion, filter}
+use Rattle.std.specs.Prelude.{◌≡◌, ℕ, ◌+◌, ◌||◌, Bool, cond, List, ◌++◌}
+use Rattle.std.proofs.Common.{zero, suc, true, false, [], ◌∷◌, refl, sym, ap, ◌∙◌, arith, inl, inr}
+use Rattle.std.specs.List.{filter}
 use Rattle.std.specs.Cmp.{Equal-is, tied_itself}
 use Rattle.std.specs.Ordering.{is_gt}
-use Rattle.std.proofs.lemmas.Bool.{cases_Bool, false≢true, false_from_ne_true}
+use Rattle.std.proofs.lemmas.Bool.{cases_Bool}
 use Rattle.std.proofs.Math.IntN.{+ℤ_comm, +ℤ_idr, +ℤ_assoc}
 use Rattle.std.proofs.Math.Bool.{or_assoc, or_comm}
-use Rattle.ct_value.specs.Bag.{items, copies, none, add, weigh, weigh-append, occurs, one_at, put, bag_of, copies-occurs, copies-none, copies-bag_of, items-add, items-none, same_bag}
+use Rattle.ct_value.specs.Bag.{items, copies, none, weigh, weigh-append, occurs, one_at, put, bag_of, copies-occurs, copies-none, copies-bag_of, items-add, items-none, same_bag}
 use Rattle.ct_value.specs.Order.{row_cmp, row_total, row_exact}
 use Rattle.ct_value.specs.Rows.{project}
-use Rattle.ct_value.specs.declared.value.Value.{Value}
 use Rattle.ct_value.specs.declared.row.Row.{Row}
 use Rattle.ct_change.specs.declared.change.Change.{Change}
 use Rattle.ct_change.specs.Changelog.{Rows, same_row, adds, addition, removal}
 use Rattle.op_rules.specs.Tasks.{total}
-use Rattle.op_rules.specs.Partials.{Worth, nothing, plus, Partials, sum_of, worth_in, worth_of}
-use Rattle.stream_model.proofs.Sums.{total-same}
+use Rattle.op_rules.specs.Partials.{Worth, nothing, plus, Partials, worth_in, worth_of}
 
 pub same-true : (a b : Row) → same_row a b ≡ true → a ≡ b
 same-true a b e = row_exact a b ((Equal-is (row_cmp a b)).0 e)
@@ -46,10 +44,10 @@ weigh-rows row_of r f a q (x ∷ xs) =
     elim (cases_Bool (same_row r (row_of x))) [
       | inl e ↦ rw (sym (ap q (same-true r (row_of x) e))) (elim (q r) as (λ b. weigh f (filter (λ x. q (row_of x)) xs) ≡ cond b (weigh f xs) 0 → weigh f (cond b (x ∷ filter (λ x. q (row_of x)) xs) (filter (λ x. q (row_of x)) xs)) ≡ cond b (f x + weigh f xs) 0) [ true ↦ λ h. ap (λ n. f x + n) h | false ↦ λ h. h ] (weigh-rows row_of r f a q xs))
       | inr e ↦ let z : f x ≡ 0 = a x e in
-        elim (q (row_of x)) as (λ b. weigh f (cond b (x ∷ filter (λ x. q (row_of x)) xs) (filter (λ x. q (row_of x)) xs)) ≡ cond (q r) (f x + weigh f xs) 0) [
-          | true ↦ rw z (rw zero_plus (omega (arith, weigh-rows row_of r f a q xs)))
-          | false ↦ rw z (rw zero_plus (weigh-rows row_of r f a q xs))
-        ]
+          elim (q (row_of x)) as (λ b. weigh f (cond b (x ∷ filter (λ x. q (row_of x)) xs) (filter (λ x. q (row_of x)) xs)) ≡ cond (q r) (f x + weigh f xs) 0) [
+            | true ↦ rw z (rw zero_plus (omega (arith, weigh-rows row_of r f a q xs)))
+            | false ↦ rw z (rw zero_plus (weigh-rows row_of r f a q xs))
+          ]
     ]
   where
     zero_plus : 0 + weigh f xs ≡ weigh f xs
@@ -170,12 +168,12 @@ module _ (p : Partials) (group : Row) where
   pub worth-near : (a b : Rows) → ((row : Row) → project p.group row ≡ project p.own group → copies a row ≡ copies b row) → worth_of p group a ≡ worth_of p group b
   worth-near a b h =
       let same : restricted in_group a ≡ restricted in_group b = same_bag row_total row_exact _ _ (λ r.
-        copies-restricted in_group a r
-        ∙ (elim (cases_Bool (in_group r)) [
-            | inl e ↦ ap (λ n. cond (in_group r) n 0) (h r (same-true _ _ e))
-            | inr e ↦ ap (λ b. cond b (copies a r) 0) e ∙ sym (ap (λ d. cond d (copies b r) 0) e)
-          ]
-        ∙ sym (copies-restricted in_group b r))) in
+      copies-restricted in_group a r
+      ∙ (elim (cases_Bool (in_group r)) [
+        | inl e ↦ ap (λ n. cond (in_group r) n 0) (h r (same-true _ _ e))
+        | inr e ↦ ap (λ b. cond b (copies a r) 0) e ∙ sym (ap (λ d. cond d (copies b r) 0) e)
+      ]
+      ∙ sym (copies-restricted in_group b r))) in
       own a ∙ (ap (worth_of p group) same ∙ sym (own b))
     where
       own : (c : Rows) → worth_of p group c ≡ worth_of p group (restricted in_group c)

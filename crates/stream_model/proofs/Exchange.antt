@@ -1,20 +1,20 @@
 -- From what the producers sent to what came to a port.
-use Rattle.std.specs.Prelude.{◌≡◌, ℕ, ◌+◌, ◌-◌, ◌<◌, ◌≤◌, ◌==◌, ◌||◌, not, Bool, cond, List, ◌++◌, length, min}
+use Rattle.std.specs.Prelude.{◌≡◌, ℕ, ◌+◌, ◌<◌, ◌≤◌, ◌==◌, ◌||◌, not, Bool, cond, List, length}
 use Rattle.std.proofs.Common.{zero, suc, true, false, [], ◌∷◌, refl, sym, ap, subst, ◌∙◌, arith, take, eqb, inl, inr, ◌⊎◌}
 use Rattle.std.specs.List.{AllByRecursion, filter}
-use Rattle.std.proofs.lemmas.Bool.{cases_Bool, cases_lt, eqb-true, eqb-false, eq-eqb, ne_eqb, cases_eq, false≢true, or_parts, or_cases, false_from_ne_true}
+use Rattle.std.proofs.lemmas.Bool.{cases_Bool, cases_lt, eqb-true, eq-eqb, ne_eqb, cases_eq, false≢true, or_parts, or_cases, false_from_ne_true}
 use Rattle.ct_value.specs.Bag.{copies, none, weigh, copies-none}
-use Rattle.ct_value.specs.Order.{row_cmp, row_total}
+use Rattle.ct_value.specs.Order.{row_total}
 use Rattle.ct_value.specs.Rows.{project}
 use Rattle.ct_value.specs.declared.row.Row.{Row}
 use Rattle.ct_change.specs.declared.change.Change.{Change}
-use Rattle.ct_change.specs.Changelog.{Rows, same_row, adds, addition, removal, additions, removals, last_shown}
+use Rattle.ct_change.specs.Changelog.{Rows, same_row, addition, removal, additions, removals, last_shown}
 use Rattle.op_rules.specs.History.{Arrival, at_port, from_port}
 use Rattle.op_rules.specs.Partials.{Worth, nothing, plus, Partials, sum_of, worth_of}
 use Rattle.op_rules.specs.Edges.{Meaning, bag, last_rows, partials, IsPartial, ReadsAs, Exchange, forward, hash, goes_by, belongs_by, IsUnique, IsApart, AreApartBy, IsKeyedBy}
 use Rattle.op_rules.specs.Tasks.{total}
-use Rattle.stream_model.proofs.Sums.{weigh-filter, take-filter, filter-take, total-zero, total-sum, total-same, total_le, total_one, total_part, total_some, total_only, all-take, all-append_left, all-filter, filter_passes, all-weaker, take_end, cond_sum}
-use Rattle.stream_model.proofs.Bags.{same-true, same-itself, agree, agree_from, either, no_more, weigh-rows, about_addition, about_removal, restricted, sum_rows, copies-restricted, copies-sum, plus_nothing, nothing_plus, plus_comm, plus_assoc, total_worth, worth-none, worth-total, worth-near}
+use Rattle.stream_model.proofs.Sums.{total-zero, total-sum, total-same, total_one, total_part, total_some, total_only, all-take, all-filter, filter_passes, all-weaker, cond_sum}
+use Rattle.stream_model.proofs.Bags.{same-true, agree, either, weigh-rows, about_addition, about_removal, restricted, sum_rows, copies-restricted, copies-sum, plus_nothing, plus_comm, plus_assoc, total_worth, worth-none, worth-total, worth-near}
 
 -- what came to a port is what came from each subtask
 pub weigh-at : (f : Change → ℕ) (p n : ℕ) (c : List Arrival) → AllByRecursion (λ x. x.from < n) c → weigh f (at_port p c) ≡ total n (λ i. weigh f (from_port p i c))
@@ -23,10 +23,10 @@ weigh-at f p n (x ∷ xs) h =
     elim (x.port == p) as (λ b. weigh f (cond b (x.change ∷ at_port p xs) (at_port p xs)) ≡ total n (λ i. weigh f (cond b (cond (x.from == i) (x.change ∷ from_port p i xs) (from_port p i xs)) (from_port p i xs)))) [
       | false ↦ weigh-at f p n xs h.1
       | true ↦
-        ap (λ w. f x.change + w) (weigh-at f p n xs h.1)
-        ∙ (ap (λ w. w + total n (λ i. weigh f (from_port p i xs))) (sym (total_one n x.from (f x.change) h.0))
-        ∙ (sym (total-sum n (λ i. cond (x.from == i) (f x.change) 0) (λ i. weigh f (from_port p i xs)))
-        ∙ total-same n _ _ (λ i l. elim (x.from == i) as (λ b. cond b (f x.change) 0 + weigh f (from_port p i xs) ≡ weigh f (cond b (x.change ∷ from_port p i xs) (from_port p i xs))) [ true ↦ refl | false ↦ omega arith ])))
+          ap (λ w. f x.change + w) (weigh-at f p n xs h.1)
+          ∙ (ap (λ w. w + total n (λ i. weigh f (from_port p i xs))) (sym (total_one n x.from (f x.change) h.0))
+          ∙ (sym (total-sum n (λ i. cond (x.from == i) (f x.change) 0) (λ i. weigh f (from_port p i xs)))
+          ∙ total-same n _ _ (λ i l. elim (x.from == i) as (λ b. cond b (f x.change) 0 + weigh f (from_port p i xs) ≡ weigh f (cond b (x.change ∷ from_port p i xs) (from_port p i xs))) [ true ↦ refl | false ↦ omega arith ])))
     ]
 
 pub sel_keep : (p i : ℕ) (c : List Arrival) (n : ℕ) → from_port p i (take n c) ≡ take (length (from_port p i (take n c))) (from_port p i c)
@@ -48,8 +48,8 @@ all-at P p n (x ∷ xs) b h =
     elim (x.port == p) as (λ t. ((i : ℕ) → i < n → AllByRecursion P (cond t (cond (x.from == i) (x.change ∷ from_port p i xs) (from_port p i xs)) (from_port p i xs))) → AllByRecursion P (cond t (x.change ∷ at_port p xs) (at_port p xs))) [
       | false ↦ λ k. all-at P p n xs b.1 k
       | true ↦ λ k.
-        let here : AllByRecursion P (x.change ∷ from_port p x.from xs) = subst (λ t. AllByRecursion P (cond t (x.change ∷ from_port p x.from xs) (from_port p x.from xs))) (eq-eqb x.from x.from refl) (k x.from b.0) in
-        (here.0, all-at P p n xs b.1 (λ i l. elim (x.from == i) as (λ t. AllByRecursion P (cond t (x.change ∷ from_port p i xs) (from_port p i xs)) → AllByRecursion P (from_port p i xs)) [ true ↦ λ e. e.1 | false ↦ λ e. e ] (k i l)))
+          let here : AllByRecursion P (x.change ∷ from_port p x.from xs) = subst (λ t. AllByRecursion P (cond t (x.change ∷ from_port p x.from xs) (from_port p x.from xs))) (eq-eqb x.from x.from refl) (k x.from b.0) in
+          (here.0, all-at P p n xs b.1 (λ i l. elim (x.from == i) as (λ t. AllByRecursion P (cond t (x.change ∷ from_port p i xs) (from_port p i xs)) → AllByRecursion P (from_port p i xs)) [ true ↦ λ e. e.1 | false ↦ λ e. e ] (k i l)))
     ] h
 
 pub le_of : (a b : ℕ) → a ≡ b → a ≤ b
@@ -128,15 +128,15 @@ shown-at k r p i a (x ∷ xs) h =
     elim (x.port == p) as (λ b. ((j : ℕ) → (i ≡ j → ⊥) → touches k r (cond b (cond (x.from == j) (x.change ∷ from_port p j xs) (from_port p j xs)) (from_port p j xs)) ≡ false) → last_shown k r a (cond b (x.change ∷ at_port p xs) (at_port p xs)) ≡ last_shown k r a (cond b (cond (x.from == i) (x.change ∷ from_port p i xs) (from_port p i xs)) (from_port p i xs))) [
       | false ↦ λ h. shown-at k r p i a xs h
       | true ↦ λ h.
-        let later : (j : ℕ) → (i ≡ j → ⊥) → touches k r (from_port p j xs) ≡ false = λ j d. elim (x.from == j) as (λ b. touches k r (cond b (x.change ∷ from_port p j xs) (from_port p j xs)) ≡ false → touches k r (from_port p j xs) ≡ false) [ true ↦ λ e. (or_parts (agree k x.change.row r) (touches k r (from_port p j xs)) e).1 | false ↦ λ e. e ] (h j d) in
-        elim (cases_eq x.from i) [
-          | inl e ↦ let q : eqb x.from i ≡ true = eq-eqb x.from i e in rw q (shown-at k r p i (cond (agree k x.change.row r) (addition r x.change) a) xs later)
-          | inr d ↦
-            let q : eqb x.from i ≡ false = ne_eqb x.from i d in
-            let n : (agree k x.change.row r || touches k r (from_port p x.from xs)) ≡ false = subst (λ b. touches k r (cond b (x.change ∷ from_port p x.from xs) (from_port p x.from xs)) ≡ false) (eq-eqb x.from x.from refl) (h x.from (λ e. d (sym e))) in
-            let z : agree k x.change.row r ≡ false = (or_parts (agree k x.change.row r) (touches k r (from_port p x.from xs)) n).0 in
-            rw q (ap (λ b. last_shown k r (cond b (addition r x.change) a) (at_port p xs)) z ∙ shown-at k r p i a xs later)
-        ]
+          let later : (j : ℕ) → (i ≡ j → ⊥) → touches k r (from_port p j xs) ≡ false = λ j d. elim (x.from == j) as (λ b. touches k r (cond b (x.change ∷ from_port p j xs) (from_port p j xs)) ≡ false → touches k r (from_port p j xs) ≡ false) [ true ↦ λ e. (or_parts (agree k x.change.row r) (touches k r (from_port p j xs)) e).1 | false ↦ λ e. e ] (h j d) in
+          elim (cases_eq x.from i) [
+            | inl e ↦ let q : eqb x.from i ≡ true = eq-eqb x.from i e in rw q (shown-at k r p i (cond (agree k x.change.row r) (addition r x.change) a) xs later)
+            | inr d ↦
+                let q : eqb x.from i ≡ false = ne_eqb x.from i d in
+                let n : (agree k x.change.row r || touches k r (from_port p x.from xs)) ≡ false = subst (λ b. touches k r (cond b (x.change ∷ from_port p x.from xs) (from_port p x.from xs)) ≡ false) (eq-eqb x.from x.from refl) (h x.from (λ e. d (sym e))) in
+                let z : agree k x.change.row r ≡ false = (or_parts (agree k x.change.row r) (touches k r (from_port p x.from xs)) n).0 in
+                rw q (ap (λ b. last_shown k r (cond b (addition r x.change) a) (at_port p xs)) z ∙ shown-at k r p i a xs later)
+          ]
     ] h
 
 -- as above, the other subtasks show nothing
@@ -144,24 +144,24 @@ pub shown-sum : (k : List ℕ) (r : Row) (p n : ℕ) → 0 < n → (c : List Arr
 shown-sum k r p n some c within apart =
     elim (cases_eq (total n (λ i. cond (touches k r (from_port p i c)) 1 0)) 0) [
       | inl z ↦
-        let none : (i : ℕ) → i < n → touches k r (from_port p i c) ≡ false = λ i l. not_one _ (omega (arith, total_part n i (λ i. cond (touches k r (from_port p i c)) 1 0) l)) in
-        shown-at k r p 0 0 c (λ j d. elim (cases_lt j n) [ inl l ↦ none j l | inr l ↦ rw (sel_past p n j c within l) refl ])
-        ∙ sym (total_only n 0 (λ i. last_shown k r 0 (from_port p i c)) some (λ i l pos. absurd (omega (arith, shown_untouched k r 0 (from_port p i c) (none i l)))))
+          let none : (i : ℕ) → i < n → touches k r (from_port p i c) ≡ false = λ i l. not_one _ (omega (arith, total_part n i (λ i. cond (touches k r (from_port p i c)) 1 0) l)) in
+          shown-at k r p 0 0 c (λ j d. elim (cases_lt j n) [ inl l ↦ none j l | inr l ↦ rw (sel_past p n j c within l) refl ])
+          ∙ sym (total_only n 0 (λ i. last_shown k r 0 (from_port p i c)) some (λ i l pos. absurd (omega (arith, shown_untouched k r 0 (from_port p i c) (none i l)))))
       | inr d ↦
-        let i = total_some n (λ i. cond (touches k r (from_port p i c)) 1 0) (omega arith) in
-        let there : touches k r (from_port p i.0 c) ≡ true = is_one _ i.2 in
-        let none : (j : ℕ) → (i.0 ≡ j → ⊥) → touches k r (from_port p j c) ≡ false = λ j ne.
-            elim (cases_lt j n) [
-              | inr l ↦ rw (sel_past p n j c within l) refl
-              | inl l ↦ false_from_ne_true _ (λ y.
+          let i = total_some n (λ i. cond (touches k r (from_port p i c)) 1 0) (omega arith) in
+          let there : touches k r (from_port p i.0 c) ≡ true = is_one _ i.2 in
+          let none : (j : ℕ) → (i.0 ≡ j → ⊥) → touches k r (from_port p j c) ≡ false = λ j ne.
+          elim (cases_lt j n) [
+            | inr l ↦ rw (sel_past p n j c within l) refl
+            | inl l ↦ false_from_ne_true _ (λ y.
                 let b = touched k r (λ a. (s : Row) → project k s ≡ project k r → project k a ≡ project k s → i.0 ≡ j) (from_port p i.0 c)
-                  (all-weaker _ _ (λ x h s e1 e2.
-                    let w = touched k r (λ s. project k x.row ≡ project k s → i.0 ≡ j) (from_port p j c) h y in
-                    w.2 (e2 ∙ (e1 ∙ sym w.1))) (from_port p i.0 c) (apart i.0 j i.1 l)) there in
+                (all-weaker _ _ (λ x h s e1 e2.
+                let w = touched k r (λ s. project k x.row ≡ project k s → i.0 ≡ j) (from_port p j c) h y in
+                w.2 (e2 ∙ (e1 ∙ sym w.1))) (from_port p i.0 c) (apart i.0 j i.1 l)) there in
                 ne (b.2 r refl b.1))
-            ] in
-        shown-at k r p i.0 0 c none
-        ∙ sym (total_only n i.0 (λ i. last_shown k r 0 (from_port p i c)) i.1 (λ j l pos. elim (cases_eq i.0 j) [ inl e ↦ e | inr ne ↦ absurd (omega (arith, shown_untouched k r 0 (from_port p j c) (none j ne))) ]))
+          ] in
+          shown-at k r p i.0 0 c none
+          ∙ sym (total_only n i.0 (λ i. last_shown k r 0 (from_port p i c)) i.1 (λ j l pos. elim (cases_eq i.0 j) [ inl e ↦ e | inr ne ↦ absurd (omega (arith, shown_untouched k r 0 (from_port p j c) (none j ne))) ]))
     ]
 
 -- what is said of each row of a list holds of a row that a fold has
@@ -169,10 +169,10 @@ shown_mentioned : (k : List ℕ) (Q : Row → Type 0) (r : Row) (a : ℕ) (l : L
 shown_mentioned k Q r a [] h l z = z l
 shown_mentioned k Q r a (x ∷ xs) h l z =
     shown_mentioned k Q r (cond (agree k x.row r) (addition r x) a) xs h.1 l
-      (elim (agree k x.row r) as (λ b. 0 < cond b (addition r x) a → Q r) [
-        | true ↦ λ pos. mentioned Q r (x ∷ []) (h.0, tt) (omega arith)
-        | false ↦ z
-      ])
+    (elim (agree k x.row r) as (λ b. 0 < cond b (addition r x) a → Q r) [
+      | true ↦ λ pos. mentioned Q r (x ∷ []) (h.0, tt) (omega arith)
+      | false ↦ z
+    ])
 
 -- what is said of each row of a list holds of a row of its bag
 pub means_mentioned : (m : Meaning) (Q : Row → Type 0) (r : Row) (l : List Change) (b : Rows) → ReadsAs m l b → AllByRecursion (λ c. Q c.row) l → 0 < copies b r → Q r ⊎ IsPartial m
@@ -203,13 +203,13 @@ total_worth-one zero a w f l = absurd (omega arith)
 total_worth-one (suc n) a w f l =
     elim (cases_eq a n) [
       | inl e ↦
-        let q : cond (eqb a n) (plus w (f n)) (f n) ≡ plus w (f n) = ap (λ b. cond b (plus w (f n)) (f n)) (eq-eqb a n e) in
-        ap (plus (total_worth n (λ i. cond (eqb a i) (plus w (f i)) (f i)))) q
-        ∙ (ap (λ x. plus x (plus w (f n))) (total_worth-past n a w f (omega arith)) ∙ (sym (plus_assoc (total_worth n f) w (f n)) ∙ (ap (λ x. plus x (f n)) (plus_comm (total_worth n f) w) ∙ plus_assoc w (total_worth n f) (f n))))
+          let q : cond (eqb a n) (plus w (f n)) (f n) ≡ plus w (f n) = ap (λ b. cond b (plus w (f n)) (f n)) (eq-eqb a n e) in
+          ap (plus (total_worth n (λ i. cond (eqb a i) (plus w (f i)) (f i)))) q
+          ∙ (ap (λ x. plus x (plus w (f n))) (total_worth-past n a w f (omega arith)) ∙ (sym (plus_assoc (total_worth n f) w (f n)) ∙ (ap (λ x. plus x (f n)) (plus_comm (total_worth n f) w) ∙ plus_assoc w (total_worth n f) (f n))))
       | inr d ↦
-        let q : cond (eqb a n) (plus w (f n)) (f n) ≡ f n = ap (λ b. cond b (plus w (f n)) (f n)) (ne_eqb a n d) in
-        ap (plus (total_worth n (λ i. cond (eqb a i) (plus w (f i)) (f i)))) q
-        ∙ (ap (λ x. plus x (f n)) (total_worth-one n a w f (omega arith)) ∙ plus_assoc w (total_worth n f) (f n))
+          let q : cond (eqb a n) (plus w (f n)) (f n) ≡ f n = ap (λ b. cond b (plus w (f n)) (f n)) (ne_eqb a n d) in
+          ap (plus (total_worth n (λ i. cond (eqb a i) (plus w (f i)) (f i)))) q
+          ∙ (ap (λ x. plus x (f n)) (total_worth-one n a w f (omega arith)) ∙ plus_assoc w (total_worth n f) (f n))
     ]
 
 sum_of-at : (o : Partials) (r : Row) (p n : ℕ) (c : List Arrival) → AllByRecursion (λ x. x.from < n) c → sum_of o r (at_port p c) ≡ total_worth n (λ i. sum_of o r (from_port p i c))
@@ -218,17 +218,17 @@ sum_of-at o r p n (x ∷ xs) h =
     elim (x.port == p) as (λ b. sum_of o r (cond b (x.change ∷ at_port p xs) (at_port p xs)) ≡ total_worth n (λ i. sum_of o r (cond b (cond (x.from == i) (x.change ∷ from_port p i xs) (from_port p i xs)) (from_port p i xs)))) [
       | false ↦ sum_of-at o r p n xs h.1
       | true ↦
-        elim (cases_Bool (agree o.own x.change.row r)) [
-          | inl e ↦
-            ap (λ b. cond b (plus (o.worth x.change.row) (sum_of o r (at_port p xs))) (sum_of o r (at_port p xs))) e
-            ∙ (ap (plus (o.worth x.change.row)) (sum_of-at o r p n xs h.1)
-            ∙ (sym (total_worth-one n x.from (o.worth x.change.row) (λ i. sum_of o r (from_port p i xs)) h.0)
-            ∙ total_worth-same n _ _ (λ i l. elim (x.from == i) as (λ b. cond b (plus (o.worth x.change.row) (sum_of o r (from_port p i xs))) (sum_of o r (from_port p i xs)) ≡ sum_of o r (cond b (x.change ∷ from_port p i xs) (from_port p i xs))) [ true ↦ sym (ap (λ b. cond b (plus (o.worth x.change.row) (sum_of o r (from_port p i xs))) (sum_of o r (from_port p i xs))) e) | false ↦ refl ])))
-          | inr e ↦
-            ap (λ b. cond b (plus (o.worth x.change.row) (sum_of o r (at_port p xs))) (sum_of o r (at_port p xs))) e
-            ∙ (sum_of-at o r p n xs h.1
-            ∙ total_worth-same n _ _ (λ i l. elim (x.from == i) as (λ b. sum_of o r (from_port p i xs) ≡ sum_of o r (cond b (x.change ∷ from_port p i xs) (from_port p i xs))) [ true ↦ sym (ap (λ b. cond b (plus (o.worth x.change.row) (sum_of o r (from_port p i xs))) (sum_of o r (from_port p i xs))) e) | false ↦ refl ]))
-        ]
+          elim (cases_Bool (agree o.own x.change.row r)) [
+            | inl e ↦
+                ap (λ b. cond b (plus (o.worth x.change.row) (sum_of o r (at_port p xs))) (sum_of o r (at_port p xs))) e
+                ∙ (ap (plus (o.worth x.change.row)) (sum_of-at o r p n xs h.1)
+                ∙ (sym (total_worth-one n x.from (o.worth x.change.row) (λ i. sum_of o r (from_port p i xs)) h.0)
+                ∙ total_worth-same n _ _ (λ i l. elim (x.from == i) as (λ b. cond b (plus (o.worth x.change.row) (sum_of o r (from_port p i xs))) (sum_of o r (from_port p i xs)) ≡ sum_of o r (cond b (x.change ∷ from_port p i xs) (from_port p i xs))) [ true ↦ sym (ap (λ b. cond b (plus (o.worth x.change.row) (sum_of o r (from_port p i xs))) (sum_of o r (from_port p i xs))) e) | false ↦ refl ])))
+            | inr e ↦
+                ap (λ b. cond b (plus (o.worth x.change.row) (sum_of o r (at_port p xs))) (sum_of o r (at_port p xs))) e
+                ∙ (sum_of-at o r p n xs h.1
+                ∙ total_worth-same n _ _ (λ i l. elim (x.from == i) as (λ b. sum_of o r (from_port p i xs) ≡ sum_of o r (cond b (x.change ∷ from_port p i xs) (from_port p i xs))) [ true ↦ sym (ap (λ b. cond b (plus (o.worth x.change.row) (sum_of o r (from_port p i xs))) (sum_of o r (from_port p i xs))) e) | false ↦ refl ]))
+          ]
     ]
 
 sum_of-filter : (o : Partials) (r : Row) (q : Row → Bool) → ((b : Row) → project o.own b ≡ project o.own r → q b ≡ q r) → (l : List Change) → sum_of o r (filter (λ c. q c.row) l) ≡ cond (q r) (sum_of o r l) nothing
@@ -236,15 +236,15 @@ sum_of-filter o r q h [] = sym (either (q r) nothing)
 sum_of-filter o r q h (x ∷ xs) =
     elim (cases_Bool (agree o.own x.row r)) [
       | inl e ↦
-        ap (λ b. sum_of o r (cond b (x ∷ filter (λ c. q c.row) xs) (filter (λ c. q c.row) xs))) (h x.row (same-true _ _ e))
-        ∙ elim (q r) as (λ d. sum_of o r (filter (λ c. q c.row) xs) ≡ cond d (sum_of o r xs) nothing → sum_of o r (cond d (x ∷ filter (λ c. q c.row) xs) (filter (λ c. q c.row) xs)) ≡ cond d (sum_of o r (x ∷ xs)) nothing) [
-          | true ↦ λ ih. ap (λ s. cond (agree o.own x.row r) (plus (o.worth x.row) s) s) ih
-          | false ↦ λ ih. ih
-        ] (sum_of-filter o r q h xs)
+          ap (λ b. sum_of o r (cond b (x ∷ filter (λ c. q c.row) xs) (filter (λ c. q c.row) xs))) (h x.row (same-true _ _ e))
+          ∙ elim (q r) as (λ d. sum_of o r (filter (λ c. q c.row) xs) ≡ cond d (sum_of o r xs) nothing → sum_of o r (cond d (x ∷ filter (λ c. q c.row) xs) (filter (λ c. q c.row) xs)) ≡ cond d (sum_of o r (x ∷ xs)) nothing) [
+            | true ↦ λ ih. ap (λ s. cond (agree o.own x.row r) (plus (o.worth x.row) s) s) ih
+            | false ↦ λ ih. ih
+          ] (sum_of-filter o r q h xs)
       | inr e ↦
-        let out : (l : List Change) → sum_of o r (x ∷ l) ≡ sum_of o r l = λ l. ap (λ b. cond b (plus (o.worth x.row) (sum_of o r l)) (sum_of o r l)) e in
-        elim (q x.row) as (λ d. sum_of o r (cond d (x ∷ filter (λ c. q c.row) xs) (filter (λ c. q c.row) xs)) ≡ sum_of o r (filter (λ c. q c.row) xs)) [ true ↦ out (filter (λ c. q c.row) xs) | false ↦ refl ]
-        ∙ (sum_of-filter o r q h xs ∙ ap (λ s. cond (q r) s nothing) (sym (out xs)))
+          let out : (l : List Change) → sum_of o r (x ∷ l) ≡ sum_of o r l = λ l. ap (λ b. cond b (plus (o.worth x.row) (sum_of o r l)) (sum_of o r l)) e in
+          elim (q x.row) as (λ d. sum_of o r (cond d (x ∷ filter (λ c. q c.row) xs) (filter (λ c. q c.row) xs)) ≡ sum_of o r (filter (λ c. q c.row) xs)) [ true ↦ out (filter (λ c. q c.row) xs) | false ↦ refl ]
+          ∙ (sum_of-filter o r q h xs ∙ ap (λ s. cond (q r) s nothing) (sym (out xs)))
     ]
 
 -- the worth of the rows that belong to one subtask
@@ -288,16 +288,16 @@ module _ (many : ℕ) (e : Exchange) (route : Row → ℕ) (p j : ℕ) (j_in : j
   means_came (last_rows k) h ok b means = λ r.
       copies_came (last_rows k) b r
       ∙ sym (shown-sum k r p many (omega arith) c within
-        (λ i l il ll. subst (λ xs. AllByRecursion (λ a. AllByRecursion (λ b. project k a.row ≡ project k b.row → i ≡ l) (from_port p l c)) xs) (sym (came i il))
-          (all-filter _ _ (G i) (all-weaker _ _ (λ x q. subst (AllByRecursion _) (sym (came l ll)) (all-filter _ _ (G l) q)) (G i) (ok i l il ll))))
+      (λ i l il ll. subst (λ xs. AllByRecursion (λ a. AllByRecursion (λ b. project k a.row ≡ project k b.row → i ≡ l) (from_port p l c)) xs) (sym (came i il))
+      (all-filter _ _ (G i) (all-weaker _ _ (λ x q. subst (AllByRecursion _) (sym (came l ll)) (all-filter _ _ (G l) q)) (G i) (ok i l il ll))))
       ∙ total-same many _ _ (λ i l. ap (last_shown k r 0) (came i l) ∙ (shown-filter k r (λ b. goes_by e route i j b) (λ b q. goes_with e k h i b r q) 0 (G i) ∙ ap (λ n. cond (goes_by e route i j r) n 0) (sym (means i l r)))))
   means_came (partials o) h ok b means = λ r.
       sum_of-at o r p many c within
       ∙ (total_worth-same many _ _ (λ i l.
-          ap (sum_of o r) (came i l)
-          ∙ (of_partial o e h i r (G i)
-          ∙ (ap (λ a. cond (route (project o.own r) == j) a nothing) (means i l r)
-          ∙ sym (worth_cond o route (b i) j r))))
+      ap (sum_of o r) (came i l)
+      ∙ (of_partial o e h i r (G i)
+      ∙ (ap (λ a. cond (route (project o.own r) == j) a nothing) (means i l r)
+      ∙ sym (worth_cond o route (b i) j r))))
       ∙ sym (worth-total o r many (λ i. restricted (λ s. route (project o.group s) == j) (b i))))
     where
       of_partial : (o : Partials) (e : Exchange) → IsKeyedBy (partials o) e → (i : ℕ) (r : Row) (l : List Change) → sum_of o r (filter (λ x. goes_by e route i j x.row) l) ≡ cond (route (project o.own r) == j) (sum_of o r l) nothing

@@ -1,17 +1,17 @@
 -- From what a node's subtasks consumed to what they sent, node by node, inside one state.
-use Rattle.std.specs.Prelude.{◌≡◌, ℕ, ◌+◌, ◌-◌, ◌<◌, ◌≤◌, ◌==◌, Bool, cond, List, ◌++◌, length, min, Option, Ok}
-use Rattle.std.proofs.Common.{zero, suc, true, false, [], ◌∷◌, refl, sym, ap, subst, ◌∙◌, arith, take, eqb, inl, inr, ◌⊎◌, ⊎_elim, Some, None}
-use Rattle.std.specs.List.{Contains, AllByRecursion, filter}
+use Rattle.std.specs.Prelude.{◌≡◌, ℕ, ◌<◌, ◌≤◌, ◌==◌, cond, List, ◌++◌, length, min, Ok}
+use Rattle.std.proofs.Common.{zero, suc, refl, sym, ap, subst, ◌∙◌, arith, take, inl, inr, ⊎_elim, Some}
+use Rattle.std.specs.List.{AllByRecursion, filter}
 use Rattle.std.proofs.lemmas.List.{take_all}
 use Rattle.std.proofs.lemmas.Bool.{cases_lt, eqb-true}
 use Rattle.ct_value.specs.Bag.{copies, none}
 use Rattle.ct_value.specs.Rows.{project}
 use Rattle.ct_value.specs.declared.row.Row.{Row}
 use Rattle.ct_change.specs.declared.change.Change.{Change}
-use Rattle.ct_change.specs.Changelog.{Rows, has}
+use Rattle.ct_change.specs.Changelog.{Rows}
 use Rattle.op_rules.specs.History.{Arrival, at_port, from_port, joined}
-use Rattle.op_rules.specs.Edges.{Meaning, bag, last_rows, partials, IsPartial, ReadsAs, Exchange, forward, hash, Edge, goes_by, goes, belongs_by, belongs, IsRoutedBy, IsUnique, IsApart, HoldsOver, IsSeenBy, IsSeen, AreApartBy, IsKeyedBy}
-use Rattle.op_rules.specs.Tasks.{Task, total, emitted_by, IsFine, IsReady, IsSettled, IsSplitBy, ComeFixedBy, ComeApartBy, Emitted, Facts}
+use Rattle.op_rules.specs.Edges.{Meaning, bag, last_rows, partials, IsPartial, ReadsAs, Exchange, forward, hash, goes_by, goes, belongs_by, belongs, IsRoutedBy, IsUnique, IsApart, HoldsOver, IsSeenBy, IsSeen, AreApartBy, IsKeyedBy}
+use Rattle.op_rules.specs.Tasks.{total, emitted_by, IsFine, IsReady, IsSettled, IsSplitBy, ComeFixedBy, ComeApartBy, Emitted, Facts}
 use Rattle.stream_model.specs.Network.{Network, task, IsNode, IsWired, IsAnswered, IsAnswer, of_scan, of_node}
 use Rattle.stream_model.proofs.Sums.{reach, take-filter, total-same, total_le, total_some, total_only, total_at, total_cond, all-take, all-append_left, all-filter, filter_passes, all-weaker, take_end, take_both, cond_below}
 use Rattle.stream_model.proofs.Bags.{restricted, sum_rows, copies-restricted, copies-sum}
@@ -35,9 +35,10 @@ module _ (g : Network) (wired : IsWired g) where
         let e1 : from_port p i (take n (consumed v j)) ≡ take many a = sel_keep p i (consumed v j) n in
         let e2 : a ≡ take (length a) k = take_end a f.0 k f.1 in
         let least : ℕ = min many (length a) in
-        let e3 : take many (take (length a) k) ≡ take least k = take_both many (length a) k in
-        (reach (λ c. goes (g.edge (g.source v p)) i j c.row) least (sent (g.source v p) i),
-         e1 ∙ (ap (take many) e2 ∙ (e3 ∙ take-filter (λ c. goes (g.edge (g.source v p)) i j c.row) least (sent (g.source v p) i))))
+        let e3 : take many (take (length a) k) ≡ take least k = take_both many (length a) k in (
+          reach (λ c. goes (g.edge (g.source v p)) i j c.row) least (sent (g.source v p) i),
+          e1 ∙ (ap (take many) e2 ∙ (e3 ∙ take-filter (λ c. goes (g.edge (g.source v p)) i j c.row) least (sent (g.source v p) i))),
+        )
 
     module _ (p n : ℕ) (p_in : p < g.ports v) where
       -- how far into the list of each subtask
@@ -47,9 +48,9 @@ module _ (g : Network) (wired : IsWired g) where
       pub far_is : (i : ℕ) → i < g.subtasks → from_port p i (take n (consumed v j)) ≡ filter (λ c. goes (g.edge (g.source v p)) i j c.row) (take (far i) (sent (g.source v p) i))
       unfolding far
       far_is i l = elim (cases_lt i g.subtasks) as (λ s. from_port p i (take n (consumed v j)) ≡ filter (λ c. goes (g.edge (g.source v p)) i j c.row) (take (elim s as (λ _. ℕ) [ inl l ↦ (front p i n p_in l).0 | inr l ↦ 0 ]) (sent (g.source v p) i))) [
-          | inl m ↦ (front p i n p_in m).1
-          | inr m ↦ absurd (omega arith)
-        ]
+        | inl m ↦ (front p i n p_in m).1
+        | inr m ↦ absurd (omega arith)
+      ]
 
   -- each key that holds over all subtasks holds at every choice of one front per subtask
   module _ (u : ℕ) (sent : ℕ → List Change) (fine : IsFine g.subtasks (g.edge u) sent) where
@@ -60,15 +61,15 @@ module _ (g : Network) (wired : IsWired g) where
         let i = total_some g.subtasks (λ i. copies (b i) r) x in
         let j = total_some g.subtasks (λ i. copies (b i) s) y in
         let same : (a c : ℕ) (q z : Row) → a < g.subtasks → c < g.subtasks → 0 < copies (b a) q → 0 < copies (b c) z → project d q ≡ project d z → a ≡ c
-            = λ a c q z al cl qa zc qz.
-              rows_are (λ q. project d q ≡ project d z → a ≡ c) q a al
-                (all-take _ (m a) (sent a) (all-weaker _ _ (λ x h. rows_are (λ z. project d x.row ≡ project d z → a ≡ c) z c cl (all-take _ (m c) (sent c) h) zc) (sent a) (fine.fixed d o.is_fixing a c al cl)))
-                qa qz in
+        = λ a c q z al cl qa zc qz.
+        rows_are (λ q. project d q ≡ project d z → a ≡ c) q a al
+        (all-take _ (m a) (sent a) (all-weaker _ _ (λ x h. rows_are (λ z. project d x.row ≡ project d z → a ≡ c) z c cl (all-take _ (m c) (sent c) h) zc) (sent a) (fine.fixed d o.is_fixing a c al cl)))
+        qa qz in
         let ij : i.0 ≡ j.0 = same i.0 j.0 r s i.1 j.1 i.2 j.2 (o.has_fixing r s e) in
         let there : 0 < copies (b i.0) s = subst (λ a. 0 < copies (b a) s) (sym ij) j.2 in
         let one = fine.keys l o.is_local i.0 i.1 (m i.0) (b i.0) (means i.0 i.1) r s (o.has_local r s e) i.2 there in
         let all : total g.subtasks (λ i. copies (b i) r) ≡ copies (b i.0) r
-            = total_only g.subtasks i.0 (λ i. copies (b i) r) i.1 (λ a al pos. same i.0 a r r i.1 al i.2 pos refl) in
+        = total_only g.subtasks i.0 (λ i. copies (b i) r) i.1 (λ a al pos. same i.0 a r r i.1 al i.2 pos refl) in
         (one.0, omega (arith, all, one.1))
       where
         rows_are : (Q : Row → Type 0) (r : Row) (a : ℕ) → a < g.subtasks → AllByRecursion (λ c. Q c.row) (take (m a) (sent a)) → 0 < copies (b a) r → Q r
@@ -93,9 +94,9 @@ module _ (g : Network) (wired : IsWired g) where
         bag_at_is : (i : ℕ) → i < g.subtasks → ReadsAs (g.edge (g.source v p)).meaning (take (far sent consumed w v j j_in p n pl i) (sent (g.source v p) i)) (bag_at i)
         unfolding bag_at
         bag_at_is i l = elim (cases_lt i g.subtasks) as (λ s. ReadsAs (g.edge (g.source v p)).meaning (take (far sent consumed w v j j_in p n pl i) (sent (g.source v p) i)) (elim s as (λ _. Rows) [ inl l ↦ ((inputs p pl).valid i l (far sent consumed w v j j_in p n pl i)).0 | inr l ↦ none ])) [
-            | inl m ↦ ((inputs p pl).valid i m (far sent consumed w v j j_in p n pl i)).1
-            | inr m ↦ absurd (omega arith)
-          ]
+          | inl m ↦ ((inputs p pl).valid i m (far sent consumed w v j j_in p n pl i)).1
+          | inr m ↦ absurd (omega arith)
+        ]
 
         came_is : ReadsAs (g.edge (g.source v p)).meaning (at_port p (take n (consumed v j))) (came_bag g.subtasks (g.edge (g.source v p)).exchange (g.edge (g.source v p)).route p j j_in (take n (consumed v j)) (within_front n) (λ i. take (far sent consumed w v j j_in p n pl i) (sent (g.source v p) i)) (far_is sent consumed w v j j_in p n pl) (g.edge (g.source v p)).meaning bag_at)
         came_is = means_came g.subtasks (g.edge (g.source v p)).exchange (g.edge (g.source v p)).route p j j_in (take n (consumed v j)) (within_front n) (λ i. take (far sent consumed w v j j_in p n pl i) (sent (g.source v p) i)) (far_is sent consumed w v j j_in p n pl) (g.edge (g.source v p)).meaning ((wired.formed (g.source v p)).keyed) (apart_fronts (g.edge (g.source v p)).meaning (sent (g.source v p)) (far sent consumed w v j j_in p n pl) (inputs p pl).apart) bag_at bag_at_is
@@ -109,8 +110,8 @@ module _ (g : Network) (wired : IsWired g) where
         keys_by forward (partials s) a k is q c = absurd ((wired.formed (g.source v p)).unkeyed (q tt) k c)
         keys_by (hash s) m a k is q c =
             IsUnique-below k (copies a) (λ r. total g.subtasks (λ i. copies (bag_at i) r))
-              (λ r. let le : total g.subtasks (λ i. cond (belongs_by m (hash s) (g.edge (g.source v p)).route i j r) (copies (bag_at i) r) 0) ≤ total g.subtasks (λ i. copies (bag_at i) r) = total_le g.subtasks _ _ (λ i l. cond_below (belongs_by m (hash s) (g.edge (g.source v p)).route i j r) (copies (bag_at i) r)) in omega (arith, is r))
-              (over (g.source v p) (sent (g.source v p)) (inputs p pl) k c (far sent consumed w v j j_in p n pl) bag_at bag_at_is)
+            (λ r. let le : total g.subtasks (λ i. cond (belongs_by m (hash s) (g.edge (g.source v p)).route i j r) (copies (bag_at i) r) 0) ≤ total g.subtasks (λ i. copies (bag_at i) r) = total_le g.subtasks _ _ (λ i l. cond_below (belongs_by m (hash s) (g.edge (g.source v p)).route i j r) (copies (bag_at i) r)) in omega (arith, is r))
+            (over (g.source v p) (sent (g.source v p)) (inputs p pl) k c (far sent consumed w v j j_in p n pl) bag_at bag_at_is)
 
         no_keys : (e : Exchange) (k : List ℕ) → IsPartial (g.edge (g.source v p)).meaning → IsSeenBy e (g.edge (g.source v p)) k → ⊥
         no_keys forward k z c = (wired.formed (g.source v p)).unkeyed z k c
@@ -119,15 +120,15 @@ module _ (g : Network) (wired : IsWired g) where
         keys_at : (k : List ℕ) → IsSeen (g.edge (g.source v p)) k → (b : Rows) → ReadsAs (g.edge (g.source v p)).meaning (at_port p (take n (consumed v j))) b → IsUnique k (copies b)
         keys_at k c b h =
             ⊎_elim
-              (λ is. keys_by (g.edge (g.source v p)).exchange (g.edge (g.source v p)).meaning b k (λ r. is r ∙ copies_came g.subtasks (g.edge (g.source v p)).exchange (g.edge (g.source v p)).route p j j_in (take n (consumed v j)) (within_front n) (λ i. take (far sent consumed w v j j_in p n pl i) (sent (g.source v p) i)) (far_is sent consumed w v j j_in p n pl) (g.edge (g.source v p)).meaning bag_at r) (λ z. z) c)
-              (λ z. absurd (no_keys (g.edge (g.source v p)).exchange k z c))
-              (means_same (g.edge (g.source v p)).meaning (at_port p (take n (consumed v j))) b _ h came_is)
+            (λ is. keys_by (g.edge (g.source v p)).exchange (g.edge (g.source v p)).meaning b k (λ r. is r ∙ copies_came g.subtasks (g.edge (g.source v p)).exchange (g.edge (g.source v p)).route p j j_in (take n (consumed v j)) (within_front n) (λ i. take (far sent consumed w v j j_in p n pl i) (sent (g.source v p) i)) (far_is sent consumed w v j j_in p n pl) (g.edge (g.source v p)).meaning bag_at r) (λ z. z) c)
+            (λ z. absurd (no_keys (g.edge (g.source v p)).exchange k z c))
+            (means_same (g.edge (g.source v p)).meaning (at_port p (take n (consumed v j))) b _ h came_is)
 
       pub all_kept : (P : Change → Type 0) (p : ℕ) → p < g.ports v → ((i : ℕ) → i < g.subtasks → AllByRecursion P (filter (λ c. goes (g.edge (g.source v p)) i j c.row) (sent (g.source v p) i))) → AllByRecursion P (at_port p (consumed v j))
       all_kept P p pl h =
           all-at P p g.subtasks (consumed v j) (w.within v j) (λ i l.
-            let f = w.fed v j p i pl l j_in in
-            all-append_left P (from_port p i (consumed v j)) f.0 (subst (AllByRecursion P) (sym f.1) (h i l)))
+          let f = w.fed v j p i pl l j_in in
+          all-append_left P (from_port p i (consumed v j)) f.0 (subst (AllByRecursion P) (sym f.1) (h i l)))
 
       placed_by : (e : Exchange) (p : ℕ) → ((P : Change → Type 0) → ((i : ℕ) → i < g.subtasks → AllByRecursion P (filter (λ c. goes_by e (g.edge (g.source v p)).route i j c.row) (sent (g.source v p) i))) → AllByRecursion P (at_port p (consumed v j))) → IsRoutedBy e (g.edge (g.source v p)).route j (at_port p (consumed v j))
       placed_by forward p k = tt
@@ -136,13 +137,13 @@ module _ (g : Network) (wired : IsWired g) where
 
       pub ready : IsReady (task g v) j (consumed v j)
       ready = record {
-          ports = w.ports v j;
-          valid = λ p pl n. (_, came_is p n pl);
-          kinds = λ p pl. all_kept _ p pl (λ i l. all-filter _ _ (sent (g.source v p) i) ((inputs p pl).kinds i l));
-          types = λ p pl. all_kept _ p pl (λ i l. all-filter _ _ (sent (g.source v p) i) ((inputs p pl).types i l));
-          keys = λ p pl k c n. keys_at p n pl k c;
-          placed = λ p pl. placed_by (g.edge (g.source v p)).exchange p (λ P. all_kept P p pl);
-        }
+        ports = w.ports v j;
+        valid = λ p pl n. (_, came_is p n pl);
+        kinds = λ p pl. all_kept _ p pl (λ i l. all-filter _ _ (sent (g.source v p) i) ((inputs p pl).kinds i l));
+        types = λ p pl. all_kept _ p pl (λ i l. all-filter _ _ (sent (g.source v p) i) ((inputs p pl).types i l));
+        keys = λ p pl k c n. keys_at p n pl k c;
+        placed = λ p pl. placed_by (g.edge (g.source v p)).exchange p (λ P. all_kept P p pl);
+      }
 
     -- what reaches a node's subtasks over an edge
     abbrev Reaches : ℕ → Exchange → (Row → ℕ) → ℕ → ℕ → Type 1
@@ -197,9 +198,9 @@ module _ (g : Network) (wired : IsWired g) where
       module _ (quiet : (v j p i : ℕ) → p < g.ports v → i < g.subtasks → j < g.subtasks → from_port p i (consumed v j) ≡ filter (λ c. goes (g.edge (g.source v p)) i j c.row) (sent (g.source v p) i)) where
         settled_same : (u : ℕ) (a b : Rows) → ((r : Row) → copies a r ≤ copies b r) → IsSettled (g.edge u) b → IsSettled (g.edge u) a
         settled_same u a b le s = record {
-            keys = λ k m. IsUnique-below k (copies a) (copies b) le (s.keys k m);
-            types = λ r pos. s.types r (omega (arith, le r));
-          }
+          keys = λ k m. IsUnique-below k (copies a) (copies b) le (s.keys k m);
+          types = λ r pos. s.types r (omega (arith, le r));
+        }
 
         -- a node's answer, from its inputs'
         module _ (v : ℕ) (some : 0 < g.ports v) (whole : ℕ → Rows) (inputs : (p : ℕ) → p < g.ports v → IsAnswered g.subtasks (g.edge (g.source v p)) (sent (g.source v p)) (whole p)) where
@@ -210,16 +211,16 @@ module _ (g : Network) (wired : IsWired g) where
           means_of : (p : ℕ) → p < g.ports v → (i : ℕ) → i < g.subtasks → ReadsAs (g.edge (g.source v p)).meaning (sent (g.source v p) i) (bags_of p i)
           unfolding bags_of
           means_of p pl = elim (cases_lt p (g.ports v)) as (λ s. (i : ℕ) → i < g.subtasks → ReadsAs (g.edge (g.source v p)).meaning (sent (g.source v p) i) ((elim s as (λ _. ℕ → Rows) [ inl l ↦ (inputs p l).rows | inr l ↦ λ i. none ]) i)) [
-              | inl l ↦ (inputs p l).stands
-              | inr l ↦ absurd (omega arith)
-            ]
+            | inl l ↦ (inputs p l).stands
+            | inr l ↦ absurd (omega arith)
+          ]
 
           together_of : (p : ℕ) → p < g.ports v → (r : Row) → total g.subtasks (λ i. copies (bags_of p i) r) ≡ copies (whole p) r
           unfolding bags_of
           together_of p pl = elim (cases_lt p (g.ports v)) as (λ s. (r : Row) → total g.subtasks (λ i. copies ((elim s as (λ _. ℕ → Rows) [ inl l ↦ (inputs p l).rows | inr l ↦ λ i. none ]) i) r) ≡ copies (whole p) r) [
-              | inl l ↦ (inputs p l).together
-              | inr l ↦ absurd (omega arith)
-            ]
+            | inl l ↦ (inputs p l).together
+            | inr l ↦ absurd (omega arith)
+          ]
 
           -- the bag of what came to a port of a subtask
           part_of : ℕ → ℕ → Rows
@@ -256,28 +257,31 @@ module _ (g : Network) (wired : IsWired g) where
           bag_out_is : (j : ℕ) → j < g.subtasks → (g.part v j (part_of j) ≡ Some (bag_out j)) × ReadsAs (g.edge v).meaning (sent v j) (bag_out j)
           unfolding bag_out
           bag_out_is j jl = elim (cases_lt j g.subtasks) as (λ s. (g.part v j (part_of j) ≡ Some (elim s as (λ _. Rows) [ inl l ↦ (made j l).0 | inr l ↦ none ])) × ReadsAs (g.edge v).meaning (sent v j) (elim s as (λ _. Rows) [ inl l ↦ (made j l).0 | inr l ↦ none ])) [
-              | inl l ↦ ((made j l).1, (made j l).2)
-              | inr l ↦ absurd (omega arith)
-            ]
+            | inl l ↦ ((made j l).1, (made j l).2)
+            | inr l ↦ absurd (omega arith)
+          ]
 
           sum_is : (b : Rows) × (g.batch v whole ≡ Some b) × ((r : Row) → total g.subtasks (λ j. copies (bag_out j) r) ≡ copies b r)
           sum_is = (facts v some).parts_add_up part_of whole bag_out (λ p pl. split_by (g.edge (g.source v p)).meaning (g.edge (g.source v p)).exchange p pl ((wired.formed (g.source v p)).keyed) (λ j. part_of j p) (λ j. copies_part j p)) (λ j jl. (bag_out_is j jl).0)
 
           answered_of : (b : Rows) × (g.batch v whole ≡ Some b) × IsAnswered g.subtasks (g.edge v) (sent v) b
           answered_of =
-              let q = sum_is in
-              (q.0, q.1, record {
-              rows = bag_out;
-              stands = λ j jl. (bag_out_is j jl).1;
-              together = q.2;
-              settled = record {
-                keys = λ k. ⊎_elim
-                  (λ c. (facts v some).unique_keys whole q.0 q.1 (λ p pl. (inputs p pl).settled) k c)
-                  (λ o. IsUnique-below k (copies q.0) _ (λ r. le_of _ _ (sym (q.2 r)))
-                    (over v (sent v) (all_fine v (inr some)) k o (λ i. length (sent v i)) bag_out (λ i il. subst (λ l. ReadsAs (g.edge v).meaning l (bag_out i)) (sym (take_all (length (sent v i)) (sent v i) (omega arith))) (bag_out_is i il).1)));
-                types = (facts v some).answer_types whole q.0 q.1 (λ p pl. (inputs p pl).settled);
-              };
-            })
+              let q = sum_is in (
+                q.0,
+                q.1,
+                record {
+                  rows = bag_out;
+                  stands = λ j jl. (bag_out_is j jl).1;
+                  together = q.2;
+                  settled = record {
+                    keys = λ k. ⊎_elim
+                        (λ c. (facts v some).unique_keys whole q.0 q.1 (λ p pl. (inputs p pl).settled) k c)
+                        (λ o. IsUnique-below k (copies q.0) _ (λ r. le_of _ _ (sym (q.2 r)))
+                        (over v (sent v) (all_fine v (inr some)) k o (λ i. length (sent v i)) bag_out (λ i il. subst (λ l. ReadsAs (g.edge v).meaning l (bag_out i)) (sym (take_all (length (sent v i)) (sent v i) (omega arith))) (bag_out_is i il).1)));
+                    types = (facts v some).answer_types whole q.0 q.1 (λ p pl. (inputs p pl).settled);
+                  };
+                },
+              )
 
         module _ (tables : ℕ → Rows) (first : (v table : ℕ) → g.scans v ≡ Some table → IsAnswered g.subtasks (g.edge v) (sent v) (tables table)) where
           abbrev HasAnswer : ℕ → Type 0
@@ -285,12 +289,13 @@ module _ (g : Network) (wired : IsWired g) where
 
           -- the answers of the inputs, by port
           whole_of : (v : ℕ) → ((p : ℕ) → p < g.ports v → HasAnswer (g.source v p)) → (f : ℕ → Rows) × ((p : ℕ) → p < g.ports v → IsAnswer g tables (g.source v p) (f p) × IsAnswered g.subtasks (g.edge (g.source v p)) (sent (g.source v p)) (f p))
-          whole_of v ins =
-              (λ p. elim (cases_lt p (g.ports v)) as (λ _. Rows) [ inl l ↦ (ins p l).0 | inr l ↦ none ],
-               λ p pl. elim (cases_lt p (g.ports v)) as (λ s. IsAnswer g tables (g.source v p) (elim s as (λ _. Rows) [ inl l ↦ (ins p l).0 | inr l ↦ none ]) × IsAnswered g.subtasks (g.edge (g.source v p)) (sent (g.source v p)) (elim s as (λ _. Rows) [ inl l ↦ (ins p l).0 | inr l ↦ none ])) [
-                 | inl l ↦ ((ins p l).1, (ins p l).2)
-                 | inr l ↦ absurd (omega arith)
-               ])
+          whole_of v ins = (
+            λ p. elim (cases_lt p (g.ports v)) as (λ _. Rows) [ inl l ↦ (ins p l).0 | inr l ↦ none ],
+            λ p pl. elim (cases_lt p (g.ports v)) as (λ s. IsAnswer g tables (g.source v p) (elim s as (λ _. Rows) [ inl l ↦ (ins p l).0 | inr l ↦ none ]) × IsAnswered g.subtasks (g.edge (g.source v p)) (sent (g.source v p)) (elim s as (λ _. Rows) [ inl l ↦ (ins p l).0 | inr l ↦ none ])) [
+              | inl l ↦ ((ins p l).1, (ins p l).2)
+              | inr l ↦ absurd (omega arith)
+            ],
+          )
 
           of_inputs : (v : ℕ) → 0 < g.ports v → ((p : ℕ) → p < g.ports v → HasAnswer (g.source v p)) → HasAnswer v
           of_inputs v some ins =

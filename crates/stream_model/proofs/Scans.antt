@@ -1,28 +1,26 @@
 -- The facts of a scan.
 use Rattle.std.specs.Prelude.{◌≡◌, ℕ, ◌+◌, ◌<◌, ◌≤◌, ◌==◌, ◌&&◌, ◌||◌, not, Bool, cond, List, ◌++◌, length, Option}
 use Rattle.std.proofs.Common.{zero, suc, true, false, [], ◌∷◌, refl, sym, ap, subst, ◌∙◌, arith, take, inl, inr, ◌⊎◌, Some, None, ⊎_elim}
-use Rattle.std.specs.List.{Contains, AllByRecursion, filter, find}
+use Rattle.std.specs.List.{AllByRecursion, filter, find}
 use Rattle.std.proofs.lemmas.List.{append-nil, append_assoc, take_all}
-use Rattle.std.proofs.lemmas.Bool.{cases_Bool, eqb-true, eqb-false, false≢true}
+use Rattle.std.proofs.lemmas.Bool.{eqb-true, eqb-false, false≢true}
 use Rattle.ct_value.specs.Bag.{items, copies, none, add, remove, occurs, one_at, copies-none, copies-add, copies-remove, copies-occurs}
 use Rattle.ct_value.specs.Order.{row_cmp, row_total, row_exact}
 use Rattle.ct_value.specs.Rows.{project}
 use Rattle.ct_value.specs.declared.row.Row.{Row}
 use Rattle.ct_value.specs.declared.codes.ChangeCode.{ChangeCode}
 use Rattle.ct_value.specs.declared.codes.ChangeCode.TheVariants.{KindNotDeclared, RowAbsent, KeyPresent}
-use Rattle.ct_change.specs.declared.kind.Kind.{Kind}
-use Rattle.ct_change.specs.declared.kind.Kind.TheVariants.{I, UB, UA, D}
 use Rattle.ct_change.specs.declared.change.Change.{Change}
-use Rattle.ct_change.specs.Changelog.{Mode, append, retract, upsert, Rows, same_row, adds, has, admits, row_at, apply, fold, MayCome, IsValidFrom, IsValid, addition, removal, additions, removals, last_shown, Means}
-use Rattle.ct_change.proofs.Folds.{fold-push, append_only}
-use Rattle.ct_change.proofs.Meanings.{means_fold}
-use Rattle.op_rules.specs.Edges.{Meaning, bag, last_rows, partials, IsPartial, ReadsAs, Edge, IsUnique, IsApart, HoldsOver, AreApartBy, LiesIn}
-use Rattle.op_rules.specs.Tasks.{total, IsFine, IsSettled}
+use Rattle.ct_change.specs.Changelog.{Mode, append, retract, upsert, Rows, same_row, adds, admits, row_at, apply, fold, MayCome, IsValidFrom, addition, removal, additions, last_shown, Means}
+use Rattle.ct_change.specs.laws.Folds.{fold-push, append_only}
+use Rattle.ct_change.specs.laws.Meanings.{means_fold}
+use Rattle.op_rules.specs.Edges.{bag, last_rows, IsPartial, ReadsAs, Edge, IsUnique, IsApart, AreApartBy, LiesIn}
+use Rattle.op_rules.specs.Tasks.{IsFine}
 use Rattle.stream_model.specs.Tables.{Table, scanned_at, kind_refusal, null_refusal, row_refusal, key_refusal_by, is_there, or_else, refusal, AllTaken}
-use Rattle.stream_model.specs.Network.{IsAnswered, scanned_by, ScanFacts}
+use Rattle.stream_model.specs.Network.{IsAnswered, scanned_by}
 use Rattle.stream_model.specs.Scans.{meaning_of, IsKeyBy, IsKeyOf, KeepsKeys, CarriesTable, ScansStand}
-use Rattle.stream_model.proofs.Sums.{reach, take-filter, total-same, total_one, all-take, all-filter, all-weaker, filter_passes, cond_sum, cond_below}
-use Rattle.stream_model.proofs.Bags.{same-true, same-itself, agree, agree_from, weigh-rows, about_addition, about_removal, restricted, copies-restricted}
+use Rattle.stream_model.proofs.Sums.{reach, take-filter, total-same, total_one, all-filter, all-weaker, filter_passes, cond_sum, cond_below}
+use Rattle.stream_model.proofs.Bags.{same-true, agree, agree_from, weigh-rows, about_addition, about_removal, restricted, copies-restricted}
 use Rattle.stream_model.proofs.Exchange.{shown-filter, means_same, IsUnique-below}
 
 -- ---- a change that isn't refused may come
@@ -64,9 +62,10 @@ may_come (upsert columns) key rows change t = t.kind
 
 valid_taken : (t : Table) (before changes : List Change) → AllTaken t before changes → IsValidFrom t.mode (fold t.mode before) changes
 valid_taken t before [] h = tt
-valid_taken t before (change ∷ changes) h =
-    (may_come t.mode t.key (fold t.mode before) change (is_taken t (fold t.mode before) change h.0),
-     subst (λ rows. IsValidFrom t.mode rows changes) (fold-push t.mode before change) (valid_taken t (before ++ change ∷ []) changes h.1))
+valid_taken t before (change ∷ changes) h = (
+  may_come t.mode t.key (fold t.mode before) change (is_taken t (fold t.mode before) change h.0),
+  subst (λ rows. IsValidFrom t.mode rows changes) (fold-push t.mode before change) (valid_taken t (before ++ change ∷ []) changes h.1),
+)
 
 taken-take : (t : Table) (before : List Change) (n : ℕ) (changes : List Change) → AllTaken t before changes → AllTaken t before (take n changes)
 taken-take t before zero changes h = tt
@@ -82,10 +81,10 @@ find-none p (x ∷ xs) other e h =
     elim (p x) as (λ b. p x ≡ b → cond b (Some x) (find p xs) ≡ None → one_at row_cmp other x + occurs row_cmp other xs ≡ 0) [
       | true ↦ λ q f. absurd (cc)
       | false ↦ λ q f.
-        elim (same_row other x) as (λ b. same_row other x ≡ b → cond b 1 0 + occurs row_cmp other xs ≡ 0) [
-          | true ↦ λ s. absurd (false≢true (sym q ∙ (ap p (sym (same-true other x s)) ∙ h)))
-          | false ↦ λ s. let rest = find-none p xs other f h in omega arith
-        ] refl
+          elim (same_row other x) as (λ b. same_row other x ≡ b → cond b 1 0 + occurs row_cmp other xs ≡ 0) [
+            | true ↦ λ s. absurd (false≢true (sym q ∙ (ap p (sym (same-true other x s)) ∙ h)))
+            | false ↦ λ s. let rest = find-none p xs other f h in omega arith
+          ] refl
     ] refl e
 
 is_none : (o : Option Row) → is_there o ≡ false → o ≡ None
@@ -106,17 +105,19 @@ added_unique key rows row u e a b same x y =
     let cb = copies-add row_total rows row b in
     elim (same_row a row) as (λ s. same_row a row ≡ s → copies (add rows row) a ≡ cond s 1 0 + copies rows a → (a ≡ b) × (copies (add rows row) a ≤ 1)) [
       | true ↦ λ s c.
-        let is : a ≡ row = same-true a row s in
-        let none_a = free a (ap (project key) (sym is)) in
-        (elim (same_row b row) as (λ s. same_row b row ≡ s → copies (add rows row) b ≡ cond s 1 0 + copies rows b → a ≡ b) [
-          | true ↦ λ s2 c2. is ∙ sym (same-true b row s2)
-          | false ↦ λ s2 c2. absurd (let none_b = free b (ap (project key) (sym is) ∙ same) in omega arith)
-        ] refl cb, omega arith)
+          let is : a ≡ row = same-true a row s in
+          let none_a = free a (ap (project key) (sym is)) in (
+            elim (same_row b row) as (λ s. same_row b row ≡ s → copies (add rows row) b ≡ cond s 1 0 + copies rows b → a ≡ b) [
+              | true ↦ λ s2 c2. is ∙ sym (same-true b row s2)
+              | false ↦ λ s2 c2. absurd (let none_b = free b (ap (project key) (sym is) ∙ same) in omega arith)
+            ] refl cb,
+            omega arith,
+          )
       | false ↦ λ s c.
-        elim (same_row b row) as (λ s. same_row b row ≡ s → copies (add rows row) b ≡ cond s 1 0 + copies rows b → (a ≡ b) × (copies (add rows row) a ≤ 1)) [
-          | true ↦ λ s2 c2. absurd (let none_a = free a (ap (project key) (sym (same-true b row s2)) ∙ sym same) in omega arith)
-          | false ↦ λ s2 c2. let old = u a b same (omega arith) (omega arith) in (old.0, omega (arith, old.1))
-        ] refl cb
+          elim (same_row b row) as (λ s. same_row b row ≡ s → copies (add rows row) b ≡ cond s 1 0 + copies rows b → (a ≡ b) × (copies (add rows row) a ≤ 1)) [
+            | true ↦ λ s2 c2. absurd (let none_a = free a (ap (project key) (sym (same-true b row s2)) ∙ sym same) in omega arith)
+            | false ↦ λ s2 c2. let old = u a b same (omega arith) (omega arith) in (old.0, omega (arith, old.1))
+          ] refl cb
     ] refl ca
 
 abbrev IsLast : Mode → Type 0
@@ -143,8 +144,8 @@ unique_fold : (t : Table) (key : List ℕ) (whole : IsLast t.mode → ⊥) → I
 unique_fold t key whole is before [] h u = subst (λ l. IsUnique key (copies (fold t.mode l))) (sym (append-nil before)) u
 unique_fold t key whole is before (change ∷ changes) h u =
     let next : IsUnique key (copies (fold t.mode (before ++ change ∷ []))) =
-        subst (λ rows. IsUnique key (copies rows)) (sym (fold-push t.mode before change))
-          (⊎_elim (λ q. q) (λ z. absurd (whole z)) (unique_apply t.mode key t.key (fold t.mode before) change is (is_taken t (fold t.mode before) change h.0) u)) in
+    subst (λ rows. IsUnique key (copies rows)) (sym (fold-push t.mode before change))
+    (⊎_elim (λ q. q) (λ z. absurd (whole z)) (unique_apply t.mode key t.key (fold t.mode before) change is (is_taken t (fold t.mode before) change h.0) u)) in
     subst (λ l. IsUnique key (copies (fold t.mode l))) (append_assoc before (change ∷ []) changes) (unique_fold t key whole is (before ++ change ∷ []) changes h.1 next)
 
 -- ---- last rows
@@ -170,11 +171,11 @@ shown_one : (key : List ℕ) (a b : Row) → project key a ≡ project key b →
 shown_one key a b e [] x y h = h
 shown_one key a b e (change ∷ changes) x y h =
     shown_one key a b e changes (cond (agree key change.row a) (addition a change) x) (cond (agree key change.row b) (addition b change) y)
-      (subst (λ q. IsOne a b (cond (agree key change.row a) (addition a change) x) (cond q (addition b change) y)) (ap (same_row (project key change.row)) e)
-        (elim (agree key change.row a) as (λ q. IsOne a b (cond q (addition a change) x) (cond q (addition b change) y)) [
-          | true ↦ (λ p q. (added a change p).1 ∙ sym (added b change q).1, addition_le a change)
-          | false ↦ h
-        ]))
+    (subst (λ q. IsOne a b (cond (agree key change.row a) (addition a change) x) (cond q (addition b change) y)) (ap (same_row (project key change.row)) e)
+    (elim (agree key change.row a) as (λ q. IsOne a b (cond q (addition a change) x) (cond q (addition b change) y)) [
+      | true ↦ (λ p q. (added a change p).1 ∙ sym (added b change q).1, addition_le a change)
+      | false ↦ h
+    ]))
 
 last_unique : (key : List ℕ) (changes : List Change) (rows : Rows) → ReadsAs (last_rows key) changes rows → IsUnique key (copies rows)
 last_unique key changes rows reads a b e x y =
@@ -194,10 +195,10 @@ shown_row : (key : List ℕ) (Q : Row → Type 0) (row : Row) (x : ℕ) (changes
 shown_row key Q row x [] h l z = z l
 shown_row key Q row x (change ∷ changes) h l z =
     shown_row key Q row (cond (agree key change.row row) (addition row change) x) changes h.1 l
-      (elim (agree key change.row row) as (λ b. 0 < cond b (addition row change) x → Q row) [
-        | true ↦ λ p. let is = added row change p in subst Q (sym is.1) (h.0 is.0)
-        | false ↦ z
-      ])
+    (elim (agree key change.row row) as (λ b. 0 < cond b (addition row change) x → Q row) [
+      | true ↦ λ p. let is = added row change p in subst Q (sym is.1) (h.0 is.0)
+      | false ↦ z
+    ])
 
 -- ---- what goes to one subtask
 
@@ -206,9 +207,13 @@ bag_part : (spread : List ℕ) (route : Row → ℕ) (i : ℕ) (changes : List C
 bag_part spread route i changes rows means row =
     let q : Bool = route (project spread row) == i in
     let c = cond_sum q _ _ _ (means row) in
-    omega (arith, c, copies-restricted (λ row. route (project spread row) == i) rows row,
+    omega (
+      arith,
+      c,
+      copies-restricted (λ row. route (project spread row) == i) rows row,
       weigh-rows (λ x. x.row) row (addition row) (about_addition row) (λ row. route (project spread row) == i) changes,
-      weigh-rows (λ x. x.row) row (removal row) (about_removal row) (λ row. route (project spread row) == i) changes)
+      weigh-rows (λ x. x.row) row (removal row) (about_removal row) (λ row. route (project spread row) == i) changes,
+    )
 
 reads_part : (mode : Mode) (spread : List ℕ) (route : Row → ℕ) → KeepsKeys mode spread → (i : ℕ) (changes : List Change) (rows : Rows) → Means mode changes rows
     → ReadsAs (meaning_of mode) (filter (λ c. route (project spread c.row) == i) changes) (restricted (λ row. route (project spread row) == i) rows)
@@ -235,7 +240,7 @@ module _ (table : Table) (taken : List Change) (all : AllTaken table [] taken) w
       by_mode (upsert columns) is e =
           let own : columns ≡ key = subst (λ m. IsKeyBy m table.key key) e (is tt) in
           subst (λ k. IsUnique k (copies (fold table.mode (take n taken)))) own
-            (last_unique columns (take n taken) (fold table.mode (take n taken)) (subst (λ m. Means m (take n taken) (fold table.mode (take n taken))) e (means_front n)))
+          (last_unique columns (take n taken) (fold table.mode (take n taken)) (subst (λ m. Means m (take n taken) (fold table.mode (take n taken))) e (means_front n)))
 
   key_whole : (key : List ℕ) → IsKeyOf table key → IsUnique key (copies (fold table.mode taken))
   key_whole key is = subst (λ l. IsUnique key (copies (fold table.mode l))) (take_all (length taken) taken (omega arith)) (key_front key is (length taken))
@@ -266,18 +271,18 @@ module _ (many : ℕ) (table : Table) (edge : Edge) (carries : CarriesTable many
   part_front : (i n : ℕ) → ReadsAs edge.meaning (take n (scanned_by table taken i)) (restricted (goes_to i) (fold table.mode (take (so_far i n) taken)))
   part_front i n =
       subst (λ m. ReadsAs m (take n (scanned_by table taken i)) (restricted (goes_to i) (fold table.mode (take (so_far i n) taken)))) (sym carries.meaning)
-        (subst (λ l. ReadsAs (meaning_of table.mode) l (restricted (goes_to i) (fold table.mode (take (so_far i n) taken)))) (sym (take-filter (λ c. scanned_at table c == i) n taken))
-          (reads_part table.mode table.spread table.route carries.spread i (take (so_far i n) taken) (fold table.mode (take (so_far i n) taken)) (means_front table taken all (so_far i n))))
+      (subst (λ l. ReadsAs (meaning_of table.mode) l (restricted (goes_to i) (fold table.mode (take (so_far i n) taken)))) (sym (take-filter (λ c. scanned_at table c == i) n taken))
+      (reads_part table.mode table.spread table.route carries.spread i (take (so_far i n) taken) (fold table.mode (take (so_far i n) taken)) (means_front table taken all (so_far i n))))
 
   part_whole : (i : ℕ) → ReadsAs edge.meaning (scanned_by table taken i) (restricted (goes_to i) (fold table.mode taken))
   part_whole i =
       subst (λ m. ReadsAs m (scanned_by table taken i) (restricted (goes_to i) (fold table.mode taken))) (sym carries.meaning)
-        (reads_part table.mode table.spread table.route carries.spread i taken (fold table.mode taken) (means_whole table taken all))
+      (reads_part table.mode table.spread table.route carries.spread i taken (fold table.mode taken) (means_whole table taken all))
 
   part_apart : (columns : List ℕ) → LiesIn table.spread columns → IsApart columns many (scanned_by table taken)
   part_apart columns lies i j il jl =
       all-weaker _ _ (λ a e. all-weaker _ _ (λ b f q. sym (eqb-true (scanned_at table a) i e) ∙ (ap table.route (lies a.row b.row q) ∙ eqb-true (scanned_at table b) j f))
-        (scanned_by table taken j) (filter_passes (λ c. scanned_at table c == j) taken)) (scanned_by table taken i) (filter_passes (λ c. scanned_at table c == i) taken)
+      (scanned_by table taken j) (filter_passes (λ c. scanned_at table c == j) taken)) (scanned_by table taken i) (filter_passes (λ c. scanned_at table c == i) taken)
 
   apart_by : (mode : Mode) → KeepsKeys mode table.spread → AreApartBy (meaning_of mode) many (scanned_by table taken)
   apart_by append keeps = tt
@@ -286,35 +291,35 @@ module _ (many : ℕ) (table : Table) (edge : Edge) (carries : CarriesTable many
 
   scan_fine : IsFine many edge (scanned_by table taken)
   scan_fine = record {
-      valid = λ i il n. (restricted (goes_to i) (fold table.mode (take (so_far i n) taken)), part_front i n);
-      apart = subst (λ m. AreApartBy m many (scanned_by table taken)) (sym carries.meaning) (apart_by table.mode carries.spread);
-      kinds = λ i il. all-filter _ _ taken (all-weaker _ _ (λ c e. carries.kinds c.kind e) taken (kinds_taken table [] taken all));
-      types = λ i il. all-filter _ _ taken (all-weaker _ _ (λ c e. carries.fits c e) taken typed);
-      keys = λ key c i il n rows reads.
+    valid = λ i il n. (restricted (goes_to i) (fold table.mode (take (so_far i n) taken)), part_front i n);
+    apart = subst (λ m. AreApartBy m many (scanned_by table taken)) (sym carries.meaning) (apart_by table.mode carries.spread);
+    kinds = λ i il. all-filter _ _ taken (all-weaker _ _ (λ c e. carries.kinds c.kind e) taken (kinds_taken table [] taken all));
+    types = λ i il. all-filter _ _ taken (all-weaker _ _ (λ c e. carries.fits c e) taken typed);
+    keys = λ key c i il n rows reads.
         ⊎_elim
-          (λ same. IsUnique-below key (copies rows) (copies (fold table.mode (take (so_far i n) taken)))
-            (λ row. omega (arith, same row, copies-restricted (goes_to i) (fold table.mode (take (so_far i n) taken)) row, cond_below (goes_to i row) (copies (fold table.mode (take (so_far i n) taken)) row)))
-            (key_front table taken all key (carries.local key c) (so_far i n)))
-          (λ z. absurd (no_partial table.mode (subst IsPartial carries.meaning z)))
-          (means_same edge.meaning (take n (scanned_by table taken i)) rows (restricted (goes_to i) (fold table.mode (take (so_far i n) taken))) reads (part_front i n));
-      fixed = λ columns c. part_apart columns (carries.fixing columns c);
-    }
+        (λ same. IsUnique-below key (copies rows) (copies (fold table.mode (take (so_far i n) taken)))
+        (λ row. omega (arith, same row, copies-restricted (goes_to i) (fold table.mode (take (so_far i n) taken)) row, cond_below (goes_to i row) (copies (fold table.mode (take (so_far i n) taken)) row)))
+        (key_front table taken all key (carries.local key c) (so_far i n)))
+        (λ z. absurd (no_partial table.mode (subst IsPartial carries.meaning z)))
+        (means_same edge.meaning (take n (scanned_by table taken i)) rows (restricted (goes_to i) (fold table.mode (take (so_far i n) taken))) reads (part_front i n));
+    fixed = λ columns c. part_apart columns (carries.fixing columns c);
+  }
 
   scan_answers : IsAnswered many edge (scanned_by table taken) (fold table.mode taken)
   scan_answers = record {
-      rows = λ i. restricted (goes_to i) (fold table.mode taken);
-      stands = λ i il. part_whole i;
-      together = λ row. total-same many _ _ (λ i il. copies-restricted (goes_to i) (fold table.mode taken) row) ∙ total_one many (table.route (project table.spread row)) (copies (fold table.mode taken) row) (carries.routed (project table.spread row));
-      settled = record {
-        keys = λ key. ⊎_elim
+    rows = λ i. restricted (goes_to i) (fold table.mode taken);
+    stands = λ i il. part_whole i;
+    together = λ row. total-same many _ _ (λ i il. copies-restricted (goes_to i) (fold table.mode taken) row) ∙ total_one many (table.route (project table.spread row)) (copies (fold table.mode taken) row) (carries.routed (project table.spread row));
+    settled = record {
+      keys = λ key. ⊎_elim
           (λ c. key_whole table taken all key (carries.unique key c))
           (λ o. λ a b e. key_whole table taken all o.local (carries.local o.local o.is_local) a b (o.has_local a b e));
-        types = stands_row table.mode (λ row. edge.holds row ≡ true) taken (fold table.mode taken) (means_whole table taken all) (all-weaker _ _ (λ c e. carries.holds c e) taken typed);
-      };
-    }
+      types = stands_row table.mode (λ row. edge.holds row ≡ true) taken (fold table.mode taken) (means_whole table taken all) (all-weaker _ _ (λ c e. carries.holds c e) taken typed);
+    };
+  }
 
 pub scans_stand : ScansStand
 scans_stand many table edge carries = record {
-    fine = λ taken all typed. scan_fine many table edge carries taken all typed;
-    answers = λ taken all typed. scan_answers many table edge carries taken all typed;
-  }
+  fine = λ taken all typed. scan_fine many table edge carries taken all typed;
+  answers = λ taken all typed. scan_answers many table edge carries taken all typed;
+}

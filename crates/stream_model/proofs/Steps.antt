@@ -1,10 +1,9 @@
 -- The induction over events: what was taken, sent, in flight, consumed and printed hangs together.
 use Rattle.std.specs.Prelude.{◌≡◌, ℕ, ◌+◌, ◌<◌, ◌≤◌, ◌==◌, ◌&&◌, nat_le, nat_lt, Bool, cond, Option, Result, List, ◌++◌, length, map}
-use Rattle.std.proofs.Common.{zero, suc, true, false, [], ◌∷◌, refl, sym, ap, subst, ◌∙◌, arith, inl, inr, ◌⊎◌, eqb, Some, None, Ok, Err}
+use Rattle.std.proofs.Common.{true, false, [], ◌∷◌, refl, sym, ap, subst, ◌∙◌, arith, inl, inr, ◌⊎◌, eqb, Some, None, Ok, Err}
 use Rattle.std.specs.List.{AllByRecursion, filter}
 use Rattle.std.proofs.lemmas.List.{append_assoc, append-nil, length-append}
-use Rattle.std.proofs.lemmas.Bool.{cases_Bool, eqb-true, eqb-false, eq-eqb, ne_eqb, cases_eq, and_parts, and_from, ltb-true, leb-true, false≢true}
-use Rattle.ct_value.specs.declared.row.Row.{Row}
+use Rattle.std.proofs.lemmas.Bool.{eqb-true, eqb-false, eq-eqb, ne_eqb, cases_eq, and_parts, and_from, ltb-true, leb-true, false≢true}
 use Rattle.ct_change.specs.declared.change.Change.{Change}
 use Rattle.ct_change.specs.Changelog.{fold}
 use Rattle.op_rules.specs.History.{Arrival, arrival, at_port, from_port, joined}
@@ -20,9 +19,9 @@ use Rattle.op_rules.specs.Edges.{goes}
 use Rattle.op_rules.specs.Tasks.{total, emitted_by}
 use Rattle.stream_model.specs.Tables.{Table, scanned_at, refusal, AllTaken}
 use Rattle.stream_model.specs.Network.{Feed, Network, task, IsWired, scanned_by}
-use Rattle.stream_model.specs.Machine.{State, consumed, put, opened, send, print, joins, folded, hand_on, answered, flushed, size_of, flushed_if_full, is_channel, move_front, move_to, flush_held, flush_bundle, is_place, flush, is_number, is_scan_of, scan_count, scanned, take_within, take_unless, take_of, step}
+use Rattle.stream_model.specs.Machine.{State, consumed, put, opened, send, print, joins, folded, answered, flushed, size_of, flushed_if_full, is_channel, move_front, move_to, flush_held, flush_bundle, is_place, is_number, is_scan_of, scan_count, scanned, take_unless, take_of, step}
 use Rattle.stream_model.specs.Runs.{Item, happens, quiet, told_quiet, step_item, state_in, after, changes_in, IsTyped, AreTyped}
-use Rattle.stream_model.proofs.Sums.{total-sum, total-same, total_at, all-append_left}
+use Rattle.stream_model.proofs.Sums.{total-sum, total-same, total_at}
 use Rattle.stream_model.proofs.Histories.{filter-append, joined-push, from_port-append, at_port-append, all-append, emitted-push, taken-push, changes_in-append, changes_in-map, all_from, at_port-all_from, from_port-all_from, within-all_from}
 
 pub put_cases : (m a n b : ℕ) → ((m ≡ a) × (n ≡ b)) ⊎ (((m == a) && (n == b)) ≡ false)
@@ -54,10 +53,10 @@ both_ways m a n b e f q =
 pub total_more : (n a w : ℕ) (f h : ℕ → ℕ) → a < n → h a ≡ f a + w → ((k : ℕ) → (k ≡ a → ⊥) → h k ≡ f k) → total n h ≡ total n f + w
 total_more n a w f h l here there =
     total-same n h (λ k. f k + cond (eqb k a) w 0) (λ k m.
-      elim (cases_eq k a) [
-        | inl e ↦ let q : eqb k a ≡ true = eq-eqb k a e in rw q (ap h e ∙ (here ∙ ap (λ k. f k + w) (sym e)))
-        | inr d ↦ let q : eqb k a ≡ false = ne_eqb k a d in rw q (let t = there k d in omega arith)
-      ])
+    elim (cases_eq k a) [
+      | inl e ↦ let q : eqb k a ≡ true = eq-eqb k a e in rw q (ap h e ∙ (here ∙ ap (λ k. f k + w) (sym e)))
+      | inr d ↦ let q : eqb k a ≡ false = ne_eqb k a d in rw q (let t = there k d in omega arith)
+    ])
     ∙ (total-sum n f (λ k. cond (eqb k a) w 0) ∙ ap (λ s. total n f + s) (total_at n a (λ _. w) l))
 
 module _ (g : Network) (wired : IsWired g) where
@@ -89,19 +88,19 @@ module _ (g : Network) (wired : IsWired g) where
 
   pub hangs_opened : HangsTogether (opened g)
   hangs_opened = record {
-      runs = λ v j none. ap Ok (append-nil (g.opening v j));
-      scanned = λ v table t is has i. wired.scan_opens v table is i;
-      taken = λ table t has. tt;
-      typed = λ table t has. tt;
-      within = λ v j. tt;
-      ports = λ v j. tt;
-      fed = λ v j p i pl. refl;
-      prints = [];
-      printed = refl;
-      printed_within = tt;
-      printed_from = λ i. sym (wired.opens g.count i (omega arith));
-      counted = refl;
-    }
+    runs = λ v j none. ap Ok (append-nil (g.opening v j));
+    scanned = λ v table t is has i. wired.scan_opens v table is i;
+    taken = λ table t has. tt;
+    typed = λ table t has. tt;
+    within = λ v j. tt;
+    ports = λ v j. tt;
+    fed = λ v j p i pl. refl;
+    prints = [];
+    printed = refl;
+    printed_within = tt;
+    printed_from = λ i. sym (wired.opens g.count i (omega arith));
+    counted = refl;
+  }
 
   pub no_scan : (v : ℕ) → 0 < g.ports v → g.scans v ≡ None
   no_scan v some = go (g.scans v) refl
@@ -126,7 +125,7 @@ module _ (g : Network) (wired : IsWired g) where
   sends s e i cs u k j a h =
       elim (put_cases u e k i) [
         | inl q ↦
-          rw (q.0, q.1) (
+            rw (q.0, q.1) (
             ap (λ f. a ++ f j) (put_here s.flight e i (λ j. s.flight e i j ++ through e i j cs))
             ∙ (sym (append_assoc a (s.flight e i j) (through e i j cs))
             ∙ (ap (λ l. l ++ through e i j cs) (subst (λ u. a ++ s.flight u i j ≡ through u i j (s.sent u i)) q.0 (subst (λ k. a ++ s.flight u k j ≡ through u k j (s.sent u k)) q.1 h))
@@ -150,10 +149,10 @@ module _ (g : Network) (wired : IsWired g) where
   sent_more s v j cs vl jl h =
       ap (λ n. n + length cs) h
       ∙ sym (total_more g.count v (length cs) (λ m. total g.subtasks (λ i. length (s.sent m i))) (λ m. total g.subtasks (λ i. length (put s.sent v j (s.sent v j ++ cs) m i))) vl
-          (total_more g.subtasks j (length cs) (λ i. length (s.sent v i)) (λ i. length (put s.sent v j (s.sent v j ++ cs) v i)) jl
-            (ap length (put_here s.sent v j (s.sent v j ++ cs)) ∙ length-append (s.sent v j) cs)
-            (λ k d. ap length (put_there s.sent v j (s.sent v j ++ cs) v k (λ q. d q.1))))
-          (λ k d. total-same g.subtasks _ _ (λ i il. ap length (put_there s.sent v j (s.sent v j ++ cs) k i (λ q. d q.0)))))
+      (total_more g.subtasks j (length cs) (λ i. length (s.sent v i)) (λ i. length (put s.sent v j (s.sent v j ++ cs) v i)) jl
+      (ap length (put_here s.sent v j (s.sent v j ++ cs)) ∙ length-append (s.sent v j) cs)
+      (λ k d. ap length (put_there s.sent v j (s.sent v j ++ cs) v k (λ q. d q.1))))
+      (λ k d. total-same g.subtasks _ _ (λ i il. ap length (put_there s.sent v j (s.sent v j ++ cs) k i (λ q. d q.0)))))
 
   sent_same : (s : State) (v j : ℕ) (cs : List Change) → g.count ≤ v → s.sends ≡ sent_in_all s.sent → s.sends ≡ sent_in_all (put s.sent v j (s.sent v j ++ cs))
   sent_same s v j cs vl h = h ∙ total-same g.count _ _ (λ m ml. total-same g.subtasks _ _ (λ i il. sym (ap length (put_there s.sent v j (s.sent v j ++ cs) m i (λ q. let e = q.0 in omega arith)))))
@@ -179,58 +178,58 @@ module _ (g : Network) (wired : IsWired g) where
 
     hangs_sent : v < g.count → HangsTogether (send g v j cs (folded v j s))
     hangs_sent vl = record {
-        runs = runs_now;
-        scanned = scanned_now;
-        taken = h.taken;
-        typed = h.typed;
-        within = λ m n. subst (AllByRecursion (λ a. a.from < g.subtasks)) (sym (same_consumed s v j m n)) (h.within m n);
-        ports = λ m n. subst (AllByRecursion (λ a. a.port < g.ports m)) (sym (same_consumed s v j m n)) (h.ports m n);
-        fed = λ m n p k pl.
+      runs = runs_now;
+      scanned = scanned_now;
+      taken = h.taken;
+      typed = h.typed;
+      within = λ m n. subst (AllByRecursion (λ a. a.from < g.subtasks)) (sym (same_consumed s v j m n)) (h.within m n);
+      ports = λ m n. subst (AllByRecursion (λ a. a.port < g.ports m)) (sym (same_consumed s v j m n)) (h.ports m n);
+      fed = λ m n p k pl.
           sends (folded v j s) v j cs (g.source m p) k n (from_port p k (consumed (folded v j s) m n))
-            (ap (λ c. from_port p k c ++ s.flight (g.source m p) k n) (same_consumed s v j m n) ∙ h.fed m n p k pl);
-        prints = h.prints;
-        printed = h.printed;
-        printed_within = h.printed_within;
-        printed_from = λ i. h.printed_from i ∙ sym (put_there s.sent v j (s.sent v j ++ cs) g.count i (λ q. let e = q.0 in omega arith));
-        counted = sent_more s v j cs vl j_in h.counted;
-      }
+          (ap (λ c. from_port p k c ++ s.flight (g.source m p) k n) (same_consumed s v j m n) ∙ h.fed m n p k pl);
+      prints = h.prints;
+      printed = h.printed;
+      printed_within = h.printed_within;
+      printed_from = λ i. h.printed_from i ∙ sym (put_there s.sent v j (s.sent v j ++ cs) g.count i (λ q. let e = q.0 in omega arith));
+      counted = sent_more s v j cs vl j_in h.counted;
+    }
 
     hangs_printed : v ≡ g.count → HangsTogether (print v j cs (folded v j s))
     hangs_printed is = record {
-        runs = runs_now;
-        scanned = scanned_now;
-        taken = h.taken;
-        typed = h.typed;
-        within = λ m n. subst (AllByRecursion (λ a. a.from < g.subtasks)) (sym (same_consumed s v j m n)) (h.within m n);
-        ports = λ m n. subst (AllByRecursion (λ a. a.port < g.ports m)) (sym (same_consumed s v j m n)) (h.ports m n);
-        fed = λ m n p k pl.
+      runs = runs_now;
+      scanned = scanned_now;
+      taken = h.taken;
+      typed = h.typed;
+      within = λ m n. subst (AllByRecursion (λ a. a.from < g.subtasks)) (sym (same_consumed s v j m n)) (h.within m n);
+      ports = λ m n. subst (AllByRecursion (λ a. a.port < g.ports m)) (sym (same_consumed s v j m n)) (h.ports m n);
+      fed = λ m n p k pl.
           ap (λ c. from_port p k c ++ s.flight (g.source m p) k n) (same_consumed s v j m n)
           ∙ (h.fed m n p k pl
           ∙ ap (through (g.source m p) k n) (sym (put_there s.sent v j (s.sent v j ++ cs) (g.source m p) k (λ q. source_before m p pl (q.0 ∙ is)))));
-        prints = h.prints ++ all_from j cs;
-        printed =
+      prints = h.prints ++ all_from j cs;
+      printed =
           changes_in-append s.printed (map Printed cs)
           ∙ (ap (λ x. x ++ changes_in (map Printed cs)) h.printed
           ∙ (ap (λ x. at_port 0 h.prints ++ x) (changes_in-map cs ∙ sym (at_port-all_from j cs))
           ∙ sym (at_port-append 0 h.prints (all_from j cs))));
-        printed_within = all-append (λ a. a.from < g.subtasks) h.prints (all_from j cs) h.printed_within (within-all_from g.subtasks j cs j_in);
-        printed_from = λ i.
+      printed_within = all-append (λ a. a.from < g.subtasks) h.prints (all_from j cs) h.printed_within (within-all_from g.subtasks j cs j_in);
+      printed_from = λ i.
           from_port-append 0 i h.prints (all_from j cs)
           ∙ (ap (λ x. x ++ from_port 0 i (all_from j cs)) (h.printed_from i)
           ∙ (ap (λ x. s.sent g.count i ++ x) (from_port-all_from i j cs)
           ∙ here i));
-        counted = sent_same s v j cs (omega (arith, is)) h.counted;
-      }
+      counted = sent_same s v j cs (omega (arith, is)) h.counted;
+    }
       where
         here : (i : ℕ) → s.sent g.count i ++ cond (j == i) cs [] ≡ put s.sent v j (s.sent v j ++ cs) g.count i
         here i =
             elim (cases_eq j i) [
               | inl e ↦
-                let q : eqb j i ≡ true = eq-eqb j i e in
-                rw q (subst (λ w. s.sent w i ++ cs ≡ put s.sent v j (s.sent v j ++ cs) w i) is (subst (λ k. s.sent v k ++ cs ≡ put s.sent v j (s.sent v j ++ cs) v k) e (sym (put_here s.sent v j (s.sent v j ++ cs)))))
+                  let q : eqb j i ≡ true = eq-eqb j i e in
+                  rw q (subst (λ w. s.sent w i ++ cs ≡ put s.sent v j (s.sent v j ++ cs) w i) is (subst (λ k. s.sent v k ++ cs ≡ put s.sent v j (s.sent v j ++ cs) v k) e (sym (put_here s.sent v j (s.sent v j ++ cs)))))
               | inr d ↦
-                let q : eqb j i ≡ false = ne_eqb j i d in
-                rw q (append-nil (s.sent g.count i) ∙ sym (put_there s.sent v j (s.sent v j ++ cs) g.count i (λ z. d (sym z.1))))
+                  let q : eqb j i ≡ false = ne_eqb j i d in
+                  rw q (append-nil (s.sent g.count i) ∙ sym (put_there s.sent v j (s.sent v j ++ cs) g.count i (λ z. d (sym z.1))))
             ]
 
   -- where there is a next state, it hangs together
@@ -326,32 +325,32 @@ module _ (g : Network) (wired : IsWired g) where
           let old = h.fed feed.node j p k pl in
           elim (put_cases p feed.port k i) [
             | inl q ↦
-              let same : g.source feed.node p ≡ e = ap (g.source feed.node) q.0 ∙ source_is in
-              ap (λ l. l ++ next.flight (g.source feed.node p) k j) (a ∙ ap (λ l. from_port p k (consumed s feed.node j) ++ l) (subst (λ k. from_port p k (item ∷ []) ≡ c ∷ []) (sym q.1) (subst (λ p. from_port p i (item ∷ []) ≡ c ∷ []) (sym q.0) from_item)))
-              ∙ (append_assoc (from_port p k (consumed s feed.node j)) (c ∷ []) (next.flight (g.source feed.node p) k j)
-              ∙ (ap (λ f. from_port p k (consumed s feed.node j) ++ c ∷ f) (ap (λ w. next.flight w k j) same ∙ (ap (λ k. next.flight e k j) q.1 ∙ flight_here))
-              ∙ (ap (λ f. from_port p k (consumed s feed.node j) ++ f) (sym (ap (λ w. s.flight w k j) same ∙ (ap (λ k. s.flight e k j) q.1 ∙ front)))
-              ∙ old)))
+                let same : g.source feed.node p ≡ e = ap (g.source feed.node) q.0 ∙ source_is in
+                ap (λ l. l ++ next.flight (g.source feed.node p) k j) (a ∙ ap (λ l. from_port p k (consumed s feed.node j) ++ l) (subst (λ k. from_port p k (item ∷ []) ≡ c ∷ []) (sym q.1) (subst (λ p. from_port p i (item ∷ []) ≡ c ∷ []) (sym q.0) from_item)))
+                ∙ (append_assoc (from_port p k (consumed s feed.node j)) (c ∷ []) (next.flight (g.source feed.node p) k j)
+                ∙ (ap (λ f. from_port p k (consumed s feed.node j) ++ c ∷ f) (ap (λ w. next.flight w k j) same ∙ (ap (λ k. next.flight e k j) q.1 ∙ flight_here))
+                ∙ (ap (λ f. from_port p k (consumed s feed.node j) ++ f) (sym (ap (λ w. s.flight w k j) same ∙ (ap (λ k. s.flight e k j) q.1 ∙ front)))
+                ∙ old)))
             | inr q ↦
-              let apart : feed.port ≡ p → i ≡ k → ⊥ = λ x y. both_ways p feed.port k i (sym x) (sym y) q in
-              let away : ((g.source feed.node p == e) && (k == i)) ≡ false = elim (put_cases (g.source feed.node p) e k i) [
+                let apart : feed.port ≡ p → i ≡ k → ⊥ = λ x y. both_ways p feed.port k i (sym x) (sym y) q in
+                let away : ((g.source feed.node p == e) && (k == i)) ≡ false = elim (put_cases (g.source feed.node p) e k i) [
                   | inl z ↦ absurd (apart (one_port feed.node p pl z.0).1 (sym z.1))
                   | inr z ↦ z
                 ] in
-              ap (λ l. l ++ next.flight (g.source feed.node p) k j) (a ∙ (ap (λ l. from_port p k (consumed s feed.node j) ++ l) (from_other p k apart) ∙ append-nil (from_port p k (consumed s feed.node j))))
-              ∙ (ap (λ f. from_port p k (consumed s feed.node j) ++ f) (flight_there (g.source feed.node p) k j away) ∙ old)
+                ap (λ l. l ++ next.flight (g.source feed.node p) k j) (a ∙ (ap (λ l. from_port p k (consumed s feed.node j) ++ l) (from_other p k apart) ∙ append-nil (from_port p k (consumed s feed.node j))))
+                ∙ (ap (λ f. from_port p k (consumed s feed.node j) ++ f) (flight_there (g.source feed.node p) k j away) ∙ old)
           ]
 
       fed_there : (m n p k : ℕ) → ((m == feed.node) && (n == j)) ≡ false → p < g.ports m → from_port p k (consumed next m n) ++ next.flight (g.source m p) k n ≡ through (g.source m p) k n (s.sent (g.source m p) k)
       fed_there m n p k q pl =
           ap (λ l. from_port p k l ++ next.flight (g.source m p) k n) (now_there m n q)
           ∙ (ap (λ f. from_port p k (consumed s m n) ++ f)
-            (elim (put_cases (g.source m p) e k i) [
-              | inr z ↦ flight_there (g.source m p) k n z
-              | inl z ↦
+          (elim (put_cases (g.source m p) e k i) [
+            | inr z ↦ flight_there (g.source m p) k n z
+            | inl z ↦
                 let aside : n ≡ j → ⊥ = λ x. both_ways m feed.node n j (sym (one_port m p pl z.0).0) x q in
                 ap (λ w. next.flight w k n) z.0 ∙ (ap (λ k. next.flight e k n) z.1 ∙ (flight_beside n aside ∙ sym (ap (λ w. s.flight w k n) z.0 ∙ ap (λ k. s.flight e k n) z.1)))
-            ])
+          ])
           ∙ h.fed m n p k pl)
 
       fed_now : (m n p k : ℕ) → p < g.ports m → from_port p k (consumed next m n) ++ next.flight (g.source m p) k n ≡ through (g.source m p) k n (s.sent (g.source m p) k)
@@ -364,19 +363,19 @@ module _ (g : Network) (wired : IsWired g) where
       pub hangs_joined : HangsTogether (joins e i j feed c rest s)
       unfolding next item
       hangs_joined = record {
-          runs = h.runs;
-          scanned = h.scanned;
-          taken = h.taken;
-          typed = h.typed;
-          within = all_now (λ m a. a.from < g.subtasks) h.within i_in;
-          ports = all_now (λ m a. a.port < g.ports m) h.ports port_in;
-          fed = fed_now;
-          prints = h.prints;
-          printed = h.printed;
-          printed_within = h.printed_within;
-          printed_from = h.printed_from;
-          counted = h.counted;
-        }
+        runs = h.runs;
+        scanned = h.scanned;
+        taken = h.taken;
+        typed = h.typed;
+        within = all_now (λ m a. a.from < g.subtasks) h.within i_in;
+        ports = all_now (λ m a. a.port < g.ports m) h.ports port_in;
+        fed = fed_now;
+        prints = h.prints;
+        printed = h.printed;
+        printed_within = h.printed_within;
+        printed_from = h.printed_from;
+        counted = h.counted;
+      }
 
       pub consumed_joined : consumed (joins e i j feed c rest s) feed.node j ≡ consumed s feed.node j ++ arrival feed.port i c ∷ []
       unfolding next item
@@ -395,9 +394,9 @@ module _ (g : Network) (wired : IsWired g) where
     hangs_move s e i j (Some feed) fed h =
         elim (is_channel g e i j) as (λ b. is_channel g e i j ≡ b → Keeps (cond b (move_front g limit s e i j feed (s.flight e i j)) (Err (Order NoSuchPlace)))) [
           | true ↦ λ q.
-            let a = and_parts _ _ q in
-            let b = and_parts _ _ a.1 in
-            hangs_front s e i j feed fed (ltb-true i g.subtasks a.0) (ltb-true j g.subtasks b.0) (s.flight e i j) refl h
+              let a = and_parts _ _ q in
+              let b = and_parts _ _ a.1 in
+              hangs_front s e i j feed fed (ltb-true i g.subtasks a.0) (ltb-true j g.subtasks b.0) (s.flight e i j) refl h
           | false ↦ λ q. tt
         ] refl
 
@@ -435,31 +434,31 @@ module _ (g : Network) (wired : IsWired g) where
       scan_now v other u is got k =
           elim (cases_eq other table) [
             | inr d ↦
-              let off : eqb other table ≡ false = ne_eqb other table d in
-              same_sent v (ap (is_number table) is ∙ off) k ∙ (h.scanned v other u is got k ∙ ap (λ b. scanned_by u (cond b (s.taken other ++ change ∷ []) (s.taken other)) k) (sym off))
+                let off : eqb other table ≡ false = ne_eqb other table d in
+                same_sent v (ap (is_number table) is ∙ off) k ∙ (h.scanned v other u is got k ∙ ap (λ b. scanned_by u (cond b (s.taken other ++ change ∷ []) (s.taken other)) k) (sym off))
             | inl e ↦
-              let on : eqb other table ≡ true = eq-eqb other table e in
-              let one : u ≡ t = (let both : Some u ≡ Some t = sym got ∙ (ap g.tables e ∙ has) in cc) in
-              ap (λ b. cond (b && (k == scanned_at t change)) (s.sent v k ++ change ∷ []) (s.sent v k)) (ap (is_number table) is ∙ on)
-              ∙ (ap (λ l. cond (k == scanned_at t change) (l ++ change ∷ []) l) (h.scanned v other u is got k)
-              ∙ (here u one k
-              ∙ ap (λ b. scanned_by u (cond b (s.taken other ++ change ∷ []) (s.taken other)) k) (sym on)))
+                let on : eqb other table ≡ true = eq-eqb other table e in
+                let one : u ≡ t = (let both : Some u ≡ Some t = sym got ∙ (ap g.tables e ∙ has) in cc) in
+                ap (λ b. cond (b && (k == scanned_at t change)) (s.sent v k ++ change ∷ []) (s.sent v k)) (ap (is_number table) is ∙ on)
+                ∙ (ap (λ l. cond (k == scanned_at t change) (l ++ change ∷ []) l) (h.scanned v other u is got k)
+                ∙ (here u one k
+                ∙ ap (λ b. scanned_by u (cond b (s.taken other ++ change ∷ []) (s.taken other)) k) (sym on)))
           ]
         where
           here : (u : Table) → u ≡ t → (k : ℕ) → cond (k == scanned_at t change) (scanned_by u (s.taken other) k ++ change ∷ []) (scanned_by u (s.taken other) k) ≡ scanned_by u (s.taken other ++ change ∷ []) k
           here u one k =
               elim (cases_eq k (scanned_at t change)) [
                 | inl e ↦
-                  let q : eqb k (scanned_at t change) ≡ true = eq-eqb k (scanned_at t change) e in
-                  let r : eqb (scanned_at u change) k ≡ true = eq-eqb (scanned_at u change) k (ap (λ w. scanned_at w change) one ∙ sym e) in
-                  ap (λ b. cond b (scanned_by u (s.taken other) k ++ change ∷ []) (scanned_by u (s.taken other) k)) q
-                  ∙ (ap (λ b. scanned_by u (s.taken other) k ++ cond b (change ∷ []) []) (sym r) ∙ sym (filter-append _ (s.taken other) (change ∷ [])))
+                    let q : eqb k (scanned_at t change) ≡ true = eq-eqb k (scanned_at t change) e in
+                    let r : eqb (scanned_at u change) k ≡ true = eq-eqb (scanned_at u change) k (ap (λ w. scanned_at w change) one ∙ sym e) in
+                    ap (λ b. cond b (scanned_by u (s.taken other) k ++ change ∷ []) (scanned_by u (s.taken other) k)) q
+                    ∙ (ap (λ b. scanned_by u (s.taken other) k ++ cond b (change ∷ []) []) (sym r) ∙ sym (filter-append _ (s.taken other) (change ∷ [])))
                 | inr d ↦
-                  let q : eqb k (scanned_at t change) ≡ false = ne_eqb k (scanned_at t change) d in
-                  let r : eqb (scanned_at u change) k ≡ false = ne_eqb (scanned_at u change) k (λ x. d (sym x ∙ ap (λ w. scanned_at w change) one)) in
-                  ap (λ b. cond b (scanned_by u (s.taken other) k ++ change ∷ []) (scanned_by u (s.taken other) k)) q
-                  ∙ (sym (append-nil (scanned_by u (s.taken other) k))
-                  ∙ (ap (λ b. scanned_by u (s.taken other) k ++ cond b (change ∷ []) []) (sym r) ∙ sym (filter-append _ (s.taken other) (change ∷ []))))
+                    let q : eqb k (scanned_at t change) ≡ false = ne_eqb k (scanned_at t change) d in
+                    let r : eqb (scanned_at u change) k ≡ false = ne_eqb (scanned_at u change) k (λ x. d (sym x ∙ ap (λ w. scanned_at w change) one)) in
+                    ap (λ b. cond b (scanned_by u (s.taken other) k ++ change ∷ []) (scanned_by u (s.taken other) k)) q
+                    ∙ (sym (append-nil (scanned_by u (s.taken other) k))
+                    ∙ (ap (λ b. scanned_by u (s.taken other) k ++ cond b (change ∷ []) []) (sym r) ∙ sym (filter-append _ (s.taken other) (change ∷ []))))
               ]
 
       of_taken : (P : Table → List Change → Type 0) → ((other : ℕ) (u : Table) → g.tables other ≡ Some u → P u (s.taken other)) → P t (s.taken table ++ change ∷ []) → (other : ℕ) (u : Table) → g.tables other ≡ Some u → P u (cond (other == table) (s.taken other ++ change ∷ []) (s.taken other))
@@ -467,9 +466,9 @@ module _ (g : Network) (wired : IsWired g) where
           elim (cases_eq other table) [
             | inr d ↦ let off : eqb other table ≡ false = ne_eqb other table d in rw off (old other u got)
             | inl e ↦
-              let on : eqb other table ≡ true = eq-eqb other table e in
-              let one : u ≡ t = (let both : Some u ≡ Some t = sym got ∙ (ap g.tables e ∙ has) in cc) in
-              rw on (subst (λ n. P u (s.taken n ++ change ∷ [])) (sym e) (subst (λ w. P w (s.taken table ++ change ∷ [])) (sym one) new))
+                let on : eqb other table ≡ true = eq-eqb other table e in
+                let one : u ≡ t = (let both : Some u ≡ Some t = sym got ∙ (ap g.tables e ∙ has) in cc) in
+                rw on (subst (λ n. P u (s.taken n ++ change ∷ [])) (sym e) (subst (λ w. P w (s.taken table ++ change ∷ [])) (sym one) new))
           ]
 
       fed_scanned : (m n p k : ℕ) → p < g.ports m → from_port p k (consumed s m n) ++ (scanned g table (scanned_at t change) change s).flight (g.source m p) k n ≡ through (g.source m p) k n ((scanned g table (scanned_at t change) change s).sent (g.source m p) k)
@@ -477,8 +476,8 @@ module _ (g : Network) (wired : IsWired g) where
           let u : ℕ = g.source m p in
           elim (at u k) as (λ b. from_port p k (consumed s m n) ++ cond b (s.flight u k n ++ through u k n (change ∷ [])) (s.flight u k n) ≡ through u k n (cond b (s.sent u k ++ change ∷ []) (s.sent u k))) [
             | true ↦
-              sym (append_assoc (from_port p k (consumed s m n)) (s.flight u k n) (through u k n (change ∷ [])))
-              ∙ (ap (λ l. l ++ through u k n (change ∷ [])) (h.fed m n p k pl) ∙ sym (filter-append _ (s.sent u k) (change ∷ [])))
+                sym (append_assoc (from_port p k (consumed s m n)) (s.flight u k n) (through u k n (change ∷ [])))
+                ∙ (ap (λ l. l ++ through u k n (change ∷ [])) (h.fed m n p k pl) ∙ sym (filter-append _ (s.sent u k) (change ∷ [])))
             | false ↦ h.fed m n p k pl
           ]
 
@@ -487,32 +486,32 @@ module _ (g : Network) (wired : IsWired g) where
           elim (is_scan_of g table v) as (λ b. total g.subtasks (λ k. length (cond (b && (k == scanned_at t change)) (s.sent v k ++ change ∷ []) (s.sent v k))) ≡ total g.subtasks (λ k. length (s.sent v k)) + cond b 1 0) [
             | false ↦ omega arith
             | true ↦
-              total-same g.subtasks _ (λ k. length (s.sent v k) + cond (k == scanned_at t change) 1 0) (λ k kl.
+                total-same g.subtasks _ (λ k. length (s.sent v k) + cond (k == scanned_at t change) 1 0) (λ k kl.
                 elim (k == scanned_at t change) as (λ b. length (cond b (s.sent v k ++ change ∷ []) (s.sent v k)) ≡ length (s.sent v k) + cond b 1 0) [
                   | true ↦ length-append (s.sent v k) (change ∷ [])
                   | false ↦ omega arith
                 ])
-              ∙ (total-sum g.subtasks (λ k. length (s.sent v k)) (λ k. cond (k == scanned_at t change) 1 0)
-              ∙ ap (λ n. total g.subtasks (λ k. length (s.sent v k)) + n) (total_at g.subtasks (scanned_at t change) (λ _. 1) (wired.routed table t has _)))
+                ∙ (total-sum g.subtasks (λ k. length (s.sent v k)) (λ k. cond (k == scanned_at t change) 1 0)
+                ∙ ap (λ n. total g.subtasks (λ k. length (s.sent v k)) + n) (total_at g.subtasks (scanned_at t change) (λ _. 1) (wired.routed table t has _)))
           ]
 
       hangs_scanned : HangsTogether (scanned g table (scanned_at t change) change s)
       hangs_scanned = record {
-          runs = λ v j none. h.runs v j none ∙ ap Ok (sym (same_sent v (no_scan_of v none) j));
-          scanned = scan_now;
-          taken = of_taken (λ u l. AllTaken u [] l) h.taken (taken-push t [] (s.taken table) change (h.taken table t has) may);
-          typed = of_taken (λ u l. AllByRecursion (λ c. u.fits c ≡ true) l) h.typed (all-append (λ c. t.fits c ≡ true) (s.taken table) (change ∷ []) (h.typed table t has) (fits, tt));
-          within = h.within;
-          ports = h.ports;
-          fed = fed_scanned;
-          prints = h.prints;
-          printed = h.printed;
-          printed_within = h.printed_within;
-          printed_from = λ k. h.printed_from k ∙ sym (same_sent g.count (sink_scans (g.scans g.count) refl) k);
-          counted =
+        runs = λ v j none. h.runs v j none ∙ ap Ok (sym (same_sent v (no_scan_of v none) j));
+        scanned = scan_now;
+        taken = of_taken (λ u l. AllTaken u [] l) h.taken (taken-push t [] (s.taken table) change (h.taken table t has) may);
+        typed = of_taken (λ u l. AllByRecursion (λ c. u.fits c ≡ true) l) h.typed (all-append (λ c. t.fits c ≡ true) (s.taken table) (change ∷ []) (h.typed table t has) (fits, tt));
+        within = h.within;
+        ports = h.ports;
+        fed = fed_scanned;
+        prints = h.prints;
+        printed = h.printed;
+        printed_within = h.printed_within;
+        printed_from = λ k. h.printed_from k ∙ sym (same_sent g.count (sink_scans (g.scans g.count) refl) k);
+        counted =
             ap (λ n. n + scan_count g table) h.counted
             ∙ sym (total-same g.count _ _ (λ v vl. one_more v) ∙ total-sum g.count (λ v. total g.subtasks (λ k. length (s.sent v k))) (λ v. cond (is_scan_of g table v) 1 0));
-        }
+      }
         where
           sink_scans : (o : Option ℕ) → g.scans g.count ≡ o → is_number table o ≡ false
           sink_scans None e = refl
@@ -538,27 +537,27 @@ module _ (g : Network) (wired : IsWired g) where
     hangs_step s (Flush v j) typed h =
         elim (is_place g v j) as (λ b. is_place g v j ≡ b → Keeps (cond b (flush_bundle g limit s v j (g.bundle v)) (Err (Order NoSuchPlace)))) [
           | true ↦ λ q.
-            let a = and_parts _ _ q in
-            let b = and_parts _ _ a.1 in
-            hangs_flush s v j (g.bundle v) (leb-true v g.count b.0) (ltb-true j g.subtasks b.1) h
+              let a = and_parts _ _ q in
+              let b = and_parts _ _ a.1 in
+              hangs_flush s v j (g.bundle v) (leb-true v g.count b.0) (ltb-true j g.subtasks b.1) h
           | false ↦ λ q. tt
         ] refl
 
     hangs_told : (s : State) → HangsTogether s → HangsTogether (told_quiet s)
     hangs_told s h = record {
-        runs = h.runs;
-        scanned = h.scanned;
-        taken = h.taken;
-        typed = h.typed;
-        within = h.within;
-        ports = h.ports;
-        fed = h.fed;
-        prints = h.prints;
-        printed = changes_in-append s.printed (Quiet s.took ∷ []) ∙ (append-nil (changes_in s.printed) ∙ h.printed);
-        printed_within = h.printed_within;
-        printed_from = h.printed_from;
-        counted = h.counted;
-      }
+      runs = h.runs;
+      scanned = h.scanned;
+      taken = h.taken;
+      typed = h.typed;
+      within = h.within;
+      ports = h.ports;
+      fed = h.fed;
+      prints = h.prints;
+      printed = changes_in-append s.printed (Quiet s.took ∷ []) ∙ (append-nil (changes_in s.printed) ∙ h.printed);
+      printed_within = h.printed_within;
+      printed_from = h.printed_from;
+      counted = h.counted;
+    }
 
     pub hangs_item : (s : State) (item : Item) → IsTyped g item → HangsTogether s → Keeps (step_item g limit s item)
     hangs_item s (happens event) typed h = hangs_step s event typed h

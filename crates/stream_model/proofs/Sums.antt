@@ -1,9 +1,9 @@
 -- Sums over lists and over the numbers below a bound, and lists that are dealt out.
 use Rattle.std.specs.Prelude.{◌≡◌, ℕ, ◌+◌, ◌-◌, ◌<◌, ◌≤◌, Bool, cond, List, ◌++◌, length, min}
-use Rattle.std.proofs.Common.{zero, suc, true, false, [], ◌∷◌, refl, sym, ap, subst, ◌∙◌, arith, take, eqb, inl, inr, ◌⊎◌}
+use Rattle.std.proofs.Common.{zero, suc, true, false, [], ◌∷◌, refl, sym, ap, ◌∙◌, arith, take, eqb, inl, inr}
 use Rattle.std.specs.List.{AllByRecursion, filter}
 use Rattle.std.proofs.lemmas.List.{take_at}
-use Rattle.std.proofs.lemmas.Bool.{cases_Bool, eqb-true, eqb-false, eq-eqb, ne_eqb, cases_eq}
+use Rattle.std.proofs.lemmas.Bool.{eq-eqb, ne_eqb, cases_eq}
 use Rattle.ct_value.specs.Bag.{weigh}
 use Rattle.op_rules.specs.Tasks.{total}
 
@@ -118,10 +118,10 @@ all-weaker P Q w (x ∷ xs) h = (w x h.0, all-weaker P Q w xs h.1)
 pub total_only : (n i : ℕ) (f : ℕ → ℕ) → i < n → ((k : ℕ) → k < n → 0 < f k → i ≡ k) → total n f ≡ f i
 total_only n i f l only =
     total-same n f (λ k. cond (eqb i k) (f i) 0) (λ k m.
-      elim (cases_eq i k) [
-        | inl e ↦ let q : eqb i k ≡ true = eq-eqb i k e in rw (q, e)
-        | inr d ↦ let q : eqb i k ≡ false = ne_eqb i k d in rw q (elim (cases_eq (f k) 0) [ inl z ↦ z | inr a ↦ absurd (d (only k m (omega arith))) ])
-      ])
+    elim (cases_eq i k) [
+      | inl e ↦ let q : eqb i k ≡ true = eq-eqb i k e in rw (q, e)
+      | inr d ↦ let q : eqb i k ≡ false = ne_eqb i k d in rw q (elim (cases_eq (f k) 0) [ inl z ↦ z | inr a ↦ absurd (d (only k m (omega arith))) ])
+    ])
     ∙ total_one n i (f i) l
 
 -- a difference of sums lies below the sum of the differences
@@ -159,10 +159,10 @@ take_both (suc m) (suc n) (x ∷ xs) = rw min-suc (ap (λ r. x ∷ r) (take_both
 pub total_at : (n j : ℕ) (f : ℕ → ℕ) → j < n → total n (λ i. cond (eqb i j) (f i) 0) ≡ f j
 total_at n j f l =
     total-same n (λ i. cond (eqb i j) (f i) 0) (λ i. cond (eqb j i) (f j) 0) (λ i m.
-      elim (cases_eq i j) [
-        | inl e ↦ let q : eqb i j ≡ true = eq-eqb i j e in let q2 : eqb j i ≡ true = eq-eqb j i (sym e) in rw (q, q2) (ap f e)
-        | inr d ↦ let q : eqb i j ≡ false = ne_eqb i j d in let q2 : eqb j i ≡ false = ne_eqb j i (λ e. d (sym e)) in rw (q, q2) refl
-      ])
+    elim (cases_eq i j) [
+      | inl e ↦ let q : eqb i j ≡ true = eq-eqb i j e in let q2 : eqb j i ≡ true = eq-eqb j i (sym e) in rw (q, q2) (ap f e)
+      | inr d ↦ let q : eqb i j ≡ false = ne_eqb i j d in let q2 : eqb j i ≡ false = ne_eqb j i (λ e. d (sym e)) in rw (q, q2) refl
+    ])
     ∙ total_one n j (f j) l
 
 pub cond_le : (b : Bool) (x y : ℕ) → x ≤ y → cond b x 0 ≤ cond b y 0

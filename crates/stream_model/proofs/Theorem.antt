@@ -1,25 +1,23 @@
 -- The composition theorem.
-use Rattle.std.specs.Prelude.{◌≡◌, ℕ, ◌+◌, ◌<◌, ◌≤◌, ◌==◌, Bool, cond, List, ◌++◌, length, Option, Ok}
-use Rattle.std.proofs.Common.{zero, suc, true, false, [], ◌∷◌, refl, sym, ap, subst, ◌∙◌, arith, take, inl, inr, ◌⊎◌, Some, None}
+use Rattle.std.specs.Prelude.{◌≡◌, ℕ, ◌<◌, ◌==◌, cond, List, ◌++◌, length, Ok}
+use Rattle.std.proofs.Common.{zero, suc, true, false, [], ◌∷◌, refl, sym, ap, subst, ◌∙◌, arith, take, inl, inr, Some}
 use Rattle.std.specs.List.{AllByRecursion, filter}
 use Rattle.std.proofs.lemmas.List.{append_assoc, append-nil, take_all, length-append}
 use Rattle.std.proofs.lemmas.Bool.{cases_lt}
 use Rattle.ct_value.specs.Bag.{copies, none, same_bag}
 use Rattle.ct_value.specs.Order.{row_total, row_exact}
-use Rattle.ct_value.specs.Rows.{project}
 use Rattle.ct_value.specs.declared.row.Row.{Row}
 use Rattle.ct_change.specs.declared.change.Change.{Change}
 use Rattle.ct_change.specs.Changelog.{Rows, has, fold}
 use Rattle.op_rules.specs.History.{Arrival, arrival, at_port, from_port, joined}
-use Rattle.op_rules.specs.Edges.{Meaning, bag, last_rows, partials, IsPartial, ReadsAs, Exchange, hash, Edge, goes_by, goes, belongs_by, AreApartBy, IsKeyedBy}
+use Rattle.op_rules.specs.Edges.{Meaning, bag, last_rows, partials, IsPartial, ReadsAs, hash, goes_by, goes, belongs_by, AreApartBy, IsKeyedBy}
 use Rattle.op_rules.specs.Tasks.{total, emitted_by, IsFine, IsReady}
 use Rattle.stream_model.specs.Tables.{Table}
-use Rattle.stream_model.specs.Network.{Feed, Network, task, IsNode, IsWired, IsAnswered, scanned_by, MeetsFacts, IsAnswer}
+use Rattle.stream_model.specs.Network.{Network, task, IsNode, IsWired, IsAnswered, scanned_by, MeetsFacts, IsAnswer}
 use Rattle.stream_model.specs.Machine.{State, consumed, joins, opened, IsQuiet}
-use Rattle.stream_model.specs.Runs.{Item, after, changes_in, AreTyped}
-use Rattle.stream_model.specs.Theorem.{rows_left, table_rows, MayArrive, Holds, Composes}
-use Rattle.stream_model.proofs.Sums.{total-same, all-take, all-append_left, all-weaker}
-use Rattle.stream_model.proofs.Bags.{sum_rows, restricted}
+use Rattle.stream_model.specs.Runs.{after, changes_in}
+use Rattle.stream_model.specs.Theorem.{rows_left, table_rows, Holds, Composes}
+use Rattle.stream_model.proofs.Sums.{all-take, all-append_left}
 use Rattle.stream_model.proofs.Exchange.{sel_keep, all-at, IsApart-front, came_bag, copies_came, means_came}
 use Rattle.stream_model.proofs.Histories.{from_port-append}
 use Rattle.stream_model.proofs.Nodes.{Linked, over, ready, all_fine, answered}
@@ -64,20 +62,21 @@ module _ (g : Network) (wired : IsWired g) where
   module _ (s : State) (h : HangsTogether g wired s) where
     whole : Linked g s.sent (consumed s)
     whole = record {
-        within = h.within;
-        ports = h.ports;
-        fed = λ v j p i pl il jl. (s.flight (g.source v p) i j, h.fed v j p i pl);
-      }
+      within = h.within;
+      ports = h.ports;
+      fed = λ v j p i pl il jl. (s.flight (g.source v p) i j, h.fed v j p i pl);
+    }
 
     folded : Linked g s.sent (λ v j. joined (s.pieces v j))
     folded = record {
-        within = λ v j. front (λ a. a.from < g.subtasks) v j (h.within v j);
-        ports = λ v j. front (λ a. a.port < g.ports v) v j (h.ports v j);
-        fed = λ v j p i pl il jl.
-          (from_port p i (s.bundle v j) ++ s.flight (g.source v p) i j,
-           sym (append_assoc (from_port p i (joined (s.pieces v j))) (from_port p i (s.bundle v j)) (s.flight (g.source v p) i j))
-           ∙ (ap (λ l. l ++ s.flight (g.source v p) i j) (sym (from_port-append p i (joined (s.pieces v j)) (s.bundle v j))) ∙ h.fed v j p i pl));
-      }
+      within = λ v j. front (λ a. a.from < g.subtasks) v j (h.within v j);
+      ports = λ v j. front (λ a. a.port < g.ports v) v j (h.ports v j);
+      fed = λ v j p i pl il jl. (
+        from_port p i (s.bundle v j) ++ s.flight (g.source v p) i j,
+        sym (append_assoc (from_port p i (joined (s.pieces v j))) (from_port p i (s.bundle v j)) (s.flight (g.source v p) i j))
+            ∙ (ap (λ l. l ++ s.flight (g.source v p) i j) (sym (from_port-append p i (joined (s.pieces v j)) (s.bundle v j))) ∙ h.fed v j p i pl),
+      );
+    }
       where
         front : (P : Arrival → Type 0) (v j : ℕ) → AllByRecursion P (joined (s.pieces v j) ++ s.bundle v j) → AllByRecursion P (joined (s.pieces v j))
         front P v j e = all-append_left P (joined (s.pieces v j)) (s.bundle v j) e
@@ -138,9 +137,9 @@ module _ (g : Network) (wired : IsWired g) where
       chosen_is : (n i : ℕ) → i < g.subtasks → ReadsAs (g.edge g.count).meaning (take (length (from_port 0 i (take n h.prints))) (s.sent g.count i)) (chosen n i)
       unfolding chosen
       chosen_is n i l = elim (cases_lt i g.subtasks) as (λ q. ReadsAs (g.edge g.count).meaning (take (length (from_port 0 i (take n h.prints))) (s.sent g.count i)) (elim q as (λ _. Rows) [ inl l ↦ (front_rows n i l).0 | inr l ↦ none ])) [
-          | inl m ↦ (front_rows n i m).1
-          | inr m ↦ absurd (omega arith)
-        ]
+        | inl m ↦ (front_rows n i m).1
+        | inr m ↦ absurd (omega arith)
+      ]
 
       printed_stands : (n : ℕ) → (rows : Rows) × ReadsAs (g.edge g.count).meaning (take n (changes_in s.printed)) rows
       printed_stands n =
@@ -148,13 +147,13 @@ module _ (g : Network) (wired : IsWired g) where
           let c : List Arrival = take k h.prints in
           let e : take n (changes_in s.printed) ≡ at_port 0 c = ap (take n) h.printed ∙ take-at_port 0 n h.prints in
           let r : (rows : Rows) × ReadsAs (g.edge g.count).meaning (at_port 0 c) rows =
-            (_, printed_means (g.edge g.count).meaning c (all-take (λ a. a.from < g.subtasks) k h.prints h.printed_within) (λ i. length (from_port 0 i c)) (λ i l. front_is k i) wired.sink_whole sink_fine.apart (chosen k) (chosen_is k)) in
+          (_, printed_means (g.edge g.count).meaning c (all-take (λ a. a.from < g.subtasks) k h.prints h.printed_within) (λ i. length (from_port 0 i c)) (λ i l. front_is k i) wired.sink_whole sink_fine.apart (chosen k) (chosen_is k)) in
           (r.0, subst (λ l. ReadsAs (g.edge g.count).meaning l r.0) (sym e) r.1)
 
       printed_kinds : AllByRecursion (λ change. has (g.edge g.count).kinds change.kind ≡ true) (changes_in s.printed)
       printed_kinds = subst (AllByRecursion (λ change. has (g.edge g.count).kinds change.kind ≡ true)) (sym h.printed)
           (all-at (λ change. has (g.edge g.count).kinds change.kind ≡ true) 0 g.subtasks h.prints h.printed_within
-            (λ i l. subst (AllByRecursion (λ change. has (g.edge g.count).kinds change.kind ≡ true)) (sym (h.printed_from i)) (sink_fine.kinds i l)))
+          (λ i l. subst (AllByRecursion (λ change. has (g.edge g.count).kinds change.kind ≡ true)) (sym (h.printed_from i)) (sink_fine.kinds i l)))
 
       -- ---- quiet
 
@@ -177,7 +176,7 @@ module _ (g : Network) (wired : IsWired g) where
             let is : (i : ℕ) → i < g.subtasks → from_port 0 i h.prints ≡ take (lengths i) (s.sent g.count i) = λ i l. h.printed_from i ∙ sym (all i) in
             let reads = printed_means (g.edge g.count).meaning h.prints h.printed_within lengths is wired.sink_whole sink_fine.apart a.2.rows (λ i l. subst (λ x. ReadsAs (g.edge g.count).meaning x (a.2.rows i)) (sym (all i)) (a.2.stands i l)) in
             let same : came_bag g.subtasks (hash []) one_place 0 0 wired.parallel h.prints h.printed_within (fronts (g.edge g.count).meaning h.prints h.printed_within lengths is) (came (g.edge g.count).meaning h.prints h.printed_within lengths is) (g.edge g.count).meaning a.2.rows ≡ a.0 =
-                same_bag row_total row_exact _ _ (λ row. copies_came g.subtasks (hash []) one_place 0 0 wired.parallel h.prints h.printed_within (fronts (g.edge g.count).meaning h.prints h.printed_within lengths is) (came (g.edge g.count).meaning h.prints h.printed_within lengths is) (g.edge g.count).meaning a.2.rows row ∙ (placed (g.edge g.count).meaning wired.sink_whole a.2.rows row ∙ a.2.together row)) in
+            same_bag row_total row_exact _ _ (λ row. copies_came g.subtasks (hash []) one_place 0 0 wired.parallel h.prints h.printed_within (fronts (g.edge g.count).meaning h.prints h.printed_within lengths is) (came (g.edge g.count).meaning h.prints h.printed_within lengths is) (g.edge g.count).meaning a.2.rows row ∙ (placed (g.edge g.count).meaning wired.sink_whole a.2.rows row ∙ a.2.together row)) in
             (a.0, a.1, subst (λ l. ReadsAs (g.edge g.count).meaning l a.0) (sym h.printed) (subst (ReadsAs (g.edge g.count).meaning (at_port 0 h.prints)) same reads))
           where
             placed : (m : Meaning) → (IsPartial m → ⊥) → (rows : ℕ → Rows) (row : Row) → total g.subtasks (λ i. cond (belongs_by m (hash []) one_place i 0 row) (copies (rows i) row) 0) ≡ total g.subtasks (λ i. copies (rows i) row)
@@ -187,25 +186,25 @@ module _ (g : Network) (wired : IsWired g) where
 
   holds : (facts : MeetsFacts g) (s : State) → HangsTogether g wired s → Holds g s
   holds facts s h = record {
-      fine = fine s h facts;
-      over = λ v is. over g wired v (s.sent v) (fine s h facts v is);
-      ready = rely s h facts;
-      fronts = λ e i j feed change rest fed il jl at.
+    fine = fine s h facts;
+    over = λ v is. over g wired v (s.sent v) (fine s h facts v is);
+    ready = rely s h facts;
+    fronts = λ e i j feed change rest fed il jl at.
         let next : State = joins e i j feed change rest s in
         let k = hangs_joined g wired 0 s e i j feed change rest fed il at h in
         let is : consumed next feed.node j ≡ consumed s feed.node j ++ arrival feed.port i change ∷ [] = consumed_joined g wired 0 s e i j feed change rest fed il at h in
         record {
           ready = subst (IsReady (task g feed.node) j) is (rely next k facts feed.node j jl);
           few =
-            let a = consumed_few g wired next k feed.node j in
-            let b = ap length is ∙ length-append (consumed s feed.node j) (arrival feed.port i change ∷ []) in
-            omega arith;
+              let a = consumed_few g wired next k feed.node j in
+              let b = ap length is ∙ length-append (consumed s feed.node j) (arrival feed.port i change ∷ []) in
+              omega arith;
         };
-      answered = λ still. answers s h facts still;
-      printed_stands = printed_stands s h facts;
-      printed_kinds = printed_kinds s h facts;
-      printed_answers = λ still. printed_answers s h facts still;
-    }
+    answered = λ still. answers s h facts still;
+    printed_stands = printed_stands s h facts;
+    printed_kinds = printed_kinds s h facts;
+    printed_answers = λ still. printed_answers s h facts still;
+  }
 
 pub composes : Composes
 composes g wired facts limit items typed = holds g wired facts (after g limit (opened g) items) (hangs_after g wired limit (opened g) items typed (hangs_opened g wired))

@@ -1,7 +1,7 @@
 -- A plan as the machine reads it: nodes, edges and tables by number. Nodes are numbered from 1, each after its inputs, and
 -- the last is the sink; edge e leaves node e; a channel (e, i, j) goes from subtask i of node e to subtask j of the node
 -- that the edge feeds.
-use Rattle.std.specs.Prelude.{◌≡◌, ℕ, ◌+◌, ◌<◌, ◌≤◌, ◌⊎◌, ◌==◌, true, List, [], Option, Some, None}
+use Rattle.std.specs.Prelude.{◌≡◌, ℕ, ◌<◌, ◌≤◌, ◌⊎◌, ◌==◌, true, List, [], Option, Some}
 use Rattle.std.specs.List.{AllByRecursion, filter}
 use Rattle.ct_value.specs.declared.ty.ColTy.{ColTy}
 use Rattle.ct_value.specs.Bag.{copies}

@@ -1,5 +1,5 @@
 -- A source table: which changes it takes, and to which subtask of a scan they go.
-use Rattle.std.specs.Prelude.{◌≡◌, ℕ, ◌+◌, ◌==◌, Bool, true, false, ◌&&◌, ◌||◌, not, cond, List, [], ◌∷◌, ◌++◌, length, slice_index_or, Option, Some, None}
+use Rattle.std.specs.Prelude.{◌≡◌, ℕ, ◌+◌, ◌==◌, Bool, true, false, ◌&&◌, ◌||◌, not, cond, List, [], ◌∷◌, ◌++◌, slice_index_or, Option, Some, None}
 use Rattle.ct_value.specs.Bag.{copies}
 use Rattle.ct_value.specs.Rows.{project}
 use Rattle.ct_value.specs.declared.value.Value.{Value}

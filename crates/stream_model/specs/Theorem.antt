@@ -1,12 +1,10 @@
 -- The composition theorem: what holds in every state of every run over a network whose nodes meet their facts.
 use Rattle.std.specs.Prelude.{◌≡◌, ℕ, ◌+◌, ◌<◌, ◌≤◌, List, [], ◌∷◌, ◌++◌, length, take, Option, Some, None}
-use Rattle.std.specs.List.{AllByRecursion}
 use Rattle.ct_value.specs.Bag.{copies, none}
-use Rattle.ct_value.specs.declared.row.Row.{Row}
 use Rattle.ct_change.specs.declared.change.Change.{Change}
 use Rattle.ct_change.specs.Changelog.{Rows, AreOf, fold}
-use Rattle.op_rules.specs.History.{Arrival, arrival}
-use Rattle.op_rules.specs.Edges.{Edge, ReadsAs, IsUnique, HoldsOver}
+use Rattle.op_rules.specs.History.{arrival}
+use Rattle.op_rules.specs.Edges.{ReadsAs, IsUnique, HoldsOver}
 use Rattle.op_rules.specs.Tasks.{total, IsFine, IsReady}
 use Rattle.stream_model.specs.Tables.{Table}
 use Rattle.stream_model.specs.Network.{Feed, Network, task, IsNode, IsWired, IsAnswered, MeetsFacts, IsAnswer}
