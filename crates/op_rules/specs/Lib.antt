@@ -1,6 +1,9 @@
+pub mod Edges
 pub mod Facts
 pub mod Faults
 pub mod History
+pub mod Partials
 pub mod Rule
 pub mod Rules
+pub mod Tasks
 pub mod laws

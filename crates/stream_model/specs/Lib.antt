@@ -1,0 +1,6 @@
+pub mod Machine
+pub mod Network
+pub mod Runs
+pub mod Scans
+pub mod Tables
+pub mod Theorem

@@ -1,0 +1,47 @@
+-- A scan: its edge carries what its table takes.
+use Rattle.std.specs.Prelude.{◌≡◌, ℕ, ◌<◌, true, List, Option, Some}
+use Rattle.std.specs.List.{Contains}
+use Rattle.ct_value.specs.declared.row.Row.{Row}
+use Rattle.ct_change.specs.declared.kind.Kind.{Kind}
+use Rattle.ct_change.specs.declared.change.Change.{Change}
+use Rattle.ct_change.specs.Changelog.{Mode, append, retract, upsert, adds, admits, has}
+use Rattle.op_rules.specs.Edges.{Meaning, bag, last_rows, Edge, LiesIn}
+use Rattle.stream_model.specs.Tables.{Table}
+use Rattle.stream_model.specs.Network.{ScanFacts}
+
+-- how the changes of a mode are read
+abbrev pub meaning_of : Mode → Meaning
+meaning_of append = bag
+meaning_of retract = bag
+meaning_of (upsert key) = last_rows key
+
+abbrev pub IsKeyBy : Mode → Option (List ℕ) → List ℕ → Type 0
+IsKeyBy append declared key = declared ≡ Some key
+IsKeyBy retract declared key = declared ≡ Some key
+IsKeyBy (upsert columns) declared key = columns ≡ key
+
+-- the columns are the table's key
+abbrev pub IsKeyOf : Table → List ℕ → Type 0
+IsKeyOf table key = IsKeyBy table.mode table.key key
+
+-- the changes of one key of an upsert table have one subtask
+abbrev pub KeepsKeys : Mode → List ℕ → Type 0
+KeepsKeys append spread = Unit {0}
+KeepsKeys retract spread = Unit {0}
+KeepsKeys (upsert key) spread = LiesIn spread key
+
+pub record CarriesTable (many : ℕ) (table : Table) (edge : Edge) : Type 0 where
+  pub routed : (key : Row) → table.route key < many
+  pub spread : KeepsKeys table.mode table.spread
+  pub meaning : edge.meaning ≡ meaning_of table.mode
+  pub kinds : (kind : Kind) → admits table.mode kind ≡ true → has edge.kinds kind ≡ true
+  pub fits : (change : Change) → table.fits change ≡ true → edge.fits change ≡ true
+  pub holds : (change : Change) → table.fits change ≡ true → adds change.kind ≡ true → edge.holds change.row ≡ true
+  -- its keys are the table's, and its fixing sets have the columns by which the table's changes are spread
+  pub unique : (key : List ℕ) → Contains edge.unique key → IsKeyOf table key
+  pub local : (key : List ℕ) → Contains edge.local key → IsKeyOf table key
+  pub fixing : (columns : List ℕ) → Contains edge.fixing columns → LiesIn table.spread columns
+
+-- the facts of a scan follow from what its table takes
+abbrev pub ScansStand : Type 0
+ScansStand = (many : ℕ) (table : Table) (edge : Edge) → CarriesTable many table edge → ScanFacts many table edge

@@ -1,0 +1,9 @@
+//! The machine of histories, which says what a job does, for any plan and any number of subtasks, and the theorem over
+//! it. No code of the engine stands here.
+#![tactic(auto)]
+
+mod events;
+mod laws;
+
+pub use events::{Event, PrintItem, PrintList, StepFault, Stopped};
+pub use laws::{plans_compose, scans_stand};
