@@ -7,8 +7,8 @@ use Rattle.ct_value.specs.declared.row.Row.{Row}
 use Rattle.ct_value.specs.declared.value.Value.{Value}
 use Rattle.ct_value.specs.declared.value.Value.TheVariants.{Num}
 use Rattle.ct_change.specs.Changelog.{Rows, same_row}
-use Rattle.rel_algebra.specs.declared.agg.Agg.{Agg}
-use Rattle.rel_algebra.specs.declared.agg.AggCall.TheVariants.{CountAll}
+use Rattle.rel_clauses.specs.declared.agg.Agg.{Agg}
+use Rattle.rel_clauses.specs.declared.agg.AggCall.TheVariants.{CountAll}
 
 -- each row of a list once, in first-seen order
 abbrev pub first_seen : List Row → List Row

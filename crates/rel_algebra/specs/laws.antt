@@ -1,1 +1,2 @@
+pub mod CountStar
 pub mod Results

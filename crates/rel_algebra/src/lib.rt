@@ -1,9 +1,10 @@
-//! The relational algebra: so far the calls of aggregates, and the batch answer of a grouped count.
+//! The relational algebra: so far the batch answer of a grouped count.
 //!
-//! Promised: `specs/Groups` defines the answer, and its laws tell which rows it has. It stands on the bags of `ct_value` and the
-//! rows of `ct_change`.
+//! Promised: `specs/Groups` defines the answer, and its laws tell which rows it has, and that it is the clause of grouping with that
+//! call. It stands on the clauses of queries, and on the rows of `ct_change`.
 #![tactic(auto)]
 
-mod agg;
+mod laws;
 
-pub use agg::{Agg, AggCall, Aggs};
+pub use laws::grouped_counts_are_the_clause;
+pub use rel_clauses::{Agg, AggCall, Aggs};
