@@ -1,3 +1,4 @@
 pub mod Emissions
 pub mod Folds
+pub mod Lasts
 pub mod Meanings

@@ -6,17 +6,22 @@
 //! It stands on the order of rows and the bags of `ct_value`.
 #![tactic(auto)]
 
+mod append;
 mod bag;
 mod change;
 mod kind;
+mod last_rows;
 mod laws;
 mod mode;
 mod retract;
 mod steps;
+mod upsert;
 
+pub use append::Append;
 pub use bag::{Bag, BagRows};
 pub use change::{Change, Changes, Diff};
 pub use kind::{Declared, Kind, KindSet};
+pub use last_rows::LastRows;
 pub use laws::{
     difference_settles, emission_is_admitted, emission_replaces, fold_takes_each_change,
     valid_changelog_means_its_fold,
@@ -24,3 +29,4 @@ pub use laws::{
 pub use mode::{ChangeMode, InMode, OutMode};
 pub use retract::Retract;
 pub use steps::Steps;
+pub use upsert::UpsertBy;

@@ -1,0 +1,5 @@
+use Rattle.ct_change.specs.laws.Lasts.{last_none}
+use Rattle.ct_change.proofs.upsert.UpsertByInMode.fresh.Goals as goal
+
+pub returns : goal.returns
+returns c = rw c.new.ensures (last_none c.args.self.now.key)
