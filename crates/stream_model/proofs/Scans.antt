@@ -14,12 +14,12 @@ use Rattle.ct_change.specs.declared.change.Change.{Change}
 use Rattle.ct_change.specs.Changelog.{Mode, append, retract, upsert, Rows, same_row, adds, admits, row_at, apply, fold, MayCome, IsValidFrom, addition, removal, additions, last_shown, Means}
 use Rattle.ct_change.specs.laws.Folds.{fold-push, append_only}
 use Rattle.ct_change.specs.laws.Meanings.{means_fold}
-use Rattle.op_rules.specs.Edges.{meaning_of, KeepsKeys, bag, last_rows, IsPartial, ReadsAs, Edge, IsUnique, IsApart, AreApartBy, LiesIn}
+use Rattle.op_rules.specs.Edges.{meaning_of, KeepsKeys, bag, IsPartial, ReadsAs, Edge, IsUnique, IsApart, AreApartBy, LiesIn}
 use Rattle.op_rules.specs.Tasks.{IsFine}
 use Rattle.stream_model.specs.Tables.{Table, scanned_at, kind_refusal, null_refusal, row_refusal, key_refusal_by, is_there, or_else, refusal, AllTaken}
 use Rattle.stream_model.specs.Network.{IsAnswered, scanned_by}
 use Rattle.stream_model.specs.Scans.{IsKeyBy, IsKeyOf, CarriesTable, ScansStand}
-use Rattle.op_rules.specs.laws.LastRows.{agree, added, last_unique}
+use Rattle.op_rules.specs.laws.LastRows.{added, last_unique}
 use Rattle.stream_model.proofs.Sums.{reach, take-filter, total-same, total_one, all-filter, all-weaker, filter_passes, cond_sum, cond_below}
 use Rattle.stream_model.proofs.Bags.{same-true, agree, agree_from, weigh-rows, about_addition, about_removal, restricted, copies-restricted}
 use Rattle.stream_model.proofs.Exchange.{shown-filter, means_same, IsUnique-below}

@@ -81,11 +81,11 @@ module _ (many keys : ℕ) (input output : Mode) (from to : Edge) (fits : GroupF
 
   ready : (j : ℕ) (history : List Arrival) → IsReady task j history → Ready rule ports history
   ready j history r = record {
-      known = r.ports;
-      stands = λ port l n. let s = r.valid port l n in (s.0, in_mode _ s.0 s.1);
-      kinds = λ port l. r.kinds port l;
-      widths = λ port l. all-each _ _ (λ change e. fits.fits change e) (at_port port history) (r.types port l);
-    }
+    known = r.ports;
+    stands = λ port l n. let s = r.valid port l n in (s.0, in_mode _ s.0 s.1);
+    kinds = λ port l. r.kinds port l;
+    widths = λ port l. all-each _ _ (λ change e. fits.fits change e) (at_port port history) (r.types port l);
+  }
 
   sent_is : (j : ℕ) (pieces : List (List Arrival)) (sent : List Change) → emitted_by task j pieces ≡ Ok sent → emitted rule j pieces ≡ Ok sent
   sent_is j pieces sent e = ap (appended (Ok [])) (sym (along-same rule [] pieces)) ∙ e
@@ -130,11 +130,11 @@ module _ (many keys : ℕ) (input output : Mode) (from to : Edge) (fits : GroupF
     results-answers old new (key ∷ groups) more all ok =
         let both = both-appended (group_emits keys output old new key) (answers (group_emits keys output old new) groups) more ok in
         subst (AllByRecursion (λ change. IsResult change.row)) (sym both.whole)
-          (all-append (λ change. IsResult change.row) both.front both.back
-            (subst (AllByRecursion (λ change. IsResult change.row)) (sym (in_range (is_countable (group_size keys new key)) (emission output (result_row keys old key) (result_row keys new key)) both.front key both.is_front))
-              (all-emission (λ change. IsResult change.row) output key (group_size keys old key) (group_size keys new key)
-                (key, group_size keys new key, all.0, refl) (λ _. (key, group_size keys old key, all.0, refl)) (λ _. (key, group_size keys new key, all.0, refl)) (λ _ _. (key, group_size keys old key, all.0, refl))))
-            (results-answers old new groups both.back all.1 both.is_back))
+        (all-append (λ change. IsResult change.row) both.front both.back
+        (subst (AllByRecursion (λ change. IsResult change.row)) (sym (in_range (is_countable (group_size keys new key)) (emission output (result_row keys old key) (result_row keys new key)) both.front key both.is_front))
+        (all-emission (λ change. IsResult change.row) output key (group_size keys old key) (group_size keys new key)
+        (key, group_size keys new key, all.0, refl) (λ _. (key, group_size keys old key, all.0, refl)) (λ _. (key, group_size keys new key, all.0, refl)) (λ _ _. (key, group_size keys old key, all.0, refl))))
+        (results-answers old new groups both.back all.1 both.is_back))
       where
         in_range : (b : Bool) (changes given : List Change) (key : Row) → (let r : Answer = cond b (Ok changes) (Err key) in r ≡ Ok given) → given ≡ changes
         in_range true changes given key q = cc
@@ -153,9 +153,9 @@ module _ (many keys : ℕ) (input output : Mode) (from to : Edge) (fits : GroupF
         let split = subst (AllByRecursion (λ change. IsHere (take keys change.row))) (at_port-append 0 piece (joined rest)) all in
         let one = all-first_seen IsHere (map (λ change. take keys change.row) (at_port 0 piece)) (all-groups (at_port 0 piece) (all-front (λ change. IsHere (take keys change.row)) (at_port 0 piece) (at_port 0 (joined rest)) split)) in
         subst (AllByRecursion (λ change. IsResult change.row)) (sym both.whole)
-          (all-append (λ change. IsResult change.row) both.front both.back
-            (results-answers (fold input (at_port 0 before)) (fold input (at_port 0 (before ++ piece))) (groups_of keys (at_port 0 piece)) both.front one both.is_front)
-            (results-along (before ++ piece) rest both.back (all-back (λ change. IsHere (take keys change.row)) (at_port 0 piece) (at_port 0 (joined rest)) split) both.is_back))
+        (all-append (λ change. IsResult change.row) both.front both.back
+        (results-answers (fold input (at_port 0 before)) (fold input (at_port 0 (before ++ piece))) (groups_of keys (at_port 0 piece)) both.front one both.is_front)
+        (results-along (before ++ piece) rest both.back (all-back (λ change. IsHere (take keys change.row)) (at_port 0 piece) (at_port 0 (joined rest)) split) both.is_back))
 
     results : AllByRecursion (λ change. IsResult change.row) sent
     results = results-along [] pieces sent here (sym (appended-nothing (emitted_after rule [] pieces)) ∙ told.0)
@@ -181,15 +181,16 @@ module _ (many keys : ℕ) (input output : Mode) (from to : Edge) (fits : GroupF
       let wide_rows = means_rows (λ row. length row ≡ keys + 1) retract (take n sent) rows means (all-take (λ change. length change.row ≡ keys + 1) n sent (widths j pieces sent e)) in
       let shows : (row : Row) → copies rows row ≡ one_of (front_turns.0 (front row)) row = λ row. let m = means row in let t = turns_mean (λ k. None) front_turns.0 (take n sent) front_turns.1 row in omega arith in
       λ a b same x y.
-        let one : front_turns.0 (front a) ≡ Some a = one_of-some (front_turns.0 (front a)) a (omega (arith, shows a)) in
-        let other : front_turns.0 (front b) ≡ Some b = one_of-some (front_turns.0 (front b)) b (omega (arith, shows b)) in
-        let fronts : front a ≡ front b = sym (group_is a (wide_rows a x)) ∙ (fits.local key has a b same ∙ group_is b (wide_rows b y)) in
-        let both : Some a ≡ Some b = sym one ∙ (ap front_turns.0 fronts ∙ other) in
-        (cc, omega (arith, shows a, one_le (front_turns.0 (front a)) a))
+      let one : front_turns.0 (front a) ≡ Some a = one_of-some (front_turns.0 (front a)) a (omega (arith, shows a)) in
+      let other : front_turns.0 (front b) ≡ Some b = one_of-some (front_turns.0 (front b)) b (omega (arith, shows b)) in
+      let fronts : front a ≡ front b = sym (group_is a (wide_rows a x)) ∙ (fits.local key has a b same ∙ group_is b (wide_rows b y)) in
+      let both : Some a ≡ Some b = sym one ∙ (ap front_turns.0 fronts ∙ other) in
+      (cc, omega (arith, shows a, one_le (front_turns.0 (front a)) a))
     where
       one_le : (o : Option Row) (row : Row) → one_of o row ≤ 1
       one_le None row = omega arith
       one_le (Some other) row = elim (same_row row other) as (λ s. cond {A = ℕ} s 1 0 ≤ 1) [ true ↦ omega arith | false ↦ omega arith ]
+
       all-take : {A : Type 0} (P : A → Type 0) (n : ℕ) (xs : List A) → AllByRecursion P xs → AllByRecursion P (take n xs)
       all-take P zero xs h = tt
       all-take P (suc n) [] h = tt
@@ -198,12 +199,12 @@ module _ (many keys : ℕ) (input output : Mode) (from to : Edge) (fits : GroupF
       let means : Means (upsert columns) (take n sent) rows = subst (λ m. ReadsAs m (take n sent) rows) (fits.writes ∙ ap meaning_of (sym is)) reads in
       let made = means_rows (λ row. IsResult j pieces sent e row) (upsert columns) (take n sent) rows means (all-take (λ change. IsResult j pieces sent e change.row) n sent (results j pieces sent e)) in
       λ a b same x y.
-        let ga = made a x in
-        let gb = made b y in
-        let groups : ga.0 ≡ gb.0 = sym (group_of ga.0 ga.1 ga.2.0) ∙ (ap (project (first_columns keys)) (sym ga.3) ∙ (fits.local key has a b same ∙ (ap (project (first_columns keys)) gb.3 ∙ group_of gb.0 gb.1 gb.2.0))) in
-        let tells = (subst (λ m. IsSound (group_rule keys input m)) (sym is) fits.sound).1 ga.0 gb.0 (Num (pos ga.1)) (Num (pos gb.1)) ga.2.0 gb.2.0 in
-        let agree : project columns a ≡ project columns b = ap (project columns) ga.3 ∙ (tells.1 groups ∙ ap (project columns) (sym gb.3)) in
-        last_unique columns (take n sent) rows means a b agree x y
+      let ga = made a x in
+      let gb = made b y in
+      let groups : ga.0 ≡ gb.0 = sym (group_of ga.0 ga.1 ga.2.0) ∙ (ap (project (first_columns keys)) (sym ga.3) ∙ (fits.local key has a b same ∙ (ap (project (first_columns keys)) gb.3 ∙ group_of gb.0 gb.1 gb.2.0))) in
+      let tells = (subst (λ m. IsSound (group_rule keys input m)) (sym is) fits.sound).1 ga.0 gb.0 (Num (pos ga.1)) (Num (pos gb.1)) ga.2.0 gb.2.0 in
+      let agree : project columns a ≡ project columns b = ap (project columns) ga.3 ∙ (tells.1 groups ∙ ap (project columns) (sym gb.3)) in
+      last_unique columns (take n sent) rows means a b agree x y
     where
       all-take : {A : Type 0} (P : A → Type 0) (n : ℕ) (xs : List A) → AllByRecursion P xs → AllByRecursion P (take n xs)
       all-take P zero xs h = tt
@@ -214,8 +215,8 @@ module _ (many keys : ℕ) (input output : Mode) (from to : Edge) (fits : GroupF
   groups_apart : (pieces : ℕ → List (List Arrival)) (sent : ℕ → List Change) → AllEmitted task pieces sent → IsApart (first_columns keys) many sent
   groups_apart pieces sent all i j il jl =
       all-each _ _ (λ a ga. all-each _ _ (λ b gb e.
-        let groups : ga.0 ≡ gb.0 = sym (group_of ga.0 ga.1 ga.2.0) ∙ (ap (project (first_columns keys)) (sym ga.3) ∙ (e ∙ (ap (project (first_columns keys)) gb.3 ∙ group_of gb.0 gb.1 gb.2.0))) in
-        sym ga.2.1 ∙ (ap from.route groups ∙ gb.2.1)) (sent j) (results j (pieces j) (sent j) (all j jl))) (sent i) (results i (pieces i) (sent i) (all i il))
+      let groups : ga.0 ≡ gb.0 = sym (group_of ga.0 ga.1 ga.2.0) ∙ (ap (project (first_columns keys)) (sym ga.3) ∙ (e ∙ (ap (project (first_columns keys)) gb.3 ∙ group_of gb.0 gb.1 gb.2.0))) in
+      sym ga.2.1 ∙ (ap from.route groups ∙ gb.2.1)) (sent j) (results j (pieces j) (sent j) (all j jl))) (sent i) (results i (pieces i) (sent i) (all i il))
 
   apart_by : (mode : Mode) → KeepsKeys mode (first_columns keys) → (sent : ℕ → List Change) → IsApart (first_columns keys) many sent → AreApartBy (meaning_of mode) many sent
   apart_by append keeps sent apart = tt
@@ -230,10 +231,10 @@ module _ (many keys : ℕ) (input output : Mode) (from to : Edge) (fits : GroupF
       let o = one_of-some (result_row keys rows (front row)) row (omega (arith, copies-count_groups keys rows row)) in
       let is = sized-front (front row) row (group_size keys rows (front row)) o in
       let some : 0 < group_size keys rows (front row) =
-          elim (group_size keys rows (front row) == 0) as (λ b. (group_size keys rows (front row) == 0) ≡ b → cond b None (Some (counted (front row) (group_size keys rows (front row)))) ≡ Some row → 0 < group_size keys rows (front row)) [
-            | true ↦ λ z q. absurd (cc)
-            | false ↦ λ z q. let n = eqb-false (group_size keys rows (front row)) 0 z in omega arith
-          ] refl o in
+      elim (group_size keys rows (front row) == 0) as (λ b. (group_size keys rows (front row) == 0) ≡ b → cond b None (Some (counted (front row) (group_size keys rows (front row)))) ≡ Some row → 0 < group_size keys rows (front row)) [
+        | true ↦ λ z q. absurd (cc)
+        | false ↦ λ z q. let n = eqb-false (group_size keys rows (front row)) 0 z in omega arith
+      ] refl o in
       (group-wide keys rows (front row) wide some, is.1)
 
   given : (rows answer : Rows) → grouped_counts keys rows ≡ Some answer → answer ≡ count_groups keys rows
@@ -255,12 +256,13 @@ module _ (many keys : ℕ) (input output : Mode) (from to : Edge) (fits : GroupF
   unique_keys : UniqueKeysHold task
   unique_keys whole answer e settled key has =
       subst (λ r. IsUnique key (copies r)) (sym (given (whole 0) answer e)) (λ a b same x y.
-        let ga = answer_row (whole 0) (wide_rows (whole 0) (settled 0 (omega arith))) a x in
-        let gb = answer_row (whole 0) (wide_rows (whole 0) (settled 0 (omega arith))) b y in
-        let fronts : front a ≡ front b =
-            sym (group_is a (ap length ga.1 ∙ counted_width (front a) _ ga.0)) ∙ (fits.unique key has a b same ∙ group_is b (ap length gb.1 ∙ counted_width (front b) _ gb.0)) in
-        (ga.1 ∙ (ap (λ g. counted g (group_size keys (whole 0) g)) fronts ∙ sym gb.1),
-         omega (arith, copies-count_groups keys (whole 0) a, one_le (result_row keys (whole 0) (front a)) a)))
+      let ga = answer_row (whole 0) (wide_rows (whole 0) (settled 0 (omega arith))) a x in
+      let gb = answer_row (whole 0) (wide_rows (whole 0) (settled 0 (omega arith))) b y in
+      let fronts : front a ≡ front b =
+      sym (group_is a (ap length ga.1 ∙ counted_width (front a) _ ga.0)) ∙ (fits.unique key has a b same ∙ group_is b (ap length gb.1 ∙ counted_width (front b) _ gb.0)) in (
+        ga.1 ∙ (ap (λ g. counted g (group_size keys (whole 0) g)) fronts ∙ sym gb.1),
+        omega (arith, copies-count_groups keys (whole 0) a, one_le (result_row keys (whole 0) (front a)) a),
+      ))
     where
       one_le : (o : Option Row) (row : Row) → one_of o row ≤ 1
       one_le None row = omega arith
@@ -282,19 +284,19 @@ module _ (many keys : ℕ) (input output : Mode) (from to : Edge) (fits : GroupF
       let rest = filter-size j group xs in
       elim (in_group keys group x) as (λ b. in_group keys group x ≡ b → weigh (λ row. cond (in_group keys group row) 1 0) (cond (place x == j) (x ∷ filter (λ row. place row == j) xs) (filter (λ row. place row == j) xs)) ≡ cond (place group == j) (cond b 1 0 + weigh (λ row. cond (in_group keys group row) 1 0) xs) 0) [
         | true ↦ λ e.
-          let one : cond {A = ℕ} (in_group keys group x) 1 0 ≡ 1 = ap (λ b. cond b 1 0) e in
-          let at : (place x == j) ≡ (place group == j) = ap (λ k. k == j) (same_place x group e) in
-          rw at (elim (place group == j) as (λ c. weigh (λ row. cond (in_group keys group row) 1 0) (filter (λ row. place row == j) xs) ≡ cond c (weigh (λ row. cond (in_group keys group row) 1 0) xs) 0 → weigh (λ row. cond (in_group keys group row) 1 0) (cond c (x ∷ filter (λ row. place row == j) xs) (filter (λ row. place row == j) xs)) ≡ cond c (1 + weigh (λ row. cond (in_group keys group row) 1 0) xs) 0) [
-            | true ↦ λ h. omega (arith, h, one)
-            | false ↦ λ h. h
-          ] rest)
+            let one : cond {A = ℕ} (in_group keys group x) 1 0 ≡ 1 = ap (λ b. cond b 1 0) e in
+            let at : (place x == j) ≡ (place group == j) = ap (λ k. k == j) (same_place x group e) in
+            rw at (elim (place group == j) as (λ c. weigh (λ row. cond (in_group keys group row) 1 0) (filter (λ row. place row == j) xs) ≡ cond c (weigh (λ row. cond (in_group keys group row) 1 0) xs) 0 → weigh (λ row. cond (in_group keys group row) 1 0) (cond c (x ∷ filter (λ row. place row == j) xs) (filter (λ row. place row == j) xs)) ≡ cond c (1 + weigh (λ row. cond (in_group keys group row) 1 0) xs) 0) [
+              | true ↦ λ h. omega (arith, h, one)
+              | false ↦ λ h. h
+            ] rest)
         | false ↦ λ e.
-          let none_here : cond {A = ℕ} (in_group keys group x) 1 0 ≡ 0 = ap (λ b. cond b 1 0) e in
-          let zero_more : 0 + weigh (λ row. cond (in_group keys group row) 1 0) xs ≡ weigh (λ row. cond (in_group keys group row) 1 0) xs = omega arith in
-          rw zero_more (elim (place x == j) as (λ c. weigh (λ row. cond (in_group keys group row) 1 0) (cond c (x ∷ filter (λ row. place row == j) xs) (filter (λ row. place row == j) xs)) ≡ cond (place group == j) (weigh (λ row. cond (in_group keys group row) 1 0) xs) 0) [
-            | true ↦ omega (arith, rest, none_here)
-            | false ↦ rest
-          ])
+            let none_here : cond {A = ℕ} (in_group keys group x) 1 0 ≡ 0 = ap (λ b. cond b 1 0) e in
+            let zero_more : 0 + weigh (λ row. cond (in_group keys group row) 1 0) xs ≡ weigh (λ row. cond (in_group keys group row) 1 0) xs = omega arith in
+            rw zero_more (elim (place x == j) as (λ c. weigh (λ row. cond (in_group keys group row) 1 0) (cond c (x ∷ filter (λ row. place row == j) xs) (filter (λ row. place row == j) xs)) ≡ cond (place group == j) (weigh (λ row. cond (in_group keys group row) 1 0) xs) 0) [
+              | true ↦ omega (arith, rest, none_here)
+              | false ↦ rest
+            ])
       ] refl
 
   filter-occurs : (j : ℕ) (row : Row) (xs : List Row) → weigh (one_at row_cmp row) (filter (λ x. place x == j) xs) ≡ cond (place row == j) (weigh (one_at row_cmp row) xs) 0
@@ -303,19 +305,19 @@ module _ (many keys : ℕ) (input output : Mode) (from to : Edge) (fits : GroupF
       let rest = filter-occurs j row xs in
       elim (same_row row x) as (λ b. same_row row x ≡ b → weigh (one_at row_cmp row) (cond (place x == j) (x ∷ filter (λ x. place x == j) xs) (filter (λ x. place x == j) xs)) ≡ cond (place row == j) (cond b 1 0 + weigh (one_at row_cmp row) xs) 0) [
         | true ↦ λ e.
-          let one : one_at row_cmp row x ≡ 1 = ap (λ b. cond b 1 0) e in
-          let at : (place x == j) ≡ (place row == j) = ap (λ r. place r == j) (sym (same_row-true row x e)) in
-          rw at (elim (place row == j) as (λ c. weigh (one_at row_cmp row) (filter (λ x. place x == j) xs) ≡ cond c (weigh (one_at row_cmp row) xs) 0 → weigh (one_at row_cmp row) (cond c (x ∷ filter (λ x. place x == j) xs) (filter (λ x. place x == j) xs)) ≡ cond c (1 + weigh (one_at row_cmp row) xs) 0) [
-            | true ↦ λ h. omega (arith, h, one)
-            | false ↦ λ h. h
-          ] rest)
+            let one : one_at row_cmp row x ≡ 1 = ap (λ b. cond b 1 0) e in
+            let at : (place x == j) ≡ (place row == j) = ap (λ r. place r == j) (sym (same_row-true row x e)) in
+            rw at (elim (place row == j) as (λ c. weigh (one_at row_cmp row) (filter (λ x. place x == j) xs) ≡ cond c (weigh (one_at row_cmp row) xs) 0 → weigh (one_at row_cmp row) (cond c (x ∷ filter (λ x. place x == j) xs) (filter (λ x. place x == j) xs)) ≡ cond c (1 + weigh (one_at row_cmp row) xs) 0) [
+              | true ↦ λ h. omega (arith, h, one)
+              | false ↦ λ h. h
+            ] rest)
         | false ↦ λ e.
-          let none_here : one_at row_cmp row x ≡ 0 = ap (λ b. cond b 1 0) e in
-          let zero_more : 0 + weigh (one_at row_cmp row) xs ≡ weigh (one_at row_cmp row) xs = omega arith in
-          rw zero_more (elim (place x == j) as (λ c. weigh (one_at row_cmp row) (cond c (x ∷ filter (λ x. place x == j) xs) (filter (λ x. place x == j) xs)) ≡ cond (place row == j) (weigh (one_at row_cmp row) xs) 0) [
-            | true ↦ omega (arith, rest, none_here)
-            | false ↦ rest
-          ])
+            let none_here : one_at row_cmp row x ≡ 0 = ap (λ b. cond b 1 0) e in
+            let zero_more : 0 + weigh (one_at row_cmp row) xs ≡ weigh (one_at row_cmp row) xs = omega arith in
+            rw zero_more (elim (place x == j) as (λ c. weigh (one_at row_cmp row) (cond c (x ∷ filter (λ x. place x == j) xs) (filter (λ x. place x == j) xs)) ≡ cond (place row == j) (weigh (one_at row_cmp row) xs) 0) [
+              | true ↦ omega (arith, rest, none_here)
+              | false ↦ rest
+            ])
       ] refl
 
   module _ (whole : Rows) (parts : ℕ → Rows) (split : (j : ℕ) → j < many → (row : Row) → copies (parts j) row ≡ cond (place row == j) (copies whole row) 0) where
@@ -347,6 +349,7 @@ module _ (many keys : ℕ) (input output : Mode) (from to : Edge) (fits : GroupF
                 | true ↦ λ q. refl
                 | false ↦ λ q. any_in group xs (omega arith)
               ] p
+
           of_all : (p : Row → Bool) (xs : List Row) (group : Row) → list_all p xs ≡ true → list_any (same_row group) xs ≡ true → p group ≡ true
           of_all p [] group a e = absurd (false≢true e)
           of_all p (x ∷ xs) group a e =
@@ -355,14 +358,15 @@ module _ (many keys : ℕ) (input output : Mode) (from to : Edge) (fits : GroupF
                 | true ↦ λ s q. ap p (same_row-true group x s) ∙ both.0
                 | false ↦ λ s q. of_all p xs group both.1 q
               ] refl e
+
           countable : (rows answer : Rows) → grouped_counts keys rows ≡ Some answer → (group : Row) → group_size keys rows group < 2 ^ 63
           countable rows answer e group =
               let all : list_all (λ group. is_countable (group_size keys rows group)) (group_keys keys rows) ≡ true = go (list_all (λ group. is_countable (group_size keys rows group)) (group_keys keys rows)) e in
               elim (group_size keys rows group == 0) as (λ b. (group_size keys rows group == 0) ≡ b → group_size keys rows group < 2 ^ 63) [
                 | true ↦ λ z. let n = eqb-true (group_size keys rows group) 0 z in omega arith
                 | false ↦ λ z.
-                  let n = eqb-false (group_size keys rows group) 0 z in
-                  ltb-true (group_size keys rows group) (2 ^ 63) (of_all (λ group. is_countable (group_size keys rows group)) (group_keys keys rows) group all
+                    let n = eqb-false (group_size keys rows group) 0 z in
+                    ltb-true (group_size keys rows group) (2 ^ 63) (of_all (λ group. is_countable (group_size keys rows group)) (group_keys keys rows) group all
                     (any-first_seen group (map (take keys) (items rows)) ∙ any_in group (items rows) (omega arith)))
               ] refl
             where
@@ -373,10 +377,10 @@ module _ (many keys : ℕ) (input output : Mode) (from to : Edge) (fits : GroupF
       add_up : (row : Row) → total many (λ j. copies (answer j) row) ≡ copies (count_groups keys whole) row
       add_up row =
           total-same many _ (λ j. cond (place (front row) == j) (one_of (result_row keys whole (front row)) row) 0) (λ j jl.
-            ap (λ r. copies r row) (given (parts j) (answer j) (made j jl))
-            ∙ (copies-count_groups keys (parts j) row
-            ∙ (ap (λ n. one_of (sized (front row) n) row) (part_size j jl (front row))
-            ∙ elim (place (front row) == j) as (λ b. one_of (sized (front row) (cond b (group_size keys whole (front row)) 0)) row ≡ cond b (one_of (result_row keys whole (front row)) row) 0) [ true ↦ refl | false ↦ refl ])))
+          ap (λ r. copies r row) (given (parts j) (answer j) (made j jl))
+          ∙ (copies-count_groups keys (parts j) row
+          ∙ (ap (λ n. one_of (sized (front row) n) row) (part_size j jl (front row))
+          ∙ elim (place (front row) == j) as (λ b. one_of (sized (front row) (cond b (group_size keys whole (front row)) 0)) row ≡ cond b (one_of (result_row keys whole (front row)) row) 0) [ true ↦ refl | false ↦ refl ])))
           ∙ (total_one many (place (front row)) (one_of (result_row keys whole (front row)) row) (place_in (front row)) ∙ sym (copies-count_groups keys whole row))
 
   split_of : (meaning : Mode) (parts : ℕ → Rows) (whole : Rows) → IsSplitBy (meaning_of meaning) (hash (first_columns keys)) from.route many parts whole → (j : ℕ) → j < many → (row : Row) → copies (parts j) row ≡ cond (place row == j) (copies whole row) 0
@@ -391,20 +395,20 @@ module _ (many keys : ℕ) (input output : Mode) (from to : Edge) (fits : GroupF
 
   pub group_stands : Facts task
   group_stands = record {
-      folds_to_answer = λ j pieces sent e rows known.
+    folds_to_answer = λ j pieces sent e rows known.
         let r = groups.folds_to_answer keys input output ports fits.sound fits_port j pieces sent (told j pieces sent e) rows (λ port l.
-          let m = in_mode _ (rows port) (known port l).0 in (m, ready_settled rule ports (joined pieces) (told j pieces sent e).1 port l (rows port) m)) in
+        let m = in_mode _ (rows port) (known port l).0 in (m, ready_settled rule ports (joined pieces) (told j pieces sent e).1 port l (rows port) m)) in
         (r.0, r.1, out_mode sent r.0 r.2);
-      prefixes_stand = λ j pieces sent e n. let r = groups.prefixes_stand keys input output ports fits.sound fits_port j pieces sent (told j pieces sent e) n in (r.0, out_mode (take n sent) r.0 r.1);
-      kinds_stay = λ j pieces sent e. all-each _ _ (λ change k. fits.out_kinds change.kind k) sent (groups.kinds_stay keys input output ports fits.sound fits_port j pieces sent (told j pieces sent e));
-      types_stay = λ j pieces sent e. all-each _ _ (λ change w. fits.out_fits change w) sent (widths j pieces sent e);
-      parts_add_up = parts_add_up;
-      local_keys = local_by output refl;
-      fixing_sets = λ pieces sent all come set has. apart-lists (first_columns keys) set many sent (fits.fixing set has) (groups_apart pieces sent all);
-      after_only = λ pieces sent all come fixed. subst (λ m. AreApartBy m many sent) (sym fits.writes) (apart_by output fits.keeps sent (groups_apart pieces sent all));
-      answer_types = answers_fit;
-      unique_keys = unique_keys;
-    }
+    prefixes_stand = λ j pieces sent e n. let r = groups.prefixes_stand keys input output ports fits.sound fits_port j pieces sent (told j pieces sent e) n in (r.0, out_mode (take n sent) r.0 r.1);
+    kinds_stay = λ j pieces sent e. all-each _ _ (λ change k. fits.out_kinds change.kind k) sent (groups.kinds_stay keys input output ports fits.sound fits_port j pieces sent (told j pieces sent e));
+    types_stay = λ j pieces sent e. all-each _ _ (λ change w. fits.out_fits change w) sent (widths j pieces sent e);
+    parts_add_up = parts_add_up;
+    local_keys = local_by output refl;
+    fixing_sets = λ pieces sent all come set has. apart-lists (first_columns keys) set many sent (fits.fixing set has) (groups_apart pieces sent all);
+    after_only = λ pieces sent all come fixed. subst (λ m. AreApartBy m many sent) (sym fits.writes) (apart_by output fits.keeps sent (groups_apart pieces sent all));
+    answer_types = answers_fit;
+    unique_keys = unique_keys;
+  }
 
 -- ---- a sink
 
@@ -430,7 +434,7 @@ module _ (many : ℕ) (mode : Mode) (from to : Edge) (fits : SinkFits mode from 
   apart_sent : (columns : List ℕ) (pieces : ℕ → List (List Arrival)) (sent : ℕ → List Change) → AllEmitted printing pieces sent → IsApart columns many (λ j. at_port 0 (joined (pieces j))) → IsApart columns many sent
   apart_sent columns pieces sent all apart i j il jl =
       subst (λ l. AllByRecursion (λ a. AllByRecursion (λ b. project columns a.row ≡ project columns b.row → i ≡ j) (sent j)) l) (same_lists pieces sent all i il)
-        (subst (λ l. AllByRecursion (λ a. AllByRecursion (λ b. project columns a.row ≡ project columns b.row → i ≡ j) l) (at_port 0 (joined (pieces i)))) (same_lists pieces sent all j jl) (apart i j il jl))
+      (subst (λ l. AllByRecursion (λ a. AllByRecursion (λ b. project columns a.row ≡ project columns b.row → i ≡ j) l) (at_port 0 (joined (pieces i)))) (same_lists pieces sent all j jl) (apart i j il jl))
 
   came_apart : (m : Meaning) (pieces : ℕ → List (List Arrival)) (sent : ℕ → List Change) → AllEmitted printing pieces sent → AreApartBy m many (λ j. at_port 0 (joined (pieces j))) → AreApartBy m many sent
   came_apart bag pieces sent all apart = tt
@@ -444,34 +448,34 @@ module _ (many : ℕ) (mode : Mode) (from to : Edge) (fits : SinkFits mode from 
 
   pub sink_stands : Facts printing
   sink_stands = record {
-      folds_to_answer = λ j pieces sent e rows known. (rows 0, refl, subst (λ l. ReadsAs to.meaning l (rows 0)) (printed j pieces sent e) (same _ (rows 0) (known 0 (omega arith)).0));
-      prefixes_stand = λ j pieces sent e n.
+    folds_to_answer = λ j pieces sent e rows known. (rows 0, refl, subst (λ l. ReadsAs to.meaning l (rows 0)) (printed j pieces sent e) (same _ (rows 0) (known 0 (omega arith)).0));
+    prefixes_stand = λ j pieces sent e n.
         let front = prefix_at 0 n (joined pieces) in
         let stands = e.ready.valid 0 (omega arith) front.0 in
         (stands.0, subst (λ l. ReadsAs to.meaning l stands.0) (front.1 ∙ ap (take n) (printed j pieces sent e)) (same _ stands.0 stands.1));
-      kinds_stay = λ j pieces sent e. subst (AreOf to.kinds) (printed j pieces sent e) (all-each _ _ (λ change k. fits.kinds change.kind k) _ (e.ready.kinds 0 (omega arith)));
-      types_stay = λ j pieces sent e. subst (AllByRecursion (λ change. to.fits change ≡ true)) (printed j pieces sent e) (all-each _ _ (λ change k. fits.fits change k) _ (e.ready.types 0 (omega arith)));
-      parts_add_up = λ parts whole answers split made.
+    kinds_stay = λ j pieces sent e. subst (AreOf to.kinds) (printed j pieces sent e) (all-each _ _ (λ change k. fits.kinds change.kind k) _ (e.ready.kinds 0 (omega arith)));
+    types_stay = λ j pieces sent e. subst (AllByRecursion (λ change. to.fits change ≡ true)) (printed j pieces sent e) (all-each _ _ (λ change k. fits.fits change k) _ (e.ready.types 0 (omega arith)));
+    parts_add_up = λ parts whole answers split made.
         let s : IsSplitBy from.meaning forward from.route many (λ j. parts j 0) (whole 0) = subst (λ x. IsSplitBy from.meaning x from.route many (λ j. parts j 0) (whole 0)) fits.hashed (split 0 (omega arith)) in
         (whole 0, refl, λ row. total-same many _ _ (λ j jl. let one : Some (parts j 0) ≡ Some (answers j) = made j jl in ap (λ r. copies r row) (let is : answers j ≡ parts j 0 = cc in is)) ∙ sym (s row));
-      local_keys = λ j pieces sent e key has n rows reads.
+    local_keys = λ j pieces sent e key has n rows reads.
         let front = prefix_at 0 n (joined pieces) in
         e.ready.keys 0 (omega arith) key (seen from.exchange fits.hashed key (fits.local key has)) front.0 rows
-          (subst (λ m. ReadsAs m (at_port 0 (take front.0 (joined pieces))) rows) (fits.writes ∙ sym fits.reads)
-            (subst (λ l. ReadsAs to.meaning l rows) (sym (front.1 ∙ ap (take n) (printed j pieces sent e))) reads));
-      fixing_sets = λ pieces sent all come set has.
+        (subst (λ m. ReadsAs m (at_port 0 (take front.0 (joined pieces))) rows) (fits.writes ∙ sym fits.reads)
+        (subst (λ l. ReadsAs to.meaning l rows) (sym (front.1 ∙ ap (take n) (printed j pieces sent e))) reads));
+    fixing_sets = λ pieces sent all come set has.
         let c : ComeFixedBy forward many from (λ j. at_port 0 (joined (pieces j))) = subst (λ x. ComeFixedBy x many from (λ j. at_port 0 (joined (pieces j)))) fits.hashed (come 0 (omega arith)) in
         apart_sent set pieces sent all (c set (fits.fixing set has));
-      after_only = λ pieces sent all come fixed.
+    after_only = λ pieces sent all come fixed.
         let c : AreApartBy from.meaning many (λ j. at_port 0 (joined (pieces j))) = subst (λ x. ComeApartBy x from.meaning many (λ j. at_port 0 (joined (pieces j)))) fits.hashed (come 0 (omega arith)) in
         came_apart to.meaning pieces sent all (subst (λ m. AreApartBy m many (λ j. at_port 0 (joined (pieces j)))) (fits.reads ∙ sym fits.writes) c);
-      answer_types = λ whole answer e settled row p.
+    answer_types = λ whole answer e settled row p.
         let one : Some (whole 0) ≡ Some answer = e in
         fits.holds row ((settled 0 (omega arith)).types row (subst (λ r. 0 < copies r row) (let is : answer ≡ whole 0 = cc in is) p));
-      unique_keys = λ whole answer e settled key has.
+    unique_keys = λ whole answer e settled key has.
         let one : Some (whole 0) ≡ Some answer = e in
         subst (λ r. IsUnique key (copies r)) (let is : whole 0 ≡ answer = cc in is) ((settled 0 (omega arith)).keys key (inl (fits.unique key has)));
-    }
+  }
 
 pub groups_stand : GroupsStand
 groups_stand many keys input output from to fits = group_stands many keys input output from to fits

@@ -55,18 +55,19 @@ turn_means : (shown : Shown) (change : Change) (row : Row) → CanTurn shown cha
 turn_means shown change row can =
     elim (same_row (front row) (front change.row)) as (λ b. same_row (front row) (front change.row) ≡ b → addition row change + one_of (shown (front row)) row ≡ removal row change + one_of (cond b (cond (adds change.kind) (Some change.row) None) (shown (front row))) row) [
       | true ↦ λ e.
-        let was : shown (front row) ≡ cond (adds change.kind) None (Some change.row) = ap shown (same_row-true (front row) (front change.row) e) ∙ can in
-        rw was (elim (adds change.kind) as (λ b. cond b (one_at row_cmp row change.row) 0 + one_of (cond b None (Some change.row)) row ≡ cond b 0 (one_at row_cmp row change.row) + one_of (cond b (Some change.row) None) row) [ true ↦ omega arith | false ↦ omega arith ])
+          let was : shown (front row) ≡ cond (adds change.kind) None (Some change.row) = ap shown (same_row-true (front row) (front change.row) e) ∙ can in
+          rw was (elim (adds change.kind) as (λ b. cond b (one_at row_cmp row change.row) 0 + one_of (cond b None (Some change.row)) row ≡ cond b 0 (one_at row_cmp row change.row) + one_of (cond b (Some change.row) None) row) [ true ↦ omega arith | false ↦ omega arith ])
       | false ↦ λ e.
-        let other : same_row row change.row ≡ false = apart row change.row e in
-        let come : addition row change ≡ 0 = ap (λ b. cond (adds change.kind) (cond b 1 0) 0) other ∙ no_more (adds change.kind) in
-        let gone : removal row change ≡ 0 = ap (λ b. cond (adds change.kind) 0 (cond b 1 0)) other ∙ no_more (adds change.kind) in
-        omega arith
+          let other : same_row row change.row ≡ false = apart row change.row e in
+          let come : addition row change ≡ 0 = ap (λ b. cond (adds change.kind) (cond b 1 0) 0) other ∙ no_more (adds change.kind) in
+          let gone : removal row change ≡ 0 = ap (λ b. cond (adds change.kind) 0 (cond b 1 0)) other ∙ no_more (adds change.kind) in
+          omega arith
     ] refl
   where
     no_more : (b : Bool) → ◌≡◌ {A = ℕ} (cond b 0 0) 0
     no_more true = refl
     no_more false = refl
+
     apart : (a b : Row) → same_row (front a) (front b) ≡ false → same_row a b ≡ false
     apart a b e =
         elim (same_row a b) as (λ c. same_row a b ≡ c → c ≡ false) [
@@ -112,14 +113,19 @@ turns-emission shown key (Some old) (Some fresh) p q e =
     elim (same_row old fresh) as (λ b. same_row old fresh ≡ b → Turns shown (cond b [] (update retract old fresh)) (shown_at shown key (Some fresh))) [
       | true ↦ λ s. stays shown key (Some fresh) (e ∙ ap Some (same_row-true old fresh s))
       | false ↦ λ s.
-        let gone : Change = record { kind = UB; row = old } in
-        let come : Change = record { kind = UA; row = fresh } in
-        let free : turned shown gone (front fresh) ≡ None = ap (λ b. cond b None (shown (front fresh))) (ap (same_row (front fresh)) (p ∙ sym q) ∙ same_row-itself (front fresh)) in
-        (ap shown p ∙ e, (free, turn-here (turned shown gone) key come q ∙ same_shown _ _ (λ other.
-          elim (same_row other key) as (λ b. same_row other key ≡ b → cond b (Some fresh) (cond (same_row other (front old)) None (shown other)) ≡ cond b (Some fresh) (shown other)) [
-            | true ↦ λ r. refl
-            | false ↦ λ r. ap (λ b. cond b None (shown other)) (ap (same_row other) p ∙ r)
-          ] refl)))
+          let gone : Change = record { kind = UB; row = old } in
+          let come : Change = record { kind = UA; row = fresh } in
+          let free : turned shown gone (front fresh) ≡ None = ap (λ b. cond b None (shown (front fresh))) (ap (same_row (front fresh)) (p ∙ sym q) ∙ same_row-itself (front fresh)) in (
+            ap shown p ∙ e,
+            (
+              free,
+              turn-here (turned shown gone) key come q ∙ same_shown _ _ (λ other.
+                  elim (same_row other key) as (λ b. same_row other key ≡ b → cond b (Some fresh) (cond (same_row other (front old)) None (shown other)) ≡ cond b (Some fresh) (shown other)) [
+                    | true ↦ λ r. refl
+                    | false ↦ λ r. ap (λ b. cond b None (shown other)) (ap (same_row other) p ∙ r)
+                  ] refl),
+            ),
+          )
     ] refl
 
 is_of-sized : (key : Row) (size : ℕ) → IsOf key (sized key size)
@@ -160,20 +166,20 @@ module _ (keys : ℕ) (old new : Rows) where
       let was : shows (told seen) key ≡ sized key (before key) = ap (λ b. sized key (cond b (after key) (before key))) unseen.0 in
       let one = turns-emission (shows (told seen)) key (sized key (before key)) (sized key (after key)) (is_of-sized key (before key)) (is_of-sized key (after key)) was in
       let next : shown_at (shows (told seen)) key (sized key (after key)) ≡ shows (told (key ∷ seen)) = same_shown _ _ (λ other.
-        elim (same_row other key) as (λ b. same_row other key ≡ b → cond b (sized key (after key)) (sized other (told seen other)) ≡ sized other (cond (b || list_any (same_row other) seen) (after other) (before other))) [
-          | true ↦ λ e. ap (λ k. sized k (after k)) (sym (same_row-true other key e))
-          | false ↦ λ e. refl
-        ] refl) in
+      elim (same_row other key) as (λ b. same_row other key ≡ b → cond b (sized key (after key)) (sized other (told seen other)) ≡ sized other (cond (b || list_any (same_row other) seen) (after other) (before other))) [
+        | true ↦ λ e. ap (λ k. sized k (after k)) (sym (same_row-true other key e))
+        | false ↦ λ e. refl
+      ] refl) in
       let rest = turns-groups (key ∷ seen) groups both.back (IsDistinct-tail same_row key groups distinct) (still_unseen seen key groups (IsDistinct-head same_row key groups distinct) unseen.1) both.is_back in
       let last : shows (λ other. cond (list_any (same_row other) groups) (after other) (told (key ∷ seen) other)) ≡ shows (λ other. cond (list_any (same_row other) (key ∷ groups)) (after other) (told seen other)) = same_shown _ _ (λ other. ap (sized other) (
-        elim (same_row other key) as (λ b. cond (list_any (same_row other) groups) (after other) (cond (b || list_any (same_row other) seen) (after other) (before other)) ≡ cond (b || list_any (same_row other) groups) (after other) (told seen other)) [
-          | true ↦ elim (list_any (same_row other) groups) as (λ b. cond b (after other) (after other) ≡ after other) [ true ↦ refl | false ↦ refl ]
-          | false ↦ refl
-        ])) in
+      elim (same_row other key) as (λ b. cond (list_any (same_row other) groups) (after other) (cond (b || list_any (same_row other) seen) (after other) (before other)) ≡ cond (b || list_any (same_row other) groups) (after other) (told seen other)) [
+        | true ↦ elim (list_any (same_row other) groups) as (λ b. cond b (after other) (after other) ≡ after other) [ true ↦ refl | false ↦ refl ]
+        | false ↦ refl
+      ])) in
       subst (λ l. Turns (shows (told seen)) l (shows (λ other. cond (list_any (same_row other) (key ∷ groups)) (after other) (told seen other)))) (sym both.whole)
-        (turns-append (shows (told seen)) (shows (told (key ∷ seen))) _ both.front both.back
-          (subst (λ s. Turns (shows (told seen)) both.front s) next (subst (λ l. Turns (shows (told seen)) l (shown_at (shows (told seen)) key (sized key (after key)))) (sym here) one))
-          (subst (λ s. Turns (shows (told (key ∷ seen))) both.back s) last rest))
+      (turns-append (shows (told seen)) (shows (told (key ∷ seen))) _ both.front both.back
+      (subst (λ s. Turns (shows (told seen)) both.front s) next (subst (λ l. Turns (shows (told seen)) l (shown_at (shows (told seen)) key (sized key (after key)))) (sym here) one))
+      (subst (λ s. Turns (shows (told (key ∷ seen))) both.back s) last rest))
 
 -- ---- along a history
 
@@ -192,10 +198,10 @@ module _ (keys : ℕ) (input : Mode) (keeps : KeepsGroups keys input) where
       let groups = map (λ change. take keys change.row) changes in
       let turn = turns-groups keys rows new [] (first_seen groups) more (distinct-first_seen groups) (unseen_all (first_seen groups)) ok in
       subst (λ s. Turns (results rows) more s) (same_shown _ _ (λ key. ap (sized key) (
-        elim (list_any (same_row key) (first_seen groups)) as (λ b. list_any (same_row key) (first_seen groups) ≡ b → cond b (group_size keys new key) (group_size keys rows key) ≡ group_size keys new key) [
-          | true ↦ λ e. refl
-          | false ↦ λ e. sym (other_sizes_from input keys keeps key rows changes wide_rows wide valid (sym (any-first_seen key groups) ∙ e))
-        ] refl))) turn
+      elim (list_any (same_row key) (first_seen groups)) as (λ b. list_any (same_row key) (first_seen groups) ≡ b → cond b (group_size keys new key) (group_size keys rows key) ≡ group_size keys new key) [
+        | true ↦ λ e. refl
+        | false ↦ λ e. sym (other_sizes_from input keys keeps key rows changes wide_rows wide valid (sym (any-first_seen key groups) ∙ e))
+      ] refl))) turn
 
   turns_along : (before : List Arrival) (pieces : List (List Arrival)) (more : List Change) → AreWide keys (fold input (at_port 0 before)) → AllByRecursion (λ change. keys ≤ length change.row) (at_port 0 (joined pieces)) → IsValidFrom input (fold input (at_port 0 before)) (at_port 0 (joined pieces))
       → emitted_after (group keys input retract) before pieces ≡ Ok more → Turns (results (fold input (at_port 0 before))) more (results (fold input (at_port 0 (before ++ joined pieces))))
@@ -215,14 +221,16 @@ module _ (keys : ℕ) (input : Mode) (keeps : KeepsGroups keys input) where
       let valid_here = IsValidFrom-front input rows here later valid_split in
       let one = turns-piece rows here both.front wide_rows wide_here valid_here (ap (λ new. answers (group_emits keys retract rows new) (groups_of keys here)) (sym after) ∙ both.is_front) in
       let rest = turns_along (before ++ piece) pieces both.back (subst (AreWide keys) (sym after) (wide_from input keys keeps rows here wide_rows wide_here valid_here))
-        (all-back (λ change. keys ≤ length change.row) here later wide_split) (subst (λ r. IsValidFrom input r later) (sym after) (IsValidFrom-back input rows here later valid_split)) both.is_back in
+      (all-back (λ change. keys ≤ length change.row) here later wide_split) (subst (λ r. IsValidFrom input r later) (sym after) (IsValidFrom-back input rows here later valid_split)) both.is_back in
       subst (λ l. Turns (results rows) l (results (fold input (at_port 0 (before ++ joined (piece ∷ pieces)))))) (sym both.whole)
-        (turns-append (results rows) (results (fold input (at_port 0 (before ++ piece)))) _ both.front both.back (subst (λ r. Turns (results rows) both.front (results r)) (sym after) one)
-          (subst (λ h. Turns (results (fold input (at_port 0 (before ++ piece)))) both.back (results (fold input (at_port 0 h)))) (append_assoc before piece (joined pieces)) rest))
+      (turns-append (results rows) (results (fold input (at_port 0 (before ++ piece)))) _ both.front both.back (subst (λ r. Turns (results rows) both.front (results r)) (sym after) one)
+      (subst (λ h. Turns (results (fold input (at_port 0 (before ++ piece)))) both.back (results (fold input (at_port 0 h)))) (append_assoc before piece (joined pieces)) rest))
 
   -- of all that a group emitted, each prefix shows one result at most of each group
   pub turns_whole : (subtask : ℕ) (pieces : List (List Arrival)) (sent : List Change) → AllByRecursion (λ change. keys ≤ length change.row) (at_port 0 (joined pieces)) → IsValid input (at_port 0 (joined pieces))
       → emitted (group keys input retract) subtask pieces ≡ Ok sent → (last : Shown) × Turns (λ key. None) sent last
-  turns_whole subtask pieces sent wide valid ok =
-      (_, subst (λ s. Turns s sent (results (fold input (at_port 0 ([] ++ joined pieces))))) (same_shown _ _ (λ key. result_row-none keys key))
-        (turns_along [] pieces sent (λ row there. absurd (let e = copies-none row_total row in omega arith)) wide valid (sym (appended-nothing (emitted_after (group keys input retract) [] pieces)) ∙ ok)))
+  turns_whole subtask pieces sent wide valid ok = (
+    _,
+    subst (λ s. Turns s sent (results (fold input (at_port 0 ([] ++ joined pieces))))) (same_shown _ _ (λ key. result_row-none keys key))
+        (turns_along [] pieces sent (λ row there. absurd (let e = copies-none row_total row in omega arith)) wide valid (sym (appended-nothing (emitted_after (group keys input retract) [] pieces)) ∙ ok)),
+  )
