@@ -5,7 +5,7 @@ use Rattle.ct_value.specs.Rows.{project}
 use Rattle.ct_value.specs.declared.row.Row.{Row}
 use Rattle.ct_change.specs.declared.kind.KindSet.{KindSet}
 use Rattle.ct_change.specs.declared.change.Change.{Change}
-use Rattle.ct_change.specs.Changelog.{Rows, retract, upsert, Means}
+use Rattle.ct_change.specs.Changelog.{Mode, append, retract, upsert, Rows, Means}
 use Rattle.op_rules.specs.Partials.{Partials, sum_of, worth_of}
 
 -- how a list of changes is read: as a bag, as the last row of each key, or as partial results
@@ -13,6 +13,12 @@ pub data Meaning : Type 0 where
   bag : Meaning
   last_rows : List ℕ → Meaning
   partials : Partials → Meaning
+
+-- how a changelog of a mode is read
+abbrev pub meaning_of : Mode → Meaning
+meaning_of append = bag
+meaning_of retract = bag
+meaning_of (upsert key) = last_rows key
 
 abbrev pub IsPartial : Meaning → Type 0
 IsPartial bag = ⊥
@@ -103,6 +109,12 @@ IsSeenBy (hash columns) edge key = HoldsOver edge key
 -- a key of what each subtask of the consumer sees, at every moment
 abbrev pub IsSeen : Edge → List ℕ → Type 0
 IsSeen edge key = IsSeenBy edge.exchange edge key
+
+-- in a mode with a key, rows that agree on the key agree on these columns
+abbrev pub KeepsKeys : Mode → List ℕ → Type 0
+KeepsKeys append columns = Unit {0}
+KeepsKeys retract columns = Unit {0}
+KeepsKeys (upsert key) columns = LiesIn columns key
 
 -- of changes that are read as last rows, those of one key stand in one list
 abbrev pub AreApartBy : Meaning → ℕ → (ℕ → List Change) → Type 0

@@ -4,6 +4,7 @@ pub mod Faults
 pub mod History
 pub mod Partials
 pub mod Rule
+pub mod RuleTasks
 pub mod Rules
 pub mod Tasks
 pub mod laws

@@ -1,5 +1,10 @@
+pub mod FirstColumns
 pub mod GroupFacts
 pub mod Histories
+pub mod LastRows
+pub mod RuleTasks
 pub mod SentResults
 pub mod SinkFacts
 pub mod Sizes
+pub mod Totals
+pub mod Turns

@@ -2,6 +2,7 @@
 ghost use Rattle.std.specs.Prelude.{ℕ};
 ghost use Rattle.ct_change.specs.Changelog.{Mode};
 ghost use Rattle.op_rules.specs.Rule.{group, sink};
+ghost use Rattle.op_rules.specs.RuleTasks.{GroupsStand, SinksStand};
 ghost use Rattle.op_rules.specs.Facts.{HoldsOf, FoldsToAnswer, PrefixesStand, KindsStay, WidthsStay, GroupDifference, ReadyArrives, ReadySettles};
 
 /// All that a group emitted means the groups' counts of what it took.
@@ -58,4 +59,14 @@ pub fn ready_change_may_arrive()
 /// Where a subtask may rely on its history, the rows that a port's changes mean have the port's columns.
 pub fn ready_rows_settle()
     ensures { ReadySettles }
+{}
+
+/// A group that takes a hash edge by its columns meets the facts of nodes, in however many subtasks it runs.
+pub fn groups_stand()
+    ensures { GroupsStand }
+{}
+
+/// A sink that takes a forward edge meets the facts of nodes, in however many subtasks it runs.
+pub fn sinks_stand()
+    ensures { SinksStand }
 {}

@@ -1,4 +1,5 @@
 pub mod Bags
+pub mod Counted
 pub mod Counts
 pub mod Exchange
 pub mod Histories

@@ -14,11 +14,12 @@ use Rattle.ct_change.specs.declared.change.Change.{Change}
 use Rattle.ct_change.specs.Changelog.{Mode, append, retract, upsert, Rows, same_row, adds, admits, row_at, apply, fold, MayCome, IsValidFrom, addition, removal, additions, last_shown, Means}
 use Rattle.ct_change.specs.laws.Folds.{fold-push, append_only}
 use Rattle.ct_change.specs.laws.Meanings.{means_fold}
-use Rattle.op_rules.specs.Edges.{bag, last_rows, IsPartial, ReadsAs, Edge, IsUnique, IsApart, AreApartBy, LiesIn}
+use Rattle.op_rules.specs.Edges.{meaning_of, KeepsKeys, bag, IsPartial, ReadsAs, Edge, IsUnique, IsApart, AreApartBy, LiesIn}
 use Rattle.op_rules.specs.Tasks.{IsFine}
 use Rattle.stream_model.specs.Tables.{Table, scanned_at, kind_refusal, null_refusal, row_refusal, key_refusal_by, is_there, or_else, refusal, AllTaken}
 use Rattle.stream_model.specs.Network.{IsAnswered, scanned_by}
-use Rattle.stream_model.specs.Scans.{meaning_of, IsKeyBy, IsKeyOf, KeepsKeys, CarriesTable, ScansStand}
+use Rattle.stream_model.specs.Scans.{IsKeyBy, IsKeyOf, CarriesTable, ScansStand}
+use Rattle.op_rules.specs.laws.LastRows.{added, last_unique}
 use Rattle.stream_model.proofs.Sums.{reach, take-filter, total-same, total_one, all-filter, all-weaker, filter_passes, cond_sum, cond_below}
 use Rattle.stream_model.proofs.Bags.{same-true, agree, agree_from, weigh-rows, about_addition, about_removal, restricted, copies-restricted}
 use Rattle.stream_model.proofs.Exchange.{shown-filter, means_same, IsUnique-below}
@@ -149,38 +150,6 @@ unique_fold t key whole is before (change ∷ changes) h u =
     subst (λ l. IsUnique key (copies (fold t.mode l))) (append_assoc before (change ∷ []) changes) (unique_fold t key whole is (before ++ change ∷ []) changes h.1 next)
 
 -- ---- last rows
-
-added : (row : Row) (change : Change) → 0 < addition row change → (adds change.kind ≡ true) × (row ≡ change.row)
-added row change p =
-    elim (adds change.kind) as (λ b. adds change.kind ≡ b → 0 < cond b (one_at row_cmp row change.row) 0 → (b ≡ true) × (row ≡ change.row)) [
-      | true ↦ λ e q. (refl, elim (same_row row change.row) as (λ s. same_row row change.row ≡ s → 0 < cond {A = ℕ} s 1 0 → row ≡ change.row) [ true ↦ λ s z. same-true row change.row s | false ↦ λ s z. absurd (omega arith) ] refl q)
-      | false ↦ λ e q. absurd (omega arith)
-    ] refl p
-
-addition_le : (row : Row) (change : Change) → addition row change ≤ 1
-addition_le row change =
-    elim (adds change.kind) as (λ b. cond b (one_at row_cmp row change.row) 0 ≤ 1) [
-      | true ↦ elim (same_row row change.row) as (λ s. cond {A = ℕ} s 1 0 ≤ 1) [ true ↦ omega arith | false ↦ omega arith ]
-      | false ↦ omega arith
-    ]
-
-abbrev IsOne : Row → Row → ℕ → ℕ → Type 0
-IsOne a b x y = (0 < x → 0 < y → a ≡ b) × (x ≤ 1)
-
-shown_one : (key : List ℕ) (a b : Row) → project key a ≡ project key b → (changes : List Change) (x y : ℕ) → IsOne a b x y → IsOne a b (last_shown key a x changes) (last_shown key b y changes)
-shown_one key a b e [] x y h = h
-shown_one key a b e (change ∷ changes) x y h =
-    shown_one key a b e changes (cond (agree key change.row a) (addition a change) x) (cond (agree key change.row b) (addition b change) y)
-    (subst (λ q. IsOne a b (cond (agree key change.row a) (addition a change) x) (cond q (addition b change) y)) (ap (same_row (project key change.row)) e)
-    (elim (agree key change.row a) as (λ q. IsOne a b (cond q (addition a change) x) (cond q (addition b change) y)) [
-      | true ↦ (λ p q. (added a change p).1 ∙ sym (added b change q).1, addition_le a change)
-      | false ↦ h
-    ]))
-
-last_unique : (key : List ℕ) (changes : List Change) (rows : Rows) → ReadsAs (last_rows key) changes rows → IsUnique key (copies rows)
-last_unique key changes rows reads a b e x y =
-    let one = shown_one key a b e changes 0 0 (λ p q. absurd (omega arith), omega arith) in
-    (one.0 (omega (arith, reads a)) (omega (arith, reads b)), omega (arith, one.1, reads a))
 
 -- what is said of each row that is added holds of a row that stands
 added_row : (Q : Row → Type 0) (row : Row) (changes : List Change) → AllByRecursion (λ c. adds c.kind ≡ true → Q c.row) changes → 0 < additions row changes → Q row

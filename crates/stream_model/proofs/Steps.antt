@@ -565,7 +565,7 @@ module _ (g : Network) (wired : IsWired g) where
 
     hangs_in : (s : State) (r : Result State StepFault) → HangsTogether s → Keeps r → HangsTogether (state_in s r)
     hangs_in s (Err fault) h k = h
-    hangs_in s (Ok next) h k = k
+    hangs_in s (Ok later) h k = k
 
     pub hangs_after : (s : State) (items : List Item) → AreTyped g items → HangsTogether s → HangsTogether (after g limit s items)
     hangs_after s [] typed h = h

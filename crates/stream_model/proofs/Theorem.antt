@@ -8,16 +8,17 @@ use Rattle.ct_value.specs.Bag.{copies, none, same_bag}
 use Rattle.ct_value.specs.Order.{row_total, row_exact}
 use Rattle.ct_value.specs.declared.row.Row.{Row}
 use Rattle.ct_change.specs.declared.change.Change.{Change}
-use Rattle.ct_change.specs.Changelog.{Rows, has, fold}
+use Rattle.ct_change.specs.Changelog.{Mode, append, retract, upsert, Rows, has, fold, IsValid, Means}
+use Rattle.ct_change.specs.laws.Meanings.{fold_means, valid_where_means, IsValidFrom-take}
 use Rattle.op_rules.specs.History.{Arrival, arrival, at_port, from_port, joined}
-use Rattle.op_rules.specs.Edges.{Meaning, bag, last_rows, partials, IsPartial, ReadsAs, hash, goes_by, goes, belongs_by, AreApartBy, IsKeyedBy}
+use Rattle.op_rules.specs.Edges.{Meaning, meaning_of, bag, last_rows, partials, IsPartial, ReadsAs, hash, goes_by, goes, belongs_by, AreApartBy, IsKeyedBy}
 use Rattle.op_rules.specs.Tasks.{total, emitted_by, IsFine, IsReady}
 use Rattle.stream_model.specs.Tables.{Table}
 use Rattle.stream_model.specs.Network.{Network, task, IsNode, IsWired, IsAnswered, scanned_by, MeetsFacts, IsAnswer}
 use Rattle.stream_model.specs.Machine.{State, consumed, joins, opened, IsQuiet}
 use Rattle.stream_model.specs.Runs.{after, changes_in}
-use Rattle.stream_model.specs.Theorem.{rows_left, table_rows, Holds, Composes}
-use Rattle.stream_model.proofs.Sums.{all-take, all-append_left}
+use Rattle.stream_model.specs.Theorem.{rows_left, table_rows, Holds, Composes, PrintedFolds}
+use Rattle.stream_model.proofs.Sums.{all-take, all-append_left, all-weaker}
 use Rattle.stream_model.proofs.Exchange.{sel_keep, all-at, IsApart-front, came_bag, copies_came, means_came}
 use Rattle.stream_model.proofs.Histories.{from_port-append}
 use Rattle.stream_model.proofs.Nodes.{Linked, over, ready, all_fine, answered}
@@ -161,7 +162,7 @@ module _ (g : Network) (wired : IsWired g) where
         all_came : (v j p i : ℕ) → p < g.ports v → i < g.subtasks → j < g.subtasks → from_port p i (joined (s.pieces v j)) ≡ filter (λ change. goes (g.edge (g.source v p)) i j change.row) (s.sent (g.source v p) i)
         all_came v j p i pl il jl =
             sym (append-nil (from_port p i (joined (s.pieces v j))))
-            ∙ (ap (λ f. from_port p i (joined (s.pieces v j)) ++ f) (sym (still.flight (g.source v p) i j il jl))
+            ∙ (ap (λ f. from_port p i (joined (s.pieces v j)) ++ f) (sym (still.flight (g.source v p) i j (record { node = v; port = p }) (wired.feeds v p pl) il jl))
             ∙ (ap (λ l. from_port p i l ++ s.flight (g.source v p) i j) (sym (append-nil (joined (s.pieces v j))) ∙ ap (λ b. joined (s.pieces v j) ++ b) (sym (still.bundle v j jl)))
             ∙ h.fed v j p i pl))
 
@@ -208,3 +209,23 @@ module _ (g : Network) (wired : IsWired g) where
 
 pub composes : Composes
 composes g wired facts limit items typed = holds g wired facts (after g limit (opened g) items) (hangs_after g wired limit (opened g) items typed (hangs_opened g wired))
+
+-- ---- in the words of changelogs
+
+pub printed_folds : PrintedFolds
+printed_folds g wired facts mode is within limit items typed =
+    let s : State = after g limit (opened g) items in
+    let h : Holds g s = composes g wired facts limit items typed in
+    let means : (n : ℕ) → (rows : Rows) × Means mode (take n (changes_in s.printed)) rows = λ n. let r = h.printed_stands n in (r.0, means_in mode (take n (changes_in s.printed)) r.0 (subst (λ m. ReadsAs m (take n (changes_in s.printed)) r.0) is r.1)) in
+    let valid : IsValid mode (changes_in s.printed) = valid_where_means mode (changes_in s.printed) (all-weaker _ _ (λ change e. within change.kind e) (changes_in s.printed) h.printed_kinds) means in
+    record {
+      valid = λ n. IsValidFrom-take mode none n (changes_in s.printed) valid;
+      folds = λ still.
+          let a = h.printed_answers still in
+          subst (IsAnswer g (table_rows g s) g.count) (fold_means mode (changes_in s.printed) a.0 valid (means_in mode (changes_in s.printed) a.0 (subst (λ m. ReadsAs m (changes_in s.printed) a.0) is a.2))) a.1;
+    }
+  where
+    means_in : (mode : Mode) (changes : List Change) (rows : Rows) → ReadsAs (meaning_of mode) changes rows → Means mode changes rows
+    means_in append changes rows m = m
+    means_in retract changes rows m = m
+    means_in (upsert key) changes rows m = m

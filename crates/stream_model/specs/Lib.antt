@@ -1,3 +1,4 @@
+pub mod Counted
 pub mod Machine
 pub mod Network
 pub mod Runs

@@ -193,5 +193,5 @@ step g limit s (Flush v j) = flush g limit s v j
 
 -- no channel and no bundle holds a change
 pub record IsQuiet (g : Network) (s : State) : Type 0 where
-  pub flight : (e i j : ℕ) → i < g.subtasks → j < g.subtasks → s.flight e i j ≡ []
+  pub flight : (e i j : ℕ) (feed : Feed) → g.fed e ≡ Some feed → i < g.subtasks → j < g.subtasks → s.flight e i j ≡ []
   pub bundle : (v j : ℕ) → j < g.subtasks → s.bundle v j ≡ []

@@ -5,15 +5,9 @@ use Rattle.ct_value.specs.declared.row.Row.{Row}
 use Rattle.ct_change.specs.declared.kind.Kind.{Kind}
 use Rattle.ct_change.specs.declared.change.Change.{Change}
 use Rattle.ct_change.specs.Changelog.{Mode, append, retract, upsert, adds, admits, has}
-use Rattle.op_rules.specs.Edges.{Meaning, bag, last_rows, Edge, LiesIn}
+use Rattle.op_rules.specs.Edges.{meaning_of, Edge, LiesIn, KeepsKeys}
 use Rattle.stream_model.specs.Tables.{Table}
 use Rattle.stream_model.specs.Network.{ScanFacts}
-
--- how the changes of a mode are read
-abbrev pub meaning_of : Mode → Meaning
-meaning_of append = bag
-meaning_of retract = bag
-meaning_of (upsert key) = last_rows key
 
 abbrev pub IsKeyBy : Mode → Option (List ℕ) → List ℕ → Type 0
 IsKeyBy append declared key = declared ≡ Some key
@@ -24,14 +18,9 @@ IsKeyBy (upsert columns) declared key = columns ≡ key
 abbrev pub IsKeyOf : Table → List ℕ → Type 0
 IsKeyOf table key = IsKeyBy table.mode table.key key
 
--- the changes of one key of an upsert table have one subtask
-abbrev pub KeepsKeys : Mode → List ℕ → Type 0
-KeepsKeys append spread = Unit {0}
-KeepsKeys retract spread = Unit {0}
-KeepsKeys (upsert key) spread = LiesIn spread key
-
 pub record CarriesTable (many : ℕ) (table : Table) (edge : Edge) : Type 0 where
   pub routed : (key : Row) → table.route key < many
+  -- the changes of one key of an upsert table have one subtask
   pub spread : KeepsKeys table.mode table.spread
   pub meaning : edge.meaning ≡ meaning_of table.mode
   pub kinds : (kind : Kind) → admits table.mode kind ≡ true → has edge.kinds kind ≡ true

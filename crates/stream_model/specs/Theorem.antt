@@ -1,10 +1,11 @@
 -- The composition theorem: what holds in every state of every run over a network whose nodes meet their facts.
-use Rattle.std.specs.Prelude.{◌≡◌, ℕ, ◌+◌, ◌<◌, ◌≤◌, List, [], ◌∷◌, ◌++◌, length, take, Option, Some, None}
+use Rattle.std.specs.Prelude.{◌≡◌, ℕ, ◌+◌, ◌<◌, ◌≤◌, List, [], ◌∷◌, ◌++◌, length, take, true, Option, Some, None}
 use Rattle.ct_value.specs.Bag.{copies, none}
 use Rattle.ct_change.specs.declared.change.Change.{Change}
-use Rattle.ct_change.specs.Changelog.{Rows, AreOf, fold}
+use Rattle.ct_change.specs.declared.kind.Kind.{Kind}
+use Rattle.ct_change.specs.Changelog.{Mode, Rows, AreOf, has, admits, fold, IsValid}
 use Rattle.op_rules.specs.History.{arrival}
-use Rattle.op_rules.specs.Edges.{ReadsAs, IsUnique, HoldsOver}
+use Rattle.op_rules.specs.Edges.{meaning_of, ReadsAs, IsUnique, HoldsOver}
 use Rattle.op_rules.specs.Tasks.{total, IsFine, IsReady}
 use Rattle.stream_model.specs.Tables.{Table}
 use Rattle.stream_model.specs.Network.{Feed, Network, task, IsNode, IsWired, IsAnswered, MeetsFacts, IsAnswer}
@@ -49,3 +50,13 @@ pub record Holds (g : Network) (s : State) : Type 0 where
 -- can't be changes nothing
 abbrev pub Composes : Type 0
 Composes = (g : Network) → IsWired g → MeetsFacts g → (limit : ℕ) (items : List Item) → AreTyped g items → Holds g (after g limit (opened g) items)
+
+-- of what was printed each prefix is a valid changelog of the mode, and at a quiet moment it folds to the sink's batch answer
+pub record PrintsAnswer (g : Network) (mode : Mode) (s : State) : Type 0 where
+  pub valid : (n : ℕ) → IsValid mode (take n (changes_in s.printed))
+  pub folds : IsQuiet g s → IsAnswer g (table_rows g s) g.count (fold mode (changes_in s.printed))
+
+-- where the sink's changes are read as its mode says, and are of the mode's kinds
+abbrev pub PrintedFolds : Type 0
+PrintedFolds = (g : Network) → IsWired g → MeetsFacts g → (mode : Mode) → (g.edge g.count).meaning ≡ meaning_of mode → ((kind : Kind) → has (g.edge g.count).kinds kind ≡ true → admits mode kind ≡ true)
+    → (limit : ℕ) (items : List Item) → AreTyped g items → PrintsAnswer g mode (after g limit (opened g) items)

@@ -1,6 +1,7 @@
 //! What is known of the machine. These functions have nothing to do: their contracts are the laws.
+ghost use Rattle.stream_model.specs.Counted.{CountsMeetPremises};
 ghost use Rattle.stream_model.specs.Scans.{ScansStand};
-ghost use Rattle.stream_model.specs.Theorem.{Composes};
+ghost use Rattle.stream_model.specs.Theorem.{Composes, PrintedFolds};
 
 /// In every state of every run over a plan whose nodes meet their facts, each edge's changes are valid and of its kinds,
 /// each subtask may rely on what it takes, and at every quiet moment what each node sent, and what was printed, is the
@@ -9,7 +10,18 @@ pub fn plans_compose()
     ensures { Composes }
 {}
 
+/// In every such state each prefix of what was printed is a valid changelog of the sink's mode, and at every quiet moment
+/// it folds to the batch answer.
+pub fn printed_folds_to_answer()
+    ensures { PrintedFolds }
+{}
+
 /// A scan whose edge carries what its table takes meets its facts.
 pub fn scans_stand()
     ensures { ScansStand }
+{}
+
+/// A grouped count, in any number of subtasks and by any routing, meets all that the theorem asks of a plan.
+pub fn counts_meet_premises()
+    ensures { CountsMeetPremises }
 {}
