@@ -1,4 +1,3 @@
 pub mod Digits
 pub mod Elements
-pub mod Refusals
 pub mod Repeats

@@ -1,6 +1,8 @@
 -- The tables and settings after CREATE TABLE and SET.
 use Rattle.std.specs.Prelude.{List, [], ◌∷◌, ◌++◌, Option, Some, None, Result, Ok, Err}
 use Rattle.ct_value.specs.declared.codes.ScriptCode.{ScriptCode}
+use Rattle.sql_syntax.specs.declared.statement.Element.{Element}
+use Rattle.sql_syntax.specs.declared.statement.TextPair.{TextPair}
 use Rattle.sql_syntax.specs.Tree as t
 use Rattle.ct_catalog.specs.Setting.{defaults, set_of}
 use Rattle.ct_catalog.specs.Tables.{create_refusal, table_of}
@@ -22,7 +24,7 @@ abbrev pub with_settings : Catalogue → Result Settings ScriptCode → Result C
 with_settings c (Ok s) = Ok (record c { settings = s })
 with_settings c (Err code) = Err code
 
-abbrev pub created : Catalogue → t.Text → List t.Element → List t.TextPair → Result Catalogue ScriptCode
+abbrev pub created : Catalogue → t.Text → List Element → List TextPair → Result Catalogue ScriptCode
 created c name elements options = with_table c (table_of name elements options) (create_refusal c.tables name elements options)
 
 abbrev pub changed : Catalogue → t.Text → t.Text → Result Catalogue ScriptCode

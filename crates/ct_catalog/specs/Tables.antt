@@ -7,6 +7,9 @@ use Rattle.ct_value.specs.declared.codes.ScriptCode.TheVariants.{DuplicateName, 
 use Rattle.ct_value.specs.declared.ty.Ty.{Ty}
 use Rattle.ct_change.specs.declared.kind.Declared.{Declared}
 use Rattle.ct_change.specs.declared.kind.Declared.TheVariants.{Append, Retract, Upsert}
+use Rattle.sql_syntax.specs.declared.statement.Element.{Element}
+use Rattle.sql_syntax.specs.declared.statement.TextPair.{TextPair}
+use Rattle.sql_syntax.specs.declared.statement.Element.TheVariants as el
 use Rattle.sql_syntax.specs.Tree as t
 use Rattle.ct_catalog.specs.Types.{type_of}
 use Rattle.ct_catalog.specs.declared.table.ColDef.{ColDef}
@@ -22,24 +25,24 @@ repeats (n ∷ ns) = list_any (bytes_eq n) ns || repeats ns
 
 -- ---- the columns and the keys of the elements
 
-abbrev pub column_names : List t.Element → List t.Text
+abbrev pub column_names : List Element → List t.Text
 column_names [] = []
-column_names (t.Column name ty not_null key ∷ es) = name ∷ column_names es
-column_names (t.Key names ∷ es) = column_names es
+column_names (el.Column name ty not_null key ∷ es) = name ∷ column_names es
+column_names (el.Key names ∷ es) = column_names es
 
 -- whether each column has a type
-abbrev pub has_types : List t.Element → Bool
+abbrev pub has_types : List Element → Bool
 has_types [] = true
-has_types (t.Column name ty not_null key ∷ es) = if is_none (type_of ty) then false else has_types es
-has_types (t.Key names ∷ es) = has_types es
+has_types (el.Column name ty not_null key ∷ es) = if is_none (type_of ty) then false else has_types es
+has_types (el.Key names ∷ es) = has_types es
 
 -- the names of each key, also of one that stands beside its column
-abbrev pub keys : List t.Element → List (List t.Text)
+abbrev pub keys : List Element → List (List t.Text)
 keys [] = []
-keys (t.Column name ty not_null key ∷ es) = if key then (name ∷ []) ∷ keys es else keys es
-keys (t.Key names ∷ es) = names ∷ keys es
+keys (el.Column name ty not_null key ∷ es) = if key then (name ∷ []) ∷ keys es else keys es
+keys (el.Key names ∷ es) = names ∷ keys es
 
-abbrev pub first_key : List t.Element → Option (List t.Text)
+abbrev pub first_key : List Element → Option (List t.Text)
 first_key elements = slice_get (keys elements) 0
 
 abbrev pub with_column : t.Text → Bool → Option Ty → List ColDef → List ColDef
@@ -47,10 +50,10 @@ with_column name nullable None cols = cols
 with_column name nullable (Some ty) cols = record { name = name; ty = record { ty = ty; nullable = nullable } } ∷ cols
 
 -- the columns; NULL may stand in those that are neither NOT NULL nor of the key
-abbrev pub columns : List t.Text → List t.Element → List ColDef
+abbrev pub columns : List t.Text → List Element → List ColDef
 columns key [] = []
-columns key (t.Column name ty not_null own_key ∷ es) = with_column name (not (not_null || has_name key name)) (type_of ty) (columns key es)
-columns key (t.Key names ∷ es) = columns key es
+columns key (el.Column name ty not_null own_key ∷ es) = with_column name (not (not_null || has_name key name)) (type_of ty) (columns key es)
+columns key (el.Key names ∷ es) = columns key es
 
 -- the places of the key's columns among these, counted from a number
 abbrev pub places : List t.Text → ℕ → List t.Text → List ℕ
@@ -67,7 +70,7 @@ mode_of word =
     else None))
 
 -- the values of the option that tells the mode
-abbrev pub mode_words : List t.TextPair → List t.Text
+abbrev pub mode_words : List TextPair → List t.Text
 mode_words [] = []
 mode_words (o ∷ os) = if bytes_eq o.left (codes "changelog") then o.right ∷ mode_words os else mode_words os
 
@@ -76,10 +79,10 @@ last_mode mode [] = mode
 last_mode mode (word ∷ words) = last_mode (mode_of word) words
 
 -- the last option counts; without one the mode is append
-abbrev pub declared_mode : List t.TextPair → Option Declared
+abbrev pub declared_mode : List TextPair → Option Declared
 declared_mode options = last_mode (Some Append) (mode_words options)
 
-abbrev pub has_unknown_mode : List t.TextPair → Bool
+abbrev pub has_unknown_mode : List TextPair → Bool
 has_unknown_mode options = list_any (λ word. is_none (mode_of word)) (mode_words options)
 
 abbrev pub is_upsert : Option Declared → Bool
@@ -108,7 +111,7 @@ abbrev pub first_code : List (Bool × ScriptCode) → Option ScriptCode
 first_code [] = None
 first_code (c ∷ cs) = if c.0 then Some c.1 else first_code cs
 
-abbrev pub create_refusal : List TableDef → t.Text → List t.Element → List t.TextPair → Option ScriptCode
+abbrev pub create_refusal : List TableDef → t.Text → List Element → List TextPair → Option ScriptCode
 create_refusal tables name elements options =
     first_code (
     (has_table tables name || repeats (column_names elements), DuplicateName) ∷
@@ -118,7 +121,7 @@ create_refusal tables name elements options =
     (has_unknown_mode options, BadSetting) ∷ [])
 
 -- the table that is declared where there is no refusal
-abbrev pub table_of : t.Text → List t.Element → List t.TextPair → TableDef
+abbrev pub table_of : t.Text → List Element → List TextPair → TableDef
 table_of name elements options = record {
   name = name;
   cols = columns (unwrap_or (first_key elements) []) elements;

@@ -3,6 +3,7 @@ use Rattle.std.specs.Prelude.{ℕ, Bool, ◌&&◌, ◌||◌, nat_le, List, [], �
 use Rattle.std.specs.Str.{str_eq_ignore_ascii_case}
 use Rattle.ct_value.specs.declared.ty.Ty.{Ty}
 use Rattle.ct_value.specs.declared.ty.Ty.TheVariants.{Bool as Boolean, Int, BigInt, Decimal, Text as String}
+use Rattle.sql_syntax.specs.declared.statement.TypeName.{TypeName}
 use Rattle.sql_syntax.specs.Tree as t
 use Rattle.ct_catalog.specs.Numbers.{number_up_to}
 
@@ -36,5 +37,5 @@ without_numbers [] ty = ty
 without_numbers (n ∷ ns) ty = None
 
 -- the type of this name and these numbers, if there is one
-abbrev pub type_of : t.TypeName → Option Ty
+abbrev pub type_of : TypeName → Option Ty
 type_of x = if is_decimal x.name then decimal_of x.numbers else without_numbers x.numbers (plain_of x.name)

@@ -1,11 +1,11 @@
 //! The catalogue, statement by statement.
-ghost use Rattle.std.specs.Prelude.{◌≡◌, map, Ok, Err, OnOk, OnErr, IsErrOf};
+ghost use Rattle.std.specs.Prelude.{◌≡◌, Ok, Err, OnOk, OnErr, IsErrOf};
 ghost use Rattle.ct_value.specs.declared.codes.ScriptCode.{ScriptCode};
-ghost use Rattle.sql_syntax.specs.View.{statement_view, element_view, pair_view};
+ghost use Rattle.sql_syntax.specs.View.{statement_view};
 ghost use Rattle.ct_catalog.specs.Catalogue.{empty, applied, created, changed, IsDeclaration};
 ghost use Rattle.ct_catalog.specs.declared.catalog.CatalogFault.TheVariants.{Refused, Memory as OutOfMemory};
 
-use crate::create::{create_refusal, table_of};
+use crate::create::{column_names, create_refusal, keys, table_of};
 use crate::{Settings, Sources};
 use ct_value::{Memory, ScriptCode, Text};
 use sql_syntax::{Element, Statement, TextPair};
@@ -88,22 +88,39 @@ impl Catalog {
         }
     }
 
-    #[tactic(auto, using(crate::proofs::Refusals::few_columns))]
+    #[tactic(auto, using(crate::specs::laws::Refusals::few_columns))]
     fn create(
         &mut self,
         name: &Text,
         elements: &[Element],
         options: &[TextPair],
     ) -> Result<(), CatalogFault>
-        ensures ok { OnOk result (created self.old name.now (map element_view elements.now) (map pair_view options.now) ≡ Ok self.new) }
-        ensures refused { (code : ScriptCode) → IsErrOf result (Refused code) → created self.old name.now (map element_view elements.now) (map pair_view options.now) ≡ Err code }
+        ensures ok { OnOk result (created self.old name.now elements.now options.now ≡ Ok self.new) }
+        ensures refused { (code : ScriptCode) → IsErrOf result (Refused code) → created self.old name.now elements.now options.now ≡ Err code }
         ensures same { OnErr result (self.new ≡ self.old) }
     {
-        let refusal = create_refusal(self.alloc, self.tables.as_slice(), name, elements, options)?;
+        let names = column_names(self.alloc, elements)?;
+        let key_lists = keys(self.alloc, elements)?;
+        let refusal = create_refusal(
+            self.alloc,
+            self.tables.as_slice(),
+            name,
+            elements,
+            options,
+            names.as_slice(),
+            key_lists.as_slice(),
+        )?;
         if let Some(code) = refusal {
             return Err(CatalogFault::Refused(code));
         }
-        let table = table_of(self.alloc, name, elements, options)?;
+        let table = table_of(
+            self.alloc,
+            name,
+            elements,
+            options,
+            names.as_slice(),
+            key_lists.as_slice(),
+        )?;
         self.tables.push(table)?;
         Ok(())
     }

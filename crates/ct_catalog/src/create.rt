@@ -1,35 +1,37 @@
 //! What CREATE TABLE declares, and what it is refused as.
-ghost use Rattle.std.specs.Prelude.{◌≡◌, ◌≤◌, ◌∷◌, ◌++◌, [], map, length, option_map, unwrap_or, OnOk, IfOk};
+ghost use Rattle.std.specs.Prelude.{◌≡◌, ◌≤◌, ◌∷◌, ◌++◌, [], length, option_map, option_to_list, slice_get, unwrap_or, OnOk, IfOk};
 ghost use Rattle.std.specs.List.{list_all};
-ghost use Rattle.sql_syntax.specs.View.{element_view, pair_view};
-ghost use Rattle.ct_catalog.specs.Tables.{has_name, repeats, column_names, has_types, keys, first_key, columns, places, mode_of, mode_words, last_mode, declared_mode, has_unknown_mode, is_upsert, is_bad_key, lacks_key, has_table, create_refusal, table_of};
-ghost use Rattle.ct_catalog.specs.Keys.{keys_found, names_found, columns_found};
+ghost use Rattle.ct_catalog.specs.Tables.{has_name, repeats, column_names, has_types, keys, columns, places, mode_of, mode_words, last_mode, declared_mode, has_unknown_mode, is_upsert, is_bad_key, lacks_key, has_table, create_refusal, table_of};
 
 use crate::types::type_of;
 use crate::{ColDef, ColDefs, TableDef};
 use ct_change::Declared;
-use ct_value::{ColTy, Cols, Memory, ScriptCode, Text};
+use ct_value::{ColTy, Cols, List, Memory, ScriptCode, Text};
 use sql_syntax::{Element, TextPair, Texts};
 use std::alloc::Global;
 use std::collections::BTreeSet;
 
 const MOST_COLUMNS: usize = 64;
 
-/// What a CREATE TABLE is refused as, if it is.
+/// What a CREATE TABLE is refused as, if it is. `names` are its columns' names, and
+/// `key_lists` its keys.
 pub(crate) fn create_refusal(
     alloc: Global,
     tables: &[TableDef],
     name: &Text,
     elements: &[Element],
     options: &[TextPair],
+    names: &[Text],
+    key_lists: &[Texts],
 ) -> Result<Option<ScriptCode>, Memory>
-    ensures { IfOk result (λ code. code ≡ create_refusal tables.now name.now (map element_view elements.now) (map pair_view options.now)) }
+    requires names { names.now ≡ column_names elements.now }
+    requires keys { key_lists.now ≡ keys elements.now }
+    ensures { IfOk result (λ code. code ≡ create_refusal tables.now name.now elements.now options.now) }
 {
-    let names = column_names(alloc, elements)?;
     if has_table(tables, name) {
         return Ok(Some(ScriptCode::DuplicateName));
     }
-    if repeats(alloc, names.as_slice())? {
+    if repeats(alloc, names)? {
         return Ok(Some(ScriptCode::DuplicateName));
     }
     if !has_types(elements) {
@@ -38,7 +40,7 @@ pub(crate) fn create_refusal(
     if names.len() > MOST_COLUMNS {
         return Ok(Some(ScriptCode::TooManyColumns));
     }
-    if lacks_key(alloc, is_upsert(options), names.as_slice(), elements)? {
+    if lacks_key(alloc, is_upsert(options), names, key_lists)? {
         return Ok(Some(ScriptCode::KeyMissing));
     }
     if has_unknown_mode(options) {
@@ -47,22 +49,25 @@ pub(crate) fn create_refusal(
     Ok(None)
 }
 
-/// The table that a CREATE TABLE declares where it isn't refused.
+/// The table that a CREATE TABLE declares where it isn't refused. `names` are its columns' names, and
+/// `key_lists` its keys.
 pub(crate) fn table_of(
     alloc: Global,
     name: &Text,
     elements: &[Element],
     options: &[TextPair],
+    names: &[Text],
+    key_lists: &[Texts],
 ) -> Result<TableDef, Memory>
-    requires { length (column_names (map element_view elements.now)) ≤ 64 }
-    ensures { IfOk result (λ table. table ≡ table_of name.now (map element_view elements.now) (map pair_view options.now)) }
+    requires few { length names.now ≤ 64 }
+    requires names { names.now ≡ column_names elements.now }
+    requires keys { key_lists.now ≡ keys elements.now }
+    ensures { IfOk result (λ table. table ≡ table_of name.now elements.now options.now) }
 {
-    let key_names = key_names(alloc, elements)?;
-    let key = key_places(alloc, elements)?;
     Ok(TableDef {
         name: name.dup()?,
-        cols: columns(alloc, key_names.as_slice(), elements)?,
-        key,
+        cols: columns(alloc, key_names(key_lists), elements)?,
+        key: key_places(alloc, key_lists, names)?,
         mode: last_mode(options).unwrap_or(Declared::Append),
     })
 }
@@ -85,7 +90,7 @@ fn repeats(alloc: Global, names: &[Text]) -> Result<bool, Memory>
 {
     let mut seen = BTreeSet::new(alloc);
     for name in names {
-        if !seen.insert(name.dup()?)? {
+        if !seen.insert(name)? {
             return Ok(true);
         }
     }
@@ -94,8 +99,9 @@ fn repeats(alloc: Global, names: &[Text]) -> Result<bool, Memory>
 
 // ---- columns and keys
 
-fn column_names(alloc: Global, elements: &[Element]) -> Result<Texts, Memory>
-    ensures { IfOk result (λ names. names ≡ column_names (map element_view elements.now)) }
+/// The names of the columns.
+pub(crate) fn column_names(alloc: Global, elements: &[Element]) -> Result<Texts, Memory>
+    ensures { IfOk result (λ names. names ≡ column_names elements.now) }
 {
     let mut names = Texts::new(alloc);
     for element in elements {
@@ -107,7 +113,7 @@ fn column_names(alloc: Global, elements: &[Element]) -> Result<Texts, Memory>
 }
 
 fn has_types(elements: &[Element]) -> bool
-    ensures { result ≡ has_types (map element_view elements.now) }
+    ensures { result ≡ has_types elements.now }
 {
     for element in elements {
         if let Element::Column { ty, .. } = element {
@@ -119,22 +125,21 @@ fn has_types(elements: &[Element]) -> bool
     true
 }
 
-// The names of the first key, and the elements behind it.
-#[tactic(auto, using(crate::proofs::Elements::keys_one_by_one))]
-fn first_key(alloc: Global, elements: &[Element]) -> Result<Option<(Texts, &[Element])>, Memory>
-    ensures { IfOk result (λ found. keys_found found ≡ keys (map element_view elements.now)) }
+/// The names of each key, also of one that stands beside its column.
+pub(crate) fn keys(alloc: Global, elements: &[Element]) -> Result<List<Texts>, Memory>
+    ensures { IfOk result (λ list. list ≡ keys elements.now) }
 {
-    for i in 0..elements.len() {
-        if let Some(names) = own_key(alloc, &elements[i])? {
-            return Ok(Some((names, &elements[i + 1..])));
-        }
+    let mut list = List::new(alloc);
+    for element in elements {
+        let found = own_key(alloc, element)?;
+        push_found(&mut list, found)?;
     }
-    Ok(None)
+    Ok(list)
 }
 
 // The names of the key that an element gives, if it gives one.
 fn own_key(alloc: Global, element: &Element) -> Result<Option<Texts>, Memory>
-    ensures { IfOk result (λ found. names_found found ≡ keys (element_view element.now ∷ [])) }
+    ensures { IfOk result (λ found. option_to_list found ≡ keys (element.now ∷ [])) }
 {
     match element {
         Element::Column {
@@ -151,25 +156,33 @@ fn own_key(alloc: Global, element: &Element) -> Result<Option<Texts>, Memory>
     }
 }
 
-// The names of the key, and none where there is no key.
-fn key_names(alloc: Global, elements: &[Element]) -> Result<Texts, Memory>
-    ensures { IfOk result (λ names. names ≡ unwrap_or (first_key (map element_view elements.now)) []) }
+fn push_found<T: Drop>(list: &mut List<T>, found: Option<T>) -> Result<(), Memory>
+    ensures { OnOk result (list.new ≡ list.old ++ option_to_list found) }
 {
-    match first_key(alloc, elements)? {
-        Some((names, _)) => Ok(names),
-        None => Ok(Texts::new(alloc)),
+    if let Some(item) = found {
+        list.push(item)?;
+    }
+    Ok(())
+}
+
+// The names of the first key, and none where there is no key.
+fn key_names<'k>(keys: &'k [Texts]) -> &'k [Text]
+    ensures { result.now ≡ unwrap_or (slice_get keys.now 0) [] }
+{
+    match keys {
+        [key, ..] => key.as_slice(),
+        [] => &[],
     }
 }
 
-// The places of the key's columns, if there is a key.
-fn key_places(alloc: Global, elements: &[Element]) -> Result<Option<Cols>, Memory>
-    requires { length (column_names (map element_view elements.now)) ≤ 64 }
-    ensures { IfOk result (λ key. key ≡ option_map (λ names. places names 0 (column_names (map element_view elements.now))) (first_key (map element_view elements.now))) }
+// The places of the first key's columns, if there is a key.
+fn key_places(alloc: Global, keys: &[Texts], names: &[Text]) -> Result<Option<Cols>, Memory>
+    requires { length names.now ≤ 64 }
+    ensures { IfOk result (λ key. key ≡ option_map (λ key. places key 0 names.now) (slice_get keys.now 0)) }
 {
-    let names = column_names(alloc, elements)?;
-    match first_key(alloc, elements)? {
-        Some((key, _)) => Ok(Some(places(alloc, key.as_slice(), names.as_slice())?)),
-        None => Ok(None),
+    match keys {
+        [key, ..] => Ok(Some(places(alloc, key.as_slice(), names)?)),
+        [] => Ok(None),
     }
 }
 
@@ -188,7 +201,7 @@ fn places(alloc: Global, key: &[Text], names: &[Text]) -> Result<Cols, Memory>
 
 // The columns, of which those of the key are NOT NULL too.
 fn columns(alloc: Global, key: &[Text], elements: &[Element]) -> Result<ColDefs, Memory>
-    ensures { IfOk result (λ cols. cols ≡ columns key.now (map element_view elements.now)) }
+    ensures { IfOk result (λ cols. cols ≡ columns key.now elements.now) }
 {
     let mut cols = ColDefs::new(alloc);
     for element in elements {
@@ -198,17 +211,8 @@ fn columns(alloc: Global, key: &[Text], elements: &[Element]) -> Result<ColDefs,
     Ok(cols)
 }
 
-fn push_found(cols: &mut ColDefs, found: Option<ColDef>) -> Result<(), Memory>
-    ensures { OnOk result (cols.new ≡ cols.old ++ columns_found found) }
-{
-    if let Some(column) = found {
-        cols.push(column)?;
-    }
-    Ok(())
-}
-
 fn column_of(key: &[Text], element: &Element) -> Result<Option<ColDef>, Memory>
-    ensures { IfOk result (λ found. columns_found found ≡ columns key.now (element_view element.now ∷ [])) }
+    ensures { IfOk result (λ found. option_to_list found ≡ columns key.now (element.now ∷ [])) }
 {
     let Element::Column {
         name,
@@ -230,21 +234,14 @@ fn column_of(key: &[Text], element: &Element) -> Result<Option<ColDef>, Memory>
 }
 
 // Whether there are two keys, a bad one, or none in upsert mode.
-fn lacks_key(
-    alloc: Global,
-    upsert: bool,
-    cols: &[Text],
-    elements: &[Element],
-) -> Result<bool, Memory>
-    ensures { IfOk result (λ lacks. lacks ≡ lacks_key upsert cols.now (keys (map element_view elements.now))) }
+fn lacks_key(alloc: Global, upsert: bool, cols: &[Text], keys: &[Texts]) -> Result<bool, Memory>
+    ensures { IfOk result (λ lacks. lacks ≡ lacks_key upsert cols.now keys.now) }
 {
-    let Some((key, rest)) = first_key(alloc, elements)? else {
-        return Ok(upsert);
-    };
-    if first_key(alloc, rest)?.is_some() {
-        return Ok(true);
+    match keys {
+        [] => Ok(upsert),
+        [key] => is_bad_key(alloc, cols, key.as_slice()),
+        _ => Ok(true),
     }
-    is_bad_key(alloc, cols, key.as_slice())
 }
 
 // Whether a key column doesn't exist or stands twice.
@@ -283,7 +280,7 @@ fn mode_of(word: &Text) -> Option<Declared>
 
 // The mode of the last option that tells one, append without one, and `None` where it is unknown.
 fn last_mode(options: &[TextPair]) -> Option<Declared>
-    ensures { result ≡ declared_mode (map pair_view options.now) }
+    ensures { result ≡ declared_mode options.now }
 {
     let mut mode = Some(Declared::Append);
     for option in options {
@@ -295,13 +292,13 @@ fn last_mode(options: &[TextPair]) -> Option<Declared>
 }
 
 fn is_upsert(options: &[TextPair]) -> bool
-    ensures { result ≡ is_upsert (declared_mode (map pair_view options.now)) }
+    ensures { result ≡ is_upsert (declared_mode options.now) }
 {
     matches!(last_mode(options), Some(Declared::Upsert))
 }
 
 fn has_unknown_mode(options: &[TextPair]) -> bool
-    ensures { result ≡ has_unknown_mode (map pair_view options.now) }
+    ensures { result ≡ has_unknown_mode options.now }
 {
     for option in options {
         if option.left.is(b"changelog") && mode_of(&option.right).is_none() {

@@ -1,7 +1,6 @@
 //! The types that names mean.
 ghost use Rattle.std.specs.Prelude.{◌≡◌};
 ghost use Rattle.std.specs.Str.{str_eq_ignore_ascii_case};
-ghost use Rattle.sql_syntax.specs.View.{type_view};
 ghost use Rattle.ct_catalog.specs.Types.{decimal, decimal_of, is_decimal, plain_of, type_of};
 
 use crate::numbers::number_up_to;
@@ -12,7 +11,7 @@ const MOST_DIGITS: u32 = 38;
 
 /// The type of a name with its numbers, and `None` where there is none.
 pub(crate) fn type_of(name: &TypeName) -> Option<Ty>
-    ensures { result ≡ type_of (type_view name.now) }
+    ensures { result ≡ type_of name.now }
 {
     if is_decimal(&name.name) {
         return decimal_of(name.numbers.as_slice());

@@ -1,19 +1,21 @@
 //! Reads what CREATE TABLE lists, and settings.
-ghost use Rattle.std.specs.Prelude.{◌≡◌, ◌<◌, ◌≤◌, Some, None, length, map, IfOk, IsErrOf};
-ghost use Rattle.sql_syntax.specs.View.{element_view, pair_view, statement_view};
-ghost use Rattle.sql_grammar.specs.Reads.{not_null_at, key_flag_at, column_def_at, names_at, key_at, element_at, elements_at, pair_at, pairs_at, options_at, create_at, set_at};
+ghost use Rattle.std.specs.Prelude.{◌≡◌, ℕ, List};
+ghost use Rattle.sql_syntax.specs.View.{statement_view};
+ghost use Rattle.sql_syntax.specs.declared.statement.Element.{Element as Seen_element};
+ghost use Rattle.sql_syntax.specs.declared.statement.TextPair.{TextPair as Seen_pair};
+ghost use Rattle.sql_rules.specs.Reads.{name_at, not_null_at, key_flag_at, column_def_at, names_at, key_at, element_at, elements_at, pair_at, pairs_at, options_at, create_at, set_at};
+ghost use Rattle.sql_words.specs.Gives.{Answers, Gives};
 
-use sql_shapes::type_name;
+use ct_value::Text;
+use sql_shapes::{Rule, listed, type_name};
 use sql_syntax::{Element, Elements, Statement, TextPair, TextPairs, Texts};
 use sql_tokens::{Keyword, Symbol, Token};
-use sql_words::{Read, Stop, after_keyword, after_symbol, keyword, name, symbol, text};
+use sql_words::{Read, after_keyword, keyword, name, symbol, text};
 use std::alloc::Global;
 
-#[tactic(auto, unfolding(sql_grammar::specs::Reads::not_null_at))]
+#[tactic(auto, unfolding(sql_rules::specs::Reads::not_null_at))]
 fn not_null(tokens: &[Token]) -> Read<'_, bool>
-    ensures ok { IfOk result (λ read. not_null_at tokens.now ≡ Some (read.0, read.1.now)) }
-    ensures shorter { IfOk result (λ read. length read.1.now ≤ length tokens.now) }
-    ensures refused { IsErrOf result Stop.Refused → not_null_at tokens.now ≡ None }
+    ensures { Answers result (not_null_at tokens.now) }
 {
     match after_keyword(tokens, Keyword::Not) {
         Some(rest) => {
@@ -24,11 +26,9 @@ fn not_null(tokens: &[Token]) -> Read<'_, bool>
     }
 }
 
-#[tactic(auto, unfolding(sql_grammar::specs::Reads::key_flag_at))]
+#[tactic(auto, unfolding(sql_rules::specs::Reads::key_flag_at))]
 fn key_flag(tokens: &[Token]) -> Read<'_, bool>
-    ensures ok { IfOk result (λ read. key_flag_at tokens.now ≡ Some (read.0, read.1.now)) }
-    ensures shorter { IfOk result (λ read. length read.1.now ≤ length tokens.now) }
-    ensures refused { IsErrOf result Stop.Refused → key_flag_at tokens.now ≡ None }
+    ensures { Answers result (key_flag_at tokens.now) }
 {
     match after_keyword(tokens, Keyword::Primary) {
         Some(rest) => {
@@ -41,11 +41,9 @@ fn key_flag(tokens: &[Token]) -> Read<'_, bool>
     }
 }
 
-#[tactic(auto, unfolding(sql_grammar::specs::Reads::column_def_at))]
+#[tactic(auto, unfolding(sql_rules::specs::Reads::column_def_at))]
 fn column_def(alloc: Global, tokens: &[Token]) -> Read<'_, Element>
-    ensures ok { IfOk result (λ read. column_def_at tokens.now ≡ Some (element_view read.0, read.1.now)) }
-    ensures shorter { IfOk result (λ read. length read.1.now < length tokens.now) }
-    ensures refused { IsErrOf result Stop.Refused → column_def_at tokens.now ≡ None }
+    ensures { Answers result (column_def_at tokens.now) }
 {
     let (name, rest) = name(tokens)?;
     let (ty, rest) = type_name(alloc, rest)?;
@@ -62,28 +60,36 @@ fn column_def(alloc: Global, tokens: &[Token]) -> Read<'_, Element>
     ))
 }
 
-fn names(alloc: Global, tokens: &[Token]) -> Read<'_, Texts>
-    ensures ok { IfOk result (λ read. names_at tokens.now ≡ Some (read.0, read.1.now)) }
-    ensures shorter { IfOk result (λ read. length read.1.now < length tokens.now) }
-    ensures refused { IsErrOf result Stop.Refused → names_at tokens.now ≡ None }
-{
-    let (first, behind) = name(tokens)?;
-    let mut list = Texts::new(alloc);
-    list.push(first)?;
-    let mut rest = behind;
-    'items: while let Some(after) = after_symbol(rest, Symbol::Comma) {
-        let (item, after) = name(after)?;
-        list.push(item)?;
-        rest = after;
+// A name.
+#[derive(Drop)]
+struct NameRule {}
+
+impl<'t> Rule<'t> for NameRule {
+    type Item = Text;
+
+    ghost Seen = { List ℕ };
+
+    ghost seen = { λ x. x };
+
+    ghost reads = { λ r. name_at };
+
+    ghost sound = { λ r. Unit {0} };
+
+    fn read(&self, _alloc: Global, tokens: &'t [Token]) -> Read<'t, Text> {
+        name(tokens)
     }
-    Ok((list, rest))
 }
 
-#[tactic(auto, unfolding(sql_grammar::specs::Reads::key_at))]
+#[tactic(auto, unfolding(sql_rules::specs::Reads::names_at))]
+fn names(alloc: Global, tokens: &[Token]) -> Read<'_, Texts>
+    ensures { Answers result (names_at tokens.now) }
+{
+    listed(alloc, &NameRule {}, tokens)
+}
+
+#[tactic(auto, unfolding(sql_rules::specs::Reads::key_at))]
 fn key(alloc: Global, tokens: &[Token]) -> Read<'_, Element>
-    ensures ok { IfOk result (λ read. key_at tokens.now ≡ Some (element_view read.0, read.1.now)) }
-    ensures shorter { IfOk result (λ read. length read.1.now < length tokens.now) }
-    ensures refused { IsErrOf result Stop.Refused → key_at tokens.now ≡ None }
+    ensures { Answers result (key_at tokens.now) }
 {
     let rest = keyword(tokens, Keyword::Key)?;
     let rest = symbol(rest, Symbol::Open)?;
@@ -94,11 +100,9 @@ fn key(alloc: Global, tokens: &[Token]) -> Read<'_, Element>
     Ok((Element::Key { names }, rest))
 }
 
-#[tactic(auto, unfolding(sql_grammar::specs::Reads::element_at))]
+#[tactic(auto, unfolding(sql_rules::specs::Reads::element_at))]
 fn element(alloc: Global, tokens: &[Token]) -> Read<'_, Element>
-    ensures ok { IfOk result (λ read. element_at tokens.now ≡ Some (element_view read.0, read.1.now)) }
-    ensures shorter { IfOk result (λ read. length read.1.now < length tokens.now) }
-    ensures refused { IsErrOf result Stop.Refused → element_at tokens.now ≡ None }
+    ensures { Answers result (element_at tokens.now) }
 {
     match after_keyword(tokens, Keyword::Primary) {
         Some(rest) => key(alloc, rest),
@@ -106,28 +110,36 @@ fn element(alloc: Global, tokens: &[Token]) -> Read<'_, Element>
     }
 }
 
-fn elements(alloc: Global, tokens: &[Token]) -> Read<'_, Elements>
-    ensures ok { IfOk result (λ read. elements_at tokens.now ≡ Some (map element_view read.0, read.1.now)) }
-    ensures shorter { IfOk result (λ read. length read.1.now < length tokens.now) }
-    ensures refused { IsErrOf result Stop.Refused → elements_at tokens.now ≡ None }
-{
-    let (first, behind) = element(alloc, tokens)?;
-    let mut list = Elements::new(alloc);
-    list.push(first)?;
-    let mut rest = behind;
-    'items: while let Some(after) = after_symbol(rest, Symbol::Comma) {
-        let (item, after) = element(alloc, after)?;
-        list.push(item)?;
-        rest = after;
+// An element.
+#[derive(Drop)]
+struct ElementRule {}
+
+impl<'t> Rule<'t> for ElementRule {
+    type Item = Element;
+
+    ghost Seen = { Seen_element };
+
+    ghost seen = { λ x. x };
+
+    ghost reads = { λ r. element_at };
+
+    ghost sound = { λ r. Unit {0} };
+
+    fn read(&self, alloc: Global, tokens: &'t [Token]) -> Read<'t, Element> {
+        element(alloc, tokens)
     }
-    Ok((list, rest))
 }
 
-#[tactic(auto, unfolding(sql_grammar::specs::Reads::pair_at))]
+#[tactic(auto, unfolding(sql_rules::specs::Reads::elements_at))]
+fn elements(alloc: Global, tokens: &[Token]) -> Read<'_, Elements>
+    ensures { Answers result (elements_at tokens.now) }
+{
+    listed(alloc, &ElementRule {}, tokens)
+}
+
+#[tactic(auto, unfolding(sql_rules::specs::Reads::pair_at))]
 fn pair(tokens: &[Token]) -> Read<'_, TextPair>
-    ensures ok { IfOk result (λ read. pair_at tokens.now ≡ Some (pair_view read.0, read.1.now)) }
-    ensures shorter { IfOk result (λ read. length read.1.now < length tokens.now) }
-    ensures refused { IsErrOf result Stop.Refused → pair_at tokens.now ≡ None }
+    ensures { Answers result (pair_at tokens.now) }
 {
     let (left, rest) = text(tokens)?;
     let rest = symbol(rest, Symbol::Equal)?;
@@ -135,28 +147,36 @@ fn pair(tokens: &[Token]) -> Read<'_, TextPair>
     Ok((TextPair { left, right }, rest))
 }
 
-fn pairs(alloc: Global, tokens: &[Token]) -> Read<'_, TextPairs>
-    ensures ok { IfOk result (λ read. pairs_at tokens.now ≡ Some (map pair_view read.0, read.1.now)) }
-    ensures shorter { IfOk result (λ read. length read.1.now < length tokens.now) }
-    ensures refused { IsErrOf result Stop.Refused → pairs_at tokens.now ≡ None }
-{
-    let (first, behind) = pair(tokens)?;
-    let mut list = TextPairs::new(alloc);
-    list.push(first)?;
-    let mut rest = behind;
-    'items: while let Some(after) = after_symbol(rest, Symbol::Comma) {
-        let (item, after) = pair(after)?;
-        list.push(item)?;
-        rest = after;
+// A pair.
+#[derive(Drop)]
+struct PairRule {}
+
+impl<'t> Rule<'t> for PairRule {
+    type Item = TextPair;
+
+    ghost Seen = { Seen_pair };
+
+    ghost seen = { λ x. x };
+
+    ghost reads = { λ r. pair_at };
+
+    ghost sound = { λ r. Unit {0} };
+
+    fn read(&self, _alloc: Global, tokens: &'t [Token]) -> Read<'t, TextPair> {
+        pair(tokens)
     }
-    Ok((list, rest))
 }
 
-#[tactic(auto, unfolding(sql_grammar::specs::Reads::options_at))]
+#[tactic(auto, unfolding(sql_rules::specs::Reads::pairs_at))]
+fn pairs(alloc: Global, tokens: &[Token]) -> Read<'_, TextPairs>
+    ensures { Answers result (pairs_at tokens.now) }
+{
+    listed(alloc, &PairRule {}, tokens)
+}
+
+#[tactic(auto, unfolding(sql_rules::specs::Reads::options_at))]
 fn options(alloc: Global, tokens: &[Token]) -> Read<'_, TextPairs>
-    ensures ok { IfOk result (λ read. options_at tokens.now ≡ Some (map pair_view read.0, read.1.now)) }
-    ensures shorter { IfOk result (λ read. length read.1.now ≤ length tokens.now) }
-    ensures refused { IsErrOf result Stop.Refused → options_at tokens.now ≡ None }
+    ensures { Answers result (options_at tokens.now) }
 {
     match after_keyword(tokens, Keyword::With) {
         Some(rest) => {
@@ -170,11 +190,9 @@ fn options(alloc: Global, tokens: &[Token]) -> Read<'_, TextPairs>
 }
 
 /// What follows CREATE.
-#[tactic(auto, unfolding(sql_grammar::specs::Reads::create_at))]
+#[tactic(auto, unfolding(sql_rules::specs::Reads::create_at))]
 pub fn create(alloc: Global, tokens: &[Token]) -> Read<'_, Statement>
-    ensures ok { IfOk result (λ read. create_at tokens.now ≡ Some (statement_view read.0, read.1.now)) }
-    ensures shorter { IfOk result (λ read. length read.1.now < length tokens.now) }
-    ensures refused { IsErrOf result Stop.Refused → create_at tokens.now ≡ None }
+    ensures { Gives statement_view result (create_at tokens.now) }
 {
     let rest = keyword(tokens, Keyword::Table)?;
     let (name, rest) = name(rest)?;
@@ -193,11 +211,9 @@ pub fn create(alloc: Global, tokens: &[Token]) -> Read<'_, Statement>
 }
 
 /// What follows SET.
-#[tactic(auto, unfolding(sql_grammar::specs::Reads::set_at))]
+#[tactic(auto, unfolding(sql_rules::specs::Reads::set_at))]
 pub fn set(tokens: &[Token]) -> Read<'_, Statement>
-    ensures ok { IfOk result (λ read. set_at tokens.now ≡ Some (statement_view read.0, read.1.now)) }
-    ensures shorter { IfOk result (λ read. length read.1.now < length tokens.now) }
-    ensures refused { IsErrOf result Stop.Refused → set_at tokens.now ≡ None }
+    ensures { Gives statement_view result (set_at tokens.now) }
 {
     let (pair, rest) = pair(tokens)?;
     let TextPair { left, right } = pair;

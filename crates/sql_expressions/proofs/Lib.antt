@@ -1,2 +1,1 @@
 pub mod ChainNodes
-pub mod Chains

@@ -1,21 +1,19 @@
 //! Tests, and the chains of AND and OR: whole expressions.
-ghost use Rattle.std.specs.Prelude.{◌≡◌, ◌<◌, ◌≤◌, Some, None, length, IfOk, IsErrOf};
+ghost use Rattle.std.specs.Prelude.{◌≡◌};
+ghost use Rattle.sql_syntax.specs.Tree as t;
 ghost use Rattle.sql_syntax.specs.View.{view, trees_view};
-ghost use Rattle.sql_grammar.specs.Words.{SELECT, only};
-ghost use Rattle.sql_grammar.specs.Reading.{word_at};
-ghost use Rattle.sql_grammar.specs.Reads.{between_at, conj_at, exists_at, expr_at, in_at, neg_at, negatable_at, sum_at, sum_test_at, test_at, tested_at, query_or_list};
-ghost use Rattle.sql_expressions.specs.Chains.{and_at, ands_at, or_at, ors_at};
-ghost use Rattle.sql_words.specs.Firsts.{negatable_view, rest_view};
+ghost use Rattle.sql_rules.specs.Words.{AND, OR, SELECT, only};
+ghost use Rattle.sql_rules.specs.Reading.{series, word_at};
+ghost use Rattle.sql_rules.specs.Reads.{between_at, conj_at, exists_at, expr_at, in_at, is_null_at, neg_at, negatable_at, sum_at, sum_test_at, test_at, tested_at, query_or_list};
+ghost use Rattle.sql_words.specs.Gives.{Gives};
 
-use crate::nodes::not_node;
-use crate::operands::{boxed_query, sum};
-use sql_shapes::{Nested, is_null, trees};
+use crate::nodes::{and_node, not_node, or_node};
+use sql_operands::{boxed_query, sum};
+use sql_rules::{NegatableWord, RestWord};
+use sql_shapes::{Nested, Rule, led, trees};
 use sql_syntax::{Tree, Trees};
 use sql_tokens::{Keyword, Symbol, Token};
-use sql_words::{
-    NegatableWord, Read, RestWord, Stop, after_keyword, flagged, keyword, negatable_word,
-    rest_word, symbol,
-};
+use sql_words::{Read, after_keyword, flagged, keyword, negatable_word, rest_word, symbol};
 use std::alloc::Global;
 
 // Reads a sum, and puts it on the heap.
@@ -25,16 +23,14 @@ fn boxed_sum<'t, N: Nested<'t>>(
     tokens: &'t [Token],
 ) -> Read<'t, Box<Tree>>
     requires { N.sound nested.now }
-    ensures ok { IfOk result (λ read. sum_at (N.readers nested.now) tokens.now ≡ Some (view read.0.value, read.1.now)) }
-    ensures shorter { IfOk result (λ read. length read.1.now < length tokens.now) }
-    ensures refused { IsErrOf result Stop.Refused → sum_at (N.readers nested.now) tokens.now ≡ None }
+    ensures { Gives (λ b. view b.value) result (sum_at (N.readers nested.now) tokens.now) }
 {
     let (value, rest) = sum(alloc, nested, tokens)?;
     let value = Box::new(alloc, value)?;
     Ok((value, rest))
 }
 
-#[tactic(auto, using(sql_syntax::proofs::Views::tree_between), unfolding(sql_grammar::specs::Reads::between_at))]
+#[tactic(auto, using(sql_syntax::specs::laws::Views::tree_between), unfolding(sql_rules::specs::Reads::between_at))]
 fn between<'t, N: Nested<'t>>(
     alloc: Global,
     nested: &N,
@@ -43,9 +39,7 @@ fn between<'t, N: Nested<'t>>(
     tokens: &'t [Token],
 ) -> Read<'t, Tree>
     requires { N.sound nested.now }
-    ensures ok { IfOk result (λ read. between_at (N.readers nested.now) (view value.value) negated tokens.now ≡ Some (view read.0, read.1.now)) }
-    ensures shorter { IfOk result (λ read. length read.1.now < length tokens.now) }
-    ensures refused { IsErrOf result Stop.Refused → between_at (N.readers nested.now) (view value.value) negated tokens.now ≡ None }
+    ensures { Gives view result (between_at (N.readers nested.now) (view value.value) negated tokens.now) }
 {
     let (low, rest) = boxed_sum(alloc, nested, tokens)?;
     let rest = keyword(rest, Keyword::And)?;
@@ -61,7 +55,7 @@ fn between<'t, N: Nested<'t>>(
     ))
 }
 
-#[tactic(auto, using(sql_syntax::proofs::Views::tree_in_list, sql_syntax::proofs::Views::tree_in_query), unfolding(sql_grammar::specs::Reads::in_list_at, sql_grammar::specs::Reads::in_query_at))]
+#[tactic(auto, using(sql_syntax::specs::laws::Views::tree_in_list, sql_syntax::specs::laws::Views::tree_in_query), unfolding(sql_rules::specs::Reads::in_list_at, sql_rules::specs::Reads::in_query_at))]
 fn query_or_list<'t, N: Nested<'t>>(
     alloc: Global,
     nested: &N,
@@ -70,9 +64,7 @@ fn query_or_list<'t, N: Nested<'t>>(
     tokens: &'t [Token],
 ) -> Read<'t, Tree>
     requires { N.sound nested.now }
-    ensures ok { IfOk result (λ read. query_or_list (N.readers nested.now) (view value.value) negated tokens.now (word_at (only SELECT) tokens.now) ≡ Some (view read.0, read.1.now)) }
-    ensures shorter { IfOk result (λ read. length read.1.now < length tokens.now) }
-    ensures refused { IsErrOf result Stop.Refused → query_or_list (N.readers nested.now) (view value.value) negated tokens.now (word_at (only SELECT) tokens.now) ≡ None }
+    ensures { Gives view result (query_or_list (N.readers nested.now) (view value.value) negated tokens.now (word_at (only SELECT) tokens.now)) }
 {
     match after_keyword(tokens, Keyword::Select) {
         Some(_) => {
@@ -102,7 +94,7 @@ fn query_or_list<'t, N: Nested<'t>>(
     }
 }
 
-#[tactic(auto, unfolding(sql_grammar::specs::Reads::in_at))]
+#[tactic(auto, unfolding(sql_rules::specs::Reads::in_at))]
 fn in_test<'t, N: Nested<'t>>(
     alloc: Global,
     nested: &N,
@@ -111,15 +103,13 @@ fn in_test<'t, N: Nested<'t>>(
     tokens: &'t [Token],
 ) -> Read<'t, Tree>
     requires { N.sound nested.now }
-    ensures ok { IfOk result (λ read. in_at (N.readers nested.now) (view value.value) negated tokens.now ≡ Some (view read.0, read.1.now)) }
-    ensures shorter { IfOk result (λ read. length read.1.now < length tokens.now) }
-    ensures refused { IsErrOf result Stop.Refused → in_at (N.readers nested.now) (view value.value) negated tokens.now ≡ None }
+    ensures { Gives view result (in_at (N.readers nested.now) (view value.value) negated tokens.now) }
 {
     let rest = symbol(tokens, Symbol::Open)?;
     query_or_list(alloc, nested, value, negated, rest)
 }
 
-#[tactic(auto, using(sql_syntax::proofs::Views::tree_like), unfolding(sql_grammar::specs::Reads::negatable_at, sql_grammar::specs::Reads::like_at))]
+#[tactic(auto, using(sql_syntax::specs::laws::Views::tree_like), unfolding(sql_rules::specs::Reads::negatable_at, sql_rules::specs::Reads::like_at))]
 fn negatable<'t, N: Nested<'t>>(
     alloc: Global,
     nested: &N,
@@ -129,9 +119,7 @@ fn negatable<'t, N: Nested<'t>>(
     tokens: &'t [Token],
 ) -> Read<'t, Tree>
     requires { N.sound nested.now }
-    ensures ok { IfOk result (λ read. negatable_at (N.readers nested.now) (view value.value) negated (negatable_view word) tokens.now ≡ Some (view read.0, read.1.now)) }
-    ensures shorter { IfOk result (λ read. length read.1.now < length tokens.now) }
-    ensures refused { IsErrOf result Stop.Refused → negatable_at (N.readers nested.now) (view value.value) negated (negatable_view word) tokens.now ≡ None }
+    ensures { Gives view result (negatable_at (N.readers nested.now) (view value.value) negated word tokens.now) }
 {
     match word {
         NegatableWord::Between => between(alloc, nested, value, negated, tokens),
@@ -150,7 +138,17 @@ fn negatable<'t, N: Nested<'t>>(
     }
 }
 
-#[tactic(auto, using(sql_syntax::proofs::Views::tree_compare), unfolding(sql_grammar::specs::Reads::tested_at, sql_grammar::specs::Reads::compare_at))]
+// What follows the sum and IS.
+#[tactic(auto, using(sql_syntax::specs::laws::Views::tree_is_null), unfolding(sql_rules::specs::Reads::is_null_at))]
+fn is_null<'t>(value: Box<Tree>, tokens: &'t [Token]) -> Read<'t, Tree>
+    ensures { Gives view result (is_null_at (view value.value) tokens.now) }
+{
+    let (negated, rest) = flagged(tokens, Keyword::Not);
+    let rest = keyword(rest, Keyword::Null)?;
+    Ok((Tree::IsNull { value, negated }, rest))
+}
+
+#[tactic(auto, using(sql_syntax::specs::laws::Views::tree_compare), unfolding(sql_rules::specs::Reads::tested_at, sql_rules::specs::Reads::compare_at))]
 fn tested<'t, N: Nested<'t>>(
     alloc: Global,
     nested: &N,
@@ -159,9 +157,7 @@ fn tested<'t, N: Nested<'t>>(
     tokens: &'t [Token],
 ) -> Read<'t, Tree>
     requires { N.sound nested.now }
-    ensures ok { IfOk result (λ read. tested_at (N.readers nested.now) (view value.value) (rest_view word) tokens.now ≡ Some (view read.0, read.1.now)) }
-    ensures shorter { IfOk result (λ read. length read.1.now < length tokens.now) }
-    ensures refused { IsErrOf result Stop.Refused → tested_at (N.readers nested.now) (view value.value) (rest_view word) tokens.now ≡ None }
+    ensures { Gives view result (tested_at (N.readers nested.now) (view value.value) word tokens.now) }
 {
     match word {
         RestWord::Compare(op) => {
@@ -184,12 +180,10 @@ fn tested<'t, N: Nested<'t>>(
     }
 }
 
-#[tactic(auto, using(sql_syntax::proofs::Views::tree_exists), unfolding(sql_grammar::specs::Reads::exists_at))]
+#[tactic(auto, using(sql_syntax::specs::laws::Views::tree_exists), unfolding(sql_rules::specs::Reads::exists_at))]
 fn exists<'t, N: Nested<'t>>(alloc: Global, nested: &N, tokens: &'t [Token]) -> Read<'t, Tree>
     requires { N.sound nested.now }
-    ensures ok { IfOk result (λ read. exists_at (N.readers nested.now) tokens.now ≡ Some (view read.0, read.1.now)) }
-    ensures shorter { IfOk result (λ read. length read.1.now < length tokens.now) }
-    ensures refused { IsErrOf result Stop.Refused → exists_at (N.readers nested.now) tokens.now ≡ None }
+    ensures { Gives view result (exists_at (N.readers nested.now) tokens.now) }
 {
     let rest = symbol(tokens, Symbol::Open)?;
     let (query, rest) = boxed_query(alloc, nested, rest)?;
@@ -197,12 +191,10 @@ fn exists<'t, N: Nested<'t>>(alloc: Global, nested: &N, tokens: &'t [Token]) -> 
     Ok((Tree::Exists(query), rest))
 }
 
-#[tactic(auto, unfolding(sql_grammar::specs::Reads::sum_test_at, sql_grammar::specs::Reads::rest_at))]
+#[tactic(auto, unfolding(sql_rules::specs::Reads::sum_test_at, sql_rules::specs::Reads::rest_at))]
 fn sum_test<'t, N: Nested<'t>>(alloc: Global, nested: &N, tokens: &'t [Token]) -> Read<'t, Tree>
     requires { N.sound nested.now }
-    ensures ok { IfOk result (λ read. sum_test_at (N.readers nested.now) tokens.now ≡ Some (view read.0, read.1.now)) }
-    ensures shorter { IfOk result (λ read. length read.1.now < length tokens.now) }
-    ensures refused { IsErrOf result Stop.Refused → sum_test_at (N.readers nested.now) tokens.now ≡ None }
+    ensures { Gives view result (sum_test_at (N.readers nested.now) tokens.now) }
 {
     let (value, rest) = sum(alloc, nested, tokens)?;
     match rest_word(rest) {
@@ -214,12 +206,10 @@ fn sum_test<'t, N: Nested<'t>>(alloc: Global, nested: &N, tokens: &'t [Token]) -
     }
 }
 
-#[tactic(auto, unfolding(sql_grammar::specs::Reads::test_at))]
+#[tactic(auto, unfolding(sql_rules::specs::Reads::test_at))]
 fn test<'t, N: Nested<'t>>(alloc: Global, nested: &N, tokens: &'t [Token]) -> Read<'t, Tree>
     requires { N.sound nested.now }
-    ensures ok { IfOk result (λ read. test_at (N.readers nested.now) tokens.now ≡ Some (view read.0, read.1.now)) }
-    ensures shorter { IfOk result (λ read. length read.1.now < length tokens.now) }
-    ensures refused { IsErrOf result Stop.Refused → test_at (N.readers nested.now) tokens.now ≡ None }
+    ensures { Gives view result (test_at (N.readers nested.now) tokens.now) }
 {
     match after_keyword(tokens, Keyword::Exists) {
         Some(rest) => exists(alloc, nested, rest),
@@ -227,12 +217,10 @@ fn test<'t, N: Nested<'t>>(alloc: Global, nested: &N, tokens: &'t [Token]) -> Re
     }
 }
 
-#[tactic(auto, unfolding(sql_grammar::specs::Reads::neg_at))]
+#[tactic(auto, unfolding(sql_rules::specs::Reads::neg_at))]
 fn neg<'t, N: Nested<'t>>(alloc: Global, nested: &N, tokens: &'t [Token]) -> Read<'t, Tree>
     requires { N.sound nested.now }
-    ensures ok { IfOk result (λ read. neg_at (N.readers nested.now) tokens.now ≡ Some (view read.0, read.1.now)) }
-    ensures shorter { IfOk result (λ read. length read.1.now < length tokens.now) }
-    ensures refused { IsErrOf result Stop.Refused → neg_at (N.readers nested.now) tokens.now ≡ None }
+    ensures { Gives view result (neg_at (N.readers nested.now) tokens.now) }
 {
     let (negated, rest) = flagged(tokens, Keyword::Not);
     let (value, rest) = test(alloc, nested, rest)?;
@@ -240,117 +228,99 @@ fn neg<'t, N: Nested<'t>>(alloc: Global, nested: &N, tokens: &'t [Token]) -> Rea
     Ok((node, rest))
 }
 
-fn ands<'t, N: Nested<'t>>(
+// An operand of AND.
+#[derive(Drop)]
+struct NegRule<'n, N> {
+    nested: &'n N,
+}
+
+impl<'t, N: Nested<'t>> Rule<'t> for NegRule<'_, N> {
+    type Item = Tree;
+
+    ghost Seen = { t.Tree };
+
+    ghost seen = { view };
+
+    ghost reads = { λ r. neg_at (N.readers r.nested.now) };
+
+    ghost sound = { λ r. N.sound r.nested.now };
+
+    fn read(&self, alloc: Global, tokens: &'t [Token]) -> Read<'t, Tree> {
+        neg(alloc, self.nested, tokens)
+    }
+}
+
+// One operand or more with AND between them.
+#[tactic(auto, using(sql_rules::specs::laws::Steps::series_is))]
+fn conj_operands<'t, N: Nested<'t>>(
     alloc: Global,
     nested: &N,
-    first: Tree,
     tokens: &'t [Token],
 ) -> Read<'t, Trees>
     requires { N.sound nested.now }
-    ensures ok { IfOk result (λ read. ands_at (N.readers nested.now) (view first) tokens.now ≡ Some (trees_view read.0, read.1.now)) }
-    ensures shorter { IfOk result (λ read. length read.1.now ≤ length tokens.now) }
-    ensures refused { IsErrOf result Stop.Refused → ands_at (N.readers nested.now) (view first) tokens.now ≡ None }
+    ensures { Gives trees_view result (series (neg_at (N.readers nested.now)) (only AND) (λ w. neg_at (N.readers nested.now)) tokens.now) }
 {
-    let mut list = Trees::new(alloc);
-    list.push(first)?;
-    let mut rest = tokens;
-    'items: while let Some(after) = after_keyword(rest, Keyword::And) {
-        let (item, after) = neg(alloc, nested, after)?;
-        list.push(item)?;
-        rest = after;
-    }
-    Ok((list, rest))
+    let (first, behind) = neg(alloc, nested, tokens)?;
+    led(alloc, Keyword::And, &NegRule { nested }, first, behind)
 }
 
-#[tactic(auto, using(sql_syntax::proofs::Views::tree_and, crate::proofs::Chains::and_alone, crate::proofs::Chains::and_many, crate::proofs::Chains::and_none))]
-fn and_rest<'t, N: Nested<'t>>(
-    alloc: Global,
-    nested: &N,
-    first: Tree,
-    tokens: &'t [Token],
-) -> Read<'t, Tree>
-    requires { N.sound nested.now }
-    ensures ok { IfOk result (λ read. and_at (N.readers nested.now) (view first) tokens.now ≡ Some (view read.0, read.1.now)) }
-    ensures shorter { IfOk result (λ read. length read.1.now ≤ length tokens.now) }
-    ensures refused { IsErrOf result Stop.Refused → and_at (N.readers nested.now) (view first) tokens.now ≡ None }
-{
-    match after_keyword(tokens, Keyword::And) {
-        Some(_) => {
-            let (list, rest) = ands(alloc, nested, first, tokens)?;
-            Ok((Tree::And(list), rest))
-        }
-        None => Ok((first, tokens)),
-    }
-}
-
-#[tactic(auto, unfolding(sql_grammar::specs::Reads::conj_at, crate::specs::Chains::and_at, crate::specs::Chains::negs_at))]
+#[tactic(auto, using(sql_rules::specs::laws::Steps::conj_series))]
 fn conj<'t, N: Nested<'t>>(alloc: Global, nested: &N, tokens: &'t [Token]) -> Read<'t, Tree>
     requires { N.sound nested.now }
-    ensures ok { IfOk result (λ read. conj_at (N.readers nested.now) tokens.now ≡ Some (view read.0, read.1.now)) }
-    ensures shorter { IfOk result (λ read. length read.1.now < length tokens.now) }
-    ensures refused { IsErrOf result Stop.Refused → conj_at (N.readers nested.now) tokens.now ≡ None }
+    ensures { Gives view result (conj_at (N.readers nested.now) tokens.now) }
 {
-    let (first, rest) = neg(alloc, nested, tokens)?;
-    and_rest(alloc, nested, first, rest)
+    let (list, rest) = conj_operands(alloc, nested, tokens)?;
+    Ok((and_node(list), rest))
 }
 
-fn ors<'t, N: Nested<'t>>(
+// An operand of OR.
+#[derive(Drop)]
+struct ConjRule<'n, N> {
+    nested: &'n N,
+}
+
+impl<'t, N: Nested<'t>> Rule<'t> for ConjRule<'_, N> {
+    type Item = Tree;
+
+    ghost Seen = { t.Tree };
+
+    ghost seen = { view };
+
+    ghost reads = { λ r. conj_at (N.readers r.nested.now) };
+
+    ghost sound = { λ r. N.sound r.nested.now };
+
+    fn read(&self, alloc: Global, tokens: &'t [Token]) -> Read<'t, Tree> {
+        conj(alloc, self.nested, tokens)
+    }
+}
+
+// One operand or more with OR between them.
+#[tactic(auto, using(sql_rules::specs::laws::Steps::series_is))]
+fn expr_operands<'t, N: Nested<'t>>(
     alloc: Global,
     nested: &N,
-    first: Tree,
     tokens: &'t [Token],
 ) -> Read<'t, Trees>
     requires { N.sound nested.now }
-    ensures ok { IfOk result (λ read. ors_at (N.readers nested.now) (view first) tokens.now ≡ Some (trees_view read.0, read.1.now)) }
-    ensures shorter { IfOk result (λ read. length read.1.now ≤ length tokens.now) }
-    ensures refused { IsErrOf result Stop.Refused → ors_at (N.readers nested.now) (view first) tokens.now ≡ None }
+    ensures { Gives trees_view result (series (conj_at (N.readers nested.now)) (only OR) (λ w. conj_at (N.readers nested.now)) tokens.now) }
 {
-    let mut list = Trees::new(alloc);
-    list.push(first)?;
-    let mut rest = tokens;
-    'items: while let Some(after) = after_keyword(rest, Keyword::Or) {
-        let (item, after) = conj(alloc, nested, after)?;
-        list.push(item)?;
-        rest = after;
-    }
-    Ok((list, rest))
-}
-
-#[tactic(auto, using(sql_syntax::proofs::Views::tree_or, crate::proofs::Chains::or_alone, crate::proofs::Chains::or_many, crate::proofs::Chains::or_none))]
-fn or_rest<'t, N: Nested<'t>>(
-    alloc: Global,
-    nested: &N,
-    first: Tree,
-    tokens: &'t [Token],
-) -> Read<'t, Tree>
-    requires { N.sound nested.now }
-    ensures ok { IfOk result (λ read. or_at (N.readers nested.now) (view first) tokens.now ≡ Some (view read.0, read.1.now)) }
-    ensures shorter { IfOk result (λ read. length read.1.now ≤ length tokens.now) }
-    ensures refused { IsErrOf result Stop.Refused → or_at (N.readers nested.now) (view first) tokens.now ≡ None }
-{
-    match after_keyword(tokens, Keyword::Or) {
-        Some(_) => {
-            let (list, rest) = ors(alloc, nested, first, tokens)?;
-            Ok((Tree::Or(list), rest))
-        }
-        None => Ok((first, tokens)),
-    }
+    let (first, behind) = conj(alloc, nested, tokens)?;
+    led(alloc, Keyword::Or, &ConjRule { nested }, first, behind)
 }
 
 /// Reads an expression, and answers it with what follows it.
 ///
 /// `nested` reads what stands within its brackets.
-#[tactic(auto, unfolding(sql_grammar::specs::Reads::expr_at, crate::specs::Chains::or_at, crate::specs::Chains::conjs_at))]
+#[tactic(auto, using(sql_rules::specs::laws::Steps::expr_series))]
 pub fn expression<'t, N: Nested<'t>>(
     alloc: Global,
     nested: &N,
     tokens: &'t [Token],
 ) -> Read<'t, Tree>
     requires { N.sound nested.now }
-    ensures ok { IfOk result (λ read. expr_at (N.readers nested.now) tokens.now ≡ Some (view read.0, read.1.now)) }
-    ensures shorter { IfOk result (λ read. length read.1.now < length tokens.now) }
-    ensures refused { IsErrOf result Stop.Refused → expr_at (N.readers nested.now) tokens.now ≡ None }
+    ensures { Gives view result (expr_at (N.readers nested.now) tokens.now) }
 {
-    let (first, rest) = conj(alloc, nested, tokens)?;
-    or_rest(alloc, nested, first, rest)
+    let (list, rest) = expr_operands(alloc, nested, tokens)?;
+    Ok((or_node(list), rest))
 }

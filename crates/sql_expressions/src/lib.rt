@@ -1,8 +1,7 @@
-//! Reads expressions.
+//! Reads expressions: tests of sums, NOT, and the chains of AND and OR. `expression` answers what the rule's reading gives.
 #![tactic(auto)]
 
 mod expressions;
 mod nodes;
-mod operands;
 
 pub use expressions::expression;

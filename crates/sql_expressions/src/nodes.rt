@@ -1,17 +1,16 @@
 //! Nodes of trees whose operator may be missing.
-ghost use Rattle.std.specs.Prelude.{◌≡◌, IfOk, IsErrOf};
-ghost use Rattle.sql_syntax.specs.View.{view, sum_tails_view, product_tails_view};
-ghost use Rattle.sql_grammar.specs.Spells.{not_node, sign_node, sum_node, product_node, is_desc};
+ghost use Rattle.std.specs.Prelude.{◌≡◌, ◌∷◌, [], length, IfOk, IfErr};
+ghost use Rattle.sql_syntax.specs.View.{view, trees_view};
+ghost use Rattle.sql_rules.specs.Nodes.{and_of, not_node, or_of};
 
-use sql_syntax::{ProductTails, SumTails, Tree};
-use sql_words::Stop;
+use ct_value::Memory;
+use sql_syntax::{Tree, Trees};
 use std::alloc::Global;
 
 /// The node of NOT, or its operand where it is missing.
-#[tactic(auto, using(sql_syntax::proofs::Views::tree_not))]
-pub fn not_node(alloc: Global, negated: bool, value: Tree) -> Result<Tree, Stop>
-    ensures ok { IfOk result (λ node. view node ≡ not_node negated (view value)) }
-    ensures refused { IsErrOf result Stop.Refused → ⊥ }
+#[tactic(auto, using(sql_syntax::specs::laws::Views::tree_not))]
+pub fn not_node(alloc: Global, negated: bool, value: Tree) -> Result<Tree, Memory>
+    ensures { IfOk result (λ node. view node ≡ not_node negated (view value)) }
 {
     if negated {
         let value = Box::new(alloc, value)?;
@@ -20,43 +19,40 @@ pub fn not_node(alloc: Global, negated: bool, value: Tree) -> Result<Tree, Stop>
     Ok(value)
 }
 
-/// The node of a sign, or its operand where it is missing.
-#[tactic(auto, using(sql_syntax::proofs::Views::tree_sign))]
-pub fn sign_node(alloc: Global, sign: Option<bool>, value: Tree) -> Result<Tree, Stop>
-    ensures ok { IfOk result (λ node. view node ≡ sign_node sign (view value)) }
-    ensures refused { IsErrOf result Stop.Refused → ⊥ }
+// The only expression of a list, or the list.
+#[tactic(auto, using(crate::proofs::ChainNodes::only_one))]
+fn alone(list: Trees) -> Result<Tree, Trees>
+    ensures one { IfOk result (λ tree. trees_view list ≡ view tree ∷ []) }
+    ensures others { IfErr result (λ same. (same ≡ list) × ¬ (length list ≡ 1)) }
 {
-    match sign {
-        Some(minus) => {
-            let value = Box::new(alloc, value)?;
-            Ok(Tree::Sign { minus, value })
-        }
-        None => Ok(value),
+    let mut list = list;
+    if list.len() != 1 {
+        return Err(list);
+    }
+    match list.pop() {
+        Some(tree) => Ok(tree),
+        None => Err(list),
     }
 }
 
-/// The node of a chain of terms, or its only one.
-#[tactic(auto, using(crate::proofs::ChainNodes::sum_alone, crate::proofs::ChainNodes::sum_more))]
-pub fn sum_node(alloc: Global, first: Tree, rest: SumTails) -> Result<Tree, Stop>
-    ensures ok { IfOk result (λ node. view node ≡ sum_node (view first) (sum_tails_view rest)) }
-    ensures refused { IsErrOf result Stop.Refused → ⊥ }
+/// The node of a chain of AND, or its only operand.
+#[tactic(auto, using(crate::proofs::ChainNodes::and_more))]
+pub fn and_node(list: Trees) -> Tree
+    ensures { view result ≡ and_of (trees_view list) }
 {
-    if rest.is_empty() {
-        return Ok(first);
+    match alone(list) {
+        Ok(tree) => tree,
+        Err(list) => Tree::And(list),
     }
-    let first = Box::new(alloc, first)?;
-    Ok(Tree::Sum { first, rest })
 }
 
-/// The node of a chain of factors, or its only one.
-#[tactic(auto, using(crate::proofs::ChainNodes::product_alone, crate::proofs::ChainNodes::product_more))]
-pub fn product_node(alloc: Global, first: Tree, rest: ProductTails) -> Result<Tree, Stop>
-    ensures ok { IfOk result (λ node. view node ≡ product_node (view first) (product_tails_view rest)) }
-    ensures refused { IsErrOf result Stop.Refused → ⊥ }
+/// The node of a chain of OR, or its only operand.
+#[tactic(auto, using(crate::proofs::ChainNodes::or_more))]
+pub fn or_node(list: Trees) -> Tree
+    ensures { view result ≡ or_of (trees_view list) }
 {
-    if rest.is_empty() {
-        return Ok(first);
+    match alone(list) {
+        Ok(tree) => tree,
+        Err(list) => Tree::Or(list),
     }
-    let first = Box::new(alloc, first)?;
-    Ok(Tree::Product { first, rest })
 }

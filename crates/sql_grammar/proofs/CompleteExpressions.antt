@@ -3,23 +3,27 @@ use Rattle.std.proofs.Common.{◌≡◌, ℕ, ◌<◌, ◌≤◌, Bool, true, fa
 use Rattle.ct_value.specs.declared.value.CompareOp.{CompareOp}
 use Rattle.ct_value.specs.declared.value.CompareOp.TheVariants.{Eq, Ne, Lt, Le, Gt, Ge}
 use Rattle.sql_tokens.specs.declared.token.Token.{Token}
-use Rattle.sql_syntax.specs.Tree.{Text, Tree, Query, Args, Empty, Star, Values, sort_of, Number, Str, Truth, Null, Name, Call, Cast, Paren, Sub, Case, TreeWhen, tree_when_of, SumWord, Plus, Minus, Concat, ProductWord, Times, Divide, Modulo, sum_tail_of, product_tail_of, over_of, trees, sort_list, optional_tree, optional_over, Between, InList, InQuery, Like}
-use Rattle.sql_grammar.specs.Words.{AND, AS, BETWEEN, BY, CASE, DISTINCT, ELSE, END, EXISTS, FILTER, IN, LIKE, NOT, OR, ORDER, OVER, PARTITION, SELECT, THEN, WHEN, WHERE, OPEN, CLOSE, DOT, TIMES, NAME, only, name_word, name_token, sign_word, sign_token, product_word, product_token, sum_word, sum_token, compare_token, direction_word, direction_token}
-use Rattle.sql_grammar.specs.Shapes.{Spelling, Word, WordOf, After, Seq3, Made, Maybe, Flag, OrNone, Series, Listed, Bracketed}
-use Rattle.sql_grammar.specs.Spells
-use Rattle.sql_grammar.specs.Spells.{Inside, NameOf, NumbersOf, TypeOf, AliasOf, Rest, no_rest, compares, is_null, between, in_list, in_query, like, rest_node, or_node, and_node, sum_node, product_node, not_node, sign_node, is_desc}
-use Rattle.sql_grammar.specs.Reading
-use Rattle.sql_grammar.specs.Reading.{Reader, ◌>>=◌, first_word, word_at, after, optional, optional_word, maybe, maybe_item, flag, nothing, or_none, bracketed, listed}
-use Rattle.sql_grammar.specs.Reads
-use Rattle.sql_grammar.specs.Reads.{Readers, RestWord, name_at, sizes_at, numbers_at, type_at, alias_at, primary_word, compare_first, is_first, not_first, negatable_first, between_word, in_word, like_word, rest_word}
+use Rattle.sql_syntax.specs.declared.tree.ProductWord.{ProductWord}
+use Rattle.sql_syntax.specs.declared.tree.ProductWord.TheVariants.{Times, Divide, Modulo}
+use Rattle.sql_syntax.specs.declared.tree.SumWord.{SumWord}
+use Rattle.sql_syntax.specs.declared.tree.SumWord.TheVariants.{Plus, Minus, Concat}
+use Rattle.sql_syntax.specs.Tree.{Text, Tree, Query, Args, Empty, Star, Values, sort_of, Number, Str, Truth, Null, Name, Call, Cast, Paren, Sub, Case, TreeWhen, tree_when_of, sum_tail_of, product_tail_of, over_of, trees, sort_list, optional_tree, optional_over, Between, InList, InQuery, Like}
+use Rattle.sql_rules.specs.Words.{AND, AS, BETWEEN, BY, CASE, DISTINCT, ELSE, END, EXISTS, FILTER, IN, LIKE, NOT, OR, ORDER, OVER, PARTITION, SELECT, THEN, WHEN, WHERE, OPEN, CLOSE, DOT, TIMES, NAME, only, name_word, name_token, sign_word, sign_token, product_word, product_token, sum_word, sum_token, compare_token, direction_word, direction_token}
+use Rattle.sql_rules.specs.Shapes.{Spelling, Word, WordOf, After, Seq3, Made, Maybe, Flag, OrNone, Series, Listed, Bracketed}
+use Rattle.sql_rules.specs.Spells
+use Rattle.sql_rules.specs.Nodes.{or_node, and_node, sum_node, product_node, not_node, sign_node, is_desc}
+use Rattle.sql_rules.specs.Spells.{Inside, NameOf, NumbersOf, TypeOf, AliasOf, Rest, no_rest, compares, is_null, between, in_list, in_query, like, rest_node}
+use Rattle.sql_rules.specs.Reading
+use Rattle.sql_rules.specs.Reading.{Reader, ◌>>=◌, first_word, word_at, after, optional, optional_word, maybe, maybe_item, flag, nothing, or_none, bracketed, listed}
+use Rattle.sql_rules.specs.Reads
+use Rattle.sql_rules.specs.declared.words.NegatableWord.TheVariants as negatable
+use Rattle.sql_rules.specs.declared.words.RestWord.{RestWord}
+use Rattle.sql_rules.specs.declared.words.RestWord.TheVariants as word
+use Rattle.sql_rules.specs.Reads.{Readers, name_at, sizes_at, numbers_at, type_at, alias_at, primary_word, rest_word}
 use Rattle.sql_grammar.proofs.Words.{IfRead, IsWord, only_is, name_is, sign_is, product_is, sum_is, direction_is, rest_token, rest_is, sign_back, product_back, sum_back, direction_back, rest_back}
 use Rattle.sql_grammar.proofs.SoundShapes.{at_word}
-use Rattle.sql_grammar.proofs.CompleteShapes.{strength, Ends, tighter, Complete, Before, complete_lower, bind_is, word_reads, stops, only_stops, only_complete, word_before, only_before, made_complete, after_complete, led_before, optional_complete, maybe_after, maybe_before, flag_missing, or_none_complete, seq2_reads, seq3_reads, series_complete, listed_complete, bracketed_complete, chain_complete}
-
--- what follows nothing is nothing
-pub fail_bind : {A B : Type 0} (o : Option A) (f : A → Option B) → o ≡ None → (o >>= f) ≡ None
-fail_bind None f e = refl
-fail_bind (Some x) f e = absurd (cc)
+use Rattle.sql_rules.specs.laws.Steps.{bind_is, fail_bind}
+use Rattle.sql_grammar.proofs.CompleteShapes.{strength, Ends, tighter, Complete, Before, complete_lower, word_reads, stops, only_stops, only_complete, word_before, only_before, made_complete, after_complete, led_before, optional_complete, maybe_after, maybe_before, flag_missing, or_none_complete, seq2_reads, seq3_reads, series_complete, listed_complete, bracketed_complete, chain_complete}
 
 -- a word doesn't stand where something is read that doesn't begin with it
 pub first_not : {W A : Type 0} (word : Token → Option W) (token : W → Token) (q : Reader A) → IsWord word token → ((w : W) (ts : List Token) → q (token w ∷ ts) ≡ None)
@@ -329,17 +333,17 @@ module _ (p : Readers) (I : Inside) (h : Complete p.expr I.expr 10) (g : Complet
   like_complete u negated us pattern rest s end = bind_is _ (sum_level us pattern rest s end) refl
 
   compare_low : (w : RestWord) → 12 ≤ strength (rest_token w)
-  compare_low (compare_first Eq) = omega arith
-  compare_low (compare_first Ne) = omega arith
-  compare_low (compare_first Lt) = omega arith
-  compare_low (compare_first Le) = omega arith
-  compare_low (compare_first Gt) = omega arith
-  compare_low (compare_first Ge) = omega arith
-  compare_low is_first = omega arith
-  compare_low not_first = omega arith
-  compare_low (negatable_first between_word) = omega arith
-  compare_low (negatable_first in_word) = omega arith
-  compare_low (negatable_first like_word) = omega arith
+  compare_low (word.Compare Eq) = omega arith
+  compare_low (word.Compare Ne) = omega arith
+  compare_low (word.Compare Lt) = omega arith
+  compare_low (word.Compare Le) = omega arith
+  compare_low (word.Compare Gt) = omega arith
+  compare_low (word.Compare Ge) = omega arith
+  compare_low word.Is = omega arith
+  compare_low word.Not = omega arith
+  compare_low (word.Negatable negatable.Between) = omega arith
+  compare_low (word.Negatable negatable.In) = omega arith
+  compare_low (word.Negatable negatable.Like) = omega arith
 
   -- NOT, if it is there, and a word before what stands behind them
   abbrev front : Bool → Token → List Token → List Token
@@ -355,7 +359,7 @@ module _ (p : Readers) (I : Inside) (h : Complete p.expr I.expr 10) (g : Complet
   rest_complete u us no_rest rest s end = ap (λ a. Reads.rest_at p u (a ++ rest)) s ∙ ap (Reads.tested_or_plain p u rest) (stops rest_word rest_token 12 rest_is compare_low rest end)
   rest_complete u us (compares op v) rest (u1, u2, one, two, e) end =
       ap (λ a. Reads.rest_at p u (a ++ rest)) (e ∙ ap (λ a. a ++ u2) one)
-      ∙ ap (Reads.tested_or_plain p u (compare_token op ∷ (u2 ++ rest))) (word_reads rest_word rest_token rest_back (compare_first op) (u2 ++ rest)) ∙ bind_is _ (sum_level u2 v rest two end) refl
+      ∙ ap (Reads.tested_or_plain p u (compare_token op ∷ (u2 ++ rest))) (word_reads rest_word rest_token rest_back (word.Compare op) (u2 ++ rest)) ∙ bind_is _ (sum_level u2 v rest two end) refl
   rest_complete u us (is_null false) rest (u1, u2, u3, one, two, three, e) end = ap (λ a. Reads.rest_at p u (a ++ rest)) (e ∙ (λ i. one i ++ (two i ++ three i)))
   rest_complete u us (is_null true) rest (u1, u2, u3, one, two, three, e) end = ap (λ a. Reads.rest_at p u (a ++ rest)) (e ∙ (λ i. one i ++ (two i ++ three i)))
   rest_complete u us (between false low high) rest s end = ap (Reads.rest_at p u) (negated_front false BETWEEN (Spells.RangeOf I) us rest (low, high) s) ∙ between_complete u false s.2 low high rest s.5 end

@@ -10,5 +10,3 @@ pub mod CompleteStatements
 pub mod Deeper
 pub mod Grammar
 pub mod Scripts
-pub mod Loops
-pub mod Depths

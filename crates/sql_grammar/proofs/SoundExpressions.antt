@@ -3,15 +3,24 @@ use Rattle.std.proofs.Common.{◌≡◌, Bool, true, false, List, [], ◌∷◌,
 use Rattle.std.proofs.Common.{inl, inr}
 use Rattle.ct_value.specs.declared.value.CompareOp.{CompareOp}
 use Rattle.sql_tokens.specs.declared.token.Token.{Token}
-use Rattle.sql_syntax.specs.Tree.{Text, TreeWhen, IsNull, Between, InList, InQuery, Tree, Values, tree_when_of, sort_of, sum_tail_of, product_tail_of, over_of, trees, sort_list, SumWord, ProductWord, Call, Case, Sub, Paren, optional_tree, optional_over, tree_whens}
-use Rattle.sql_grammar.specs.Words.{AND, AS, BETWEEN, BY, CASE, CAST, DISTINCT, ELSE, END, EXISTS, FILTER, IN, IS, LIKE, NOT, NULL, OR, ORDER, OVER, PARTITION, SELECT, THEN, WHEN, WHERE, OPEN, CLOSE, COMMA, DOT, TIMES, NAME, NUMBER, only, name_word, name_token, number_word, sign_word, sign_token, product_word, product_token, sum_word, sum_token, compare_token, direction_word, direction_token}
-use Rattle.sql_grammar.specs.Shapes.{Spelling, Word, WordOf, Led, After, Seq2, Seq3, Made, Maybe, Flag, OrNone, Series, Listed, Bracketed}
-use Rattle.sql_grammar.specs.Spells
-use Rattle.sql_grammar.specs.Spells.{Inside, NameOf, NumbersOf, TypeOf, AliasOf, Rest, no_rest, compares, is_null, between, in_list, in_query, like, rest_node, or_node, and_node, sum_node, product_node, not_node, sign_node, is_desc}
-use Rattle.sql_grammar.specs.Reading.{Reader, ◌>>=◌, word_at, words_at, made, after, optional, maybe, flag, nothing, or_none, repeated, series, listed, bracketed, chain}
-use Rattle.sql_grammar.specs.Reading
-use Rattle.sql_grammar.specs.Reads
-use Rattle.sql_grammar.specs.Reads.{Readers, name_at, one_or_two, sizes_at, numbers_at, type_at, alias_at, PrimaryWord, number_first, text_first, truth_first, null_first, name_first, cast_first, bracket_first, case_first, primary_word, NegatableWord, between_word, in_word, like_word, negatable_word, RestWord, compare_first, is_first, not_first, negatable_first, rest_word}
+use Rattle.sql_syntax.specs.declared.tree.ProductWord.{ProductWord}
+use Rattle.sql_syntax.specs.declared.tree.SumWord.{SumWord}
+use Rattle.sql_syntax.specs.Tree.{Text, TreeWhen, IsNull, Between, InList, InQuery, Tree, Values, tree_when_of, sort_of, sum_tail_of, product_tail_of, over_of, trees, sort_list, Call, Case, Sub, Paren, optional_tree, optional_over, tree_whens}
+use Rattle.sql_rules.specs.Words.{AND, AS, BETWEEN, BY, CASE, CAST, DISTINCT, ELSE, END, EXISTS, FILTER, IN, IS, LIKE, NOT, NULL, OR, ORDER, OVER, PARTITION, SELECT, THEN, WHEN, WHERE, OPEN, CLOSE, COMMA, DOT, TIMES, NAME, NUMBER, only, name_word, name_token, number_word, sign_word, sign_token, product_word, product_token, sum_word, sum_token, compare_token, direction_word, direction_token}
+use Rattle.sql_rules.specs.Shapes.{Spelling, Word, WordOf, Led, After, Seq2, Seq3, Made, Maybe, Flag, OrNone, Series, Listed, Bracketed}
+use Rattle.sql_rules.specs.Spells
+use Rattle.sql_rules.specs.Nodes.{or_node, and_node, sum_node, product_node, not_node, sign_node, is_desc}
+use Rattle.sql_rules.specs.Spells.{Inside, NameOf, NumbersOf, TypeOf, AliasOf, Rest, no_rest, compares, is_null, between, in_list, in_query, like, rest_node}
+use Rattle.sql_rules.specs.Reading.{Reader, ◌>>=◌, word_at, words_at, made, after, optional, maybe, flag, nothing, or_none, repeated, series, listed, bracketed, chain}
+use Rattle.sql_rules.specs.Reading
+use Rattle.sql_rules.specs.Reads
+use Rattle.sql_rules.specs.declared.words.PrimaryWord.{PrimaryWord}
+use Rattle.sql_rules.specs.declared.words.PrimaryWord.TheVariants as first
+use Rattle.sql_rules.specs.declared.words.NegatableWord.{NegatableWord}
+use Rattle.sql_rules.specs.declared.words.NegatableWord.TheVariants as negatable
+use Rattle.sql_rules.specs.declared.words.RestWord.{RestWord}
+use Rattle.sql_rules.specs.declared.words.RestWord.TheVariants as word
+use Rattle.sql_rules.specs.Reads.{Readers, name_at, one_or_two, sizes_at, numbers_at, type_at, alias_at, primary_word, negatable_word, rest_word}
 use Rattle.sql_grammar.proofs.Words.{IfRead, only_is, name_is, number_is, sign_is, product_is, sum_is, direction_is, primary_token, primary_is, negatable_token, negatable_is, rest_token, rest_is}
 use Rattle.sql_grammar.proofs.SoundShapes.{Took, Sound, bind, at_word, sound_map, word_sound, only_sound, made_sound, led_sound, after_sound, optional_sound, maybe_sound, flag_word_sound, or_none_sound, seq2_sound, seq3_sound, seq4_sound, bracketed_sound, series_sound, listed_sound, chain_sound}
 
@@ -229,15 +238,15 @@ module _ (p : Readers) (I : Inside) (h : Sound p.expr I.expr) (g : Sound p.query
 
   begun_sound : (w : PrimaryWord) → Sound (λ ts. Reads.begun_at p w ts) (λ ts u. Spells.PrimaryOf I (primary_token w ∷ ts) u)
   unfolding Reads.begun_at Spells.PrimaryOf
-  begun_sound (number_first x) ts = record { taken = []; is = refl; spelled = refl }
-  begun_sound (text_first x) ts = record { taken = []; is = refl; spelled = refl }
-  begun_sound (truth_first true) ts = record { taken = []; is = refl; spelled = refl }
-  begun_sound (truth_first false) ts = record { taken = []; is = refl; spelled = refl }
-  begun_sound null_first ts = record { taken = []; is = refl; spelled = refl }
-  begun_sound (name_first x quoted) ts = named_sound x quoted ts
-  begun_sound cast_first ts = cast_sound ts
-  begun_sound bracket_first ts = opened_sound ts
-  begun_sound case_first ts = case_sound ts
+  begun_sound (first.Number x) ts = record { taken = []; is = refl; spelled = refl }
+  begun_sound (first.Str x) ts = record { taken = []; is = refl; spelled = refl }
+  begun_sound (first.Truth true) ts = record { taken = []; is = refl; spelled = refl }
+  begun_sound (first.Truth false) ts = record { taken = []; is = refl; spelled = refl }
+  begun_sound first.Null ts = record { taken = []; is = refl; spelled = refl }
+  begun_sound (first.Name x quoted) ts = named_sound x quoted ts
+  begun_sound first.Cast ts = cast_sound ts
+  begun_sound first.Bracket ts = opened_sound ts
+  begun_sound first.Case ts = case_sound ts
 
   primary_sound : Sound (Reads.primary_at p) (Spells.PrimaryOf I)
   unfolding Reads.primary_at
@@ -326,18 +335,18 @@ module _ (p : Readers) (I : Inside) (h : Sound p.expr I.expr) (g : Sound p.query
 
   negatable_sound : (u : Tree) (negated : Bool) (w : NegatableWord) → Sound (λ ts. Reads.negatable_at p u negated w ts) (λ ts v. Tested u (negated_words negated (negatable_token w) ++ ts) v)
   unfolding Reads.negatable_at
-  negatable_sound u negated between_word = between_sound u negated
-  negatable_sound u negated in_word = in_sound u negated
-  negatable_sound u negated like_word = like_sound u negated
+  negatable_sound u negated negatable.Between = between_sound u negated
+  negatable_sound u negated negatable.In = in_sound u negated
+  negatable_sound u negated negatable.Like = like_sound u negated
 
   tested_sound : (u : Tree) (w : RestWord) → Sound (λ ts. Reads.tested_at p u w ts) (λ ts v. Tested u (rest_token w ∷ ts) v)
   unfolding Reads.tested_at negated_words
-  tested_sound u (compare_first op) = compare_sound u op
-  tested_sound u is_first = is_null_sound u
-  tested_sound u not_first = sound_map (λ ts. word_at negatable_word ts >>= λ w. Reads.negatable_at p u true w.0 w.1) (Led negatable_token (λ w us v. Tested u (NOT ∷ negatable_token w ∷ us) v)) (λ ts v. Tested u (NOT ∷ ts) v)
+  tested_sound u (word.Compare op) = compare_sound u op
+  tested_sound u word.Is = is_null_sound u
+  tested_sound u word.Not = sound_map (λ ts. word_at negatable_word ts >>= λ w. Reads.negatable_at p u true w.0 w.1) (Led negatable_token (λ w us v. Tested u (NOT ∷ negatable_token w ∷ us) v)) (λ ts v. Tested u (NOT ∷ ts) v)
       (λ us v s. subst (λ (a : List Token). Tested u (NOT ∷ a) v) (sym s.3) s.2)
       (led_sound negatable_word negatable_token (λ w ts. Reads.negatable_at p u true w ts) (λ w us v. Tested u (NOT ∷ negatable_token w ∷ us) v) negatable_is (negatable_sound u true))
-  tested_sound u (negatable_first w) = negatable_sound u false w
+  tested_sound u (word.Negatable w) = negatable_sound u false w
 
   untested : (u : Tree) → Tested u [] u
   unfolding Tested Spells.RestOf

@@ -1,13 +1,17 @@
 -- What is read as a statement is spelled by the tokens that were taken.
 use Rattle.std.proofs.Common.{◌≡◌, ℕ, zero, suc, List, [], ◌∷◌, ◌++◌, Option, Some, None, refl, sym, ap, subst, ◌∙◌}
 use Rattle.sql_tokens.specs.declared.token.Token.{Token}
-use Rattle.sql_syntax.specs.Tree.{Element, Column, Key, Create, Insert}
-use Rattle.sql_grammar.specs.Words.{CREATE, ENFORCED, INSERT, INTO, KEY, NOT, NULL, PRIMARY, TABLE, WITH, EQUAL, STR, only, text_word}
-use Rattle.sql_grammar.specs.Shapes.{Word, Words, WordOf, Led, After, Flag, OrNone, Listed, Bracketed}
-use Rattle.sql_grammar.specs.Spells.{Inside, NameOf, TypeOf, ElementOf, PairOf, OptionsOf, StatementOf, within}
-use Rattle.sql_grammar.specs.Reading.{word_at, words_at, flag, bracketed}
-use Rattle.sql_grammar.specs.Reads
-use Rattle.sql_grammar.specs.Reads.{Readers, name_at, type_at, StatementWord, create_first, set_first, insert_first, statement_word, readers}
+use Rattle.sql_syntax.specs.declared.statement.Element.{Element}
+use Rattle.sql_syntax.specs.declared.statement.Element.TheVariants.{Column, Key}
+use Rattle.sql_syntax.specs.Tree.{Create, Insert}
+use Rattle.sql_rules.specs.Words.{CREATE, ENFORCED, INSERT, INTO, KEY, NOT, NULL, PRIMARY, TABLE, WITH, EQUAL, STR, only, text_word}
+use Rattle.sql_rules.specs.Shapes.{Word, Words, WordOf, Led, After, Flag, OrNone, Listed, Bracketed}
+use Rattle.sql_rules.specs.Spells.{Inside, NameOf, TypeOf, ElementOf, PairOf, OptionsOf, StatementOf, within}
+use Rattle.sql_rules.specs.Reading.{word_at, words_at, flag, bracketed}
+use Rattle.sql_rules.specs.Reads
+use Rattle.sql_rules.specs.declared.words.StatementWord.{StatementWord}
+use Rattle.sql_rules.specs.declared.words.StatementWord.TheVariants as stated
+use Rattle.sql_rules.specs.Reads.{Readers, name_at, type_at, statement_word, readers}
 use Rattle.sql_grammar.proofs.Words.{IfRead, only_is, text_is, statement_token, statement_is}
 use Rattle.sql_grammar.proofs.SoundShapes.{Took, Sound, bind, at_word, sound_map, word_sound, only_sound, words_sound, led_sound, flag_sound, flag_map, or_none_sound, seq3_sound, seq4_sound, bracketed_sound, listed_sound}
 use Rattle.sql_grammar.proofs.SoundExpressions.{name_sound, type_sound, expr_sound}
@@ -61,12 +65,12 @@ options_sound = or_none_sound WITH (bracketed Reads.pairs_at) (Bracketed (Listed
 module _ (p : Readers) (I : Inside) (g : Sound p.query I.query) where
   stated_sound : (w : StatementWord) → Sound (λ ts. Reads.stated_at p w ts) (λ ts x. StatementOf I (statement_token w ∷ ts) x)
   unfolding Reads.stated_at Reads.create_at Reads.set_at Reads.insert_at StatementOf
-  stated_sound create_first = seq4_sound (λ w name elements options. Create name elements options) (word_at (only TABLE)) name_at (bracketed Reads.elements_at) Reads.options_at
+  stated_sound stated.Create = seq4_sound (λ w name elements options. Create name elements options) (word_at (only TABLE)) name_at (bracketed Reads.elements_at) Reads.options_at
       (Word TABLE) NameOf (Bracketed (Listed ElementOf)) (OrNone OptionsOf) (λ ts x. StatementOf I (CREATE ∷ ts) x)
       (only_sound TABLE) name_sound (bracketed_sound Reads.elements_at (Listed ElementOf) elements_sound) options_sound
       (λ us w name elements options s. (CREATE ∷ TABLE ∷ [], s.1, s.2, s.3, refl, s.5, s.6, s.7, ap (λ a. CREATE ∷ a) (s.8 ∙ ap (λ a. a ++ (s.1 ++ (s.2 ++ s.3))) s.4)))
-  stated_sound set_first = λ ts. bind (Reads.pair_at ts) _ (Took PairOf ts) _ (pair_sound ts) (λ x one. record { taken = one.taken; is = one.is; spelled = (tt, one.taken, one.spelled, refl) })
-  stated_sound insert_first = seq3_sound (λ w table query. Insert table query) (word_at (only INTO)) name_at p.query (Word INTO) NameOf I.query (λ ts x. StatementOf I (INSERT ∷ ts) x)
+  stated_sound stated.Set = λ ts. bind (Reads.pair_at ts) _ (Took PairOf ts) _ (pair_sound ts) (λ x one. record { taken = one.taken; is = one.is; spelled = (tt, one.taken, one.spelled, refl) })
+  stated_sound stated.Insert = seq3_sound (λ w table query. Insert table query) (word_at (only INTO)) name_at p.query (Word INTO) NameOf I.query (λ ts x. StatementOf I (INSERT ∷ ts) x)
       (only_sound INTO) name_sound g
       (λ us w table query s. (INSERT ∷ INTO ∷ [], s.1, s.2, refl, s.4, s.5, ap (λ a. INSERT ∷ a) (s.6 ∙ ap (λ a. a ++ (s.1 ++ s.2)) s.3)))
 

@@ -8,9 +8,23 @@ use Rattle.sql_tokens.specs.declared.token.Keyword.{Keyword}
 use Rattle.sql_tokens.specs.declared.token.Symbol.{Symbol}
 use Rattle.sql_tokens.specs.contracts.token.Keyword.{the_type as keyword_type}
 use Rattle.sql_tokens.specs.contracts.token.Symbol.{the_type as symbol_type}
-use Rattle.sql_syntax.specs.Tree.{Text, JoinWord, Inner, Left, Right, Full, SumWord, Plus, Minus, Concat, ProductWord, Times, Divide, Modulo}
-use Rattle.sql_grammar.specs.Words.{same_keyword, same_symbol, there, only, NAME, STR, NUMBER, PLUS, MINUS, CONCAT, TIMES, DIVIDE, MODULO, ASC, DESC, JOIN, INNER, LEFT, RIGHT, FULL, TRUE, FALSE, NULL, CAST, OPEN, CASE, BETWEEN, IN, LIKE, IS, NOT, EQUAL, NOT_EQUAL, LESS, LESS_EQUAL, GREATER, GREATER_EQUAL, CREATE, SET, INSERT, name_word, name_token, text_word, number_word, sign_word, sign_token, product_word, product_token, sum_word, sum_token, compare_token, direction_word, direction_token, join_word, join_token}
-use Rattle.sql_grammar.specs.Reads.{PrimaryWord, number_first, text_first, truth_first, null_first, name_first, cast_first, bracket_first, case_first, primary_word, NegatableWord, between_word, in_word, like_word, negatable_word, RestWord, compare_first, is_first, not_first, negatable_first, rest_word, StatementWord, create_first, set_first, insert_first, statement_word}
+use Rattle.sql_syntax.specs.declared.tree.JoinWord.{JoinWord}
+use Rattle.sql_syntax.specs.declared.tree.JoinWord.TheVariants.{Inner, Left, Right, Full}
+use Rattle.sql_syntax.specs.declared.tree.ProductWord.{ProductWord}
+use Rattle.sql_syntax.specs.declared.tree.ProductWord.TheVariants.{Times, Divide, Modulo}
+use Rattle.sql_syntax.specs.declared.tree.SumWord.{SumWord}
+use Rattle.sql_syntax.specs.declared.tree.SumWord.TheVariants.{Plus, Minus, Concat}
+use Rattle.sql_syntax.specs.Tree.{Text}
+use Rattle.sql_rules.specs.Words.{same_keyword, same_symbol, there, only, NAME, STR, NUMBER, PLUS, MINUS, CONCAT, TIMES, DIVIDE, MODULO, ASC, DESC, JOIN, INNER, LEFT, RIGHT, FULL, TRUE, FALSE, NULL, CAST, OPEN, CASE, BETWEEN, IN, LIKE, IS, NOT, EQUAL, NOT_EQUAL, LESS, LESS_EQUAL, GREATER, GREATER_EQUAL, CREATE, SET, INSERT, name_word, name_token, text_word, number_word, sign_word, sign_token, product_word, product_token, sum_word, sum_token, compare_token, direction_word, direction_token, join_word, join_token}
+use Rattle.sql_rules.specs.declared.words.PrimaryWord.{PrimaryWord}
+use Rattle.sql_rules.specs.declared.words.PrimaryWord.TheVariants as first
+use Rattle.sql_rules.specs.declared.words.NegatableWord.{NegatableWord}
+use Rattle.sql_rules.specs.declared.words.NegatableWord.TheVariants as negatable
+use Rattle.sql_rules.specs.declared.words.RestWord.{RestWord}
+use Rattle.sql_rules.specs.declared.words.RestWord.TheVariants as word
+use Rattle.sql_rules.specs.declared.words.StatementWord.{StatementWord}
+use Rattle.sql_rules.specs.declared.words.StatementWord.TheVariants as stated
+use Rattle.sql_rules.specs.Reads.{primary_word, negatable_word, rest_word, statement_word}
 
 -- of what was read, if it was
 abbrev pub IfRead : {A : Type 0} → Option A → (A → Type 0) → Type 0
@@ -85,15 +99,15 @@ join_is FULL = refl
 join_is _ = tt
 
 abbrev pub primary_token : PrimaryWord → Token
-primary_token (number_first x) = NUMBER x
-primary_token (text_first x) = STR x
-primary_token (truth_first true) = TRUE
-primary_token (truth_first false) = FALSE
-primary_token null_first = NULL
-primary_token (name_first x quoted) = NAME x quoted
-primary_token cast_first = CAST
-primary_token bracket_first = OPEN
-primary_token case_first = CASE
+primary_token (first.Number x) = NUMBER x
+primary_token (first.Str x) = STR x
+primary_token (first.Truth true) = TRUE
+primary_token (first.Truth false) = FALSE
+primary_token first.Null = NULL
+primary_token (first.Name x quoted) = NAME x quoted
+primary_token first.Cast = CAST
+primary_token first.Bracket = OPEN
+primary_token first.Case = CASE
 
 pub primary_is : IsWord primary_word primary_token
 primary_is (NUMBER x) = refl
@@ -108,9 +122,9 @@ primary_is CASE = refl
 primary_is _ = tt
 
 abbrev pub negatable_token : NegatableWord → Token
-negatable_token between_word = BETWEEN
-negatable_token in_word = IN
-negatable_token like_word = LIKE
+negatable_token negatable.Between = BETWEEN
+negatable_token negatable.In = IN
+negatable_token negatable.Like = LIKE
 
 pub negatable_is : IsWord negatable_word negatable_token
 negatable_is BETWEEN = refl
@@ -119,10 +133,10 @@ negatable_is LIKE = refl
 negatable_is _ = tt
 
 abbrev pub rest_token : RestWord → Token
-rest_token (compare_first op) = compare_token op
-rest_token is_first = IS
-rest_token not_first = NOT
-rest_token (negatable_first w) = negatable_token w
+rest_token (word.Compare op) = compare_token op
+rest_token word.Is = IS
+rest_token word.Not = NOT
+rest_token (word.Negatable w) = negatable_token w
 
 pub rest_is : IsWord rest_word rest_token
 rest_is EQUAL = refl
@@ -139,9 +153,9 @@ rest_is LIKE = refl
 rest_is _ = tt
 
 abbrev pub statement_token : StatementWord → Token
-statement_token create_first = CREATE
-statement_token set_first = SET
-statement_token insert_first = INSERT
+statement_token stated.Create = CREATE
+statement_token stated.Set = SET
+statement_token stated.Insert = INSERT
 
 pub statement_is : IsWord statement_word statement_token
 statement_is CREATE = refl
@@ -185,14 +199,14 @@ join_back (Some Right) = refl
 join_back (Some Full) = refl
 
 pub rest_back : (w : RestWord) → rest_word (rest_token w) ≡ Some w
-rest_back (compare_first Eq) = refl
-rest_back (compare_first Ne) = refl
-rest_back (compare_first Lt) = refl
-rest_back (compare_first Le) = refl
-rest_back (compare_first Gt) = refl
-rest_back (compare_first Ge) = refl
-rest_back is_first = refl
-rest_back not_first = refl
-rest_back (negatable_first between_word) = refl
-rest_back (negatable_first in_word) = refl
-rest_back (negatable_first like_word) = refl
+rest_back (word.Compare Eq) = refl
+rest_back (word.Compare Ne) = refl
+rest_back (word.Compare Lt) = refl
+rest_back (word.Compare Le) = refl
+rest_back (word.Compare Gt) = refl
+rest_back (word.Compare Ge) = refl
+rest_back word.Is = refl
+rest_back word.Not = refl
+rest_back (word.Negatable negatable.Between) = refl
+rest_back (word.Negatable negatable.In) = refl
+rest_back (word.Negatable negatable.Like) = refl

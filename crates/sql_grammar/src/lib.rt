@@ -1,12 +1,16 @@
-//! The grammar of scripts: which tokens spell which tree, and that they spell at most one.
+//! The theorem of the grammar: which tokens spell which tree is what the rules read, tokens spell at most one tree, and a text is
+//! at most one script. It stands on the definitions of `sql_rules`. Each law is the contract of a function that does nothing:
+//! calling it gives a proof the law.
 #![tactic(auto)]
 
 ghost use Rattle.std.specs.Prelude.{◌≡◌, ◌↔◌, ℕ, List, Some, None};
+ghost use Rattle.ct_value.specs.declared.codes.ScriptCode.{ScriptCode};
 ghost use Rattle.sql_tokens.specs.declared.token.Token.{Token};
 ghost use Rattle.sql_syntax.specs.Tree.{Script, Statement};
-ghost use Rattle.sql_grammar.specs.Spells.{Spells};
-ghost use Rattle.sql_grammar.specs.Reads.{parse};
-ghost use Rattle.sql_grammar.specs.Statements.{SpellsScript, RefusedAt, all_read, refused_at, parse_script};
+ghost use Rattle.sql_rules.specs.Spells.{Spells};
+ghost use Rattle.sql_rules.specs.Reads.{parse};
+ghost use Rattle.sql_rules.specs.ReadsScripts.{answered, read_text, refused};
+ghost use Rattle.sql_rules.specs.Scripts.{IsScript, TextRefusal};
 
 /// The tokens of one statement have at most one tree.
 pub fn one_tree_each()
@@ -23,22 +27,23 @@ pub fn unread_is_unspelled()
     ensures { (ts : List Token) → (parse ts ≡ None) ↔ ((x : Statement) → ¬ (Spells ts x)) }
 {}
 
-/// The tokens of a script have at most one tree.
+/// A text is at most one script.
 pub fn one_script_each()
-    ensures { (ts : List Token) (x y : Script) → SpellsScript ts x → SpellsScript ts y → x ≡ y }
+    ensures { (text : List ℕ) (x y : Script) → IsScript text x → IsScript text y → x ≡ y }
 {}
 
-/// What is read as a script is what the tokens spell.
-pub fn read_script_is_spelled()
-    ensures { (ts : List Token) (x : Script) → (parse_script ts ≡ all_read x.statements) ↔ SpellsScript ts x }
+/// A text is refused in at most one way, and then it is no script.
+pub fn one_refusal_each()
+    ensures one { (text : List ℕ) (c d : ScriptCode) (m n : ℕ) → TextRefusal text c m → TextRefusal text d n → (c ≡ d) × (m ≡ n) }
+    ensures no_script { (text : List ℕ) (x : Script) (code : ScriptCode) (number : ℕ) → IsScript text x → ¬ (TextRefusal text code number) }
 {}
 
-/// A script is refused at the first statement that isn't one.
-pub fn refused_script_is_refused()
-    ensures { (ts : List Token) (number : ℕ) → (parse_script ts ≡ refused_at number) ↔ RefusedAt number ts }
+/// A text is read as the statements that it spells.
+pub fn text_is_script()
+    ensures { (text : List ℕ) (x : Script) → (read_text text ≡ answered x.statements) ↔ IsScript text x }
 {}
 
-/// Where a script is refused, the tokens spell none.
-pub fn refused_script_is_unspelled()
-    ensures { (ts : List Token) (number : ℕ) (x : Script) → RefusedAt number ts → ¬ (SpellsScript ts x) }
+/// A text is read as a refusal where it has one, at the first statement that is refused.
+pub fn text_is_refused()
+    ensures { (text : List ℕ) (code : ScriptCode) (number : ℕ) → (read_text text ≡ refused code number) ↔ TextRefusal text code number }
 {}

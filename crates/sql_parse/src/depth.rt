@@ -1,8 +1,7 @@
 //! Expressions and queries within so many others.
-ghost use Rattle.std.specs.Prelude.{◌≡◌, ◌<◌, Some, None, length, IfOk, IsErrOf};
 ghost use Rattle.sql_syntax.specs.View.{view, query_view};
-ghost use Rattle.sql_grammar.specs.Reads.{readers};
-ghost use Rattle.sql_parse.specs.Readings.{IsReading};
+ghost use Rattle.sql_rules.specs.Reads.{readers};
+ghost use Rattle.sql_words.specs.Gives.{Gives};
 
 use sql_expressions::expression;
 use sql_shapes::Nested;
@@ -28,9 +27,9 @@ impl<
 
     ghost sound = { λ within.
         ((alloc : _) (tokens : _) → E.pre within.expr alloc tokens)
-        × ((alloc : _) (tokens : _) (result : _) → E.post within.expr alloc tokens result → IsReading view ((readers within.depth).expr tokens.now) tokens.now result)
+        × ((alloc : _) (tokens : _) (result : _) → E.post within.expr alloc tokens result → Gives view result ((readers within.depth).expr tokens.now))
         × ((alloc : _) (tokens : _) → Q.pre within.query alloc tokens)
-        × ((alloc : _) (tokens : _) (result : _) → Q.post within.query alloc tokens result → IsReading query_view ((readers within.depth).query tokens.now) tokens.now result) };
+        × ((alloc : _) (tokens : _) (result : _) → Q.post within.query alloc tokens result → Gives query_view result ((readers within.depth).query tokens.now)) };
 
     fn expr(&self, alloc: Global, tokens: &'t [Token]) -> Read<'t, Tree> {
         (self.expr)(alloc, tokens)
@@ -43,11 +42,9 @@ impl<
 
 // An expression within so many others.
 #[cycle(depth)]
-#[tactic(auto, using(sql_grammar::proofs::Depths::expr_none, sql_grammar::proofs::Depths::expr_below))]
+#[tactic(auto, using(sql_rules::specs::laws::Depths::expr_none, sql_rules::specs::laws::Depths::expr_below))]
 fn expr(alloc: Global, depth: usize, tokens: &[Token]) -> Read<'_, Tree>
-    ensures ok { IfOk result (λ read. (readers depth).expr tokens.now ≡ Some (view read.0, read.1.now)) }
-    ensures shorter { IfOk result (λ read. length read.1.now < length tokens.now) }
-    ensures refused { IsErrOf result Stop.Refused → (readers depth).expr tokens.now ≡ None }
+    ensures { Gives view result ((readers depth).expr tokens.now) }
 {
     if depth == 0 {
         return Err(Stop::Refused);
@@ -56,14 +53,10 @@ fn expr(alloc: Global, depth: usize, tokens: &[Token]) -> Read<'_, Tree>
     let within = Within {
         depth: below,
         expr: |alloc, tokens|
-            ensures ok { IfOk result (λ read. (readers below).expr tokens.now ≡ Some (view read.0, read.1.now)) }
-            ensures shorter { IfOk result (λ read. length read.1.now < length tokens.now) }
-            ensures refused { IsErrOf result Stop.Refused → (readers below).expr tokens.now ≡ None }
+            ensures { Gives view result ((readers below).expr tokens.now) }
         { expr(alloc, below, tokens) },
         query: |alloc, tokens|
-            ensures ok { IfOk result (λ read. (readers below).query tokens.now ≡ Some (query_view read.0, read.1.now)) }
-            ensures shorter { IfOk result (λ read. length read.1.now < length tokens.now) }
-            ensures refused { IsErrOf result Stop.Refused → (readers below).query tokens.now ≡ None }
+            ensures { Gives query_view result ((readers below).query tokens.now) }
         { query(alloc, below, tokens) },
     };
     expression(alloc, &within, tokens)
@@ -71,11 +64,9 @@ fn expr(alloc: Global, depth: usize, tokens: &[Token]) -> Read<'_, Tree>
 
 /// A query within so many others.
 #[cycle(depth)]
-#[tactic(auto, using(sql_grammar::proofs::Depths::query_none, sql_grammar::proofs::Depths::query_below))]
+#[tactic(auto, using(sql_rules::specs::laws::Depths::query_none, sql_rules::specs::laws::Depths::query_below))]
 pub fn query(alloc: Global, depth: usize, tokens: &[Token]) -> Read<'_, Query>
-    ensures ok { IfOk result (λ read. (readers depth).query tokens.now ≡ Some (query_view read.0, read.1.now)) }
-    ensures shorter { IfOk result (λ read. length read.1.now < length tokens.now) }
-    ensures refused { IsErrOf result Stop.Refused → (readers depth).query tokens.now ≡ None }
+    ensures { Gives query_view result ((readers depth).query tokens.now) }
 {
     if depth == 0 {
         return Err(Stop::Refused);
@@ -84,14 +75,10 @@ pub fn query(alloc: Global, depth: usize, tokens: &[Token]) -> Read<'_, Query>
     let within = Within {
         depth: below,
         expr: |alloc, tokens|
-            ensures ok { IfOk result (λ read. (readers below).expr tokens.now ≡ Some (view read.0, read.1.now)) }
-            ensures shorter { IfOk result (λ read. length read.1.now < length tokens.now) }
-            ensures refused { IsErrOf result Stop.Refused → (readers below).expr tokens.now ≡ None }
+            ensures { Gives view result ((readers below).expr tokens.now) }
         { expr(alloc, below, tokens) },
         query: |alloc, tokens|
-            ensures ok { IfOk result (λ read. (readers below).query tokens.now ≡ Some (query_view read.0, read.1.now)) }
-            ensures shorter { IfOk result (λ read. length read.1.now < length tokens.now) }
-            ensures refused { IsErrOf result Stop.Refused → (readers below).query tokens.now ≡ None }
+            ensures { Gives query_view result ((readers below).query tokens.now) }
         { query(alloc, below, tokens) },
     };
     sql_queries::query(alloc, &within, tokens)

@@ -1,9 +1,8 @@
-//! Reads scripts: the statements of a text, or its first refusal.
+//! Reads scripts: the statements of a text, or its first refusal. `parse_script` promises this by what a text is as a script, and
+//! stands on the readers for its work and on the theorem of `sql_grammar` for its promise.
 #![tactic(auto)]
 
 mod depth;
-mod laws;
 mod script;
 
-pub use laws::{text_is_refused, text_is_script};
 pub use script::{ParseFault, parse_script};

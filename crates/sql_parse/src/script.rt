@@ -4,16 +4,20 @@ ghost use Rattle.ct_value.specs.declared.codes.ScriptCode.{ScriptCode as Code};
 ghost use Rattle.sql_syntax.specs.Tree.{Script as ScriptTree};
 ghost use Rattle.sql_tokens.specs.Statements.{first_statement};
 ghost use Rattle.sql_syntax.specs.View.{script_view, statement_view, statements_view};
-ghost use Rattle.sql_grammar.specs.Reads.{readers, insert_at, stated_at, statement_at, whole, parse};
-ghost use Rattle.sql_words.specs.Firsts.{stated_view};
-ghost use Rattle.sql_parse.specs.Scripts.{Answer, IsRefusal, IsScript, IfRefused, TextRefusal, and_others, answered, read_ended, read_from, read_last, read_text};
+ghost use Rattle.sql_rules.specs.Reads.{readers, insert_at, stated_at, statement_at, whole, parse};
+ghost use Rattle.sql_rules.specs.ReadsScripts.{Answer, and_others, answered, read_ended, read_from, read_last, read_text};
+ghost use Rattle.sql_rules.specs.Scripts.{IsScript, TextRefusal};
+ghost use Rattle.sql_words.specs.Gives.{Gives};
+ghost use Rattle.sql_parse.specs.Faults.{IsRefusal, IfRefused};
 
 use crate::depth::query;
 use ct_value::{Bytes, Memory, ScriptCode};
 use sql_definitions::{create, set};
+use sql_grammar::{text_is_refused, text_is_script};
+use sql_rules::StatementWord;
 use sql_syntax::{Script, Statement, Statements};
 use sql_tokens::{Keyword, Token, is_too_deep, split_statement, tokens_of};
-use sql_words::{Read, StatementWord, Stop, keyword, name, statement_word};
+use sql_words::{Read, Stop, keyword, name, statement_word};
 use std::alloc::Global;
 
 /// Why a text is no script.
@@ -34,10 +38,9 @@ impl From<Memory> for ParseFault {
     }
 }
 
-#[tactic(auto, unfolding(sql_grammar::specs::Reads::insert_at))]
+#[tactic(auto, unfolding(sql_rules::specs::Reads::insert_at))]
 fn insert(alloc: Global, depth: usize, tokens: &[Token]) -> Read<'_, Statement>
-    ensures ok { IfOk result (λ read. insert_at (readers depth) tokens.now ≡ Some (statement_view read.0, read.1.now)) }
-    ensures refused { IsErrOf result Stop.Refused → insert_at (readers depth) tokens.now ≡ None }
+    ensures { Gives statement_view result (insert_at (readers depth) tokens.now) }
 {
     let rest = keyword(tokens, Keyword::Into)?;
     let (table, rest) = name(rest)?;
@@ -45,10 +48,9 @@ fn insert(alloc: Global, depth: usize, tokens: &[Token]) -> Read<'_, Statement>
     Ok((Statement::Insert { table, query }, rest))
 }
 
-#[tactic(auto, unfolding(sql_grammar::specs::Reads::stated_at))]
+#[tactic(auto, unfolding(sql_rules::specs::Reads::stated_at))]
 fn stated(alloc: Global, depth: usize, word: StatementWord, tokens: &[Token]) -> Read<'_, Statement>
-    ensures ok { IfOk result (λ read. stated_at (readers depth) (stated_view word) tokens.now ≡ Some (statement_view read.0, read.1.now)) }
-    ensures refused { IsErrOf result Stop.Refused → stated_at (readers depth) (stated_view word) tokens.now ≡ None }
+    ensures { Gives statement_view result (stated_at (readers depth) word tokens.now) }
 {
     match word {
         StatementWord::Create => create(alloc, tokens),
@@ -57,10 +59,9 @@ fn stated(alloc: Global, depth: usize, word: StatementWord, tokens: &[Token]) ->
     }
 }
 
-#[tactic(auto, unfolding(sql_grammar::specs::Reads::statement_at))]
+#[tactic(auto, unfolding(sql_rules::specs::Reads::statement_at))]
 fn begun_statement(alloc: Global, depth: usize, tokens: &[Token]) -> Read<'_, Statement>
-    ensures ok { IfOk result (λ read. statement_at (readers depth) tokens.now ≡ Some (statement_view read.0, read.1.now)) }
-    ensures refused { IsErrOf result Stop.Refused → statement_at (readers depth) tokens.now ≡ None }
+    ensures { Gives statement_view result (statement_at (readers depth) tokens.now) }
 {
     let (word, rest) = statement_word(tokens)?;
     stated(alloc, depth, word, rest)
@@ -85,7 +86,7 @@ fn whole_statement(alloc: Global, depth: usize, tokens: &[Token]) -> Result<Stat
     finished(statement, rest)
 }
 
-#[tactic(auto, using(crate::proofs::Scripts::parse_whole))]
+#[tactic(auto, using(sql_rules::specs::laws::Depths::parse_whole))]
 fn parsed(alloc: Global, tokens: &[Token]) -> Result<Statement, Stop>
     ensures ok { IfOk result (λ x. parse tokens.now ≡ Some (statement_view x)) }
     ensures refused { IsErrOf result Stop.Refused → parse tokens.now ≡ None }
@@ -93,7 +94,7 @@ fn parsed(alloc: Global, tokens: &[Token]) -> Result<Statement, Stop>
     whole_statement(alloc, tokens.len() + 1, tokens)
 }
 
-#[tactic(auto, unfolding(crate::specs::Scripts::read_ended))]
+#[tactic(auto, unfolding(sql_rules::specs::ReadsScripts::read_ended))]
 fn statement(alloc: Global, number: u32, tokens: &[Token]) -> Result<Statement, ParseFault>
     ensures ok { (others : Answer) → IfOk result (λ x. read_ended number tokens.now others ≡ and_others (statement_view x) others) }
     ensures refused { (others : Answer) → IfErr result (λ fault. IsRefusal fault (read_ended number tokens.now others)) }
@@ -114,7 +115,7 @@ fn statement(alloc: Global, number: u32, tokens: &[Token]) -> Result<Statement, 
     }
 }
 
-#[tactic(auto, unfolding(crate::specs::Scripts::read_last))]
+#[tactic(auto, unfolding(sql_rules::specs::ReadsScripts::read_last))]
 fn last(number: u32, tokens: &[Token], is_whole: bool) -> Result<(), ParseFault>
     ensures ok { IfOk result (λ u. read_last is_whole number tokens.now ≡ answered []) }
     ensures refused { IfErr result (λ fault. IsRefusal fault (read_last is_whole number tokens.now)) }
@@ -174,7 +175,7 @@ fn script_statements(
     Ok(list)
 }
 
-#[tactic(auto, using(crate::proofs::Scripts::few_tokens), unfolding(crate::specs::Scripts::read_text))]
+#[tactic(auto, using(crate::proofs::Scripts::few_tokens), unfolding(sql_rules::specs::ReadsScripts::read_text))]
 fn read_text(alloc: Global, text: &[u8]) -> Result<Script, ParseFault>
     requires { length text.now ≤ 262144 }
     ensures ok { IfOk result (λ script. read_text text.now ≡ answered (statements_view script.statements)) }
@@ -188,7 +189,6 @@ fn read_text(alloc: Global, text: &[u8]) -> Result<Script, ParseFault>
 
 /// The script that a text is, or its first text refusal: statement by statement a bad place, then more than 32 parentheses
 /// and CASEs open at once, then no tree or no `;` behind it. A text has at most 262,144 bytes.
-#[tactic(auto, using(crate::proofs::Scripts::ok_is))]
 pub fn parse_script(alloc: Global, text: &Bytes) -> Result<Script, ParseFault>
     requires { length text.now ≤ 262144 }
     ensures ok { IfOk result (λ script. IsScript text.now (script_view script)) }
@@ -197,5 +197,7 @@ pub fn parse_script(alloc: Global, text: &Bytes) -> Result<Script, ParseFault>
     ensures first { (code : Code) (number : ℕ) → TextRefusal text.now code number → IfOk result (λ script. ⊥) × IfErr result (λ fault. IfRefused fault (λ c n. (c ≡ code) × (n ≡ number))) }
     ensures few { IfOk result (λ script. length (statements_view script.statements) ≤ length text.now + 1) }
 {
+    text_is_script();
+    text_is_refused();
     read_text(alloc, text.as_slice())
 }

@@ -1,38 +1,93 @@
 //! Queries: select items, sources, joins, clauses and their unions.
-ghost use Rattle.std.specs.Prelude.{◌≡◌, ◌<◌, ◌≤◌, Some, None, Ok, length, option_map, IfOk, IsErrOf};
-ghost use Rattle.sql_syntax.specs.View.{view, item_view, source_view, items_view, join_view, joins_view, join_word_view, query_view, select_view, selects_view, sorts_view, trees_view};
-ghost use Rattle.sql_grammar.specs.Words.{ON, join_word};
-ghost use Rattle.sql_grammar.specs.Reading.{after, bracketed, repeated};
-ghost use Rattle.sql_grammar.specs.Reads.{chosen_at, filters_at, from_at, group_at, having_at, item_at, items_at, joined_at, on_at, order_at, outer_at, query_at, select_at, selected_at, selects_at, source_at, union_at, where_at};
+ghost use Rattle.std.specs.Prelude.{◌≡◌, None, option_map, IfOk};
+ghost use Rattle.sql_syntax.specs.Tree as t;
+ghost use Rattle.sql_syntax.specs.View.{view, item_view, source_view, items_view, join_view, joins_view, query_view, select_view, selects_view, sorts_view, trees_view};
+ghost use Rattle.sql_rules.specs.Words.{AS, ON, UNION, join_word, only};
+ghost use Rattle.sql_rules.specs.Reading.{after, bracketed, word_at};
+ghost use Rattle.sql_rules.specs.Reads.{alias_at, chosen_at, filters_at, from_at, group_at, having_at, item_at, items_at, joined_at, joins_at, limit_at, on_at, order_at, outer_at, query_at, select_at, selected_at, selects_at, source_at, star_of_at, table_at, union_at, where_at};
+ghost use Rattle.sql_words.specs.Gives.{Answers, Gives, Parts};
 
-use sql_shapes::{Nested, alias, limit, order_by, star_of, table, trees};
+use ct_value::{Memory, Text};
+use sql_shapes::{Again, Nested, Rule, led, listed, order_by, repeat, trees};
 use sql_syntax::{
     Item, Items, JoinItem, JoinItems, JoinWord, Query, Select, Selects, SortList, Source, Tree,
     Trees,
 };
 use sql_tokens::{Keyword, Symbol, Token};
 use sql_words::{
-    Read, Stop, after_keyword, after_symbol, flagged, join_word, keyword, name_word, symbol,
+    Read, Stop, after_keyword, after_symbol, beside, flagged, join_word, keyword, name, name_word,
+    number, symbol,
 };
 use std::alloc::Global;
 
-// What was read first, beside what is read behind it.
-#[tactic(auto)]
-fn beside<T: Drop, R>(first: T, behind: Result<R, Stop>) -> Result<(T, R), Stop>
-    ensures first { IfOk result (λ both. both.0 ≡ first) }
-    ensures behind { IfOk result (λ both. behind ≡ Ok both.1) }
-    ensures refused { IsErrOf result Stop.Refused → IsErrOf behind Stop.Refused }
+#[tactic(auto, unfolding(sql_rules::specs::Reads::alias_at))]
+fn bare_alias(tokens: &[Token]) -> Read<'_, Option<Text>>
+    requires { word_at (only AS) tokens.now ≡ None }
+    ensures { Answers result (alias_at tokens.now) }
 {
-    let behind = behind?;
-    Ok((first, behind))
+    match name_word(tokens)? {
+        Some((text, _, rest)) => Ok((Some(text), rest)),
+        None => Ok((None, tokens)),
+    }
 }
 
-#[tactic(auto, using(sql_syntax::proofs::Views::item_all, sql_syntax::proofs::Views::item_all_of, sql_syntax::proofs::Views::item_one), unfolding(sql_grammar::specs::Reads::item_at, sql_grammar::specs::Reads::value_item_at))]
+// A name with AS or without it, if it stands there.
+#[tactic(auto, unfolding(sql_rules::specs::Reads::alias_at))]
+fn alias(tokens: &[Token]) -> Read<'_, Option<Text>>
+    ensures { Answers result (alias_at tokens.now) }
+{
+    match after_keyword(tokens, Keyword::As) {
+        Some(rest) => {
+            let (text, rest) = name(rest)?;
+            Ok((Some(text), rest))
+        }
+        None => bare_alias(tokens),
+    }
+}
+
+// The name before a point and a star, if they stand there.
+#[tactic(auto, unfolding(sql_rules::specs::Reads::star_of_at))]
+fn star_of(tokens: &[Token]) -> Result<Option<(Text, &[Token])>, Memory>
+    ensures { IfOk result (λ found. option_map (λ x. (x.0, x.1.now)) found ≡ star_of_at tokens.now) }
+{
+    match tokens {
+        [
+            Token::Name { text, .. },
+            Token::Symbol(Symbol::Dot),
+            Token::Symbol(Symbol::Times),
+            rest @ ..,
+        ] => { Ok(Some((text.dup()?, rest))) }
+        _ => Ok(None),
+    }
+}
+
+// What follows the name of a table.
+#[tactic(auto, using(sql_syntax::specs::laws::Views::source_table), unfolding(sql_rules::specs::Reads::table_at))]
+fn table(name: Text, tokens: &[Token]) -> Read<'_, Source>
+    ensures { Gives source_view result (table_at name tokens.now) }
+{
+    let (alias, rest) = alias(tokens)?;
+    Ok((Source::Table { name, alias }, rest))
+}
+
+// LIMIT and its number, if they stand there.
+#[tactic(auto, unfolding(sql_rules::specs::Reads::limit_at))]
+fn limit(tokens: &[Token]) -> Read<'_, Option<Text>>
+    ensures { Answers result (limit_at tokens.now) }
+{
+    match after_keyword(tokens, Keyword::Limit) {
+        Some(rest) => {
+            let (limit, rest) = number(rest)?;
+            Ok((Some(limit), rest))
+        }
+        None => Ok((None, tokens)),
+    }
+}
+
+#[tactic(auto, using(sql_syntax::specs::laws::Views::item_all, sql_syntax::specs::laws::Views::item_all_of, sql_syntax::specs::laws::Views::item_one), unfolding(sql_rules::specs::Reads::item_at, sql_rules::specs::Reads::value_item_at))]
 fn select_item<'t, N: Nested<'t>>(alloc: Global, nested: &N, tokens: &'t [Token]) -> Read<'t, Item>
     requires { N.sound nested.now }
-    ensures ok { IfOk result (λ read. item_at (N.readers nested.now) tokens.now ≡ Some (item_view read.0, read.1.now)) }
-    ensures shorter { IfOk result (λ read. length read.1.now < length tokens.now) }
-    ensures refused { IsErrOf result Stop.Refused → item_at (N.readers nested.now) tokens.now ≡ None }
+    ensures { Gives item_view result (item_at (N.readers nested.now) tokens.now) }
 {
     if let Some(rest) = after_symbol(tokens, Symbol::Times) {
         return Ok((Item::All, rest));
@@ -45,26 +100,38 @@ fn select_item<'t, N: Nested<'t>>(alloc: Global, nested: &N, tokens: &'t [Token]
     Ok((Item::One { value, name }, rest))
 }
 
+// A select item.
+#[derive(Drop)]
+struct ItemRule<'n, N> {
+    nested: &'n N,
+}
+
+impl<'t, N: Nested<'t>> Rule<'t> for ItemRule<'_, N> {
+    type Item = Item;
+
+    ghost Seen = { t.Item };
+
+    ghost seen = { item_view };
+
+    ghost reads = { λ r. item_at (N.readers r.nested.now) };
+
+    ghost sound = { λ r. N.sound r.nested.now };
+
+    fn read(&self, alloc: Global, tokens: &'t [Token]) -> Read<'t, Item> {
+        select_item(alloc, self.nested, tokens)
+    }
+}
+
+#[tactic(auto, unfolding(sql_rules::specs::Reads::items_at))]
 fn select_items<'t, N: Nested<'t>>(
     alloc: Global,
     nested: &N,
     tokens: &'t [Token],
 ) -> Read<'t, Items>
     requires { N.sound nested.now }
-    ensures ok { IfOk result (λ read. items_at (N.readers nested.now) tokens.now ≡ Some (items_view read.0, read.1.now)) }
-    ensures shorter { IfOk result (λ read. length read.1.now < length tokens.now) }
-    ensures refused { IsErrOf result Stop.Refused → items_at (N.readers nested.now) tokens.now ≡ None }
+    ensures { Gives items_view result (items_at (N.readers nested.now) tokens.now) }
 {
-    let (first, behind) = select_item(alloc, nested, tokens)?;
-    let mut list = Items::new(alloc);
-    list.push(first)?;
-    let mut rest = behind;
-    'items: while let Some(after) = after_symbol(rest, Symbol::Comma) {
-        let (item, after) = select_item(alloc, nested, after)?;
-        list.push(item)?;
-        rest = after;
-    }
-    Ok((list, rest))
+    listed(alloc, &ItemRule { nested }, tokens)
 }
 
 fn bracketed_query<'t, N: Nested<'t>>(
@@ -73,9 +140,7 @@ fn bracketed_query<'t, N: Nested<'t>>(
     tokens: &'t [Token],
 ) -> Read<'t, Box<Query>>
     requires { N.sound nested.now }
-    ensures ok { IfOk result (λ read. bracketed (N.readers nested.now).query tokens.now ≡ Some (query_view read.0.value, read.1.now)) }
-    ensures shorter { IfOk result (λ read. length read.1.now < length tokens.now) }
-    ensures refused { IsErrOf result Stop.Refused → bracketed (N.readers nested.now).query tokens.now ≡ None }
+    ensures { Gives (λ b. query_view b.value) result (bracketed (N.readers nested.now).query tokens.now) }
 {
     let rest = symbol(tokens, Symbol::Open)?;
     let (query, rest) = nested.query(alloc, rest)?;
@@ -84,16 +149,14 @@ fn bracketed_query<'t, N: Nested<'t>>(
     Ok((query, rest))
 }
 
-#[tactic(auto, using(sql_syntax::proofs::Views::source_sub), unfolding(sql_grammar::specs::Reads::source_at, sql_grammar::specs::Reads::from_query_at))]
+#[tactic(auto, using(sql_syntax::specs::laws::Views::source_sub), unfolding(sql_rules::specs::Reads::source_at, sql_rules::specs::Reads::from_query_at))]
 fn source_item<'t, N: Nested<'t>>(
     alloc: Global,
     nested: &N,
     tokens: &'t [Token],
 ) -> Read<'t, Source>
     requires { N.sound nested.now }
-    ensures ok { IfOk result (λ read. source_at (N.readers nested.now) tokens.now ≡ Some (source_view read.0, read.1.now)) }
-    ensures shorter { IfOk result (λ read. length read.1.now < length tokens.now) }
-    ensures refused { IsErrOf result Stop.Refused → source_at (N.readers nested.now) tokens.now ≡ None }
+    ensures { Gives source_view result (source_at (N.readers nested.now) tokens.now) }
 {
     match name_word(tokens)? {
         Some((name, _, rest)) => table(name, rest),
@@ -107,15 +170,13 @@ fn source_item<'t, N: Nested<'t>>(
 
 fn on_value<'t, N: Nested<'t>>(alloc: Global, nested: &N, tokens: &'t [Token]) -> Read<'t, Tree>
     requires { N.sound nested.now }
-    ensures ok { IfOk result (λ read. after ON (N.readers nested.now).expr tokens.now ≡ Some (view read.0, read.1.now)) }
-    ensures shorter { IfOk result (λ read. length read.1.now < length tokens.now) }
-    ensures refused { IsErrOf result Stop.Refused → after ON (N.readers nested.now).expr tokens.now ≡ None }
+    ensures { Gives view result (after ON (N.readers nested.now).expr tokens.now) }
 {
     let rest = keyword(tokens, Keyword::On)?;
     nested.expr(alloc, rest)
 }
 
-#[tactic(auto, using(sql_syntax::proofs::Views::join_item), unfolding(sql_grammar::specs::Reads::on_at))]
+#[tactic(auto, using(sql_syntax::specs::laws::Views::join_item), unfolding(sql_rules::specs::Reads::on_at))]
 fn on_part<'t, N: Nested<'t>>(
     alloc: Global,
     nested: &N,
@@ -123,16 +184,14 @@ fn on_part<'t, N: Nested<'t>>(
     tokens: &'t [Token],
 ) -> Read<'t, JoinItem>
     requires { N.sound nested.now }
-    ensures ok { IfOk result (λ read. on_at (N.readers nested.now) (join_word_view kind) tokens.now ≡ Some (join_view read.0, read.1.now)) }
-    ensures shorter { IfOk result (λ read. length read.1.now < length tokens.now) }
-    ensures refused { IsErrOf result Stop.Refused → on_at (N.readers nested.now) (join_word_view kind) tokens.now ≡ None }
+    ensures { Gives join_view result (on_at (N.readers nested.now) kind tokens.now) }
 {
     let (source, rest) = source_item(alloc, nested, tokens)?;
     let (source, (on, rest)) = beside(source, on_value(alloc, nested, rest))?;
     Ok((JoinItem { kind, source, on }, rest))
 }
 
-#[tactic(auto, unfolding(sql_grammar::specs::Reads::outer_at))]
+#[tactic(auto, unfolding(sql_rules::specs::Reads::outer_at))]
 fn outer<'t, N: Nested<'t>>(
     alloc: Global,
     nested: &N,
@@ -140,16 +199,14 @@ fn outer<'t, N: Nested<'t>>(
     tokens: &'t [Token],
 ) -> Read<'t, JoinItem>
     requires { N.sound nested.now }
-    ensures ok { IfOk result (λ read. outer_at (N.readers nested.now) (join_word_view kind) tokens.now ≡ Some (join_view read.0, read.1.now)) }
-    ensures shorter { IfOk result (λ read. length read.1.now < length tokens.now) }
-    ensures refused { IsErrOf result Stop.Refused → outer_at (N.readers nested.now) (join_word_view kind) tokens.now ≡ None }
+    ensures { Gives join_view result (outer_at (N.readers nested.now) kind tokens.now) }
 {
     let (_, rest) = flagged(tokens, Keyword::Outer);
     let rest = keyword(rest, Keyword::Join)?;
     on_part(alloc, nested, kind, rest)
 }
 
-#[tactic(auto, unfolding(sql_grammar::specs::Reads::joined_at))]
+#[tactic(auto, unfolding(sql_rules::specs::Reads::joined_at))]
 fn joined<'t, N: Nested<'t>>(
     alloc: Global,
     nested: &N,
@@ -157,9 +214,7 @@ fn joined<'t, N: Nested<'t>>(
     tokens: &'t [Token],
 ) -> Read<'t, JoinItem>
     requires { N.sound nested.now }
-    ensures ok { IfOk result (λ read. joined_at (N.readers nested.now) (option_map join_word_view word) tokens.now ≡ Some (join_view read.0, read.1.now)) }
-    ensures shorter { IfOk result (λ read. length read.1.now < length tokens.now) }
-    ensures refused { IsErrOf result Stop.Refused → joined_at (N.readers nested.now) (option_map join_word_view word) tokens.now ≡ None }
+    ensures { Gives join_view result (joined_at (N.readers nested.now) word tokens.now) }
 {
     match word {
         None => on_part(alloc, nested, JoinWord::Inner, tokens),
@@ -173,53 +228,75 @@ fn joined<'t, N: Nested<'t>>(
     }
 }
 
-#[tactic(auto, using(sql_grammar::proofs::Loops::loop_start))]
+// The first word of a join, and the join.
+#[derive(Drop)]
+struct Joins<'n, N> {
+    nested: &'n N,
+}
+
+impl<'t, N: Nested<'t>> Again<'t> for Joins<'_, N> {
+    type Word = Option<JoinWord>;
+
+    type Item = JoinItem;
+
+    ghost Seen = { t.JoinItem };
+
+    ghost seen = { join_view };
+
+    ghost word_of = { λ r. join_word };
+
+    ghost item_of = { λ r w. joined_at (N.readers r.nested.now) w };
+
+    ghost sound = { λ r. N.sound r.nested.now };
+
+    fn word(&self, tokens: &'t [Token]) -> Option<(Option<JoinWord>, &'t [Token])> {
+        join_word(tokens)
+    }
+
+    fn item(
+        &self,
+        alloc: Global,
+        word: Option<JoinWord>,
+        tokens: &'t [Token],
+    ) -> Read<'t, JoinItem> {
+        joined(alloc, self.nested, word, tokens)
+    }
+}
+
+#[tactic(auto, using(sql_rules::specs::laws::Steps::behind_nothing), unfolding(sql_rules::specs::Reads::joins_at))]
 fn join_items<'t, N: Nested<'t>>(
     alloc: Global,
     nested: &N,
     tokens: &'t [Token],
 ) -> Read<'t, JoinItems>
     requires { N.sound nested.now }
-    ensures ok { IfOk result (λ read. repeated join_word (joined_at (N.readers nested.now)) tokens.now ≡ Some (joins_view read.0, read.1.now)) }
-    ensures shorter { IfOk result (λ read. length read.1.now ≤ length tokens.now) }
-    ensures refused { IsErrOf result Stop.Refused → repeated join_word (joined_at (N.readers nested.now)) tokens.now ≡ None }
+    ensures { Gives joins_view result (joins_at (N.readers nested.now) tokens.now) }
 {
-    let mut list = JoinItems::new(alloc);
-    let mut rest = tokens;
-    'items: while let Some((word, after)) = join_word(rest) {
-        let (item, after) = joined(alloc, nested, word, after)?;
-        list.push(item)?;
-        rest = after;
-    }
-    Ok((list, rest))
+    repeat(alloc, &Joins { nested }, JoinItems::new(alloc), tokens)
 }
 
-#[tactic(auto, unfolding(sql_grammar::specs::Reads::chosen_at))]
+#[tactic(auto, unfolding(sql_rules::specs::Reads::chosen_at))]
 fn chosen<'t, N: Nested<'t>>(
     alloc: Global,
     nested: &N,
     tokens: &'t [Token],
 ) -> Result<(bool, Items, &'t [Token]), Stop>
     requires { N.sound nested.now }
-    ensures ok { IfOk result (λ read. chosen_at (N.readers nested.now) tokens.now ≡ Some ((read.0, items_view read.1), read.2.now)) }
-    ensures shorter { IfOk result (λ read. length read.2.now < length tokens.now) }
-    ensures refused { IsErrOf result Stop.Refused → chosen_at (N.readers nested.now) tokens.now ≡ None }
+    ensures { Parts (λ x. ((x.0, items_view x.1), x.2.now)) result (chosen_at (N.readers nested.now) tokens.now) }
 {
     let (distinct, rest) = flagged(tokens, Keyword::Distinct);
     let (items, rest) = select_items(alloc, nested, rest)?;
     Ok((distinct, items, rest))
 }
 
-#[tactic(auto, unfolding(sql_grammar::specs::Reads::from_at, sql_grammar::specs::Reads::joins_at))]
+#[tactic(auto, unfolding(sql_rules::specs::Reads::from_at))]
 fn from_part<'t, N: Nested<'t>>(
     alloc: Global,
     nested: &N,
     tokens: &'t [Token],
 ) -> Result<(Source, JoinItems, &'t [Token]), Stop>
     requires { N.sound nested.now }
-    ensures ok { IfOk result (λ read. from_at (N.readers nested.now) tokens.now ≡ Some ((source_view read.0, joins_view read.1), read.2.now)) }
-    ensures shorter { IfOk result (λ read. length read.2.now < length tokens.now) }
-    ensures refused { IsErrOf result Stop.Refused → from_at (N.readers nested.now) tokens.now ≡ None }
+    ensures { Parts (λ x. ((source_view x.0, joins_view x.1), x.2.now)) result (from_at (N.readers nested.now) tokens.now) }
 {
     let rest = keyword(tokens, Keyword::From)?;
     let (source, rest) = source_item(alloc, nested, rest)?;
@@ -227,16 +304,14 @@ fn from_part<'t, N: Nested<'t>>(
     Ok((source, joins, rest))
 }
 
-#[tactic(auto, unfolding(sql_grammar::specs::Reads::where_at))]
+#[tactic(auto, unfolding(sql_rules::specs::Reads::where_at))]
 fn where_part<'t, N: Nested<'t>>(
     alloc: Global,
     nested: &N,
     tokens: &'t [Token],
 ) -> Read<'t, Option<Tree>>
     requires { N.sound nested.now }
-    ensures ok { IfOk result (λ read. where_at (N.readers nested.now) tokens.now ≡ Some (option_map view read.0, read.1.now)) }
-    ensures shorter { IfOk result (λ read. length read.1.now ≤ length tokens.now) }
-    ensures refused { IsErrOf result Stop.Refused → where_at (N.readers nested.now) tokens.now ≡ None }
+    ensures { Gives (option_map view) result (where_at (N.readers nested.now) tokens.now) }
 {
     match after_keyword(tokens, Keyword::Where) {
         Some(rest) => {
@@ -247,12 +322,10 @@ fn where_part<'t, N: Nested<'t>>(
     }
 }
 
-#[tactic(auto, unfolding(sql_grammar::specs::Reads::group_at))]
+#[tactic(auto, unfolding(sql_rules::specs::Reads::group_at))]
 fn group_part<'t, N: Nested<'t>>(alloc: Global, nested: &N, tokens: &'t [Token]) -> Read<'t, Trees>
     requires { N.sound nested.now }
-    ensures ok { IfOk result (λ read. group_at (N.readers nested.now) tokens.now ≡ Some (trees_view read.0, read.1.now)) }
-    ensures shorter { IfOk result (λ read. length read.1.now ≤ length tokens.now) }
-    ensures refused { IsErrOf result Stop.Refused → group_at (N.readers nested.now) tokens.now ≡ None }
+    ensures { Gives trees_view result (group_at (N.readers nested.now) tokens.now) }
 {
     match after_keyword(tokens, Keyword::Group) {
         Some(rest) => {
@@ -263,16 +336,14 @@ fn group_part<'t, N: Nested<'t>>(alloc: Global, nested: &N, tokens: &'t [Token])
     }
 }
 
-#[tactic(auto, unfolding(sql_grammar::specs::Reads::having_at))]
+#[tactic(auto, unfolding(sql_rules::specs::Reads::having_at))]
 fn having_part<'t, N: Nested<'t>>(
     alloc: Global,
     nested: &N,
     tokens: &'t [Token],
 ) -> Read<'t, Option<Tree>>
     requires { N.sound nested.now }
-    ensures ok { IfOk result (λ read. having_at (N.readers nested.now) tokens.now ≡ Some (option_map view read.0, read.1.now)) }
-    ensures shorter { IfOk result (λ read. length read.1.now ≤ length tokens.now) }
-    ensures refused { IsErrOf result Stop.Refused → having_at (N.readers nested.now) tokens.now ≡ None }
+    ensures { Gives (option_map view) result (having_at (N.readers nested.now) tokens.now) }
 {
     match after_keyword(tokens, Keyword::Having) {
         Some(rest) => {
@@ -283,16 +354,14 @@ fn having_part<'t, N: Nested<'t>>(
     }
 }
 
-#[tactic(auto, unfolding(sql_grammar::specs::Reads::filters_at))]
+#[tactic(auto, unfolding(sql_rules::specs::Reads::filters_at))]
 fn filters<'t, N: Nested<'t>>(
     alloc: Global,
     nested: &N,
     tokens: &'t [Token],
 ) -> Result<(Option<Tree>, Trees, Option<Tree>, &'t [Token]), Stop>
     requires { N.sound nested.now }
-    ensures ok { IfOk result (λ read. filters_at (N.readers nested.now) tokens.now ≡ Some ((option_map view read.0, trees_view read.1, option_map view read.2), read.3.now)) }
-    ensures shorter { IfOk result (λ read. length read.3.now ≤ length tokens.now) }
-    ensures refused { IsErrOf result Stop.Refused → filters_at (N.readers nested.now) tokens.now ≡ None }
+    ensures { Parts (λ x. ((option_map view x.0, trees_view x.1, option_map view x.2), x.3.now)) result (filters_at (N.readers nested.now) tokens.now) }
 {
     let (cond, rest) = where_part(alloc, nested, tokens)?;
     let (groups, rest) = group_part(alloc, nested, rest)?;
@@ -300,12 +369,10 @@ fn filters<'t, N: Nested<'t>>(
     Ok((cond, groups, having, rest))
 }
 
-#[tactic(auto, using(sql_syntax::proofs::Views::select_made), unfolding(sql_grammar::specs::Reads::selected_at))]
+#[tactic(auto, using(sql_syntax::specs::laws::Views::select_made), unfolding(sql_rules::specs::Reads::selected_at))]
 fn selected<'t, N: Nested<'t>>(alloc: Global, nested: &N, tokens: &'t [Token]) -> Read<'t, Select>
     requires { N.sound nested.now }
-    ensures ok { IfOk result (λ read. selected_at (N.readers nested.now) tokens.now ≡ Some (select_view read.0, read.1.now)) }
-    ensures shorter { IfOk result (λ read. length read.1.now < length tokens.now) }
-    ensures refused { IsErrOf result Stop.Refused → selected_at (N.readers nested.now) tokens.now ≡ None }
+    ensures { Gives select_view result (selected_at (N.readers nested.now) tokens.now) }
 {
     let (distinct, items, rest) = chosen(alloc, nested, tokens)?;
     let (from, joins, rest) = from_part(alloc, nested, rest)?;
@@ -324,64 +391,71 @@ fn selected<'t, N: Nested<'t>>(alloc: Global, nested: &N, tokens: &'t [Token]) -
     ))
 }
 
-#[tactic(auto, unfolding(sql_grammar::specs::Reads::select_at))]
+#[tactic(auto, unfolding(sql_rules::specs::Reads::select_at))]
 fn select_part<'t, N: Nested<'t>>(
     alloc: Global,
     nested: &N,
     tokens: &'t [Token],
 ) -> Read<'t, Select>
     requires { N.sound nested.now }
-    ensures ok { IfOk result (λ read. select_at (N.readers nested.now) tokens.now ≡ Some (select_view read.0, read.1.now)) }
-    ensures shorter { IfOk result (λ read. length read.1.now < length tokens.now) }
-    ensures refused { IsErrOf result Stop.Refused → select_at (N.readers nested.now) tokens.now ≡ None }
+    ensures { Gives select_view result (select_at (N.readers nested.now) tokens.now) }
 {
     let rest = keyword(tokens, Keyword::Select)?;
     selected(alloc, nested, rest)
 }
 
-#[tactic(auto, unfolding(sql_grammar::specs::Reads::union_at))]
+#[tactic(auto, unfolding(sql_rules::specs::Reads::union_at))]
 fn union_part<'t, N: Nested<'t>>(alloc: Global, nested: &N, tokens: &'t [Token]) -> Read<'t, Select>
     requires { N.sound nested.now }
-    ensures ok { IfOk result (λ read. union_at (N.readers nested.now) tokens.now ≡ Some (select_view read.0, read.1.now)) }
-    ensures shorter { IfOk result (λ read. length read.1.now < length tokens.now) }
-    ensures refused { IsErrOf result Stop.Refused → union_at (N.readers nested.now) tokens.now ≡ None }
+    ensures { Gives select_view result (union_at (N.readers nested.now) tokens.now) }
 {
     let rest = keyword(tokens, Keyword::All)?;
     select_part(alloc, nested, rest)
 }
 
+// A select behind UNION.
+#[derive(Drop)]
+struct UnionRule<'n, N> {
+    nested: &'n N,
+}
+
+impl<'t, N: Nested<'t>> Rule<'t> for UnionRule<'_, N> {
+    type Item = Select;
+
+    ghost Seen = { t.Select };
+
+    ghost seen = { select_view };
+
+    ghost reads = { λ r. union_at (N.readers r.nested.now) };
+
+    ghost sound = { λ r. N.sound r.nested.now };
+
+    fn read(&self, alloc: Global, tokens: &'t [Token]) -> Read<'t, Select> {
+        union_part(alloc, self.nested, tokens)
+    }
+}
+
+#[tactic(auto, using(sql_rules::specs::laws::Steps::series_is), unfolding(sql_rules::specs::Reads::selects_at))]
 fn select_parts<'t, N: Nested<'t>>(
     alloc: Global,
     nested: &N,
     tokens: &'t [Token],
 ) -> Read<'t, Selects>
     requires { N.sound nested.now }
-    ensures ok { IfOk result (λ read. selects_at (N.readers nested.now) tokens.now ≡ Some (selects_view read.0, read.1.now)) }
-    ensures shorter { IfOk result (λ read. length read.1.now < length tokens.now) }
-    ensures refused { IsErrOf result Stop.Refused → selects_at (N.readers nested.now) tokens.now ≡ None }
+    ensures { Gives selects_view result (selects_at (N.readers nested.now) tokens.now) }
 {
     let (first, behind) = select_part(alloc, nested, tokens)?;
-    let mut list = Selects::new(alloc);
-    list.push(first)?;
-    let mut rest = behind;
-    'items: while let Some(after) = after_keyword(rest, Keyword::Union) {
-        let (item, after) = union_part(alloc, nested, after)?;
-        list.push(item)?;
-        rest = after;
-    }
-    Ok((list, rest))
+    led(alloc, Keyword::Union, &UnionRule { nested }, first, behind)
 }
 
-#[tactic(auto, unfolding(sql_grammar::specs::Reads::order_at))]
+#[tactic(auto, unfolding(sql_rules::specs::Reads::order_at))]
 fn order_part<'t, N: Nested<'t>>(
     alloc: Global,
     nested: &N,
     tokens: &'t [Token],
 ) -> Read<'t, SortList>
     requires { N.sound nested.now }
-    ensures ok { IfOk result (λ read. order_at (N.readers nested.now) tokens.now ≡ Some (sorts_view read.0, read.1.now)) }
-    ensures shorter { IfOk result (λ read. length read.1.now ≤ length tokens.now) }
-    ensures refused { IsErrOf result Stop.Refused → order_at (N.readers nested.now) tokens.now ≡ None }
+    ensures { Gives sorts_view result (order_at (N.readers nested.now) tokens.now) }
 {
     match after_keyword(tokens, Keyword::Order) {
         Some(rest) => { order_by(alloc, nested, rest) }
@@ -392,12 +466,10 @@ fn order_part<'t, N: Nested<'t>>(
 /// Reads a query, and answers it with what follows it.
 ///
 /// `nested` reads the expressions and queries within it.
-#[tactic(auto, using(sql_syntax::proofs::Views::query_made), unfolding(sql_grammar::specs::Reads::query_at))]
+#[tactic(auto, using(sql_syntax::specs::laws::Views::query_made), unfolding(sql_rules::specs::Reads::query_at))]
 pub fn query<'t, N: Nested<'t>>(alloc: Global, nested: &N, tokens: &'t [Token]) -> Read<'t, Query>
     requires { N.sound nested.now }
-    ensures ok { IfOk result (λ read. query_at (N.readers nested.now) tokens.now ≡ Some (query_view read.0, read.1.now)) }
-    ensures shorter { IfOk result (λ read. length read.1.now < length tokens.now) }
-    ensures refused { IsErrOf result Stop.Refused → query_at (N.readers nested.now) tokens.now ≡ None }
+    ensures { Gives query_view result (query_at (N.readers nested.now) tokens.now) }
 {
     let (selects, rest) = select_parts(alloc, nested, tokens)?;
     let (order, rest) = order_part(alloc, nested, rest)?;

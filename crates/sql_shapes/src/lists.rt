@@ -1,40 +1,53 @@
 //! Lists of expressions, and of what a query is ordered by.
-ghost use Rattle.std.specs.Prelude.{◌≡◌, ◌<◌, Some, None, length, IfOk, IsErrOf};
-ghost use Rattle.sql_syntax.specs.View.{sort_view, sorts_view, trees_view};
-ghost use Rattle.sql_grammar.specs.Spells.{is_desc};
-ghost use Rattle.sql_grammar.specs.Reads.{order_by_at, sort_at, sorts_at, trees_at};
+ghost use Rattle.std.specs.Prelude.{◌≡◌};
+ghost use Rattle.sql_syntax.specs.Tree as t;
+ghost use Rattle.sql_syntax.specs.View.{view, sort_view, sorts_view, trees_view};
+ghost use Rattle.sql_words.specs.Gives.{Gives};
+ghost use Rattle.sql_rules.specs.Nodes.{is_desc};
+ghost use Rattle.sql_rules.specs.Reads.{order_by_at, sort_at, sorts_at, trees_at};
 
+use crate::again::{Rule, listed};
 use crate::nested::Nested;
-use sql_syntax::{Sort, SortList, Trees};
-use sql_tokens::{Keyword, Symbol, Token};
-use sql_words::{Read, Stop, after_symbol, direction_word, keyword};
+use sql_syntax::{Sort, SortList, Tree, Trees};
+use sql_tokens::{Keyword, Token};
+use sql_words::{Read, direction_word, keyword};
 use std::alloc::Global;
 
-/// One expression or more with commas between them, and what follows them.
-pub fn trees<'t, N: Nested<'t>>(alloc: Global, nested: &N, tokens: &'t [Token]) -> Read<'t, Trees>
-    requires { N.sound nested.now }
-    ensures ok { IfOk result (λ read. trees_at (N.readers nested.now) tokens.now ≡ Some (trees_view read.0, read.1.now)) }
-    ensures shorter { IfOk result (λ read. length read.1.now < length tokens.now) }
-    ensures refused { IsErrOf result Stop.Refused → trees_at (N.readers nested.now) tokens.now ≡ None }
-{
-    let (first, behind) = nested.expr(alloc, tokens)?;
-    let mut list = Trees::new(alloc);
-    list.push(first)?;
-    let mut rest = behind;
-    'items: while let Some(after) = after_symbol(rest, Symbol::Comma) {
-        let (item, after) = nested.expr(alloc, after)?;
-        list.push(item)?;
-        rest = after;
-    }
-    Ok((list, rest))
+// An expression.
+#[derive(Drop)]
+struct ExpressionRule<'n, N> {
+    nested: &'n N,
 }
 
-#[tactic(auto, using(sql_syntax::proofs::Views::sort), unfolding(sql_grammar::specs::Reads::sort_at))]
+impl<'t, N: Nested<'t>> Rule<'t> for ExpressionRule<'_, N> {
+    type Item = Tree;
+
+    ghost Seen = { t.Tree };
+
+    ghost seen = { view };
+
+    ghost reads = { λ r. (N.readers r.nested.now).expr };
+
+    ghost sound = { λ r. N.sound r.nested.now };
+
+    fn read(&self, alloc: Global, tokens: &'t [Token]) -> Read<'t, Tree> {
+        self.nested.expr(alloc, tokens)
+    }
+}
+
+/// One expression or more with commas between them, and what follows them.
+#[tactic(auto, unfolding(sql_rules::specs::Reads::trees_at))]
+pub fn trees<'t, N: Nested<'t>>(alloc: Global, nested: &N, tokens: &'t [Token]) -> Read<'t, Trees>
+    requires { N.sound nested.now }
+    ensures { Gives trees_view result (trees_at (N.readers nested.now) tokens.now) }
+{
+    listed(alloc, &ExpressionRule { nested }, tokens)
+}
+
+#[tactic(auto, using(sql_syntax::specs::laws::Views::sort), unfolding(sql_rules::specs::Reads::sort_at))]
 fn sort_item<'t, N: Nested<'t>>(alloc: Global, nested: &N, tokens: &'t [Token]) -> Read<'t, Sort>
     requires { N.sound nested.now }
-    ensures ok { IfOk result (λ read. sort_at (N.readers nested.now) tokens.now ≡ Some (sort_view read.0, read.1.now)) }
-    ensures shorter { IfOk result (λ read. length read.1.now < length tokens.now) }
-    ensures refused { IsErrOf result Stop.Refused → sort_at (N.readers nested.now) tokens.now ≡ None }
+    ensures { Gives sort_view result (sort_at (N.readers nested.now) tokens.now) }
 {
     let (value, rest) = nested.expr(alloc, tokens)?;
     let (direction, rest) = direction_word(rest);
@@ -42,35 +55,45 @@ fn sort_item<'t, N: Nested<'t>>(alloc: Global, nested: &N, tokens: &'t [Token]) 
     Ok((Sort { value, desc }, rest))
 }
 
+// A sort item.
+#[derive(Drop)]
+struct SortRule<'n, N> {
+    nested: &'n N,
+}
+
+impl<'t, N: Nested<'t>> Rule<'t> for SortRule<'_, N> {
+    type Item = Sort;
+
+    ghost Seen = { t.Sort };
+
+    ghost seen = { sort_view };
+
+    ghost reads = { λ r. sort_at (N.readers r.nested.now) };
+
+    ghost sound = { λ r. N.sound r.nested.now };
+
+    fn read(&self, alloc: Global, tokens: &'t [Token]) -> Read<'t, Sort> {
+        sort_item(alloc, self.nested, tokens)
+    }
+}
+
+#[tactic(auto, unfolding(sql_rules::specs::Reads::sorts_at))]
 fn sorts<'t, N: Nested<'t>>(alloc: Global, nested: &N, tokens: &'t [Token]) -> Read<'t, SortList>
     requires { N.sound nested.now }
-    ensures ok { IfOk result (λ read. sorts_at (N.readers nested.now) tokens.now ≡ Some (sorts_view read.0, read.1.now)) }
-    ensures shorter { IfOk result (λ read. length read.1.now < length tokens.now) }
-    ensures refused { IsErrOf result Stop.Refused → sorts_at (N.readers nested.now) tokens.now ≡ None }
+    ensures { Gives sorts_view result (sorts_at (N.readers nested.now) tokens.now) }
 {
-    let (first, behind) = sort_item(alloc, nested, tokens)?;
-    let mut list = SortList::new(alloc);
-    list.push(first)?;
-    let mut rest = behind;
-    'items: while let Some(after) = after_symbol(rest, Symbol::Comma) {
-        let (item, after) = sort_item(alloc, nested, after)?;
-        list.push(item)?;
-        rest = after;
-    }
-    Ok((list, rest))
+    listed(alloc, &SortRule { nested }, tokens)
 }
 
 /// What follows ORDER: BY and one sort item or more.
-#[tactic(auto, unfolding(sql_grammar::specs::Reads::order_by_at))]
+#[tactic(auto, unfolding(sql_rules::specs::Reads::order_by_at))]
 pub fn order_by<'t, N: Nested<'t>>(
     alloc: Global,
     nested: &N,
     tokens: &'t [Token],
 ) -> Read<'t, SortList>
     requires { N.sound nested.now }
-    ensures ok { IfOk result (λ read. order_by_at (N.readers nested.now) tokens.now ≡ Some (sorts_view read.0, read.1.now)) }
-    ensures shorter { IfOk result (λ read. length read.1.now < length tokens.now) }
-    ensures refused { IsErrOf result Stop.Refused → order_by_at (N.readers nested.now) tokens.now ≡ None }
+    ensures { Gives sorts_view result (order_by_at (N.readers nested.now) tokens.now) }
 {
     let rest = keyword(tokens, Keyword::By)?;
     sorts(alloc, nested, rest)

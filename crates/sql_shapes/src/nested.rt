@@ -1,11 +1,11 @@
 //! What may stand within brackets, as the rules see it.
-ghost use Rattle.std.specs.Prelude.{◌≡◌, ◌<◌, Some, None, length, IfOk, IsErrOf};
 ghost use Rattle.sql_syntax.specs.View.{view, query_view};
-ghost use Rattle.sql_grammar.specs.Reads.{Readers};
+ghost use Rattle.sql_rules.specs.Reads.{Readers};
+ghost use Rattle.sql_words.specs.Gives.{Gives};
 
 use sql_syntax::{Query, Tree};
 use sql_tokens::Token;
-use sql_words::{Read, Stop};
+use sql_words::Read;
 use std::alloc::Global;
 
 /// How the expressions and queries within others are read.
@@ -21,14 +21,10 @@ pub trait Nested<'t> {
     /// Reads an expression, and answers what follows it.
     fn expr(&self, alloc: Global, tokens: &'t [Token]) -> Read<'t, Tree>
         requires { sound self.now }
-        ensures ok { IfOk result (λ read. (readers self.now).expr tokens.now ≡ Some (view read.0, read.1.now)) }
-        ensures shorter { IfOk result (λ read. length read.1.now < length tokens.now) }
-        ensures refused { IsErrOf result Stop.Refused → (readers self.now).expr tokens.now ≡ None };
+        ensures { Gives view result ((readers self.now).expr tokens.now) };
 
     /// Reads a query, and answers what follows it.
     fn query(&self, alloc: Global, tokens: &'t [Token]) -> Read<'t, Query>
         requires { sound self.now }
-        ensures ok { IfOk result (λ read. (readers self.now).query tokens.now ≡ Some (query_view read.0, read.1.now)) }
-        ensures shorter { IfOk result (λ read. length read.1.now < length tokens.now) }
-        ensures refused { IsErrOf result Stop.Refused → (readers self.now).query tokens.now ≡ None };
+        ensures { Gives query_view result ((readers self.now).query tokens.now) };
 }

@@ -1,5 +1,4 @@
 pub mod Ascii
-pub mod Pieces
 pub mod Quotes
 pub mod Splits
 pub mod Turns

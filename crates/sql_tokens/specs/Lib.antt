@@ -2,3 +2,4 @@ pub mod Depth
 pub mod Fronts
 pub mod Statements
 pub mod Tokens
+pub mod laws

@@ -1,13 +1,13 @@
 //! Single words at the head of tokens.
-ghost use Rattle.std.specs.Prelude.{◌≡◌, ◌<◌, ◌≤◌, Some, None, length, option_map, IfOk, IfSome, IsErrOf};
+ghost use Rattle.std.specs.Prelude.{◌≡◌, Some, None, Ok, option_map, IfOk, IsErrOf};
 ghost use Rattle.sql_tokens.specs.declared.token.Token.TheVariants as t;
-ghost use Rattle.sql_syntax.specs.View.{sum_word_view, product_word_view, join_word_view};
-ghost use Rattle.sql_grammar.specs.Words.{only, name_word, text_word, number_word, sign_word, sum_word, product_word, direction_word, join_word};
-ghost use Rattle.sql_grammar.specs.Reading.{word_at, flag, nothing, optional};
-ghost use Rattle.sql_grammar.specs.Reads.{name_at, primary_word, rest_word, negatable_word, statement_word};
-ghost use Rattle.sql_words.specs.Firsts.{primary_view, rest_view, negatable_view, stated_view};
+ghost use Rattle.sql_rules.specs.Words.{only, name_word, text_word, number_word, sign_word, sum_word, product_word, direction_word, join_word};
+ghost use Rattle.sql_rules.specs.Reading.{word_at, flag, nothing, optional};
+ghost use Rattle.sql_rules.specs.Reads.{name_at, primary_word, rest_word, negatable_word, statement_word};
+ghost use Rattle.sql_words.specs.Gives.{Answers, Passes};
 
 use ct_value::{CompareOp, Memory, Text};
+use sql_rules::{NegatableWord, PrimaryWord, RestWord, StatementWord};
 use sql_syntax::{JoinWord, ProductWord, SumWord};
 use sql_tokens::{Keyword, Symbol, Token};
 use std::alloc::AllocFailed;
@@ -44,10 +44,19 @@ impl<T: Drop> From<AllocFailed<T>> for Stop {
 /// What was read at the head of tokens and the tokens behind it, or why nothing was read.
 pub type Read<'t, T> = Result<(T, &'t [Token]), Stop>;
 
+/// What was read first, beside what is read behind it. `Stop::Refused` comes only from there.
+pub fn beside<T: Drop, R>(first: T, behind: Result<R, Stop>) -> Result<(T, R), Stop>
+    ensures first { IfOk result (λ both. both.0 ≡ first) }
+    ensures behind { IfOk result (λ both. behind ≡ Ok both.1) }
+    ensures refused { IsErrOf result Stop.Refused → IsErrOf behind Stop.Refused }
+{
+    let behind = behind?;
+    Ok((first, behind))
+}
+
 /// What follows a keyword, if it stands there.
 pub fn after_keyword(tokens: &[Token], wanted: Keyword) -> Option<&[Token]>
-    ensures word { option_map (λ rest. (tt, rest.now)) result ≡ word_at (only (t.Keyword wanted)) tokens.now }
-    ensures shorter { IfSome result (λ rest. length rest.now < length tokens.now) }
+    ensures { option_map (λ rest. (tt, rest.now)) result ≡ word_at (only (t.Keyword wanted)) tokens.now }
 {
     if let [Token::Keyword(found), rest @ ..] = tokens {
         if *found == wanted {
@@ -59,8 +68,7 @@ pub fn after_keyword(tokens: &[Token], wanted: Keyword) -> Option<&[Token]>
 
 /// What follows a symbol, if it stands there.
 pub fn after_symbol(tokens: &[Token], wanted: Symbol) -> Option<&[Token]>
-    ensures word { option_map (λ rest. (tt, rest.now)) result ≡ word_at (only (t.Symbol wanted)) tokens.now }
-    ensures shorter { IfSome result (λ rest. length rest.now < length tokens.now) }
+    ensures { option_map (λ rest. (tt, rest.now)) result ≡ word_at (only (t.Symbol wanted)) tokens.now }
 {
     if let [Token::Symbol(found), rest @ ..] = tokens {
         if *found == wanted {
@@ -72,9 +80,7 @@ pub fn after_symbol(tokens: &[Token], wanted: Symbol) -> Option<&[Token]>
 
 /// What follows a keyword, which has to stand there.
 pub fn keyword(tokens: &[Token], wanted: Keyword) -> Result<&[Token], Stop>
-    ensures ok { IfOk result (λ rest. word_at (only (t.Keyword wanted)) tokens.now ≡ Some (tt, rest.now)) }
-    ensures shorter { IfOk result (λ rest. length rest.now < length tokens.now) }
-    ensures refused { IsErrOf result Stop.Refused → word_at (only (t.Keyword wanted)) tokens.now ≡ None }
+    ensures { Passes result (word_at (only (t.Keyword wanted)) tokens.now) }
 {
     match after_keyword(tokens, wanted) {
         Some(rest) => Ok(rest),
@@ -84,9 +90,7 @@ pub fn keyword(tokens: &[Token], wanted: Keyword) -> Result<&[Token], Stop>
 
 /// What follows a symbol, which has to stand there.
 pub fn symbol(tokens: &[Token], wanted: Symbol) -> Result<&[Token], Stop>
-    ensures ok { IfOk result (λ rest. word_at (only (t.Symbol wanted)) tokens.now ≡ Some (tt, rest.now)) }
-    ensures shorter { IfOk result (λ rest. length rest.now < length tokens.now) }
-    ensures refused { IsErrOf result Stop.Refused → word_at (only (t.Symbol wanted)) tokens.now ≡ None }
+    ensures { Passes result (word_at (only (t.Symbol wanted)) tokens.now) }
 {
     match after_symbol(tokens, wanted) {
         Some(rest) => Ok(rest),
@@ -96,8 +100,7 @@ pub fn symbol(tokens: &[Token], wanted: Symbol) -> Result<&[Token], Stop>
 
 /// Whether a keyword stands there, and what follows it.
 pub fn flagged(tokens: &[Token], wanted: Keyword) -> (bool, &[Token])
-    ensures read { flag (t.Keyword wanted) nothing tokens.now ≡ Some (result.0, result.1.now) }
-    ensures shorter { length result.1.now ≤ length tokens.now }
+    ensures { flag (t.Keyword wanted) nothing tokens.now ≡ Some (result.0, result.1.now) }
 {
     match after_keyword(tokens, wanted) {
         Some(rest) => (true, rest),
@@ -106,10 +109,8 @@ pub fn flagged(tokens: &[Token], wanted: Keyword) -> (bool, &[Token])
 }
 
 /// A name, whether it stood in backticks, and what follows it, if a name stands there.
-pub fn name_word(tokens: &[Token]) -> Result<Option<(Text, bool, &[Token])>, Stop>
-    ensures ok { IfOk result (λ found. option_map (λ x. ((x.0, x.1), x.2.now)) found ≡ word_at name_word tokens.now) }
-    ensures shorter { IfOk result (λ found. IfSome found (λ x. length x.2.now < length tokens.now)) }
-    ensures refused { IsErrOf result Stop.Refused → ⊥ }
+pub fn name_word(tokens: &[Token]) -> Result<Option<(Text, bool, &[Token])>, Memory>
+    ensures { IfOk result (λ found. option_map (λ x. ((x.0, x.1), x.2.now)) found ≡ word_at name_word tokens.now) }
 {
     match tokens {
         [Token::Name { text, quoted }, rest @ ..] => Ok(Some((text.dup()?, *quoted, rest))),
@@ -118,11 +119,9 @@ pub fn name_word(tokens: &[Token]) -> Result<Option<(Text, bool, &[Token])>, Sto
 }
 
 /// A name, which has to stand there.
-#[tactic(auto, unfolding(sql_grammar::specs::Reads::name_at))]
+#[tactic(auto, unfolding(sql_rules::specs::Reads::name_at))]
 pub fn name(tokens: &[Token]) -> Read<'_, Text>
-    ensures ok { IfOk result (λ read. name_at tokens.now ≡ Some (read.0, read.1.now)) }
-    ensures shorter { IfOk result (λ read. length read.1.now < length tokens.now) }
-    ensures refused { IsErrOf result Stop.Refused → name_at tokens.now ≡ None }
+    ensures { Answers result (name_at tokens.now) }
 {
     match tokens {
         [Token::Name { text, .. }, rest @ ..] => Ok((text.dup()?, rest)),
@@ -132,9 +131,7 @@ pub fn name(tokens: &[Token]) -> Read<'_, Text>
 
 /// A text, which has to stand there.
 pub fn text(tokens: &[Token]) -> Read<'_, Text>
-    ensures ok { IfOk result (λ read. word_at text_word tokens.now ≡ Some (read.0, read.1.now)) }
-    ensures shorter { IfOk result (λ read. length read.1.now < length tokens.now) }
-    ensures refused { IsErrOf result Stop.Refused → word_at text_word tokens.now ≡ None }
+    ensures { Answers result (word_at text_word tokens.now) }
 {
     match tokens {
         [Token::Str(text), rest @ ..] => Ok((text.dup()?, rest)),
@@ -144,9 +141,7 @@ pub fn text(tokens: &[Token]) -> Read<'_, Text>
 
 /// A number, which has to stand there.
 pub fn number(tokens: &[Token]) -> Read<'_, Text>
-    ensures ok { IfOk result (λ read. word_at number_word tokens.now ≡ Some (read.0, read.1.now)) }
-    ensures shorter { IfOk result (λ read. length read.1.now < length tokens.now) }
-    ensures refused { IsErrOf result Stop.Refused → word_at number_word tokens.now ≡ None }
+    ensures { Answers result (word_at number_word tokens.now) }
 {
     match tokens {
         [Token::Number(text), rest @ ..] => Ok((text.dup()?, rest)),
@@ -156,8 +151,7 @@ pub fn number(tokens: &[Token]) -> Read<'_, Text>
 
 /// A sign, if it stands there, and what follows it; true is the minus sign.
 pub fn sign_word(tokens: &[Token]) -> (Option<bool>, &[Token])
-    ensures read { optional sign_word tokens.now ≡ Some (result.0, result.1.now) }
-    ensures shorter { length result.1.now ≤ length tokens.now }
+    ensures { optional sign_word tokens.now ≡ Some (result.0, result.1.now) }
 {
     match tokens {
         [Token::Symbol(Symbol::Plus), rest @ ..] => (Some(false), rest),
@@ -168,8 +162,7 @@ pub fn sign_word(tokens: &[Token]) -> (Option<bool>, &[Token])
 
 /// The direction of a sort item, if it stands there, and what follows it; true is DESC.
 pub fn direction_word(tokens: &[Token]) -> (Option<bool>, &[Token])
-    ensures read { optional direction_word tokens.now ≡ Some (result.0, result.1.now) }
-    ensures shorter { length result.1.now ≤ length tokens.now }
+    ensures { optional direction_word tokens.now ≡ Some (result.0, result.1.now) }
 {
     match tokens {
         [Token::Keyword(Keyword::Asc), rest @ ..] => (Some(false), rest),
@@ -180,8 +173,7 @@ pub fn direction_word(tokens: &[Token]) -> (Option<bool>, &[Token])
 
 /// A word of a sum and what follows it, if it stands there.
 pub fn sum_word(tokens: &[Token]) -> Option<(SumWord, &[Token])>
-    ensures word { option_map (λ x. (sum_word_view x.0, x.1.now)) result ≡ word_at sum_word tokens.now }
-    ensures shorter { IfSome result (λ x. length x.1.now < length tokens.now) }
+    ensures { option_map (λ x. (x.0, x.1.now)) result ≡ word_at sum_word tokens.now }
 {
     match tokens {
         [Token::Symbol(Symbol::Plus), rest @ ..] => Some((SumWord::Plus, rest)),
@@ -193,8 +185,7 @@ pub fn sum_word(tokens: &[Token]) -> Option<(SumWord, &[Token])>
 
 /// A word of a product and what follows it, if it stands there.
 pub fn product_word(tokens: &[Token]) -> Option<(ProductWord, &[Token])>
-    ensures word { option_map (λ x. (product_word_view x.0, x.1.now)) result ≡ word_at product_word tokens.now }
-    ensures shorter { IfSome result (λ x. length x.1.now < length tokens.now) }
+    ensures { option_map (λ x. (x.0, x.1.now)) result ≡ word_at product_word tokens.now }
 {
     match tokens {
         [Token::Symbol(Symbol::Times), rest @ ..] => Some((ProductWord::Times, rest)),
@@ -206,8 +197,7 @@ pub fn product_word(tokens: &[Token]) -> Option<(ProductWord, &[Token])>
 
 /// The first word of a join, `None` being JOIN alone, and what follows it, if it stands there.
 pub fn join_word(tokens: &[Token]) -> Option<(Option<JoinWord>, &[Token])>
-    ensures word { option_map (λ x. (option_map join_word_view x.0, x.1.now)) result ≡ word_at join_word tokens.now }
-    ensures shorter { IfSome result (λ x. length x.1.now < length tokens.now) }
+    ensures { option_map (λ x. (x.0, x.1.now)) result ≡ word_at join_word tokens.now }
 {
     match tokens {
         [first, rest @ ..] => Some((join_of(first)?, rest)),
@@ -217,7 +207,7 @@ pub fn join_word(tokens: &[Token]) -> Option<(Option<JoinWord>, &[Token])>
 
 // What the token says as the first word of a join.
 fn join_of(token: &Token) -> Option<Option<JoinWord>>
-    ensures { option_map (option_map join_word_view) result ≡ join_word token.now }
+    ensures { result ≡ join_word token.now }
 {
     match token {
         Token::Keyword(Keyword::Join) => Some(None),
@@ -229,32 +219,9 @@ fn join_of(token: &Token) -> Option<Option<JoinWord>>
     }
 }
 
-/// What the first token of a primary says.
-#[derive(Drop)]
-pub enum PrimaryWord {
-    /// A number, as it was written.
-    Number(Text),
-    /// A text, without its quotes.
-    Str(Text),
-    /// TRUE or FALSE.
-    Truth(bool),
-    /// NULL.
-    Null,
-    /// A name, and whether it stood in backticks.
-    Name(Text, bool),
-    /// CAST.
-    Cast,
-    /// An opening bracket.
-    Bracket,
-    /// CASE.
-    Case,
-}
-
 /// The first token of a primary, which has to stand there.
 pub fn primary_word(tokens: &[Token]) -> Read<'_, PrimaryWord>
-    ensures ok { IfOk result (λ read. word_at primary_word tokens.now ≡ Some (primary_view read.0, read.1.now)) }
-    ensures shorter { IfOk result (λ read. length read.1.now < length tokens.now) }
-    ensures refused { IsErrOf result Stop.Refused → word_at primary_word tokens.now ≡ None }
+    ensures { Answers result (word_at primary_word tokens.now) }
 {
     match tokens {
         [first, rest @ ..] => Ok((primary_of(first)?, rest)),
@@ -264,7 +231,7 @@ pub fn primary_word(tokens: &[Token]) -> Read<'_, PrimaryWord>
 
 // What the token says as the first of a primary.
 fn primary_of(token: &Token) -> Result<PrimaryWord, Stop>
-    ensures ok { IfOk result (λ word. primary_word token.now ≡ Some (primary_view word)) }
+    ensures ok { IfOk result (λ word. primary_word token.now ≡ Some word) }
     ensures refused { IsErrOf result Stop.Refused → primary_word token.now ≡ None }
 {
     match token {
@@ -281,19 +248,9 @@ fn primary_of(token: &Token) -> Result<PrimaryWord, Stop>
     }
 }
 
-/// The word of a test before which NOT may stand.
-#[derive(Clone, Copy)]
-pub enum NegatableWord {
-    Between,
-    In,
-    Like,
-}
-
 /// The word of a test before which NOT may stand; it has to stand there.
 pub fn negatable_word(tokens: &[Token]) -> Read<'_, NegatableWord>
-    ensures ok { IfOk result (λ read. word_at negatable_word tokens.now ≡ Some (negatable_view read.0, read.1.now)) }
-    ensures shorter { IfOk result (λ read. length read.1.now < length tokens.now) }
-    ensures refused { IsErrOf result Stop.Refused → word_at negatable_word tokens.now ≡ None }
+    ensures { Answers result (word_at negatable_word tokens.now) }
 {
     match tokens {
         [Token::Keyword(Keyword::Between), rest @ ..] => Ok((NegatableWord::Between, rest)),
@@ -303,23 +260,9 @@ pub fn negatable_word(tokens: &[Token]) -> Read<'_, NegatableWord>
     }
 }
 
-/// What the first token of the rest of a test says.
-#[derive(Clone, Copy)]
-pub enum RestWord {
-    /// The sign of a comparison.
-    Compare(CompareOp),
-    /// IS.
-    Is,
-    /// NOT, behind which one of the words of `NegatableWord` has to follow.
-    Not,
-    /// BETWEEN, IN or LIKE.
-    Negatable(NegatableWord),
-}
-
 /// The first token of the rest of a test and what follows it, if it stands there.
 pub fn rest_word(tokens: &[Token]) -> Option<(RestWord, &[Token])>
-    ensures word { option_map (λ x. (rest_view x.0, x.1.now)) result ≡ word_at rest_word tokens.now }
-    ensures shorter { IfSome result (λ x. length x.1.now < length tokens.now) }
+    ensures { option_map (λ x. (x.0, x.1.now)) result ≡ word_at rest_word tokens.now }
 {
     match tokens {
         [first, rest @ ..] => Some((rest_of(first)?, rest)),
@@ -329,7 +272,7 @@ pub fn rest_word(tokens: &[Token]) -> Option<(RestWord, &[Token])>
 
 // What the token says as the first of the rest of a test.
 fn rest_of(token: &Token) -> Option<RestWord>
-    ensures { option_map rest_view result ≡ rest_word token.now }
+    ensures { result ≡ rest_word token.now }
 {
     match token {
         Token::Symbol(Symbol::Equal) => Some(RestWord::Compare(CompareOp::Eq)),
@@ -347,19 +290,9 @@ fn rest_of(token: &Token) -> Option<RestWord>
     }
 }
 
-/// What the first token of a statement says.
-#[derive(Clone, Copy)]
-pub enum StatementWord {
-    Create,
-    Set,
-    Insert,
-}
-
 /// The first token of a statement, which has to stand there.
 pub fn statement_word(tokens: &[Token]) -> Read<'_, StatementWord>
-    ensures ok { IfOk result (λ read. word_at statement_word tokens.now ≡ Some (stated_view read.0, read.1.now)) }
-    ensures shorter { IfOk result (λ read. length read.1.now < length tokens.now) }
-    ensures refused { IsErrOf result Stop.Refused → word_at statement_word tokens.now ≡ None }
+    ensures { Answers result (word_at statement_word tokens.now) }
 {
     match tokens {
         [Token::Keyword(Keyword::Create), rest @ ..] => Ok((StatementWord::Create, rest)),

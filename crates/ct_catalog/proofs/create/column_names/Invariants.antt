@@ -1,7 +1,6 @@
 use Rattle.std.proofs.Common.{◌≡◌, ◌++◌, map, drop}
-use Rattle.sql_syntax.specs.View.{element_view}
 use Rattle.ct_catalog.specs.Tables.{column_names}
 use Rattle.ct_catalog.proofs.create.column_names.Given as goal
 
 abbrev pub invariant-loop-element : goal.invariant-loop-element
-invariant-loop-element l = l.names ++ column_names (map element_view (drop l.element-index l.elements)) ≡ column_names (map element_view l.elements)
+invariant-loop-element l = l.names ++ column_names (drop l.element-index l.elements) ≡ column_names l.elements

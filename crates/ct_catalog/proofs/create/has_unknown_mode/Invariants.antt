@@ -1,7 +1,6 @@
 use Rattle.std.proofs.Common.{◌≡◌, map, drop}
-use Rattle.sql_syntax.specs.View.{pair_view}
 use Rattle.ct_catalog.specs.Tables.{has_unknown_mode}
 use Rattle.ct_catalog.proofs.create.has_unknown_mode.Given as goal
 
 abbrev pub invariant-loop-option : goal.invariant-loop-option
-invariant-loop-option l = has_unknown_mode (map pair_view (drop l.option-index l.options)) ≡ has_unknown_mode (map pair_view l.options)
+invariant-loop-option l = has_unknown_mode (drop l.option-index l.options) ≡ has_unknown_mode l.options

@@ -1,7 +1,6 @@
 use Rattle.std.proofs.Common.{◌≡◌, map, drop}
-use Rattle.sql_syntax.specs.View.{pair_view}
 use Rattle.ct_catalog.specs.Tables.{last_mode, mode_words, declared_mode}
 use Rattle.ct_catalog.proofs.create.last_mode.Given as goal
 
 abbrev pub invariant-loop-option : goal.invariant-loop-option
-invariant-loop-option l = last_mode l.mode (mode_words (map pair_view (drop l.option-index l.options))) ≡ declared_mode (map pair_view l.options)
+invariant-loop-option l = last_mode l.mode (mode_words (drop l.option-index l.options)) ≡ declared_mode l.options

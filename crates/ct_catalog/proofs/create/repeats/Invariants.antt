@@ -1,4 +1,5 @@
 use Rattle.std.proofs.Common.{◌≡◌, ℕ, List, false, take}
+use Rattle.std.specs.Borrow.{Bor}
 use Rattle.std.specs.BTreeSet.{contains}
 use Rattle.std.specs.Cmp.Lexicographic.{slice_cmp}
 use Rattle.std.specs.Ordering.{nat_cmp}
@@ -7,6 +8,6 @@ use Rattle.ct_catalog.proofs.create.repeats.Given as goal
 
 abbrev pub invariant-loop-name : goal.invariant-loop-name
 invariant-loop-name l = record {
-  known : (q : List ℕ) → contains (slice_cmp nat_cmp) l.seen q ≡ has_name (take l.name-index l.names) q;
+  known : (q : Bor (List ℕ)) → contains (λ (x y : Bor (List ℕ)). slice_cmp nat_cmp x.now y.now) l.seen q ≡ has_name (take l.name-index l.names) q.now;
   apart : repeats (take l.name-index l.names) ≡ false;
 }

@@ -1,5 +1,0 @@
-use Rattle.sql_parse.proofs.Scripts.{read_refusal, refusal_read}
-use Rattle.sql_parse.proofs.laws.text_is_refused.Goals as goal
-
-pub returns : goal.returns
-returns c text code number = (read_refusal text code number, refusal_read text code number)

@@ -1,5 +1,0 @@
-use Rattle.sql_parse.proofs.Scripts.{script_read, is_read}
-use Rattle.sql_parse.proofs.laws.text_is_script.Goals as goal
-
-pub returns : goal.returns
-returns c text x = (script_read text x, is_read text x)
