@@ -1,9 +1,11 @@
 -- A second change of a row that a first one added may come.
-use Rattle.std.proofs.Common.{◌≡◌, ℕ, ◌≤◌, true, [], ◌∷◌, length, sym, ap, ◌∙◌, arith}
+use Rattle.std.proofs.Common.{◌≡◌, ℕ, ◌≤◌, true, [], ◌∷◌, length, refl, sym, ap, ◌∙◌, arith}
 use Rattle.ct_value.specs.Bag.{none, one_at, one_at_itself, copies-add}
 use Rattle.ct_value.specs.Order.{row_cmp, row_total}
 use Rattle.ct_change.specs.declared.change.Change.{Change}
-use Rattle.ct_change.specs.Changelog.{retract, adds}
+use Rattle.ct_change.specs.declared.kind.Kind.TheVariants.{I}
+use Rattle.ct_change.specs.Changelog.{Mode, append, retract, upsert, Rows, MayCome, adds}
+use Rattle.ct_value.specs.declared.row.Row.{Row}
 use Rattle.op_rules.specs.History.{arrival}
 use Rattle.op_rules.specs.Rule.{group}
 use Rattle.op_rules.specs.Rules.{MayArrive}
@@ -15,3 +17,9 @@ second_may keys first second adding same wide = record {
   wide = wide;
   key = tt;
 }
+
+-- a row may come as an insertion in each mode
+pub first_may : (mode : Mode) (rows : Rows) (row : Row) → MayCome mode rows (record { kind = I; row = row })
+first_may append rows row = refl
+first_may retract rows row = λ e. absurd (cc)
+first_may (upsert key) rows row = refl

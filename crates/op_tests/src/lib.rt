@@ -1,5 +1,12 @@
-//! Tests of changes, kept state and operators.
+//! Tests that memory suffices where there is enough of it: each call of changes, modes, kept state, channels and operators
+//! once. What the calls answer is in their contracts, and that the definitions say what they should is shown by `op_examples`.
 #![tactic(auto)]
 
 #[cfg(test)]
-mod tests;
+mod groups;
+#[cfg(test)]
+mod modes;
+#[cfg(test)]
+mod rows;
+#[cfg(test)]
+mod state;

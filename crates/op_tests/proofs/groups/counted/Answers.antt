@@ -3,7 +3,7 @@ use Rattle.ct_change.specs.declared.change.Change.{Change}
 use Rattle.ct_change.specs.Changelog.{adds}
 use Rattle.op_rules.specs.Rule.{Rule, columns_needed}
 use Rattle.op_tests.proofs.Arrivals.{second_may}
-use Rattle.op_tests.proofs.tests.counted.Goals as goal
+use Rattle.op_tests.proofs.groups.counted.Goals as goal
 
 pub two-requires-clause-second : goal.two-requires-clause-second
 two-requires-clause-second c =

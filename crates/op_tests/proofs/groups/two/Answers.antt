@@ -1,7 +1,7 @@
 use Rattle.std.proofs.Common.{[], ◌∷◌, arith}
 use Rattle.op_rules.specs.History.{arrival}
 use Rattle.op_rules.specs.Rules.{MayArrive}
-use Rattle.op_tests.proofs.tests.two.Goals as goal
+use Rattle.op_tests.proofs.groups.two.Goals as goal
 
 pub consume-requires-2-clause-may : goal.consume-requires-2-clause-may
 consume-requires-2-clause-may g c =
