@@ -36,6 +36,7 @@ module _ (many keys width : ℕ) (route : Row → ℕ) (some : 0 < many) (column
   wired = record {
     parallel = some;
     below = below;
+    numbered = numbered;
     sourced = sourced;
     feeds = feeds;
     feeds_port = feeds_port;
@@ -54,6 +55,11 @@ module _ (many keys width : ℕ) (route : Row → ℕ) (some : 0 < many) (column
       below : (v p : ℕ) → p < ports many keys width route v → source many keys width route v p < v
       below zero p l = absurd (omega arith)
       below (suc v) p l = omega arith
+
+      numbered : (v p : ℕ) → p < ports many keys width route v → 0 < source many keys width route v p
+      numbered zero p l = absurd (omega arith)
+      numbered (suc zero) p l = absurd (omega arith)
+      numbered (suc (suc v)) p l = omega arith
 
       sourced : (v p : ℕ) → p < ports many keys width route v → IsNode (counted_network many keys width route) (source many keys width route v p)
       sourced zero p l = absurd (omega arith)

@@ -1,6 +1,7 @@
 pub mod Bags
 pub mod Counted
 pub mod Counts
+pub mod Drain
 pub mod Exchange
 pub mod Histories
 pub mod Nodes

@@ -1,4 +1,5 @@
 pub mod Counted
+pub mod Drain
 pub mod Machine
 pub mod Network
 pub mod Runs

@@ -66,6 +66,7 @@ IsNode g v = ((table : ℕ) × (g.scans v ≡ Some table)) ⊎ (0 < g.ports v)
 pub record IsWired (g : Network) : Type 0 where
   pub parallel : 0 < g.subtasks
   pub below : (v p : ℕ) → p < g.ports v → g.source v p < v
+  pub numbered : (v p : ℕ) → p < g.ports v → 0 < g.source v p
   pub sourced : (v p : ℕ) → p < g.ports v → IsNode g (g.source v p)
   pub feeds : (v p : ℕ) → p < g.ports v → g.fed (g.source v p) ≡ Some (record { node = v; port = p })
   pub feeds_port : (e : ℕ) (feed : Feed) → g.fed e ≡ Some feed → (feed.port < g.ports feed.node) × (g.source feed.node feed.port ≡ e)

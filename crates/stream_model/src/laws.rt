@@ -1,5 +1,6 @@
 //! What is known of the machine. These functions have nothing to do: their contracts are the laws.
 ghost use Rattle.stream_model.specs.Counted.{CountsMeetPremises};
+ghost use Rattle.stream_model.specs.Drain.{RunsAreSafe, RunsDrain};
 ghost use Rattle.stream_model.specs.Scans.{ScansStand};
 ghost use Rattle.stream_model.specs.Theorem.{Composes, PrintedFolds};
 
@@ -24,4 +25,16 @@ pub fn scans_stand()
 /// A grouped count, in any number of subtasks and by any routing, meets all that the theorem asks of a plan.
 pub fn counts_meet_premises()
     ensures { CountsMeetPremises }
+{}
+
+/// In every such state, and in all to which it leads, the front of each channel may be consumed, and no subtask consumed
+/// more changes than were sent, nor were more sent than the limit.
+pub fn runs_are_safe()
+    ensures { RunsAreSafe }
+{}
+
+/// In every such state a drain leads to a quiet one, or stops where a node is out of range, by the limit or for want of
+/// memory.
+pub fn runs_drain()
+    ensures { RunsDrain }
 {}
