@@ -1,2 +1,3 @@
+pub mod AnswerTypes
 pub mod CountStar
 pub mod Results

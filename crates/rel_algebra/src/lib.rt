@@ -1,10 +1,13 @@
-//! The relational algebra: so far the batch answer of a grouped count.
+//! The relational algebra: its trees, and their batch answers.
 //!
-//! Promised: `specs/Groups` defines the answer, and its laws tell which rows it has, and that it is the clause of grouping with that
-//! call. It stands on the clauses of queries, and on the rows of `ct_change`.
+//! Promised: `specs/Types` says which trees are well-typed, `specs/Answer` what their batch answers are, one clause for each
+//! node. The laws tell that an answer's rows have the tree's columns, and that the count of groups in `specs/Groups` is the clause
+//! of grouping. It stands on the clauses of queries and on expressions.
 #![tactic(auto)]
 
 mod laws;
+mod rel;
 
-pub use laws::grouped_counts_are_the_clause;
+pub use laws::{answers_have_their_columns, grouped_counts_are_the_clause};
+pub use rel::{Rel, Rels};
 pub use rel_clauses::{Agg, AggCall, Aggs};

@@ -1,10 +1,11 @@
 -- Filter, Project and Union: functions from bags, and from what their expressions are at a row, to a bag or out of range.
-use Rattle.std.specs.Prelude.{Bool, List, [], ◌∷◌, map, Option, Some, None, option_map}
+use Rattle.std.specs.Prelude.{◌≡◌, Bool, true, List, [], ◌∷◌, map, Option, Some, None, option_map}
 use Rattle.ct_value.specs.Bag.{none}
 use Rattle.ct_value.specs.declared.row.Row.{Row}
+use Rattle.ct_value.specs.declared.ty.ColTy.{ColTy}
 use Rattle.ct_value.specs.declared.value.Value.{Value}
 use Rattle.ct_change.specs.Changelog.{Rows}
-use Rattle.ct_field.specs.Typed.{is_true}
+use Rattle.ct_field.specs.Typed.{is_true, col_fits, row_fits}
 use Rattle.rel_clauses.specs.Sums.{one, kept, together, sum_over}
 
 -- what an expression is at each row: a value, or out of range
@@ -41,3 +42,14 @@ project_rows meanings rows = sum_over (λ row. option_map one (row_of meanings r
 abbrev pub union_rows : List Rows → Rows
 union_rows [] = none
 union_rows (rows ∷ others) = together rows (union_rows others)
+
+-- the row has these columns
+abbrev pub Fits : List ColTy → Row → Type 0
+Fits columns row = row_fits columns row ≡ true
+
+-- where the row has these columns, each meaning's value is of its own column
+abbrev pub MeanTypes : List ColTy → List Meaning → List ColTy → Type 0
+MeanTypes columns [] [] = Unit {0}
+MeanTypes columns [] (made ∷ others) = ⊥
+MeanTypes columns (meaning ∷ meanings) [] = ⊥
+MeanTypes columns (meaning ∷ meanings) (made ∷ others) = ((row : Row) (value : Value) → Fits columns row → meaning row ≡ Some value → col_fits made value ≡ true) × MeanTypes columns meanings others

@@ -1,9 +1,12 @@
 -- Top-N: the rank order of rows, and the first rows of each partition in it.
-use Rattle.std.specs.Prelude.{ℕ, suc, pos, Bool, true, false, cond, List, [], ◌∷◌, ◌++◌, map, take, Option, Some}
+use Rattle.std.specs.Prelude.{◌≡◌, ℕ, suc, pos, Bool, true, false, cond, List, [], ◌∷◌, ◌++◌, map, take, Option, Some}
 use Rattle.std.specs.declared.cmp.Ordering.{Ordering}
-use Rattle.std.specs.Ordering.{then_cmp, on, flip_args}
+use Rattle.std.specs.declared.cmp.Ordering.TheVariants.{Less, Equal, Greater}
+use Rattle.std.specs.Ordering.{then_cmp, on, flip_args, ordering_then}
+use Rattle.std.specs.Cmp.{IsTotalOrder, on_total, then_total, back_total}
+use Rattle.std.specs.FinMap.{IsAntisymmetric}
 use Rattle.ct_value.specs.Bag.{items, bag_of}
-use Rattle.ct_value.specs.Order.{value_cmp, row_cmp}
+use Rattle.ct_value.specs.Order.{value_cmp, value_total, row_cmp, row_total, row_exact}
 use Rattle.ct_value.specs.Rows.{project}
 use Rattle.ct_value.specs.declared.row.Row.{Row}
 use Rattle.ct_value.specs.declared.ty.ColTy.{ColTy}
@@ -27,6 +30,24 @@ sort_cmp sort = on (cell sort.col) (directed sort.desc)
 abbrev pub rank_cmp : List SortCol → Row → Row → Ordering
 rank_cmp [] = row_cmp
 rank_cmp (sort ∷ sorts) = then_cmp (sort_cmp sort) (rank_cmp sorts)
+
+directed_total : (desc : Bool) → IsTotalOrder (directed desc)
+directed_total true = back_total value_total
+directed_total false = value_total
+
+pub rank_total : (sorts : List SortCol) → IsTotalOrder (rank_cmp sorts)
+rank_total [] = row_total
+rank_total (sort ∷ sorts) = then_total (on_total (cell sort.col) (directed_total sort.desc)) (rank_total sorts)
+
+second_tied : (r s : Ordering) → ordering_then r s ≡ Equal → s ≡ Equal
+second_tied Less s e = absurd (cc)
+second_tied Equal s e = e
+second_tied Greater s e = absurd (cc)
+
+-- rows that compare alike in it are one
+pub rank_exact : (sorts : List SortCol) → IsAntisymmetric (rank_cmp sorts)
+rank_exact [] a b e = row_exact a b e
+rank_exact (sort ∷ sorts) a b e = rank_exact sorts a b (second_tied _ _ e)
 
 -- the rows in rank order, each copy by itself
 abbrev pub in_rank_order : List SortCol → Rows → List Row

@@ -1,6 +1,10 @@
 pub mod Aggregates
+pub mod Averages
 pub mod Bags
+pub mod ClauseTypes
 pub mod Clauses
+pub mod Fits
 pub mod Groups
 pub mod Joins
 pub mod Keys
+pub mod ResultTypes

@@ -1,21 +1,22 @@
 //! What is known of the clauses. These functions have nothing to do: their contracts are the laws.
-ghost use Rattle.std.specs.Prelude.{◌≡◌, ◌<◌, ◌+◌, ◌+ℤ◌, ◌++◌, ℕ, suc, Bool, List, map, take, Option, Some, option_map, is_some};
+ghost use Rattle.std.specs.Prelude.{◌≡◌, ◌<◌, ◌+◌, ◌^◌, ◌+ℤ◌, ◌++◌, ℕ, suc, Bool, List, length, map, take, Option, Some, option_map, is_some};
 ghost use Rattle.std.specs.List.{list_all};
 ghost use Rattle.ct_value.specs.Bag.{copies, items, none};
 ghost use Rattle.ct_value.specs.Order.{row_cmp};
 ghost use Rattle.ct_value.specs.Rows.{project};
 ghost use Rattle.ct_value.specs.declared.row.Row.{Row};
+ghost use Rattle.ct_value.specs.declared.ty.ColTy.{ColTy};
 ghost use Rattle.ct_change.specs.Changelog.{Rows};
 ghost use Rattle.rel_clauses.specs.declared.agg.Agg.{Agg};
 ghost use Rattle.rel_clauses.specs.declared.join.JoinKind.{JoinKind};
 ghost use Rattle.rel_clauses.specs.declared.sort.SortCol.{SortCol};
-ghost use Rattle.rel_clauses.specs.Aggregates.{Values, size, known, sum_of, values_of};
-ghost use Rattle.rel_clauses.specs.Clauses.{Meaning, filter_rows, project_rows, union_rows};
-ghost use Rattle.rel_clauses.specs.Groups.{group_rows};
-ghost use Rattle.rel_clauses.specs.Joins.{Matching, MatchNone, inner_join, join_rows, semi_join};
+ghost use Rattle.rel_clauses.specs.Aggregates.{Values, size, known, sum_of, values_of, agg_results};
+ghost use Rattle.rel_clauses.specs.Clauses.{Meaning, MeanTypes, Fits, filter_rows, project_rows, union_rows};
+ghost use Rattle.rel_clauses.specs.Groups.{group_rows, group_columns};
+ghost use Rattle.rel_clauses.specs.Joins.{Matching, MatchNone, inner_join, join_columns, join_rows, semi_join};
 ghost use Rattle.rel_clauses.specs.Keys.{AreApart};
-ghost use Rattle.rel_clauses.specs.Ranks.{first_rows, rank_rows};
-ghost use Rattle.rel_clauses.specs.Sums.{one, together, plus, sum_over};
+ghost use Rattle.rel_clauses.specs.Ranks.{first_rows, rank_columns, rank_rows};
+ghost use Rattle.rel_clauses.specs.Sums.{Each, one, together, plus, sum_over};
 
 /// Two bags with the same copies of each row are one: whatever a clause answers, it depends on its bags
 /// alone.
@@ -64,6 +65,17 @@ pub fn rank_of_parts()
     ensures parts { (partition : List ℕ) (sorts : List SortCol) (bound : ℕ) (ranked : Bool) (rows others : Rows) → AreApart (project partition) rows others → rank_rows partition sorts bound ranked (together rows others) ≡ plus (rank_rows partition sorts bound ranked rows) (rank_rows partition sorts bound ranked others) }
     ensures one_partition { (partition : List ℕ) (sorts : List SortCol) (bound : ℕ) (ranked : Bool) (key : Row) (rows : Rows) (row : Row) → 0 < copies rows row → ((row : Row) → 0 < copies rows row → key ≡ project partition row) → rank_rows partition sorts bound ranked rows ≡ Some (first_rows sorts bound ranked rows) }
     ensures in_range { (partition : List ℕ) (sorts : List SortCol) (bound : ℕ) (ranked : Bool) (rows : Rows) → (answer : Rows) × (rank_rows partition sorts bound ranked rows ≡ Some answer) }
+{}
+
+/// The rows of each clause have the clause's columns, where the rows of its inputs have theirs: each value is
+/// of its column's type, and NULL stands only where it may.
+pub fn rows_of_clauses_have_their_columns()
+    ensures filter { (columns : List ColTy) (condition : Meaning) (rows answer : Rows) → Each (Fits columns) rows → filter_rows condition rows ≡ Some answer → Each (Fits columns) answer }
+    ensures project { (columns : List ColTy) (meanings : List Meaning) (made : List ColTy) (rows answer : Rows) → MeanTypes columns meanings made → Each (Fits columns) rows → project_rows meanings rows ≡ Some answer → Each (Fits made) answer }
+    ensures join { (kind : JoinKind) (left_columns right_columns : List ColTy) (match : Matching) (left right answer : Rows) → Each (Fits left_columns) left → Each (Fits right_columns) right → join_rows kind (length left_columns) (length right_columns) match left right ≡ Some answer → Each (Fits (join_columns kind left_columns right_columns)) answer }
+    ensures semi { (anti : Bool) (columns : List ColTy) (match : Matching) (left right answer : Rows) → Each (Fits columns) left → semi_join anti match left right ≡ Some answer → Each (Fits columns) answer }
+    ensures group { (keys : ℕ) (columns made : List ColTy) (aggs : List Agg) (rows answer : Rows) → group_columns keys columns aggs ≡ Some made → Each (Fits columns) rows → group_rows keys (agg_results columns aggs) rows ≡ Some answer → Each (Fits made) answer }
+    ensures rank { (columns : List ColTy) (partition : List ℕ) (sorts : List SortCol) (bound : ℕ) (ranked : Bool) (rows answer : Rows) → bound < 2 ^ 63 → Each (Fits columns) rows → rank_rows partition sorts bound ranked rows ≡ Some answer → Each (Fits (rank_columns ranked columns)) answer }
 {}
 
 /// What aggregates are made of adds up: the values that a call takes, the values that are known, their number

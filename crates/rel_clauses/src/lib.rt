@@ -13,6 +13,7 @@ pub use agg::{Agg, AggCall, Aggs};
 pub use join::{JoinKind, Pair, Pairs};
 pub use laws::{
     aggregates_of_a_sum, bags_of_same_copies, filter_project_union_of_a_sum, group_of_parts,
-    inner_join_of_a_sum, join_of_parts, rank_of_parts, sum_over_a_sum,
+    inner_join_of_a_sum, join_of_parts, rank_of_parts, rows_of_clauses_have_their_columns,
+    sum_over_a_sum,
 };
 pub use sort::{SortCol, Sorts};

@@ -269,6 +269,10 @@ module _ {A : Type 0} {R : A → A → Ordering} (o : IsTotalOrder R) (exact : I
       which zero e s = absurd (omega arith)
       which (suc n) e s = omega arith
 
+  pub each-bag_of : (P : A → Type 0) (xs : List A) → AllByRecursion P xs → Each {R = R} P (bag_of xs)
+  each-bag_of P [] h = each-none P
+  each-bag_of P (x ∷ xs) h = each-add P (bag_of xs) x h.0 (each-bag_of P xs h.1)
+
   -- what holds of no items, and of one item more that has the fact, holds of every bag whose items have it
   pub by_each : (Q : A → Type 0) (P : Bag R → Type 0) → P none → ((b : Bag R) (x : A) → Q x → P b → P (add b x)) → (b : Bag R) → Each Q b → P b
   by_each Q P start more b h = subst P (bag_of-items b) (go (items b) h)
@@ -289,6 +293,14 @@ module _ {A : Type 0} {R : A → A → Ordering} (o : IsTotalOrder R) where
 
   pub some_weighs : (w : A → ℕ) (b : Bag R) → 0 < total w b → (x : A) × (0 < copies b x) × (0 < w x)
   some_weighs w b some = let q = some_at w (items b) some in (q.0, (let h : 0 < occurs R q.0 (items b) = q.1 in let e = copies-occurs b q.0 in omega arith), q.2)
+
+-- items that weigh alike
+pub total-same : {A : Type 0} {R : A → A → Ordering} (f g : A → ℕ) (b : Bag R) → Each (λ x. f x ≡ g x) b → total f b ≡ total g b
+total-same {A} f g b h = go (items b) h
+  where
+    go : (xs : List A) → AllByRecursion (λ x. f x ≡ g x) xs → weigh f xs ≡ weigh g xs
+    go [] h = refl
+    go (x ∷ xs) h = let e : f x ≡ g x = h.0 in let i = go xs h.1 in omega arith
 
 -- where nothing weighs, no item does
 pub nothing_weighs : {A : Type 0} {R : A → A → Ordering} (w : A → ℕ) (b : Bag R) → total w b ≡ 0 → Each (λ x. w x ≡ 0) b

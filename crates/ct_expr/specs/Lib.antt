@@ -1,0 +1,5 @@
+pub mod Eval
+pub mod Expr
+pub mod Types
+pub mod Values
+pub mod View

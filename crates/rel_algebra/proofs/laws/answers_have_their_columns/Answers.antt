@@ -1,0 +1,5 @@
+use Rattle.rel_algebra.specs.laws.AnswerTypes.{answer_fits}
+use Rattle.rel_algebra.proofs.laws.answers_have_their_columns.Goals as goal
+
+pub returns : goal.returns
+returns c evals tables typed rel columns rows t e = answer_fits evals tables typed rel columns rows t e

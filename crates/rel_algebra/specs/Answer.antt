@@ -1,0 +1,86 @@
+-- The batch answer of a tree of the algebra: one case for each variant, each a function of the inputs' whole bags.
+use Rattle.std.specs.Prelude.{◌≡◌, ℕ, ◌^◌, nat_le, Bool, true, false, ◌||◌, List, [], map, slice_get, Option, Some, None, option_and_then}
+use Rattle.std.specs.List.{list_any, AllByRecursion}
+use Rattle.std.specs.Option.{unwrap_or}
+use Rattle.ct_value.specs.Bag.{items, copies, none}
+use Rattle.ct_value.specs.declared.row.Row.{Row}
+use Rattle.ct_value.specs.declared.ty.ColTy.{ColTy}
+use Rattle.ct_value.specs.declared.value.Value.{Value}
+use Rattle.ct_change.specs.Changelog.{Rows}
+use Rattle.ct_field.specs.Typed.{col_fits}
+use Rattle.ct_expr.specs.Expr.{Expr}
+use Rattle.ct_expr.specs.Eval.{eval}
+use Rattle.ct_expr.specs.Types.{type_of, both_of}
+use Rattle.rel_clauses.specs.Clauses.{Fits}
+use Rattle.rel_clauses.specs.Sums.{Each, plus}
+use Rattle.rel_clauses.specs.Ranks.{rank_rows}
+use Rattle.rel_algebra.specs.Rel.{Rel, Rels, Scan, Filter, Project, Union, Group, Join, Semi, Rank, no_rels, rel_and}
+use Rattle.rel_algebra.specs.Batch.{filter_answer, project_answer, group_answer, join_answer, semi_answer}
+use Rattle.rel_algebra.specs.Types.{columns_of}
+
+-- the types of a table's columns, and its rows
+pub record Table : Type 0 where
+  pub columns : List ColTy
+  pub rows : Rows
+
+abbrev pub types_in : List Table → List (List ColTy)
+types_in tables = map (λ table. table.columns) tables
+
+-- no rows where there is no such table
+abbrev pub rows_in : List Table → ℕ → Rows
+rows_in tables source = unwrap_or (slice_get (map (λ table. table.rows) tables) source) none
+
+module _ (tables : List Table) where
+  -- the columns of a part; a part that isn't well-typed has none
+  abbrev pub columns_in : Rel → List ColTy
+  columns_in rel = unwrap_or (columns_of (types_in tables) rel) []
+
+  abbrev mutual
+    -- the rows, or none where something that is evaluated is out of range
+    pub answer : Rel → Option Rows
+    answer (Scan source) = Some (rows_in tables source)
+    answer (Filter input condition) = option_and_then (filter_answer condition) (answer input)
+    answer (Project input items) = option_and_then (project_answer items) (answer input)
+    answer (Union inputs) = answers inputs
+    answer (Group input keys aggs) = option_and_then (group_answer (columns_in input) keys aggs) (answer input)
+    answer (Join left right kind pairs rest) = both_of (join_answer (columns_in left) (columns_in right) kind pairs rest) (answer left) (answer right)
+    answer (Semi left right anti pairs rest) = both_of (semi_answer anti pairs rest) (answer left) (answer right)
+    answer (Rank input partition order bound ranked) = option_and_then (rank_rows partition order bound ranked) (answer input)
+
+    -- the rows of all inputs
+    pub answers : Rels → Option Rows
+    answers no_rels = Some none
+    answers (rel_and input inputs) = plus (answer input) (answers inputs)
+
+  -- ---- more copies of a row than can be counted
+
+  -- some row has 2^64 copies or more
+  abbrev pub too_many : Option Rows → Bool
+  too_many None = false
+  too_many (Some rows) = list_any (λ row. nat_le (2 ^ 64) (copies rows row)) (items rows)
+
+  abbrev mutual
+    -- the answer of the tree, or of one of its parts, has so many copies of a row
+    pub wide : Rel → Bool
+    wide (Scan source) = too_many (answer (Scan source))
+    wide (Filter input condition) = too_many (answer (Filter input condition)) || wide input
+    wide (Project input items) = too_many (answer (Project input items)) || wide input
+    wide (Union inputs) = too_many (answer (Union inputs)) || any_wide inputs
+    wide (Group input keys aggs) = too_many (answer (Group input keys aggs)) || wide input
+    wide (Join left right kind pairs rest) = too_many (answer (Join left right kind pairs rest)) || (wide left || wide right)
+    wide (Semi left right anti pairs rest) = too_many (answer (Semi left right anti pairs rest)) || (wide left || wide right)
+    wide (Rank input partition order bound ranked) = too_many (answer (Rank input partition order bound ranked)) || wide input
+
+    pub any_wide : Rels → Bool
+    any_wide no_rels = false
+    any_wide (rel_and input inputs) = wide input || any_wide inputs
+
+-- ---- what is known of tables
+
+-- each row of a table has its columns
+abbrev pub AreTyped : List Table → Type 0
+AreTyped tables = AllByRecursion (λ table. Each (Fits table.columns) table.rows) tables
+
+-- the values of each expression are of its column
+abbrev pub EvalFits : Type 0
+EvalFits = (expr : Expr) (columns : List ColTy) (column : ColTy) (row : Row) (value : Value) → type_of expr columns ≡ Some column → Fits columns row → eval expr row ≡ Some value → col_fits column value ≡ true

@@ -1,0 +1,32 @@
+-- The batch function of each node: from the bags of its inputs to a bag, or None where it is out of range.
+use Rattle.std.specs.Prelude.{ℕ, Bool, List, length, map, Option, option_map}
+use Rattle.ct_value.specs.declared.ty.ColTy.{ColTy}
+use Rattle.ct_change.specs.Changelog.{Rows}
+use Rattle.ct_expr.specs.Expr.{Expr}
+use Rattle.ct_expr.specs.Eval.{eval}
+use Rattle.rel_clauses.specs.declared.agg.Agg.{Agg}
+use Rattle.rel_clauses.specs.declared.join.JoinKind.{JoinKind}
+use Rattle.rel_clauses.specs.declared.join.Pair.{Pair}
+use Rattle.rel_clauses.specs.Aggregates.{agg_results}
+use Rattle.rel_clauses.specs.Clauses.{filter_rows, project_rows}
+use Rattle.rel_clauses.specs.Groups.{group_rows}
+use Rattle.rel_clauses.specs.Joins.{matching, join_rows, semi_join}
+
+-- the condition is evaluated on every row
+abbrev pub filter_answer : Expr → Rows → Option Rows
+filter_answer condition rows = filter_rows (eval condition) rows
+
+-- every item is evaluated on every row
+abbrev pub project_answer : List Expr → Rows → Option Rows
+project_answer items rows = project_rows (map eval items) rows
+
+-- every call is evaluated in every group; the input has these columns
+abbrev pub group_answer : List ColTy → ℕ → List Agg → Rows → Option Rows
+group_answer columns keys aggs rows = group_rows keys (agg_results columns aggs) rows
+
+-- the rest is evaluated on the pairs of rows that agree; the inputs have these columns
+abbrev pub join_answer : List ColTy → List ColTy → JoinKind → List Pair → Option Expr → Rows → Rows → Option Rows
+join_answer left_columns right_columns kind pairs rest left right = join_rows kind (length left_columns) (length right_columns) (matching pairs (option_map eval rest)) left right
+
+abbrev pub semi_answer : Bool → List Pair → Option Expr → Rows → Rows → Option Rows
+semi_answer anti pairs rest left right = semi_join anti (matching pairs (option_map eval rest)) left right

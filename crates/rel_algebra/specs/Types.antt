@@ -1,0 +1,86 @@
+-- The columns of each node, and whether it is well-typed over the columns of the tables.
+use Rattle.std.specs.Prelude.{ℕ, nat_le, nat_lt, Bool, true, false, cond, ◌&&◌, ◌||◌, List, [], ◌∷◌, ◌++◌, length, slice_get, Option, Some, None, option_map, option_and_then, is_some}
+use Rattle.std.specs.List.{list_all}
+use Rattle.ct_value.specs.declared.ty.ColTy.{ColTy}
+use Rattle.ct_expr.specs.Expr.{Expr}
+use Rattle.ct_expr.specs.Types.{type_of, common_ty, both_of, is_truths}
+use Rattle.rel_clauses.specs.declared.join.Pair.{Pair}
+use Rattle.rel_clauses.specs.declared.sort.SortCol.{SortCol}
+use Rattle.rel_clauses.specs.Groups.{group_columns}
+use Rattle.rel_clauses.specs.Joins.{join_columns}
+use Rattle.rel_clauses.specs.Ranks.{rank_columns}
+use Rattle.rel_algebra.specs.Rel.{Rel, Rels, Scan, Filter, Project, Union, Group, Join, Semi, Rank, no_rels, rel_and}
+
+-- these columns, where a test holds
+abbrev pub columns_if : Bool → List ColTy → Option (List ColTy)
+columns_if test columns = cond test (Some columns) None
+
+abbrev pub is_boolean : Option ColTy → Bool
+is_boolean None = false
+is_boolean (Some column) = is_truths column.ty
+
+-- a condition is BOOLEAN over these columns
+abbrev pub is_condition : List ColTy → Expr → Bool
+is_condition columns condition = is_boolean (type_of condition columns)
+
+abbrev pub is_condition_if : List ColTy → Option Expr → Bool
+is_condition_if columns None = true
+is_condition_if columns (Some condition) = is_condition columns condition
+
+-- the columns of the items, where each has a type
+abbrev pub item_columns : List ColTy → List Expr → Option (List ColTy)
+item_columns columns [] = Some []
+item_columns columns (item ∷ items) = both_of (λ column others. Some (column ∷ others)) (type_of item columns) (item_columns columns items)
+
+-- a column that may hold the values of either: their common type, and NULL where it may stand in one of them
+abbrev pub common_column : ColTy → ColTy → Option ColTy
+common_column column other = option_map (λ ty. record { ty = ty; nullable = column.nullable || other.nullable }) (common_ty column.ty other.ty)
+
+-- column by column, equally many
+abbrev pub common_columns : List ColTy → List ColTy → Option (List ColTy)
+common_columns [] [] = Some []
+common_columns [] (other ∷ others) = None
+common_columns (column ∷ columns) [] = None
+common_columns (column ∷ columns) (other ∷ others) = both_of (λ common rest. Some (common ∷ rest)) (common_column column other) (common_columns columns others)
+
+-- the two columns are there, and have a common type
+abbrev pub pair_fits : List ColTy → List ColTy → Pair → Bool
+pair_fits left right pair = is_some (both_of common_column (slice_get left pair.left) (slice_get right pair.right))
+
+abbrev pub pairs_fit : List ColTy → List ColTy → List Pair → Bool
+pairs_fit left right pairs = list_all (pair_fits left right) pairs
+
+-- a condition on pairs of rows: its pairs, and the rest over both sides' columns
+abbrev pub match_fits : List ColTy → List ColTy → List Pair → Option Expr → Bool
+match_fits left right pairs rest = pairs_fit left right pairs && is_condition_if (left ++ right) rest
+
+abbrev pub is_column : List ColTy → ℕ → Bool
+is_column columns column = nat_lt column (length columns)
+
+-- the most rows of a partition that Top-N keeps
+abbrev pub largest_bound : ℕ
+largest_bound = 10000
+
+abbrev pub rank_fits : List ColTy → List ℕ → List SortCol → ℕ → Bool
+rank_fits columns partition order bound = list_all (is_column columns) partition && (list_all (λ sort. is_column columns sort.col) order && (nat_le 1 bound && nat_le bound largest_bound))
+
+abbrev mutual
+  -- the columns of a node, over the columns of the tables; none where it isn't well-typed
+  pub columns_of : List (List ColTy) → Rel → Option (List ColTy)
+  columns_of tables (Scan source) = slice_get tables source
+  columns_of tables (Filter input condition) = option_and_then (λ columns. columns_if (is_condition columns condition) columns) (columns_of tables input)
+  columns_of tables (Project input items) = option_and_then (λ columns. item_columns columns items) (columns_of tables input)
+  columns_of tables (Union inputs) = union_columns tables inputs
+  columns_of tables (Group input keys aggs) = option_and_then (λ columns. group_columns keys columns aggs) (columns_of tables input)
+  columns_of tables (Join left right kind pairs rest) = both_of (λ l r. columns_if (match_fits l r pairs rest) (join_columns kind l r)) (columns_of tables left) (columns_of tables right)
+  columns_of tables (Semi left right anti pairs rest) = both_of (λ l r. columns_if (match_fits l r pairs rest) l) (columns_of tables left) (columns_of tables right)
+  columns_of tables (Rank input partition order bound ranked) = option_and_then (λ columns. columns_if (rank_fits columns partition order bound) (rank_columns ranked columns)) (columns_of tables input)
+
+  -- the common columns of one input or more
+  pub union_columns : List (List ColTy) → Rels → Option (List ColTy)
+  union_columns tables no_rels = None
+  union_columns tables (rel_and input inputs) = common_from tables (columns_of tables input) inputs
+
+  pub common_from : List (List ColTy) → Option (List ColTy) → Rels → Option (List ColTy)
+  common_from tables columns no_rels = columns
+  common_from tables columns (rel_and input inputs) = common_from tables (both_of common_columns columns (columns_of tables input)) inputs

@@ -1,0 +1,63 @@
+//! Trees of the relational algebra.
+
+use ct_expr::{Expr, Exprs};
+use ct_value::{Cols, List};
+use rel_clauses::{Aggs, JoinKind, Pairs, Sorts};
+
+/// A query as a tree of the relational algebra. Columns are counted from 0, and those of two inputs stand side by side, the left's
+/// first.
+#[cycle(rel)]
+#[derive(Drop)]
+pub enum Rel {
+    /// The rows of a table, counted from 0.
+    Scan {
+        source: u32,
+    },
+    /// The rows on which the condition is TRUE.
+    Filter {
+        input: Box<Rel>,
+        cond: Expr,
+    },
+    /// For each row, the values of the items.
+    Project {
+        input: Box<Rel>,
+        items: Exprs,
+    },
+    /// The rows of all inputs.
+    Union {
+        inputs: Rels,
+    },
+    /// A row for each group of rows that agree on the first `keys` columns: these, then the aggregates.
+    Group {
+        input: Box<Rel>,
+        keys: u32,
+        aggs: Aggs,
+    },
+    /// The pairs of rows that agree on `on` and on which `rest` is TRUE.
+    Join {
+        left: Box<Rel>,
+        right: Box<Rel>,
+        kind: JoinKind,
+        on: Pairs,
+        rest: Option<Expr>,
+    },
+    /// The rows of the left that have such a match on the right, or with `anti` those that have none.
+    Semi {
+        left: Box<Rel>,
+        right: Box<Rel>,
+        anti: bool,
+        on: Pairs,
+        rest: Option<Expr>,
+    },
+    /// The first `bound` rows of each partition, `ranked` with their ranks as the last column.
+    Rank {
+        input: Box<Rel>,
+        partition: Cols,
+        order: Sorts,
+        bound: u32,
+        ranked: bool,
+    },
+}
+
+/// Trees of the algebra in order.
+pub type Rels = List<Rel>;
