@@ -2,140 +2,71 @@
 ghost use Rattle.sql_syntax.specs.View.{statement_view};
 ghost use Rattle.ct_catalog.specs.Catalogue.{IsDeclaration};
 
-use crate::reading::{LONGEST, refusal};
-use ct_catalog::{Catalog, CatalogFault, ColDef, TableDef};
+use ct_catalog::{Catalog, CatalogFault, TableDef};
 use ct_change::Declared;
-use ct_value::{Bytes, ColTy, Cols, Memory, ScriptCode, Ty};
-use sql_parse::{ParseFault, parse_script};
+use ct_value::{Bytes, ScriptCode};
+use sql_parse::parse_script;
 use sql_syntax::Statement;
 use std::alloc::Global;
+use std::test::Fail;
 
-/// The catalogue behind the statements of a script, or the first refusal.
-pub fn declared(alloc: Global, text: &str) -> Result<Catalog, ParseFault> {
-    let bytes = Bytes::from_slice(alloc, text.as_bytes())?;
-    if bytes.len() > LONGEST {
-        return Err(refused(ScriptCode::NotOneInsert, 0));
-    }
-    let script = parse_script(alloc, &bytes)?;
-    declare_all(alloc, script.statements.as_slice())
-}
-
-fn refused(code: ScriptCode, statement: u32) -> ParseFault {
-    ParseFault::Refused { code, statement }
-}
-
-fn declare_all(alloc: Global, statements: &[Statement]) -> Result<Catalog, ParseFault> {
-    let mut catalog = Catalog::empty(alloc);
-    let mut number: u32 = 0;
-    'statements: for statement in statements {
-        number = number.wrapping_add(1);
-        declare(&mut catalog, number, statement)?;
-    }
-    Ok(catalog)
+fn apply(catalog: &mut Catalog, statement: &Statement) -> Result<(), CatalogFault>
+    requires { IsDeclaration (statement_view statement.now) }
+{
+    catalog.apply(statement)
 }
 
 // An INSERT declares nothing.
-fn declare(catalog: &mut Catalog, number: u32, statement: &Statement) -> Result<(), ParseFault> {
+fn declare(catalog: &mut Catalog, statement: &Statement) -> Result<(), CatalogFault> {
     match statement {
-        Statement::Create { .. } => apply(catalog, number, statement),
-        Statement::Set { .. } => apply(catalog, number, statement),
+        Statement::Create { .. } => apply(catalog, statement),
+        Statement::Set { .. } => apply(catalog, statement),
         Statement::Insert { .. } => Ok(()),
     }
 }
 
-fn apply(catalog: &mut Catalog, number: u32, statement: &Statement) -> Result<(), ParseFault>
-    requires { IsDeclaration (statement_view statement.now) }
-{
-    match catalog.apply(statement) {
-        Ok(()) => Ok(()),
-        Err(CatalogFault::Refused(code)) => Err(refused(code, number)),
-        Err(CatalogFault::Memory) => Err(ParseFault::Memory),
-    }
-}
-
-/// The tables that a script declares, or its first refusal.
-pub fn describe(alloc: Global, text: &str) -> Result<String, Memory> {
-    match declared(alloc, text) {
-        Ok(catalog) => describe_all(alloc, catalog.tables().as_slice()),
-        Err(ParseFault::Refused { code, statement }) => refusal(alloc, code, statement),
-        Err(ParseFault::Memory) => Err(Memory),
-    }
-}
-
-/// Whether a script declares these tables, or is refused so.
-pub fn declares(alloc: Global, text: &str, wanted: &str) -> bool {
-    match describe(alloc, text) {
-        Ok(found) => found.as_str() == wanted,
-        Err(_) => false,
-    }
-}
-
-fn describe_all(alloc: Global, tables: &[TableDef]) -> Result<String, Memory> {
-    let mut text = String::new(alloc);
-    for table in tables {
-        push_table(&mut text, table)?;
-    }
-    Ok(text)
-}
-
-fn push_table(text: &mut String, table: &TableDef) -> Result<(), Memory> {
-    text.push_str(mode_word(table.mode))?;
-    text.push_str(table.name.as_str())?;
-    push_columns(text, table.cols.as_slice())?;
-    push_key(text, &table.key)?;
-    text.push_str(")")?;
-    Ok(())
-}
-
-fn mode_word(mode: Declared) -> &'static str {
-    match mode {
-        Declared::Append => "(append ",
-        Declared::Retract => "(retract ",
-        Declared::Upsert => "(upsert ",
-    }
-}
-
-fn push_columns(text: &mut String, columns: &[ColDef]) -> Result<(), Memory> {
-    for column in columns {
-        push_column(text, column)?;
+fn declare_all(catalog: &mut Catalog, statements: &[Statement]) -> Result<(), CatalogFault> {
+    for statement in statements {
+        declare(catalog, statement)?;
     }
     Ok(())
 }
 
-fn push_column(text: &mut String, column: &ColDef) -> Result<(), Memory> {
-    text.push_str(", ")?;
-    text.push_str(column.name.as_str())?;
-    push_type(text, column.ty.ty)?;
-    text.push_str(null_word(column.ty))?;
-    Ok(())
-}
-
-fn null_word(ty: ColTy) -> &'static str {
-    if ty.nullable { "" } else { " NOT NULL" }
-}
-
-fn push_type(text: &mut String, ty: Ty) -> Result<(), Memory> {
-    match ty {
-        Ty::Bool => text.push_str(" BOOLEAN")?,
-        Ty::Int => text.push_str(" INT")?,
-        Ty::BigInt => text.push_str(" BIGINT")?,
-        Ty::Decimal { p, s } => write!(text, " DECIMAL({p},{s})")?,
-        Ty::Text => text.push_str(" STRING")?,
+// Why the statements of a text are refused, if they are.
+fn refusal(alloc: Global, catalog: &mut Catalog, text: &str) -> Option<CatalogFault> {
+    let bytes = Bytes::from_slice(alloc, text.as_bytes()).ok()?;
+    if bytes.len() > 1000 {
+        return None;
     }
-    Ok(())
+    let script = parse_script(alloc, &bytes).ok()?;
+    declare_all(catalog, script.statements.as_slice()).err()
 }
 
-fn push_key(text: &mut String, key: &Option<Cols>) -> Result<(), Memory> {
-    match key {
-        Some(cols) => push_places(text, cols.as_slice()),
-        None => Ok(()),
-    }
+fn is_second(table: &TableDef) -> bool {
+    table.name.is(b"u") && table.cols.len() == 2 && table.mode == Declared::Upsert
 }
 
-fn push_places(text: &mut String, places: &[u32]) -> Result<(), Memory> {
-    text.push_str(", key")?;
-    for place in places {
-        write!(text, " {place}")?;
+#[test]
+fn tables_and_settings_are_kept(rt: HostRuntime) -> Result<(), Fail> {
+    let alloc = rt.alloc();
+    let mut catalog = Catalog::empty(alloc);
+    let text =
+        "CREATE TABLE t (a DECIMAL(5, 2)); SET 'table.exec.resource.default-parallelism' = '4';\
+        CREATE TABLE u (a INT, b INT, PRIMARY KEY (b) NOT ENFORCED) WITH ('changelog' = 'upsert');";
+    assert!(rt; refusal(alloc, &mut catalog, text).is_none());
+    let again = refusal(alloc, &mut catalog, "CREATE TABLE t (b INT);");
+    assert!(rt;
+        matches!(
+            again,
+            Some(CatalogFault::Refused(ScriptCode::DuplicateName))
+        )
+    );
+    let copies = catalog.tables().dup()?;
+    assert_eq!(rt; copies.len(), 2);
+    assert!(rt; copies.get(1).is_some_and(|table| is_second(table)));
+    for table in copies.as_slice() {
+        assert_eq!(rt; table.types()?.len(), table.dup()?.cols.len());
     }
+    assert_eq!(rt; catalog.settings().parallelism, 4);
     Ok(())
 }

@@ -1,27 +1,10 @@
-//! Tests of the parser and of the catalogue.
+//! Tests of the parser and of the catalogue: that memory suffices for each call, and that the longest scripts are read in
+//! time. What texts are read as is proved in `sql_examples`, and what they declare in `judge_examples`.
 #![tactic(auto)]
 
 #[cfg(test)]
 mod declaring;
 #[cfg(test)]
-mod depths;
-#[cfg(test)]
-mod expressions;
-#[cfg(test)]
 mod longest;
 #[cfg(test)]
-mod parts;
-#[cfg(test)]
-mod queries;
-#[cfg(test)]
 mod reading;
-#[cfg(test)]
-mod refusals;
-#[cfg(test)]
-mod render;
-#[cfg(test)]
-mod scripts;
-#[cfg(test)]
-mod settings;
-#[cfg(test)]
-mod tables;

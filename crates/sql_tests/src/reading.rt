@@ -1,5 +1,4 @@
-// What texts are read as.
-use crate::render::render;
+// What scripts are read as: how many statements there are, or the first refusal.
 use ct_value::{Bytes, Memory, ScriptCode};
 use sql_parse::{ParseFault, parse_script};
 use std::alloc::Global;
@@ -7,62 +6,26 @@ use std::alloc::Global;
 /// The length of the longest script.
 pub const LONGEST: usize = 262_144;
 
-/// What bytes are read as: the trees of a script, or its refusal and the number of the statement.
-pub fn read_bytes(alloc: Global, bytes: &Bytes) -> Result<String, Memory> {
+/// What a script is read as.
+#[derive(Clone, Copy, Debug, PartialEq, Eq)]
+pub enum Reading {
+    Statements(usize),
+    Refused(ScriptCode, u32),
+    OutOfMemory,
+    TooLong,
+}
+
+/// What bytes are read as.
+pub fn read(alloc: Global, bytes: &Bytes) -> Reading {
     if bytes.len() > LONGEST {
-        return Ok(String::from_str(alloc, "too long")?);
+        return Reading::TooLong;
     }
     match parse_script(alloc, bytes) {
-        Ok(script) => render(alloc, &script),
-        Err(ParseFault::Refused { code, statement }) => refusal(alloc, code, statement),
-        Err(ParseFault::Memory) => Err(Memory),
+        Ok(script) => Reading::Statements(script.statements.len()),
+        Err(ParseFault::Refused { code, statement }) => Reading::Refused(code, statement),
+        Err(ParseFault::Memory) => Reading::OutOfMemory,
     }
 }
-
-/// A refusal at a statement.
-pub fn refusal(alloc: Global, code: ScriptCode, statement: u32) -> Result<String, Memory> {
-    let code = code.text();
-    let text = format!(in alloc; "{code} at {statement}")?;
-    Ok(text)
-}
-
-/// What a text is read as.
-pub fn read(alloc: Global, text: &str) -> Result<String, Memory> {
-    let bytes = Bytes::from_slice(alloc, text.as_bytes())?;
-    read_bytes(alloc, &bytes)
-}
-
-/// What stands round a part of a script, and round its tree.
-pub struct Frame {
-    front: &'static str,
-    back: &'static str,
-    tree_front: &'static str,
-    tree_back: &'static str,
-}
-
-/// Round an item of the only select.
-pub const ITEM: Frame = Frame {
-    front: "INSERT INTO o SELECT ",
-    back: " FROM t;",
-    tree_front: "(insert o (query (select ",
-    tree_back: " (from t))))",
-};
-
-/// Round the query of an INSERT.
-pub const QUERY: Frame = Frame {
-    front: "INSERT INTO o ",
-    back: ";",
-    tree_front: "(insert o (query ",
-    tree_back: "))",
-};
-
-/// Round a whole script.
-pub const SCRIPT: Frame = Frame {
-    front: "",
-    back: "",
-    tree_front: "",
-    tree_back: "",
-};
 
 /// A text of a front, a piece so many times, and a back.
 pub fn repeated(
@@ -80,31 +43,41 @@ pub fn repeated(
     Ok(text)
 }
 
-// What a text is read as within a frame.
-fn read_in(alloc: Global, frame: &Frame, text: &str) -> Result<String, Memory> {
-    let text = framed(alloc, frame.front, text, frame.back)?;
-    read(alloc, text.as_str())
-}
+// Scripts of which each statement and each form of an expression, a query and a table stands in one, and refusals.
+const SCRIPTS: [(&str, Reading); 5] = [
+    (
+        "CREATE TABLE t (a INT PRIMARY KEY NOT ENFORCED, b DECIMAL(10, 2) NOT NULL) WITH ('changelog' = 'upsert');\
+        CREATE TABLE u (k INT, PRIMARY KEY (k) NOT ENFORCED);\
+        SET 'pipeline.name' = 'it''s'; -- a comment\n\
+        INSERT INTO o SELECT DISTINCT x.*, -a + b * 2 - 1.5 || 'c' AS d, CAST(a AS INT), CASE WHEN a THEN b ELSE NULL END, (a) \
+        FROM t AS x LEFT JOIN (SELECT k FROM u LIMIT 1) y ON x.a = y.k FULL OUTER JOIN v ON TRUE \
+        WHERE a IN (1, 2) AND b NOT LIKE 'x%' OR NOT a IS NULL AND EXISTS (SELECT * FROM u WHERE k BETWEEN 1 AND 2) \
+        GROUP BY a, b HAVING COUNT(DISTINCT a) FILTER (WHERE b <> 1) > 0 AND a IN (SELECT k FROM u) \
+        UNION ALL SELECT ROW_NUMBER() OVER (PARTITION BY a ORDER BY b DESC, a), `q q` FROM t ORDER BY a ASC, b;",
+        Reading::Statements(4),
+    ),
+    ("", Reading::Statements(0)),
+    (
+        "SET 'a' = 'b'; SET #;",
+        Reading::Refused(ScriptCode::BadToken, 2),
+    ),
+    ("SET 'a' = 'b'", Reading::Refused(ScriptCode::Syntax, 1)),
+    (
+        "SELECT ((((((((((((((((((((((((((((((((( ",
+        Reading::Refused(ScriptCode::TooDeep, 1),
+    ),
+];
 
-fn framed(alloc: Global, front: &str, text: &str, back: &str) -> Result<String, Memory> {
-    let mut framed = String::from_str(alloc, front)?;
-    framed.push_str(text)?;
-    framed.push_str(back)?;
-    Ok(framed)
-}
-
-/// Whether this, such as a refusal, is all that a text within a frame gives.
-pub fn gives(alloc: Global, frame: &Frame, text: &str, wanted: &str) -> bool {
-    match read_in(alloc, frame, text) {
-        Ok(found) => found.as_str() == wanted,
-        Err(_) => false,
+fn is_read(alloc: Global, text: &str, wanted: Reading) -> bool {
+    match Bytes::from_slice(alloc, text.as_bytes()) {
+        Ok(bytes) => read(alloc, &bytes) == wanted,
+        Err(Memory) => false,
     }
 }
 
-/// Whether a text is read as a tree within a frame.
-pub fn is_read(alloc: Global, frame: &Frame, text: &str, tree: &str) -> bool {
-    match framed(alloc, frame.tree_front, tree, frame.tree_back) {
-        Ok(wanted) => gives(alloc, frame, text, wanted.as_str()),
-        Err(_) => false,
+#[test]
+fn scripts_are_read(rt: HostRuntime) {
+    for (text, wanted) in &SCRIPTS {
+        assert!(rt; is_read(rt.alloc(), text, *wanted), "{text}");
     }
 }
