@@ -1,2 +1,1 @@
 pub mod ByName
-pub mod Written

@@ -1,3 +1,4 @@
+pub mod Appending
 pub mod Counts
 pub mod Holdings
 pub mod InMemory

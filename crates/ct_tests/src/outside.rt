@@ -215,12 +215,13 @@ fn fails_past_its_room(alloc: Global) -> bool {
     }
 }
 
-const SURE_LENGTHS: [(usize, bool); 2] = [(1048573, true), (4, true)];
+// The second piece finds no room and is not held; the third does.
+const SURE_LENGTHS: [(usize, bool); 3] = [(1048573, true), (4, true), (2, true)];
 
 fn takes_past_its_room(alloc: Global) -> bool {
     match SureSink::new(alloc) {
         Ok(mut sink) => {
-            takes_all_long(alloc, &mut sink, &SURE_LENGTHS) && sink.written().len() == 1048573
+            takes_all_long(alloc, &mut sink, &SURE_LENGTHS) && sink.written().len() == 1048575
         }
         Err(_) => false,
     }

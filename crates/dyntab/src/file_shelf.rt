@@ -1,5 +1,5 @@
 // A shelf over the files of the system.
-ghost use Rattle.std.specs.Prelude.{◌≤◌, None, length, IfOk};
+ghost use Rattle.std.specs.Prelude.{◌≡◌, ◌≤◌, None, length, IfOk};
 
 use ct_io::{LoadFault, Shelf};
 use ct_value::{Bytes, Text};
@@ -19,8 +19,10 @@ pub struct FileShelf<'r, R> {
 }
 
 impl<'r, R: Files> FileShelf<'r, R> {
-    /// The files that a runtime reaches.
-    pub fn new(rt: &'r R) -> Self {
+    /// The files that a runtime reaches. No load has failed yet.
+    pub fn new(rt: &'r R) -> Self
+        ensures { result.faults ≡ 0 }
+    {
         FileShelf { rt, faults: 0 }
     }
 }

@@ -1,5 +1,5 @@
 // A sink over a writer.
-ghost use Rattle.std.specs.Prelude.{None};
+ghost use Rattle.std.specs.Prelude.{◌≡◌, None};
 
 use ct_io::{PutFailed, Sink};
 use std::io::Write;
@@ -13,7 +13,10 @@ pub struct Stream<W: Drop> {
 
 impl<W: Write + Drop> Stream<W> {
     /// A writer that hasn't failed yet.
-    pub fn new(writer: W) -> Self {
+    pub fn new(writer: W) -> Self
+        ensures writer { result.writer ≡ writer }
+        ensures none { result.faults ≡ 0 }
+    {
         Stream { writer, faults: 0 }
     }
 }

@@ -18,7 +18,8 @@ impl From<Memory> for WordFault {
     }
 }
 
-/// The words behind the program's name.
+/// The words behind the program's name, in their order. `NotText` comes where one of them isn't UTF-8. The system's words
+/// have no definition, so no clause says which they are.
 pub fn words_of(rt: &(impl Env + AllocGlobal)) -> Result<Vec<Text>, WordFault> {
     let mut args = match env::args(rt) {
         Ok(args) => args,

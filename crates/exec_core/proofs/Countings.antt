@@ -4,32 +4,14 @@ use Rattle.std.specs.List.{AllByRecursion}
 use Rattle.ct_value.specs.declared.row.Row.{Row}
 use Rattle.ct_change.specs.declared.change.Change.{Change}
 use Rattle.ct_change.specs.Changelog.{retract, Rows, fold, MayCome, IsValidFrom, IsValid}
-use Rattle.ct_change.proofs.Folds.{fold-push}
+use Rattle.ct_change.specs.laws.Folds.{fold-push}
 use Rattle.op_rules.specs.Faults.{IfRange}
 use Rattle.op_rules.specs.declared.operator.OpFault.{OpFault}
 use Rattle.op_rules.specs.declared.operator.OpFault.TheVariants.{Range, Memory}
 use Rattle.op_rules.specs.History.{Arrival, at_port, joined}
 use Rattle.op_rules.specs.Rule.{Rule, group}
 use Rattle.op_rules.specs.Rules.{Answer, appended, emits, emitted_after, ArriveAfter}
-use Rattle.exec_core.specs.Pieces.{piece_of, pieces_of}
-
-pub joined-append : (xs ys : List (List Arrival)) → joined (xs ++ ys) ≡ joined xs ++ joined ys
-joined-append [] ys = refl
-joined-append (x ∷ xs) ys = ap (λ zs. x ++ zs) (joined-append xs ys) ∙ sym (append_assoc x (joined xs) (joined ys))
-
-pub joined-push : (xs : List (List Arrival)) (x : List Arrival) → joined (xs ++ x ∷ []) ≡ joined xs ++ x
-joined-push xs x = joined-append xs (x ∷ []) ∙ ap (λ zs. joined xs ++ zs) (append-nil x)
-
-pub at_port-pieces_of : (changes : List Change) → at_port 0 (joined (pieces_of changes)) ≡ changes
-at_port-pieces_of [] = refl
-at_port-pieces_of (change ∷ changes) = ap (λ (l : List Change). change ∷ l) (at_port-pieces_of changes)
-
-pub pieces_of-push : (done : List Change) (change : Change) → pieces_of (done ++ change ∷ []) ≡ pieces_of done ++ piece_of change ∷ []
-pieces_of-push [] change = refl
-pieces_of-push (first ∷ done) change = ap (λ (l : List (List Arrival)). piece_of first ∷ l) (pieces_of-push done change)
-
-pub history-push : (done : List Change) (change : Change) → joined (pieces_of (done ++ change ∷ [])) ≡ joined (pieces_of done) ++ piece_of change
-history-push done change = ap joined (pieces_of-push done change) ∙ joined-push (pieces_of done) (piece_of change)
+use Rattle.exec_core.specs.Pieces.{piece_of, pieces_of, at_port-pieces_of, history-push}
 
 pub length-history : (done : List Change) → length (joined (pieces_of done)) ≡ length done
 length-history [] = refl

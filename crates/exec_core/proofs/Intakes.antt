@@ -2,28 +2,28 @@
 use Rattle.std.proofs.Common.{◌≡◌, ◌==◌, ◌&&◌, ℕ, suc, ◌+◌, ◌<◌, ◌≤◌, ◌^◌, true, false, cond, List, [], ◌∷◌, ◌++◌, length, map, All, Option, Some, None, Ok, refl, sym, ap, subst, ◌∙◌, arith, append-nil, append_assoc}
 use Rattle.std.specs.List.{AllByRecursion}
 use Rattle.std.specs.Ordering.{eq_by_cmp}
-use Rattle.std.proofs.lemmas.List.{drop_more, drop_all}
-use Rattle.std.proofs.Common.{drop, slice_index_or}
+use Rattle.std.proofs.lemmas.List.{drop_more, drop_all, take_more}
+use Rattle.std.proofs.Common.{Result, Err, drop, take, slice_index_or}
 use Rattle.ct_value.specs.Bag.{copies, none, total, one_at, copies-occurs, total-none, total-le}
 use Rattle.ct_value.specs.Order.{row_cmp, row_total}
+use Rattle.ct_value.specs.declared.codes.ChangeCode.{ChangeCode}
 use Rattle.ct_value.specs.declared.row.Row.{Row}
 use Rattle.ct_change.specs.declared.kind.Kind.{Kind}
 use Rattle.ct_change.specs.declared.kind.Declared.{Declared}
 use Rattle.ct_change.specs.declared.kind.Declared.TheVariants.{Append, Retract, Upsert}
 use Rattle.ct_change.specs.declared.change.Change.{Change}
 use Rattle.ct_change.specs.Changelog.{Mode, append, retract, upsert, Rows, mode_of, admits, apply, fold, fold_from, IsValidFrom, IsValid}
-use Rattle.ct_change.specs.Emission.{difference}
-use Rattle.ct_change.proofs.Folds.{fold-push, total-apply, weight_of}
+use Rattle.ct_change.specs.Emission.{difference, weight_of}
+use Rattle.ct_change.specs.laws.Folds.{fold-push, total-apply}
 use Rattle.ct_catalog.specs.declared.table.TableDef.{TableDef}
 use Rattle.exec_core.specs.declared.intake.Intake.{Intake}
-use Rattle.job_text.specs.Lines.{refusal, source_mode, text_row, kind_of, fields_of, change_of, change_of_fields, change_of_kind, line_change, taken_from, taken_then}
+use Rattle.job_text.specs.Lines.{refusal, source_mode, text_row, kind_of, fields_of, change_of, change_of_fields, change_of_kind, line_change, taken_of, taken_from, taken_then}
 use Rattle.exec_core.specs.Machine.{scanned}
 use Rattle.exec_core.specs.Scans.{IsBagMode}
-use Rattle.exec_core.specs.Intake.{AllTaken, StandsFor, Holds, kept_after, taken_one}
-use Rattle.exec_core.proofs.ScanFacts.{taken_valid}
-use Rattle.job_text.proofs.Plain.{second_of_both}
+use Rattle.exec_core.specs.Intake.{AllTaken, Fits, StandsFor, Holds, kept_after, taken_one}
+use Rattle.exec_core.specs.laws.Scans.{taken_valid}
 use Rattle.std.specs.Str.{bytes_eq}
-use Rattle.std.proofs.lemmas.Bool.{eqb-true}
+use Rattle.std.proofs.lemmas.Bool.{and_parts, eqb-true}
 
 -- ---- a bag has at most as many rows as changes came
 
@@ -64,41 +64,6 @@ taken-push : (mode : Mode) (before taken : List Change) (change : Change) → Al
 taken-push mode before [] change all free = (ap (λ (l : List Change). refusal mode (fold mode l) change) (sym (append-nil before)) ∙ free, tt)
 taken-push mode before (first ∷ taken) change all free =
     (all.0, taken-push mode (before ++ first ∷ []) taken change all.1 (ap (λ (l : List Change). refusal mode (fold mode l) change) (append_assoc before (first ∷ []) taken) ∙ free))
-
--- ---- the change of a line
-
--- what is known of a change that is a line of the source
-pub record Fits (source : TableDef) (change : Change) : Type 0 where
-  pub width : length change.row ≡ length source.cols
-  pub declared : admits (source_mode source) change.kind ≡ true
-
-length-texts : (values : List (List ℕ)) → length (text_row values) ≡ length values
-length-texts [] = refl
-length-texts (value ∷ values) = ap (λ n. suc n) (length-texts values)
-
-fits_kind : (mode : Mode) (values : List (List ℕ)) (kind : Option Kind) (change : Change) → change_of_kind mode values kind ≡ Some change → (length change.row ≡ length values) × (admits mode change.kind ≡ true)
-fits_kind mode values None change e = absurd (cc)
-fits_kind mode values (Some kind) change e =
-    elim (admits mode kind) as (λ b. admits mode kind ≡ b → cond b (Some (record { kind = kind; row = text_row values })) None ≡ Some change → (length change.row ≡ length values) × (admits mode change.kind ≡ true)) [
-      | true ↦ λ a q.
-          let same : record { kind = kind; row = text_row values } ≡ change = cc in
-          (ap (λ (c : Change). length c.row) (sym same) ∙ length-texts values, ap (λ (c : Change). admits mode c.kind) (sym same) ∙ a)
-      | false ↦ λ a q. absurd (cc)
-    ] refl e
-
-fits_fields : (source : TableDef) (fields : List (List ℕ)) (change : Change) → change_of_fields source fields ≡ Some change → Fits source change
-fits_fields source [] change e = absurd (cc)
-fits_fields source (name ∷ []) change e = absurd (cc)
-fits_fields source (name ∷ kind ∷ values) change e =
-    elim (bytes_eq source.name name && (length values == length source.cols)) as (λ b. (bytes_eq source.name name && (length values == length source.cols)) ≡ b → cond b (change_of_kind (source_mode source) values (kind_of kind)) None ≡ Some change → Fits source change) [
-      | true ↦ λ t q.
-          let fits = fits_kind (source_mode source) values (kind_of kind) change q in
-          record { width = fits.0 ∙ eqb-true _ _ (second_of_both (bytes_eq source.name name) _ t); declared = fits.1 }
-      | false ↦ λ t q. absurd (cc)
-    ] refl e
-
-pub change_fits : (source : TableDef) (line : List ℕ) (change : Change) → change_of source line ≡ Some change → Fits source change
-change_fits source line change e = fits_fields source (fields_of line) change e
 
 -- ---- one more change
 
@@ -161,3 +126,25 @@ next_line source before lines i below = ap (taken_from source before (i + 1)) (d
 
 pub no_line : (source : TableDef) (before : List Change) (lines : List (List ℕ)) (i : ℕ) → length lines ≤ i → taken_from source before (i + 1) (drop i lines) ≡ Ok before
 no_line source before lines i past = ap (taken_from source before (i + 1)) (drop_all i lines past)
+
+-- ---- one more line behind those that were taken
+
+push_then : (others longer : List Change → Result (List Change) (ℕ × ChangeCode)) (before taken behind : List Change) (number : ℕ) (one : Result Change ChangeCode)
+    → ((more : List Change) → others more ≡ Ok taken → longer more ≡ Ok behind) → taken_then others before number one ≡ Ok taken → taken_then longer before number one ≡ Ok behind
+push_then others longer before taken behind number (Err code) h e = absurd (cc)
+push_then others longer before taken behind number (Ok change) h e = h (before ++ change ∷ []) e
+
+taken_from-push : (source : TableDef) (before : List Change) (number : ℕ) (lines : List (List ℕ)) (line : List ℕ) (taken : List Change) (change : Change) → taken_from source before number lines ≡ Ok taken
+    → line_change source taken line ≡ Ok change → taken_from source before number (lines ++ line ∷ []) ≡ Ok (taken ++ change ∷ [])
+taken_from-push source before number [] line taken change e is =
+    let same : before ≡ taken = cc in
+    ap (λ (b : List Change). taken_then (λ more. Ok more) b number (line_change source b line)) same
+    ∙ ap (taken_then (λ more. Ok more) taken number) is
+taken_from-push source before number (first ∷ lines) line taken change e is =
+    push_then (λ more. taken_from source more (number + 1) lines) (λ more. taken_from source more (number + 1) (lines ++ line ∷ [])) before taken (taken ++ change ∷ []) number (line_change source before first)
+    (λ more that. taken_from-push source more (number + 1) lines line taken change that is) e
+
+pub taken_of-more : (source : TableDef) (lines : List (List ℕ)) (i : ℕ) (taken : List Change) (change : Change) → i < length lines → taken_of source (take i lines) ≡ Ok taken
+    → line_change source taken (slice_index_or lines i []) ≡ Ok change → taken_of source (take (i + 1) lines) ≡ Ok (taken ++ change ∷ [])
+taken_of-more source lines i taken change below e is =
+    ap (taken_of source) (take_more lines i [] below) ∙ taken_from-push source [] 1 (take i lines) (slice_index_or lines i []) taken change e is

@@ -1,4 +1,2 @@
 pub mod Countings
-pub mod Counts
 pub mod Intakes
-pub mod ScanFacts

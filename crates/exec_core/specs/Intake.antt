@@ -1,11 +1,11 @@
 -- What is kept of a source whose changes are taken.
-use Rattle.std.specs.Prelude.{◌≡◌, ◌<◌, List, [], ◌∷◌, ◌++◌, length, map, All, None, Result, Ok, Err}
+use Rattle.std.specs.Prelude.{◌≡◌, ◌<◌, List, [], ◌∷◌, ◌++◌, true, length, map, All, None, Result, Ok, Err}
 use Rattle.std.specs.List.{AllByRecursion}
 use Rattle.ct_value.specs.declared.codes.ChangeCode.{ChangeCode}
 use Rattle.ct_change.specs.declared.kind.Declared.{Declared}
 use Rattle.ct_change.specs.declared.kind.Declared.TheVariants.{Append, Retract, Upsert}
 use Rattle.ct_change.specs.declared.change.Change.{Change}
-use Rattle.ct_change.specs.Changelog.{Mode, append, retract, upsert, Rows, fold, apply}
+use Rattle.ct_change.specs.Changelog.{Mode, append, retract, upsert, Rows, admits, fold, apply}
 use Rattle.exec_core.specs.Machine.{scanned}
 use Rattle.exec_core.specs.Scans.{IsBagMode}
 use Rattle.ct_catalog.specs.declared.table.TableDef.{TableDef}
@@ -34,6 +34,11 @@ pub record Holds (source : TableDef) (intake : Intake) (taken : List Change) : T
   pub stands : StandsFor (source_mode source) intake.standing (fold (source_mode source) taken)
   pub sent_is : intake.sent ≡ map (scanned intake.picks) taken
   pub widths : AllByRecursion (λ change. length change.row ≡ length source.cols) taken
+
+-- what is known of a change that is a line of the source
+pub record Fits (source : TableDef) (change : Change) : Type 0 where
+  pub width : length change.row ≡ length source.cols
+  pub declared : admits (source_mode source) change.kind ≡ true
 
 -- one more change sent by the scan
 abbrev pub sent_one : Intake → Change → Intake

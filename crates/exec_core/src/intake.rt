@@ -1,4 +1,4 @@
-ghost use Rattle.std.specs.Prelude.{◌≡◌, ◌<◌, ◌+◌, ◌^◌, [], All, Some, None, true, false, length, OnOk};
+ghost use Rattle.std.specs.Prelude.{◌≡◌, ◌<◌, ◌+◌, ◌^◌, [], All, Some, None, true, false, length, OnOk, IfOk};
 ghost use Rattle.ct_value.specs.Bag.{copies, none};
 ghost use Rattle.ct_change.specs.Changelog.{adds, admits, apply, retract, mode_of};
 ghost use Rattle.exec_core.specs.Intake.{sent_one, taken_one, IfRefused};
@@ -37,20 +37,25 @@ impl From<Memory> for TakeFault {
 }
 
 impl Intake {
-    /// Nothing taken of a source with this mode, whose scan sends these columns.
-    pub fn new(alloc: Global, mode: Declared, picks: Cols) -> Intake
-        ensures { result ≡ record { mode = mode; picks = picks; standing = none; sent = [] } }
+    /// Nothing taken of a source with this mode, whose scan sends these columns, with room for so many changes sent.
+    pub fn new(
+        alloc: Global,
+        mode: Declared,
+        picks: Cols,
+        room: usize,
+    ) -> Result<Intake, Memory>
+        ensures { IfOk result (λ intake. intake ≡ record { mode = mode; picks = picks; standing = none; sent = [] }) }
     {
-        Intake {
+        Ok(Intake {
             mode,
             picks,
             standing: Bag::new(alloc),
-            sent: Changes::new(alloc),
-        }
+            sent: Changes::with_capacity(alloc, room)?,
+        })
     }
 
     /// Takes a change of a kind that the source declares. `Refused` comes exactly where the row that it removes doesn't
-    /// stand.
+    /// stand, and then all is kept as before.
     pub fn take(&mut self, change: Change) -> Result<(), TakeFault>
         requires picked { All (λ col. col < length change.row) self.old.picks }
         requires room { self.old.mode ≡ Declared.Retract → copies self.old.standing change.row + 1 < 2 ^ 64 }
@@ -58,6 +63,7 @@ impl Intake {
         requires declared { admits (mode_of self.old.mode []) change.kind ≡ true }
         ensures ok { OnOk result ((refusal (mode_of self.old.mode []) self.old.standing change ≡ None) × (self.new ≡ taken_one self.old change)) }
         ensures refused { IfRefused result (λ code. refusal (mode_of self.old.mode []) self.old.standing change ≡ Some code) }
+        ensures kept { IfRefused result (λ code. self.new ≡ self.old) }
         ensures picks { self.new.picks ≡ self.old.picks }
     {
         if self.mode != Declared::Retract {

@@ -1,4 +1,4 @@
-ghost use Rattle.std.specs.Prelude.{◌≡◌, ◌<◌, ◌≤◌, ◌+◌, ◌^◌, ◌++◌, ◌∷◌, [], List, Ok, Err, length, OnOk, IfErr};
+ghost use Rattle.std.specs.Prelude.{◌≡◌, ◌<◌, ◌≤◌, ◌+◌, ◌-◌, ◌^◌, ◌++◌, ◌∷◌, [], List, Ok, Err, length, take, OnOk, IfErr};
 ghost use Rattle.ct_change.specs.declared.change.Change.{Change};
 ghost use Rattle.exec_core.specs.Intake.{Holds, IfRefused};
 ghost use Rattle.job_text.specs.Lines.{line_change, taken_of};
@@ -17,7 +17,7 @@ pub enum LinesFault {
     Memory,
 }
 
-/// Takes the changes of all lines, up to the first that is refused.
+/// Takes the changes of all lines, up to the first that is refused. What is kept then is that of the lines before it.
 pub fn take_lines(
     alloc: Global,
     source: &TableDef,
@@ -29,6 +29,7 @@ pub fn take_lines(
     ensures ok { OnOk result ((taken : List Change) × (taken_of source.now lines.now ≡ Ok taken) × Holds source.now intake.new taken) }
     ensures picks { intake.new.picks ≡ intake.old.picks }
     ensures refused { IfLinesRefused result (λ code line. taken_of source.now lines.now ≡ Err (line, code)) }
+    ensures kept { IfLinesRefused result (λ code line. (taken : List Change) × (taken_of source.now (take (line - 1) lines.now) ≡ Ok taken) × Holds source.now intake.new taken) }
 {
     for i in 0..lines.len() {
         let line = i as u32 + 1;
@@ -41,7 +42,7 @@ pub fn take_lines(
     Ok(())
 }
 
-/// Takes the change of a line, unless it is refused after the changes that were taken before.
+/// Takes the change of a line, unless it is refused after the changes that were taken before, and all is kept as before.
 pub fn take_line(
     alloc: Global,
     source: &TableDef,
@@ -52,6 +53,7 @@ pub fn take_line(
     ensures ok { OnOk result ((taken : List Change) → Holds source.now intake.old taken → (change : Change) × (line_change source.now taken line.now ≡ Ok change) × Holds source.now intake.new (taken ++ change ∷ [])) }
     ensures picks { intake.new.picks ≡ intake.old.picks }
     ensures refused { IfRefused result (λ code. (taken : List Change) → Holds source.now intake.old taken → line_change source.now taken line.now ≡ Err code) }
+    ensures kept { IfRefused result (λ code. intake.new ≡ intake.old) }
 {
     let change = match change_of(alloc, source, line) {
         Ok(change) => change,

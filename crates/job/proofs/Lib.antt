@@ -1,7 +1,1 @@
-pub mod Accepted
-pub mod Chains
-pub mod Headline
-pub mod Replays
-pub mod Runs
-pub mod Selects
-pub mod Takings
+pub mod Endings

@@ -1,11 +1,62 @@
-//! The top call: one job, from its words to its ending.
+//! The top call: one job, from its words to its ending. Its clauses speak of the outcome that the words and the files have
+//! (`job_run`), of written bytes and faults (`ct_io`), and of endings (`job_ending`).
 #![tactic(auto)]
 
-mod ending;
-mod halt;
-mod plan;
-mod replay;
-mod run;
+ghost use Rattle.std.specs.Prelude.{◌≡◌, ◌⊎◌, ℕ, Some, None, false};
+ghost use Rattle.ct_value.specs.declared.row.Row.{Row};
+ghost use Rattle.command_line.specs.Words.{files_of};
+ghost use Rattle.ct_io.specs.Counts.{Rose};
+ghost use Rattle.ct_io.specs.Holdings.{Holdings};
+ghost use Rattle.ct_io.specs.Written.{Appends, AppendsPart};
+ghost use Rattle.job_ending.specs.Endings.{ending_line};
+ghost use Rattle.job_ending.specs.Runs.{is_free, IsCaused};
+ghost use Rattle.job_run.specs.Complete.{HasNoArithmetic, MayEndWell};
+ghost use Rattle.job_run.specs.Headline.{IsHeadline};
+ghost use Rattle.job_run.specs.Outcome.{outcome};
 
-pub use ending::{Ending, LimitName, status};
-pub use run::run_job;
+use ct_io::{Shelf, Sink};
+use ct_value::Text;
+use job_ending::report;
+use job_run::run;
+use std::alloc::Global;
+
+pub use job_ending::{Ending, LimitName, status};
+
+/// Runs the job that the words name: it loads the script and the change file from the shelf, in this order, writes the
+/// changelog of the sink on `out`, each line by itself, and where it doesn't end well one line on `err`.
+///
+/// The words are `--script NAME --changes NAME`, in any order; `--do run` may stand there too.
+pub fn run_job<F: Shelf, K: Sink, E: Sink>(
+    alloc: Global,
+    words: &[Text],
+    shelf: &mut F,
+    out: &mut K,
+    err: &mut E,
+) -> Ending
+    // The ending is the outcome's, where it doesn't come from outside.
+    ensures cause { IsCaused (F.holdings shelf.old) (outcome words.now) (Rose (F.faults shelf.old) (F.faults shelf.new)) (Rose (K.faults out.old) (K.faults out.new)) result }
+    ensures usage { result ≡ Ending.Usage → files_of words.now ≡ None }
+    ensures wrong_use { files_of words.now ≡ None → (result ≡ Ending.Usage) ⊎ (result ≡ Ending.Memory) }
+
+    // Where neither the shelf nor `out` faults, the ending is the outcome's, or want of memory.
+    ensures complete { (Rose (F.faults shelf.old) (F.faults shelf.new) → ⊥) → (Rose (K.faults out.old) (K.faults out.new) → ⊥) → (h : Holdings) → F.holdings shelf.old ≡ Some h → (result ≡ (outcome words.now h).ending) ⊎ (result ≡ Ending.Memory) }
+
+    // So it ends well, or by want of memory, where nothing that it reads is refused.
+    ensures ends_well { (Rose (F.faults shelf.old) (F.faults shelf.new) → ⊥) → (Rose (K.faults out.old) (K.faults out.new) → ⊥) → (h : Holdings) → F.holdings shelf.old ≡ Some h → MayEndWell words.now h → (result ≡ Ending.Done) ⊎ (result ≡ Ending.Memory) }
+
+    // What is written is a first part of the outcome's bytes, and all of them where the ending doesn't come from outside.
+    ensures part { (h : Holdings) → F.holdings shelf.old ≡ Some h → AppendsPart (K.written out.old) (K.written out.new) (outcome words.now h).bytes }
+    ensures whole { is_free result ≡ false → (h : Holdings) → F.holdings shelf.old ≡ Some h → Appends (K.written out.old) (K.written out.new) (outcome words.now h).bytes }
+
+    // A run that ends well has printed the answer.
+    ensures headline { result ≡ Ending.Done → (h : Holdings) → F.holdings shelf.old ≡ Some h → IsHeadline words.now h (outcome words.now h).bytes }
+
+    // A script without arithmetic never leaves a type's range.
+    ensures range { (h : Holdings) → F.holdings shelf.old ≡ Some h → HasNoArithmetic words.now h → (node subtask : ℕ) (row : Row) → result ≡ Ending.Range node subtask row → ⊥ }
+
+    // The ending's line is on `err`.
+    ensures reported { (Rose (E.faults err.old) (E.faults err.new) → ⊥) → Appends (E.written err.old) (E.written err.new) (ending_line result) }
+{
+    let ending = run(alloc, words, shelf, out);
+    report(alloc, ending, err)
+}

@@ -1,3 +1,2 @@
-pub mod FullLines
 pub mod Plain
 pub mod Prints

@@ -1,7 +1,7 @@
 -- Printed lines, one after the other.
 use Rattle.std.proofs.Common.{◌≡◌, ℕ, List, [], ◌∷◌, ◌++◌, map, Option, sym, ◌∙◌, ap, append_assoc, append-nil}
 use Rattle.ct_io.specs.Written.{Appends, AppendsUpTo, AppendsPart}
-use Rattle.ct_io.proofs.Written.{appends_both, up_to_start, up_to_end}
+use Rattle.ct_io.specs.Appending.{appends_both, up_to_end}
 use Rattle.ct_change.specs.declared.change.Change.{Change as TableChange}
 use Rattle.job_text.specs.declared.printed.PrintItem.TheVariants.{Change, Quiet}
 use Rattle.job_text.specs.Printed.{item_text, text_of}
@@ -43,6 +43,3 @@ whole_at_last a b c whole rest piece so_far is more = up_to_end (up_to_piece a b
 
 pub part_at_last : (a b c : Option (List ℕ)) (whole rest piece : List ℕ) → AppendsUpTo a b whole rest → rest ≡ piece → AppendsPart b c piece → AppendsPart a c whole
 part_at_last a b c whole rest piece so_far is more = part_in_piece a b c whole rest piece [] so_far (is ∙ sym (append-nil piece)) more
-
-pub part_none : (o : Option (List ℕ)) (bytes : List ℕ) → AppendsPart o o bytes
-part_none o bytes = record { rest = bytes; up_to = up_to_start o bytes }

@@ -67,7 +67,8 @@ impl<'t> Model for Lines<'t> {
 }
 
 impl<'t> Lines<'t> {
-    pub fn of(alloc: Global, text: &'t str) -> Result<Lines<'t>, AllocError>
+    /// The lines of a text, which end by LF, in their order.
+    pub fn of(alloc: Global, text: &'t str) -> Result<Lines<'t>, Memory>
         ensures lines { IfOk result (λ lines. lines ≡ lines_of text.now) }
         ensures count { IfOk result (λ lines. length lines ≤ length text.now + 1) }
     {
@@ -75,12 +76,14 @@ impl<'t> Lines<'t> {
         Ok(Lines { items })
     }
 
+    /// How many lines there are.
     pub fn len(&self) -> usize
         ensures { result ≡ length self.now }
     {
         self.items.len()
     }
 
+    /// The line at an index, counted from 0, which is less than their number.
     pub fn get(&self, index: usize) -> &str
         requires { index < length self.now }
         ensures { result.now ≡ slice_index_or self.now index [] }
@@ -167,7 +170,7 @@ fn change_of_kind(
 fn text_row(alloc: Global, values: &[&str]) -> Result<Row, Memory>
     ensures { IfOk result (λ row. row ≡ text_row (map (λ f. f.now) values.now)) }
 {
-    let mut row = Values::new(alloc);
+    let mut row = Values::with_capacity(alloc, values.len())?;
     for i in 0..values.len() {
         row.push(Value::Text(Text::from_str(alloc, values[i])?))?;
     }

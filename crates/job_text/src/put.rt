@@ -5,7 +5,7 @@ ghost use Rattle.ct_io.specs.Written.{Appends, AppendsUpTo, AppendsPart};
 use ct_io::{PutFailed, Sink};
 
 /// Offers a piece, and the untaken rest again until it is taken.
-#[tactic(auto, using(ct_io::proofs::Written::up_to_start, ct_io::proofs::Written::up_to_more, ct_io::proofs::Written::up_to_end, ct_io::proofs::Written::part_then_nothing, ct_io::proofs::Written::part_of_whole))]
+#[tactic(auto, using(ct_io::specs::Appending::up_to_start, ct_io::specs::Appending::up_to_more, ct_io::specs::Appending::up_to_end, ct_io::specs::Appending::part_then_nothing, ct_io::specs::Appending::part_of_whole))]
 pub fn put_all<K: Sink>(out: &mut K, piece: &[u8]) -> Result<(), PutFailed>
     ensures whole { OnOk result (Appends (K.written out.old) (K.written out.new) piece.now) }
     ensures part { AppendsPart (K.written out.old) (K.written out.new) piece.now }

@@ -1,4 +1,2 @@
-pub mod Lists
-pub mod Trees
-pub mod Lawful
+pub mod Tables
 pub mod Texts

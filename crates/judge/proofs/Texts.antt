@@ -2,12 +2,14 @@
 use Rattle.std.proofs.Common.{◌≡◌, ◌⊎◌, inl, inr, ℕ, List, refl}
 use Rattle.ct_value.specs.declared.codes.ScriptCode.{ScriptCode}
 use Rattle.sql_syntax.specs.Tree.{Script}
-use Rattle.sql_parse.specs.Scripts.{Answer, answered, refused, IsScript, TextRefusal, read_text}
-use Rattle.sql_parse.proofs.Scripts.{script_read, read_refusal}
+use Rattle.sql_rules.specs.ReadsScripts.{Answer, answered, refused, read_text}
+use Rattle.sql_rules.specs.Scripts.{IsScript, TextRefusal}
 
-one_of : (text : List ℕ) (a : Answer) → read_text text ≡ a → ((script : Script) × IsScript text script) ⊎ ((code : ScriptCode) × (number : ℕ) × TextRefusal text code number)
-one_of text (answered xs) e = inl (record { statements = xs }, script_read text (record { statements = xs }) e)
-one_of text (refused code number) e = inr (code, number, read_refusal text code number e)
+module _ (script_read : (text : List ℕ) (x : Script) → read_text text ≡ answered x.statements → IsScript text x)
+    (read_refusal : (text : List ℕ) (code : ScriptCode) (number : ℕ) → read_text text ≡ refused code number → TextRefusal text code number) where
+  one_of : (text : List ℕ) (a : Answer) → read_text text ≡ a → ((script : Script) × IsScript text script) ⊎ ((code : ScriptCode) × (number : ℕ) × TextRefusal text code number)
+  one_of text (answered xs) e = inl (record { statements = xs }, script_read text (record { statements = xs }) e)
+  one_of text (refused code number) e = inr (code, number, read_refusal text code number e)
 
-pub each_is_one : (text : List ℕ) → ((script : Script) × IsScript text script) ⊎ ((code : ScriptCode) × (number : ℕ) × TextRefusal text code number)
-each_is_one text = one_of text (read_text text) refl
+  pub each_is_one : (text : List ℕ) → ((script : Script) × IsScript text script) ⊎ ((code : ScriptCode) × (number : ℕ) × TextRefusal text code number)
+  each_is_one text = one_of text (read_text text) refl

@@ -1,3 +1,3 @@
-pub mod Forms
 pub mod Judgement
-pub mod Lawful
+pub mod Statements
+pub mod Tables

@@ -1,11 +1,14 @@
-//! Judges a script: the first reason to refuse it, or what it asks for.
+//! The judgement of a script, step by step, and its first step: what the script declares and asks for, or the first
+//! reason of the text and the catalogue to refuse it, at its statement. It stands on the grammar's relation
+//! (`sql_parse`) and on what CREATE TABLE and SET mean (`ct_catalog`). Later steps take what it answers.
 #![tactic(auto)]
 
-mod accepted;
-mod forms;
+mod asked;
 mod laws;
 mod statements;
 
-pub use accepted::Accepted;
-pub use laws::{accepted_is_lawful, each_text_is_one, script_is_judged, text_refusal_is_judged};
+pub use asked::{Asked, Insert, Inserts};
+pub use laws::{
+    each_text_is_one, script_is_judged, tables_have_few_columns, text_refusal_is_judged,
+};
 pub use statements::{JudgeFault, judge};

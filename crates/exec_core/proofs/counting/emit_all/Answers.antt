@@ -5,8 +5,8 @@ use Rattle.ct_value.specs.declared.row.Row.{Row}
 use Rattle.ct_change.specs.declared.change.Change.{Change}
 use Rattle.op_rules.specs.History.{Arrival, arrival, joined}
 use Rattle.op_rules.specs.Rules.{ArriveAfter, MayArrive, emits, appended, emitted_after}
-use Rattle.exec_core.specs.Pieces.{piece_of, pieces_of}
-use Rattle.exec_core.proofs.Countings.{length-history, history-push, emitted_more, emitted_out, range-weaker}
+use Rattle.exec_core.specs.Pieces.{piece_of, pieces_of, history-push}
+use Rattle.exec_core.proofs.Countings.{length-history, emitted_more, emitted_out, range-weaker}
 use Rattle.exec_core.proofs.counting.emit_all.Goals as goal
 
 pub consume-requires-clause-may : goal.consume-requires-clause-may

@@ -1,6 +1,7 @@
 use Rattle.std.proofs.Common.{ap, sym, ◌∙◌}
 use Rattle.job_text.specs.Lines.{checked, source_mode, unless}
-use Rattle.exec_core.proofs.Intakes.{change_fits, room_there, refusal_seen, holds_push}
+use Rattle.exec_core.specs.laws.Lines.{change_fits}
+use Rattle.exec_core.proofs.Intakes.{room_there, refusal_seen, holds_push}
 use Rattle.exec_core.proofs.source.take_line.Goals as goal
 
 pub take-requires-clause-room : goal.take-requires-clause-room

@@ -1,5 +1,5 @@
 use Rattle.std.proofs.Common.{length, ap, arith}
-use Rattle.job_text.proofs.FullLines.{length-lines_of}
+use Rattle.job_text.specs.laws.FullLines.{length-lines_of}
 use Rattle.job_text.proofs.lines.Lines.of.Goals as goal
 
 pub returns-clause-count : goal.returns-clause-count

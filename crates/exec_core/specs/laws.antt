@@ -1,0 +1,4 @@
+pub mod Counts
+pub mod InRange
+pub mod Lines
+pub mod Scans

@@ -1,0 +1,5 @@
+pub mod Endings
+pub mod Outcome
+pub mod RunLaws
+pub mod Runs
+pub mod Status

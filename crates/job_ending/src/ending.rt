@@ -1,0 +1,156 @@
+ghost use Rattle.std.specs.Prelude.{◌≡◌, IfOk};
+ghost use Rattle.job_ending.specs.Endings.{ending_line, script_line, change_line, column_of_code, order_line, in_flight_of, range_line, limit_text};
+ghost use Rattle.job_ending.specs.Status.{status_of};
+
+use ct_value::{Bytes, ChangeCode, Memory, OrderCode, Row, ScriptCode};
+use job_text::push_record;
+use std::alloc::Global;
+
+/// How a run ends.
+#[derive(Debug, Drop)]
+pub enum Ending {
+    /// It ended well.
+    Done,
+    /// The words of the command line are a wrong use.
+    Usage,
+    /// The script is refused at a statement, counted from 1.
+    Script { code: ScriptCode, statement: u32 },
+    /// A change line is refused; lines are counted from 1.
+    Change { code: ChangeCode, line: u32 },
+    /// An order line is refused; lines are counted from 1.
+    Order { code: OrderCode, line: u32 },
+    /// A value left the range of its type, at this row of a node's subtask.
+    Range { node: u32, subtask: u32, row: Row },
+    /// A file or the changes of a job are more than their limit.
+    Limit(LimitName),
+    /// A file couldn't be read.
+    ReadFault,
+    /// The output couldn't be written.
+    WriteFault,
+    /// Want of memory.
+    Memory,
+}
+
+/// What is limited.
+#[derive(Clone, Copy, Debug, PartialEq, Eq)]
+pub enum LimitName {
+    Script,
+    Changes,
+    Order,
+    Sent,
+}
+
+/// The exit status of an ending. It takes no memory.
+pub fn status(ending: &Ending) -> u8
+    ensures { result ≡ status_of ending.now }
+{
+    match ending {
+        Ending::Done => 0,
+        Ending::Usage => 1,
+        Ending::Script { .. } => 2,
+        Ending::Change { .. } => 3,
+        Ending::Order { .. } => 4,
+        Ending::Range { .. } => 5,
+        Ending::Limit(_) => 6,
+        Ending::ReadFault => 7,
+        Ending::WriteFault => 8,
+        Ending::Memory => 9,
+    }
+}
+
+/// The line that an ending writes; `Done` writes nothing.
+pub fn ending_line(alloc: Global, ending: &Ending) -> Result<Bytes, Memory>
+    ensures { IfOk result (λ line. line ≡ ending_line ending.now) }
+{
+    match ending {
+        Ending::Done => Ok(Bytes::new(alloc)),
+        Ending::Usage => Bytes::from_slice(alloc, b"usage\n"),
+        Ending::Script { code, statement } => script_line(alloc, code, *statement),
+        Ending::Change { code, line } => change_line(alloc, code, *line),
+        Ending::Order { code, line } => order_line(alloc, code, *line),
+        Ending::Range { node, subtask, row } => range_line(alloc, *node, *subtask, row),
+        Ending::Limit(name) => Bytes::from_slice(alloc, limit_text(*name).as_bytes()),
+        Ending::ReadFault => Bytes::from_slice(alloc, b"read fault\n"),
+        Ending::WriteFault => Bytes::from_slice(alloc, b"write fault\n"),
+        Ending::Memory => Bytes::from_slice(alloc, b"out of memory\n"),
+    }
+}
+
+fn script_line(alloc: Global, code: &ScriptCode, statement: u32) -> Result<Bytes, Memory>
+    ensures { IfOk result (λ line. line ≡ script_line code.now statement) }
+{
+    let text = code.text();
+    let line = format!(in alloc; "script {text} statement {statement}\n")?;
+    Bytes::from_slice(alloc, line.as_bytes())
+}
+
+fn change_line(alloc: Global, code: &ChangeCode, line: u32) -> Result<Bytes, Memory>
+    ensures { IfOk result (λ text. text ≡ change_line code.now line) }
+{
+    let text = code.text();
+    let line = match column_of(code) {
+        Some(column) => format!(in alloc; "change {text} line {line} column {column}\n")?,
+        None => format!(in alloc; "change {text} line {line}\n")?,
+    };
+    Bytes::from_slice(alloc, line.as_bytes())
+}
+
+fn column_of(code: &ChangeCode) -> Option<u32>
+    ensures { result ≡ column_of_code code.now }
+{
+    match code {
+        ChangeCode::BadField(column) | ChangeCode::NullNotAllowed(column) => Some(*column),
+        ChangeCode::FieldCount
+        | ChangeCode::UnknownTable
+        | ChangeCode::BadKind
+        | ChangeCode::KindNotDeclared
+        | ChangeCode::RowAbsent
+        | ChangeCode::KeyPresent => None,
+    }
+}
+
+fn order_line(alloc: Global, code: &OrderCode, line: u32) -> Result<Bytes, Memory>
+    ensures { IfOk result (λ text. text ≡ order_line code.now line) }
+{
+    let text = code.text();
+    let line = match in_flight_of(code) {
+        Some(in_flight) => {
+            format!(in alloc; "order {text} line {line} in flight {in_flight}\n")?
+        }
+        None => format!(in alloc; "order {text} line {line}\n")?,
+    };
+    Bytes::from_slice(alloc, line.as_bytes())
+}
+
+fn in_flight_of(code: &OrderCode) -> Option<u32>
+    ensures { result ≡ in_flight_of code.now }
+{
+    match code {
+        OrderCode::TooFew(in_flight) => Some(*in_flight),
+        OrderCode::BadLine
+        | OrderCode::NoSuchPlace
+        | OrderCode::NoMoreChanges
+        | OrderCode::NoBuffer => None,
+    }
+}
+
+fn range_line(alloc: Global, node: u32, subtask: u32, row: &Row) -> Result<Bytes, Memory>
+    ensures { IfOk result (λ text. text ≡ range_line node subtask row.now) }
+{
+    let place = format!(in alloc; "range node {node} subtask {subtask} row ")?;
+    let mut line = Bytes::from_slice(alloc, place.as_bytes())?;
+    push_record(alloc, &mut line, row)?;
+    line.extend(b"\n")?;
+    Ok(line)
+}
+
+fn limit_text(name: LimitName) -> &'static str
+    ensures { result.now ≡ limit_text name }
+{
+    match name {
+        LimitName::Script => "limit script\n",
+        LimitName::Changes => "limit changes\n",
+        LimitName::Order => "limit order\n",
+        LimitName::Sent => "limit sent\n",
+    }
+}

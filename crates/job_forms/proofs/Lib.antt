@@ -1,0 +1,10 @@
+pub mod Chains
+pub mod Headline
+pub mod InRange
+pub mod Lawful
+pub mod Lists
+pub mod RunsOfForms
+pub mod Selects
+pub mod SourceModes
+pub mod Takings
+pub mod Trees

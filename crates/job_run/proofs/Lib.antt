@@ -1,0 +1,4 @@
+pub mod Headline
+pub mod InRange
+pub mod Lawful
+pub mod Loads
