@@ -1,8 +1,8 @@
 -- The worked runs.
-use Rattle.std.specs.Prelude.{◌≡◌, ℕ, ◌+◌, ◌<◌, ◌≤◌, ◌==◌, ◌&&◌, ◌||◌, not, Bool, cond, Option, Result, List, ◌++◌}
-use Rattle.std.proofs.Common.{zero, suc, true, false, [], ◌∷◌, refl, sym, ap, subst, ◌∙◌, arith, Some, None, Ok, Err}
+use Rattle.std.specs.Prelude.{◌≡◌, ℕ, ◌==◌, not, cond, Option, List, ◌++◌}
+use Rattle.std.proofs.Common.{[], ◌∷◌, refl, ap, ◌∙◌, arith, Some, None, Err}
 use Rattle.std.specs.List.{find}
-use Rattle.ct_value.specs.Bag.{items, copies, none, add, remove, put, drop_one, one_at, items-none, items-add, items-remove, copies-none, copies-add}
+use Rattle.ct_value.specs.Bag.{items, copies, none, add, put, drop_one, one_at, items-none, items-add, items-remove, copies-none, copies-add}
 use Rattle.ct_value.specs.Order.{row_cmp, row_total}
 use Rattle.ct_value.specs.Rows.{project}
 use Rattle.ct_value.specs.declared.row.Row.{Row}
@@ -13,14 +13,13 @@ use Rattle.ct_change.specs.declared.change.Change.{Change}
 use Rattle.ct_change.specs.Changelog.{append, retract, Rows, same_row, fold}
 use Rattle.stream_model.specs.declared.events.Event.TheVariants.{Take}
 use Rattle.stream_model.specs.declared.events.StepFault.TheVariants.{Change as Refused}
-use Rattle.stream_model.specs.declared.events.PrintItem.{PrintItem}
 use Rattle.stream_model.specs.declared.events.PrintItem.TheVariants.{Change as Printed, Quiet}
 use Rattle.stream_model.specs.Tables.{Table, scanned_at, is_there, or_else, refusal}
 use Rattle.stream_model.specs.Network.{Network}
 use Rattle.stream_model.specs.Machine.{State, opened, take_unless, take_of, step}
-use Rattle.stream_model.specs.Runs.{Item, happens, state_in, after}
+use Rattle.stream_model.specs.Runs.{Item, state_in, after}
 use Rattle.stream_model.specs.Drain.{drain}
-use Rattle.stream_model.specs.Worked.{Verb, does, drains, run_order, take, move, number, rome, oslo, orders, customers, join_network, first_lines, last_lines, customer, order, result, new_row_first, old_row_first, words, word_network, word, two_words, printed_by, RunsAsWorked}
+use Rattle.stream_model.specs.Worked.{does, drains, run_order, take, move, number, rome, oslo, orders, customers, join_network, first_lines, last_lines, customer, order, result, new_row_first, old_row_first, word_network, word, two_words, printed_by, RunsAsWorked}
 
 -- a change that isn't refused is taken
 took : (g : Network) (limit : ℕ) (s : State) (table : ℕ) (t : Table) (change : Change) (more : List Item) → g.tables table ≡ Some t → refusal t (fold t.mode (s.taken table)) change ≡ None

@@ -1,5 +1,5 @@
 -- Worked runs: what the machine prints on rows that were worked by hand, and in which order.
-use Rattle.std.specs.Prelude.{◌≡◌, ℕ, zero, suc, pred, length, ◌+◌, ◌%◌, ◌==◌, ℤ, pos, negsuc, Bool, true, false, ◌&&◌, cond, List, [], ◌∷◌, ◌++◌, map, filter, Option, Some, None, Result, Ok, Err}
+use Rattle.std.specs.Prelude.{◌≡◌, ℕ, zero, suc, pred, length, ◌+◌, ◌%◌, ◌==◌, pos, true, cond, List, [], ◌∷◌, ◌++◌, map, filter, Option, Some, None, Ok, Err}
 use Rattle.ct_value.specs.Bag.{drop_one}
 use Rattle.ct_value.specs.Order.{row_cmp}
 use Rattle.ct_value.specs.Rows.{project}
@@ -12,7 +12,7 @@ use Rattle.ct_change.specs.declared.kind.Kind.{Kind}
 use Rattle.ct_change.specs.declared.kind.Kind.TheVariants.{I, UB, UA, D}
 use Rattle.ct_change.specs.declared.kind.KindSet.{KindSet}
 use Rattle.ct_change.specs.declared.change.Change.{Change}
-use Rattle.ct_change.specs.Changelog.{append, retract, Rows, same_row, adds}
+use Rattle.ct_change.specs.Changelog.{append, retract, same_row, adds}
 use Rattle.op_rules.specs.History.{Arrival, at_port}
 use Rattle.op_rules.specs.Rules.{Answer}
 use Rattle.op_rules.specs.Edges.{bag, last_rows, Meaning, Exchange, forward, hash, Edge}
