@@ -8,7 +8,7 @@ use Rattle.ct_change.specs.declared.change.Change.{Change}
 use Rattle.ct_change.specs.Changelog.{Rows, AreOf}
 use Rattle.op_rules.specs.History.{Arrival, at_port, joined}
 use Rattle.op_rules.specs.Rules.{Answer, appended}
-use Rattle.op_rules.specs.Edges.{Meaning, bag, last_rows, partials, ReadsAs, Exchange, forward, hash, Edge, belongs_by, IsRouted, IsUnique, IsApart, HoldsOver, IsSeen, AreApartBy}
+use Rattle.op_rules.specs.Edges.{Meaning, ReadsAs, Exchange, forward, hash, Edge, belongs_by, IsRouted, IsUnique, IsApart, HoldsOver, IsSeen, AreApartBy}
 
 -- the sum of f over the numbers below n
 abbrev pub total : ℕ → (ℕ → ℕ) → ℕ

@@ -1,28 +1,26 @@
 -- Runs are safe, and drain.
-use Rattle.std.specs.Prelude.{◌≡◌, ℕ, ◌+◌, ◌<◌, ◌≤◌, ◌==◌, ◌&&◌, nat_le, nat_lt, Bool, cond, Option, Result, List, ◌++◌, length, map}
+use Rattle.std.specs.Prelude.{◌≡◌, ℕ, ◌+◌, ◌<◌, ◌≤◌, ◌==◌, ◌&&◌, nat_le, nat_lt, Bool, cond, Option, Result, List, ◌++◌, length}
 use Rattle.std.proofs.Common.{zero, suc, true, false, [], ◌∷◌, refl, sym, ap, subst, ◌∙◌, arith, inl, inr, ◌⊎◌, eqb, Some, None, Ok, Err}
 use Rattle.std.specs.List.{AllByRecursion, filter}
-use Rattle.std.proofs.lemmas.List.{append_assoc, append-nil, length-append}
-use Rattle.std.proofs.lemmas.Bool.{cases_Bool, eqb-true, eqb-false, eq-eqb, ne_eqb, cases_eq, cases_lt, and_parts, and_from, ltb-true, leb-true, lt-ltb, le-leb, false≢true}
+use Rattle.std.proofs.lemmas.List.{append_assoc, length-append}
+use Rattle.std.proofs.lemmas.Bool.{cases_Bool, eqb-true, eq-eqb, ne_eqb, cases_eq, and_parts, and_from, leb-true, lt-ltb, le-leb, false≢true}
 use Rattle.ct_change.specs.declared.change.Change.{Change}
 use Rattle.ct_change.specs.Changelog.{fold}
 use Rattle.ct_value.specs.declared.codes.ChangeCode.{ChangeCode}
-use Rattle.ct_value.specs.declared.codes.OrderCode.TheVariants.{NoSuchPlace, TooFew, NoBuffer}
+use Rattle.ct_value.specs.declared.codes.OrderCode.TheVariants.{NoSuchPlace}
 use Rattle.op_rules.specs.History.{Arrival, arrival, joined}
 use Rattle.op_rules.specs.Rules.{Answer}
 use Rattle.op_rules.specs.Edges.{Exchange, forward, hash, goes_by}
-use Rattle.op_rules.specs.Tasks.{total}
-use Rattle.stream_model.specs.declared.events.Event.{Event}
 use Rattle.stream_model.specs.declared.events.Event.TheVariants.{Take, Move, Flush}
 use Rattle.stream_model.specs.declared.events.StepFault.{StepFault}
 use Rattle.stream_model.specs.declared.events.StepFault.TheVariants.{Change as Refused, Order, Range, Limit, Memory}
 use Rattle.stream_model.specs.declared.events.PrintItem.{PrintItem}
 use Rattle.stream_model.specs.Tables.{Table, scanned_at, refusal}
-use Rattle.stream_model.specs.Network.{Feed, Network, IsWired, MeetsFacts}
-use Rattle.stream_model.specs.Machine.{State, consumed, put, opened, send, print, joins, folded, hand_on, answered, flushed, size_of, flushed_if_full, has_channel, is_channel, move_front, move_to, flush_held, flush_bundle, is_place, flush, scan_count, scanned, take_within, take_unless, take_of, step, IsQuiet}
+use Rattle.stream_model.specs.Network.{Feed, Network, IsWired}
+use Rattle.stream_model.specs.Machine.{State, put, opened, send, print, joins, folded, answered, flushed, size_of, flushed_if_full, has_channel, is_channel, move_front, move_to, flush_held, flush_bundle, is_place, flush, scan_count, scanned, take_unless, take_of, step, IsQuiet}
 use Rattle.stream_model.specs.Runs.{Item, happens, quiet, told_quiet, step_item, state_in, after, AreTyped}
-use Rattle.stream_model.specs.Theorem.{MayArrive, Holds}
-use Rattle.stream_model.specs.Drain.{Leads, StopsBy, StopsAlong, IsOpen, IsSafe, Stage, delivers, flushes, moves, stage_items, drain_stages, channels_to, channels_from, feeds_node, channels_into, bundles_from, bundles_at, stages_from, stages, drain, IsDrainFault, Drains, RunsAreSafe, RunsDrain}
+use Rattle.stream_model.specs.Theorem.{Holds}
+use Rattle.stream_model.specs.Drain.{Leads, StopsBy, StopsAlong, Stage, delivers, flushes, moves, stage_items, drain_stages, channels_to, channels_from, feeds_node, channels_into, bundles_from, bundles_at, stages_from, stages, IsDrainFault, RunsAreSafe, RunsDrain}
 use Rattle.stream_model.proofs.Steps.{put_cases, put_here, put_there, HangsTogether, hangs_opened, hangs_after}
 use Rattle.stream_model.proofs.Theorem.{composes}
 

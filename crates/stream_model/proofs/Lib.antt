@@ -9,3 +9,4 @@ pub mod Scans
 pub mod Steps
 pub mod Sums
 pub mod Theorem
+pub mod Worked

@@ -6,7 +6,7 @@ use Rattle.stream_model.specs.declared.events.StepFault.{StepFault}
 use Rattle.stream_model.specs.declared.events.StepFault.TheVariants.{Change as Refused, Order, Range, Limit, Memory}
 use Rattle.stream_model.specs.declared.events.PrintItem.{PrintItem}
 use Rattle.stream_model.specs.Network.{Feed, Network, IsWired, MeetsFacts}
-use Rattle.stream_model.specs.Machine.{State, consumed, opened, is_channel, IsQuiet}
+use Rattle.stream_model.specs.Machine.{State, opened, is_channel, IsQuiet}
 use Rattle.stream_model.specs.Runs.{Item, happens, quiet, step_item, after, AreTyped}
 use Rattle.stream_model.specs.Theorem.{MayArrive}
 

@@ -6,3 +6,4 @@ pub mod Runs
 pub mod Scans
 pub mod Tables
 pub mod Theorem
+pub mod Worked

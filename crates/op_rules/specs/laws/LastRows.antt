@@ -1,5 +1,5 @@
 -- Of changes that are read as last rows, one row at most stands with each key.
-use Rattle.std.proofs.Common.{◌≡◌, ℕ, ◌+◌, ◌<◌, ◌≤◌, Bool, true, false, cond, List, [], ◌∷◌, refl, sym, ap, subst, ◌∙◌, arith}
+use Rattle.std.proofs.Common.{◌≡◌, ℕ, ◌<◌, ◌≤◌, Bool, true, false, cond, List, [], ◌∷◌, refl, sym, ap, subst, ◌∙◌, arith}
 use Rattle.ct_value.specs.Bag.{copies, one_at}
 use Rattle.ct_value.specs.Order.{row_cmp}
 use Rattle.ct_value.specs.Rows.{project}

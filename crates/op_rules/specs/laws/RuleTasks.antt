@@ -1,37 +1,33 @@
 -- A group and a sink meet their facts.
-use Rattle.std.proofs.Common.{◌≡◌, ℕ, zero, suc, ◌+◌, ◌<◌, ◌≤◌, ◌==◌, ◌^◌, nat_lt, Bool, true, false, cond, ◌||◌, ◌&&◌, not, pos, List, [], ◌∷◌, ◌++◌, map, filter, length, take, eqb, Option, Some, None, Ok, Err, refl, sym, ap, subst, ◌∙◌, arith, append_assoc, append-nil, inl, inr, ⊎_elim, ◌⊎◌}
+use Rattle.std.proofs.Common.{◌≡◌, ℕ, zero, suc, ◌+◌, ◌<◌, ◌≤◌, ◌==◌, ◌^◌, Bool, true, false, cond, ◌||◌, pos, List, [], ◌∷◌, ◌++◌, map, filter, length, take, Option, Some, None, Ok, Err, refl, sym, ap, subst, ◌∙◌, arith, inl}
 use Rattle.std.specs.List.{Contains, AllByRecursion, list_any, list_all}
 use Rattle.std.proofs.lemmas.List.{length-take-le, length-append}
-use Rattle.std.proofs.lemmas.Bool.{cases_Bool, cases_eq, eqb-true, eqb-false, eq-eqb, ne_eqb, ltb-true, and_parts, false≢true}
-use Rattle.ct_value.specs.Bag.{copies, none, items, weigh, total as weight, one_at, bag_of, copies-occurs, copies-bag_of, total-bag_of, copies-none, same_bag}
+use Rattle.std.proofs.lemmas.Bool.{eqb-true, eqb-false, eq-eqb, ltb-true, and_parts, false≢true}
+use Rattle.ct_value.specs.Bag.{copies, items, weigh, one_at, bag_of, copies-occurs, copies-bag_of, total-bag_of, same_bag}
 use Rattle.ct_value.specs.Order.{row_cmp, row_total, row_exact}
 use Rattle.ct_value.specs.Rows.{project}
 use Rattle.ct_value.specs.declared.row.Row.{Row}
 use Rattle.ct_value.specs.declared.value.Value.TheVariants.{Num}
-use Rattle.ct_change.specs.declared.kind.Kind.{Kind}
-use Rattle.ct_change.specs.declared.kind.Kind.TheVariants.{I, UB, UA, D}
-use Rattle.ct_change.specs.declared.kind.KindSet.{KindSet}
 use Rattle.ct_change.specs.declared.change.Change.{Change}
-use Rattle.ct_change.specs.Changelog.{Mode, append, retract, upsert, Rows, same_row, has, adds, additions, removals, AreOf, fold, IsValid, Means}
+use Rattle.ct_change.specs.Changelog.{Mode, append, retract, upsert, Rows, same_row, has, AreOf, fold, IsValid, Means}
 use Rattle.ct_change.specs.Emission.{emission}
-use Rattle.ct_change.specs.laws.Meanings.{same_row-true, same_row-itself, means_rows}
-use Rattle.rel_algebra.specs.Groups.{first_seen, in_group, group_size, counted, sized, result_row, group_keys, count_groups, is_countable, grouped_counts, front, AreWide, one_of}
+use Rattle.ct_change.specs.laws.Meanings.{same_row-true, means_rows}
+use Rattle.rel_algebra.specs.Groups.{in_group, group_size, counted, sized, result_row, group_keys, count_groups, is_countable, grouped_counts, front, AreWide, one_of}
 use Rattle.rel_algebra.specs.laws.Results.{front-push, any-first_seen, all-first_seen, group-wide, sized-front, one_of-some, copies-count_groups, grouped_counts-countable}
 use Rattle.op_rules.specs.History.{Arrival, at_port, joined}
-use Rattle.op_rules.specs.Rule.{Rule, group as group_rule, sink as sink_rule, port_count, output_kinds, IsSound}
-use Rattle.op_rules.specs.Rules.{Answer, appended, answers, groups_of, group_emits, emits, opening, emitted_after, emitted}
-use Rattle.op_rules.specs.Facts.{Port, FitsPort, Ready, Settled}
-use Rattle.op_rules.specs.Edges.{Meaning, bag, last_rows, partials, meaning_of, ReadsAs, Exchange, forward, hash, Edge, belongs_by, IsRoutedBy, IsUnique, IsApart, HoldsOver, IsSeenBy, LiesIn, AreApartBy, KeepsKeys}
-use Rattle.op_rules.specs.Tasks.{Task, total, along, emitted_by, IsReady, IsSettled, IsSplitBy, IsSplit, ComeFixedBy, ComeApartBy, Emitted, AllEmitted, Facts, FoldsToAnswer, PrefixesStand, KindsStay, TypesStay, PartsAddUp, LocalKeysHold, FixingSetsHold, LastRowsLeaveApart, AnswersFit, UniqueKeysHold}
+use Rattle.op_rules.specs.Rule.{Rule, group as group_rule, sink as sink_rule, port_count, IsSound}
+use Rattle.op_rules.specs.Rules.{Answer, appended, answers, groups_of, group_emits, emits, emitted_after, emitted}
+use Rattle.op_rules.specs.Facts.{Port, FitsPort, Ready}
+use Rattle.op_rules.specs.Edges.{Meaning, bag, last_rows, partials, meaning_of, ReadsAs, Exchange, forward, hash, Edge, IsRoutedBy, IsUnique, IsApart, IsSeenBy, LiesIn, AreApartBy, KeepsKeys}
+use Rattle.op_rules.specs.Tasks.{Task, total, along, emitted_by, IsReady, IsSettled, IsSplitBy, ComeFixedBy, ComeApartBy, Emitted, AllEmitted, Facts, PartsAddUp, LocalKeysHold, AnswersFit, UniqueKeysHold}
 use Rattle.op_rules.specs.RuleTasks.{first_columns, group_task, GroupFits, sink_task, SinkFits, GroupsStand, SinksStand}
 use Rattle.op_rules.specs.laws.Histories.{at_port-append, prefix_at, all-append, all-front, all-back, all-each, appended-nothing, ok-same, both-appended, ready_valid, ready_wide, ready_settled}
 use Rattle.op_rules.specs.laws.SentResults.{all-emission}
 use Rattle.op_rules.specs.laws.LastRows.{last_unique}
-use Rattle.op_rules.specs.laws.Turns.{Shown, Turns, turns-take, turns_mean, turns_whole}
+use Rattle.op_rules.specs.laws.Turns.{turns-take, turns_mean, turns_whole}
 use Rattle.op_rules.specs.laws.Totals.{total-same, total_one}
 use Rattle.op_rules.specs.laws.FirstColumns.{project-first, project-taken, front-take}
 use Rattle.op_rules.specs.laws.GroupFacts as groups
-use Rattle.op_rules.specs.laws.SinkFacts as sinks
 
 -- ---- in common
 

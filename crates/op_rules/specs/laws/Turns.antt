@@ -1,22 +1,21 @@
 -- Results that are shown and taken away in turn: in each prefix of a retract changelog of a group's results, one row at
 -- most stands for each group.
-use Rattle.std.proofs.Common.{◌≡◌, ℕ, zero, suc, ◌+◌, ◌<◌, ◌≤◌, ◌==◌, ◌^◌, Bool, true, false, cond, ◌||◌, List, [], ◌∷◌, ◌++◌, map, length, take, Option, Some, None, Ok, Err, refl, sym, ap, subst, ◌∙◌, arith, append_assoc, append-nil}
+use Rattle.std.proofs.Common.{◌≡◌, ℕ, zero, suc, ◌+◌, ◌≤◌, ◌==◌, Bool, true, false, cond, ◌||◌, List, [], ◌∷◌, ◌++◌, map, length, take, Option, Some, None, Ok, Err, refl, sym, ap, subst, ◌∙◌, arith, append_assoc, append-nil}
 use Rattle.std.specs.List.{list_any, AllByRecursion, IsDistinct}
 use Rattle.std.specs.Cmp.{eq_by_cmp_equiv}
-use Rattle.std.proofs.lemmas.Bool.{cases_Bool, false≢true}
+use Rattle.std.proofs.lemmas.Bool.{false≢true}
 use Rattle.std.proofs.lemmas.Map.Keys.{IsDistinct-head, IsDistinct-tail}
-use Rattle.ct_value.specs.Bag.{copies, none, one_at, copies-none}
+use Rattle.ct_value.specs.Bag.{one_at, copies-none}
 use Rattle.ct_value.specs.Order.{row_cmp, row_total}
 use Rattle.ct_value.specs.declared.row.Row.{Row}
-use Rattle.ct_value.specs.declared.value.Value.TheVariants.{Num}
 use Rattle.ct_change.specs.declared.kind.Kind.TheVariants.{I, UB, UA, D}
 use Rattle.ct_change.specs.declared.change.Change.{Change}
-use Rattle.ct_change.specs.Changelog.{Mode, retract, Rows, same_row, adds, addition, removal, additions, removals, fold, fold_from, IsValidFrom, IsValid, Means}
+use Rattle.ct_change.specs.Changelog.{Mode, retract, Rows, same_row, adds, addition, removal, additions, removals, fold, fold_from, IsValidFrom, IsValid}
 use Rattle.ct_change.specs.Emission.{emission, update}
 use Rattle.ct_change.specs.laws.Folds.{IsValidFrom-front, IsValidFrom-back}
 use Rattle.ct_change.specs.laws.Meanings.{same_row-true, same_row-itself}
 use Rattle.rel_algebra.specs.Groups.{first_seen, group_size, counted, sized, result_row, is_countable, front, AreWide, one_of}
-use Rattle.rel_algebra.specs.laws.Results.{front-push, any-first_seen, distinct-first_seen, all-first_seen, result_row-none, one_of-some}
+use Rattle.rel_algebra.specs.laws.Results.{front-push, any-first_seen, distinct-first_seen, result_row-none}
 use Rattle.op_rules.specs.History.{Arrival, at_port, joined}
 use Rattle.op_rules.specs.Rule.{group, KeepsGroups}
 use Rattle.op_rules.specs.Rules.{Answer, answers, groups_of, group_emits, emits, emitted_after, emitted}
