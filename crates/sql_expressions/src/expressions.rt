@@ -1,9 +1,9 @@
 //! Tests, and the chains of AND and OR: whole expressions.
 ghost use Rattle.std.specs.Prelude.{◌≡◌};
 ghost use Rattle.sql_syntax.specs.Tree as t;
-ghost use Rattle.sql_syntax.specs.View.{view, trees_view};
-ghost use Rattle.sql_rules.specs.Words.{AND, OR, SELECT, only};
-ghost use Rattle.sql_rules.specs.Reading.{series, word_at};
+ghost use Rattle.sql_syntax.specs.View.{view};
+ghost use Rattle.sql_rules.specs.Words.{SELECT, only};
+ghost use Rattle.sql_rules.specs.Reading.{word_at};
 ghost use Rattle.sql_rules.specs.Reads.{between_at, conj_at, exists_at, expr_at, in_at, is_null_at, neg_at, negatable_at, sum_at, sum_test_at, test_at, tested_at, query_or_list};
 ghost use Rattle.sql_words.specs.Gives.{Gives};
 
@@ -11,7 +11,7 @@ use crate::nodes::{and_node, not_node, or_node};
 use sql_operands::{boxed_query, sum};
 use sql_rules::{NegatableWord, RestWord};
 use sql_shapes::{Nested, Rule, led, trees};
-use sql_syntax::{Tree, Trees};
+use sql_syntax::Tree;
 use sql_tokens::{Keyword, Symbol, Token};
 use sql_words::{Read, after_keyword, flagged, keyword, negatable_word, rest_word, symbol};
 use std::alloc::Global;
@@ -250,26 +250,13 @@ impl<'t, N: Nested<'t>> Rule<'t> for NegRule<'_, N> {
     }
 }
 
-// One operand or more with AND between them.
-#[tactic(auto, using(sql_rules::specs::laws::Steps::series_is))]
-fn conj_operands<'t, N: Nested<'t>>(
-    alloc: Global,
-    nested: &N,
-    tokens: &'t [Token],
-) -> Read<'t, Trees>
-    requires { N.sound nested.now }
-    ensures { Gives trees_view result (series (neg_at (N.readers nested.now)) (only AND) (λ w. neg_at (N.readers nested.now)) tokens.now) }
-{
-    let (first, behind) = neg(alloc, nested, tokens)?;
-    led(alloc, Keyword::And, &NegRule { nested }, first, behind)
-}
-
-#[tactic(auto, using(sql_rules::specs::laws::Steps::conj_series))]
+#[tactic(auto, using(sql_rules::specs::laws::Steps::conj_series, sql_rules::specs::laws::Steps::series_is))]
 fn conj<'t, N: Nested<'t>>(alloc: Global, nested: &N, tokens: &'t [Token]) -> Read<'t, Tree>
     requires { N.sound nested.now }
     ensures { Gives view result (conj_at (N.readers nested.now) tokens.now) }
 {
-    let (list, rest) = conj_operands(alloc, nested, tokens)?;
+    let (first, rest) = neg(alloc, nested, tokens)?;
+    let (list, rest) = led(alloc, Keyword::And, &NegRule { nested }, first, rest)?;
     Ok((and_node(list), rest))
 }
 
@@ -295,24 +282,10 @@ impl<'t, N: Nested<'t>> Rule<'t> for ConjRule<'_, N> {
     }
 }
 
-// One operand or more with OR between them.
-#[tactic(auto, using(sql_rules::specs::laws::Steps::series_is))]
-fn expr_operands<'t, N: Nested<'t>>(
-    alloc: Global,
-    nested: &N,
-    tokens: &'t [Token],
-) -> Read<'t, Trees>
-    requires { N.sound nested.now }
-    ensures { Gives trees_view result (series (conj_at (N.readers nested.now)) (only OR) (λ w. conj_at (N.readers nested.now)) tokens.now) }
-{
-    let (first, behind) = conj(alloc, nested, tokens)?;
-    led(alloc, Keyword::Or, &ConjRule { nested }, first, behind)
-}
-
 /// Reads an expression, and answers it with what follows it.
 ///
 /// `nested` reads what stands within its brackets.
-#[tactic(auto, using(sql_rules::specs::laws::Steps::expr_series))]
+#[tactic(auto, using(sql_rules::specs::laws::Steps::expr_series, sql_rules::specs::laws::Steps::series_is))]
 pub fn expression<'t, N: Nested<'t>>(
     alloc: Global,
     nested: &N,
@@ -321,6 +294,7 @@ pub fn expression<'t, N: Nested<'t>>(
     requires { N.sound nested.now }
     ensures { Gives view result (expr_at (N.readers nested.now) tokens.now) }
 {
-    let (list, rest) = expr_operands(alloc, nested, tokens)?;
+    let (first, rest) = conj(alloc, nested, tokens)?;
+    let (list, rest) = led(alloc, Keyword::Or, &ConjRule { nested }, first, rest)?;
     Ok((or_node(list), rest))
 }

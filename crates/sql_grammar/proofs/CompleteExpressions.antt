@@ -11,7 +11,7 @@ use Rattle.sql_syntax.specs.Tree.{Text, Tree, Query, Args, Empty, Star, Values, 
 use Rattle.sql_rules.specs.Words.{AND, AS, BETWEEN, BY, CASE, DISTINCT, ELSE, END, EXISTS, FILTER, IN, LIKE, NOT, OR, ORDER, OVER, PARTITION, SELECT, THEN, WHEN, WHERE, OPEN, CLOSE, DOT, TIMES, NAME, only, name_word, name_token, sign_word, sign_token, product_word, product_token, sum_word, sum_token, compare_token, direction_word, direction_token}
 use Rattle.sql_rules.specs.Shapes.{Spelling, Word, WordOf, After, Seq3, Made, Maybe, Flag, OrNone, Series, Listed, Bracketed}
 use Rattle.sql_rules.specs.Spells
-use Rattle.sql_rules.specs.Nodes.{or_node, and_node, sum_node, product_node, not_node, sign_node, is_desc}
+use Rattle.sql_rules.specs.Nodes.{or_node, and_node, sum_node, product_node, is_desc}
 use Rattle.sql_rules.specs.Spells.{Inside, NameOf, NumbersOf, TypeOf, AliasOf, Rest, no_rest, compares, is_null, between, in_list, in_query, like, rest_node}
 use Rattle.sql_rules.specs.Reading
 use Rattle.sql_rules.specs.Reading.{Reader, ◌>>=◌, first_word, word_at, after, optional, optional_word, maybe, maybe_item, flag, nothing, or_none, bracketed, listed}

@@ -1,8 +1,7 @@
 -- What a text is as a script: its statements, or the first statement that is refused.
-use Rattle.std.specs.Prelude.{◌≡◌, ℕ, suc, ◌+◌, Bool, true, false, List, [], ◌∷◌, ◌++◌, length}
+use Rattle.std.specs.Prelude.{◌≡◌, ℕ, ◌+◌, true, false, List, [], ◌∷◌, ◌++◌, length}
 use Rattle.ct_value.specs.declared.codes.ScriptCode.{ScriptCode}
 use Rattle.ct_value.specs.declared.codes.ScriptCode.TheVariants.{BadToken, TooDeep, Syntax}
-use Rattle.sql_tokens.specs.declared.token.Token.{Token}
 use Rattle.sql_syntax.specs.Tree.{Statement, Script}
 use Rattle.sql_tokens.specs.Statements.{Piece, ended, unended, spoiled, statements_of}
 use Rattle.sql_tokens.specs.Depth.{too_deep}

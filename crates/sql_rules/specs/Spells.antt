@@ -8,7 +8,7 @@ use Rattle.sql_syntax.specs.declared.tree.JoinWord.{JoinWord}
 use Rattle.sql_syntax.specs.declared.tree.JoinWord.TheVariants.{Inner, Left, Right, Full}
 use Rattle.sql_syntax.specs.declared.statement.TextPair.{TextPair}
 use Rattle.sql_syntax.specs.declared.statement.TypeName.{TypeName}
-use Rattle.sql_syntax.specs.Tree.{Text, Query, query_of, Select, select_of, Item, All, AllOf, One, Source, Table, FromQuery, JoinItem, join_of, Sort, sort_of, Tree, Or, And, Not, Exists, Compare, IsNull, Between, InList, InQuery, Like, Sum, Product, Sign, Number, Str, Truth, Null, Name, Call, Cast, Paren, Sub, Case, SumTail, sum_tail_of, ProductTail, product_tail_of, TreeWhen, tree_when_of, Args, Empty, Star, Values, Over, over_of, Statement, Create, Set, Insert, selects, items, joins, sort_list, trees, sum_tails, product_tails, tree_whens, optional_tree, optional_over}
+use Rattle.sql_syntax.specs.Tree.{Text, Query, query_of, Select, Item, All, AllOf, One, Source, Table, FromQuery, JoinItem, join_of, Sort, sort_of, Tree, Exists, Compare, IsNull, Between, InList, InQuery, Like, Number, Str, Truth, Null, Name, Call, Cast, Paren, Sub, Case, sum_tail_of, product_tail_of, TreeWhen, tree_when_of, Args, Empty, Star, Values, Over, over_of, Statement, Create, Set, Insert, selects, sort_list, trees, tree_whens, optional_tree, optional_over}
 use Rattle.sql_rules.specs.Words.{ALL, AND, AS, BETWEEN, BY, CASE, CAST, CREATE, DISTINCT, ELSE, END, ENFORCED, EXISTS, FALSE, FILTER, FROM, GROUP, HAVING, IN, INSERT, INTO, IS, JOIN, KEY, LIKE, LIMIT, NOT, NULL, ON, OR, ORDER, OUTER, OVER, PARTITION, PRIMARY, SELECT, SET, TABLE, THEN, TRUE, UNION, WHEN, WHERE, WITH, OPEN, CLOSE, COMMA, DOT, EQUAL, TIMES, NAME, STR, NUMBER, sign_token, product_token, sum_token, compare_token, direction_token, join_token}
 use Rattle.sql_rules.specs.Nodes.{or_node, and_node, not_node, sign_node, sum_node, product_node, select_node, is_desc}
 use Rattle.sql_rules.specs.Shapes.{Spelling, Word, Words, WordOf, Led, After, Seq2, Seq3, Seq4, Made, Maybe, Flag, OrNone, Many, Series, Listed, Bracketed, Chain}

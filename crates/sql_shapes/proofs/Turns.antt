@@ -1,5 +1,5 @@
 -- A loop that reads { word item } as often as its number says, turn by turn.
-use Rattle.std.proofs.Common.{◌≡◌, ℕ, suc, List, [], ◌∷◌, ◌++◌, length, Option, Some, None, refl, sym, ap, ◌∙◌, append_assoc, append-nil}
+use Rattle.std.proofs.Common.{◌≡◌, ℕ, suc, List, [], ◌∷◌, ◌++◌, Option, Some, None, refl, sym, ap, ◌∙◌, append_assoc, append-nil}
 use Rattle.sql_tokens.specs.declared.token.Token.{Token}
 use Rattle.sql_words.specs.declared.words.Stop.{Stop}
 use Rattle.sql_words.specs.declared.words.Stop.TheVariants as stops

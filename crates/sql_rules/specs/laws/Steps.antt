@@ -1,7 +1,6 @@
 -- What follows from what a reading answers.
-use Rattle.std.proofs.Common.{◌≡◌, List, [], ◌∷◌, ◌++◌, Option, Some, None, refl, sym, ap, ◌∙◌}
+use Rattle.std.proofs.Common.{◌≡◌, List, [], ◌∷◌, Option, Some, None, refl, sym, ap, ◌∙◌}
 use Rattle.sql_tokens.specs.declared.token.Token.{Token}
-use Rattle.sql_syntax.specs.Tree.{Tree}
 use Rattle.sql_rules.specs.Words.{AND, OR, only}
 use Rattle.sql_rules.specs.Nodes.{and_node, and_of, or_node, or_of}
 use Rattle.sql_rules.specs.Reading.{Reader, ◌>>=◌, behind, made, repeated, series, chain}

@@ -1,4 +1,4 @@
-use Rattle.std.proofs.Common.{◌≡◌, ◌++◌, map, drop}
+use Rattle.std.proofs.Common.{◌≡◌, ◌++◌, drop}
 use Rattle.ct_catalog.specs.Tables.{column_names}
 use Rattle.ct_catalog.proofs.create.column_names.Given as goal
 

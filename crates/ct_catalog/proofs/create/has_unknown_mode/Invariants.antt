@@ -1,4 +1,4 @@
-use Rattle.std.proofs.Common.{◌≡◌, map, drop}
+use Rattle.std.proofs.Common.{◌≡◌, drop}
 use Rattle.ct_catalog.specs.Tables.{has_unknown_mode}
 use Rattle.ct_catalog.proofs.create.has_unknown_mode.Given as goal
 

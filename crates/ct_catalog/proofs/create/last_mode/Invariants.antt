@@ -1,4 +1,4 @@
-use Rattle.std.proofs.Common.{◌≡◌, map, drop}
+use Rattle.std.proofs.Common.{◌≡◌, drop}
 use Rattle.ct_catalog.specs.Tables.{last_mode, mode_words, declared_mode}
 use Rattle.ct_catalog.proofs.create.last_mode.Given as goal
 

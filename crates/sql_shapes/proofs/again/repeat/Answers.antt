@@ -1,4 +1,4 @@
-use Rattle.std.proofs.Common.{◌≡◌, ◌-◌, suc, Some, None, map, rules, arith}
+use Rattle.std.proofs.Common.{◌≡◌, ◌-◌, Some, None, map, rules, arith}
 use Rattle.std.proofs.lemmas.List.{map_push}
 use Rattle.std.proofs.lemmas.Result.{err_from_is_err_and}
 use Rattle.sql_rules.specs.Reading.{behind, repeated, word_at}
