@@ -6,10 +6,11 @@ use Rattle.ct_change.specs.declared.kind.Kind.{Kind}
 use Rattle.ct_change.specs.declared.change.Change.{Change}
 use Rattle.ct_change.specs.Changelog.{Mode, HasKey, has, admits}
 use Rattle.rel_algebra.specs.Groups.{grouped_counts}
+use Rattle.op_rules.specs.History.{Arrival}
 use Rattle.op_rules.specs.Rule.{group, sink, output_kinds, IsSound}
-use Rattle.op_rules.specs.Rules.{emits, opening}
+use Rattle.op_rules.specs.Rules.{emits, opening, MayArrive}
 use Rattle.op_rules.specs.Edges.{meaning_of, forward, hash, Edge, LiesIn, KeepsKeys}
-use Rattle.op_rules.specs.Tasks.{Task, Facts}
+use Rattle.op_rules.specs.Tasks.{Task, IsReady, Facts}
 
 -- so many first columns
 abbrev pub first_columns : ℕ → List ℕ
@@ -86,3 +87,16 @@ GroupsStand = (many keys : ℕ) (input output : Mode) (from to : Edge) → Group
 
 abbrev pub SinksStand : Type 0
 SinksStand = (many : ℕ) (mode : Mode) (from to : Edge) → SinkFits mode from to → Facts (sink_task many mode from to)
+
+-- ---- what may come to them
+
+-- a change that a subtask may rely on, behind what it took, may come to the rule
+abbrev pub GroupsTake : Type 0
+GroupsTake = (many keys : ℕ) (input output : Mode) (from to : Edge) → GroupFits many keys input output from to
+    → (j : ℕ) (before : List Arrival) (a : Arrival) → IsReady (group_task many keys input output from to) j (before ++ a ∷ []) → MayArrive (group keys input output) before a
+
+-- for a sink, where the edge's kinds are the mode's, and its rows, of so many columns, have the mode's key
+abbrev pub SinksTake : Type 0
+SinksTake = (many : ℕ) (mode : Mode) (from to : Edge) → SinkFits mode from to → ((kind : Kind) → has from.kinds kind ≡ true → admits mode kind ≡ true)
+    → (width : ℕ) → ((change : Change) → from.fits change ≡ true → length change.row ≡ width) → ((row : Row) → length row ≡ width → HasKey mode row)
+    → (j : ℕ) (before : List Arrival) (a : Arrival) → IsReady (sink_task many mode from to) j (before ++ a ∷ []) → MayArrive (sink mode) before a

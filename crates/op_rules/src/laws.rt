@@ -2,7 +2,7 @@
 ghost use Rattle.std.specs.Prelude.{ℕ};
 ghost use Rattle.ct_change.specs.Changelog.{Mode};
 ghost use Rattle.op_rules.specs.Rule.{group, sink};
-ghost use Rattle.op_rules.specs.RuleTasks.{GroupsStand, SinksStand};
+ghost use Rattle.op_rules.specs.RuleTasks.{GroupsStand, GroupsTake, SinksStand, SinksTake};
 ghost use Rattle.op_rules.specs.Facts.{HoldsOf, FoldsToAnswer, PrefixesStand, KindsStay, WidthsStay, GroupDifference, ReadyArrives, ReadySettles};
 
 /// All that a group emitted means the groups' counts of what it took.
@@ -69,4 +69,14 @@ pub fn groups_stand()
 /// A sink that takes a forward edge meets the facts of nodes, in however many subtasks it runs.
 pub fn sinks_stand()
     ensures { SinksStand }
+{}
+
+/// A change that a subtask of a group may rely on, behind what it took, may come to the group.
+pub fn groups_take()
+    ensures { GroupsTake }
+{}
+
+/// A change that a subtask of a sink may rely on, behind what it took, may come to the sink.
+pub fn sinks_take()
+    ensures { SinksTake }
 {}

@@ -10,7 +10,7 @@ mod operator;
 
 pub use laws::{
     group_difference, group_folds_to_answer, group_kinds, group_prefixes_stand, group_widths,
-    groups_stand, ready_change_may_arrive, ready_rows_settle, sink_folds_to_answer, sink_kinds,
-    sink_prefixes_stand, sink_widths, sinks_stand,
+    groups_stand, groups_take, ready_change_may_arrive, ready_rows_settle, sink_folds_to_answer,
+    sink_kinds, sink_prefixes_stand, sink_widths, sinks_stand, sinks_take,
 };
 pub use operator::{OpFault, Operator};

@@ -20,8 +20,8 @@ use Rattle.op_rules.specs.Rules.{Answer, appended, answers, groups_of, group_emi
 use Rattle.op_rules.specs.Facts.{Port, FitsPort, Ready}
 use Rattle.op_rules.specs.Edges.{Meaning, bag, last_rows, partials, meaning_of, ReadsAs, Exchange, forward, hash, Edge, IsRoutedBy, IsUnique, IsApart, IsSeenBy, LiesIn, AreApartBy, KeepsKeys}
 use Rattle.op_rules.specs.Tasks.{Task, total, along, emitted_by, IsReady, IsSettled, IsSplitBy, ComeFixedBy, ComeApartBy, Emitted, AllEmitted, Facts, PartsAddUp, LocalKeysHold, AnswersFit, UniqueKeysHold}
-use Rattle.op_rules.specs.RuleTasks.{first_columns, group_task, GroupFits, sink_task, SinkFits, GroupsStand, SinksStand}
-use Rattle.op_rules.specs.laws.Histories.{at_port-append, prefix_at, all-append, all-front, all-back, all-each, appended-nothing, ok-same, both-appended, ready_valid, ready_wide, ready_settled}
+use Rattle.op_rules.specs.RuleTasks.{first_columns, group_task, GroupFits, sink_task, SinkFits, GroupsStand, SinksStand, GroupsTake, SinksTake}
+use Rattle.op_rules.specs.laws.Histories.{at_port-append, prefix_at, all-append, all-front, all-back, all-each, appended-nothing, ok-same, both-appended, ready_valid, ready_wide, ready_settled, ready_arrives}
 use Rattle.op_rules.specs.laws.SentResults.{all-emission}
 use Rattle.op_rules.specs.laws.LastRows.{last_unique}
 use Rattle.op_rules.specs.laws.Turns.{turns-take, turns_mean, turns_whole}
@@ -478,3 +478,18 @@ groups_stand many keys input output from to fits = group_stands many keys input 
 
 pub sinks_stand : SinksStand
 sinks_stand many mode from to fits = sink_stands many mode from to fits
+
+-- ---- what may come to them
+
+pub groups_take : GroupsTake
+groups_take many keys input output from to fits j before a r =
+    ready_arrives (group_rule keys input output) (λ _. record { kinds = from.kinds; width = fits.width }) before a (fits_port many keys input output from to fits) (ready many keys input output from to fits j (before ++ a ∷ []) r)
+
+pub sinks_take : SinksTake
+sinks_take many mode from to fits kinds width wide keyed j before a r =
+    ready_arrives (sink_rule mode) (λ _. record { kinds = from.kinds; width = width }) before a (λ port l. record { kinds = kinds; columns = omega arith; key = keyed }) (record {
+      known = r.ports;
+      stands = λ port l n. let s = r.valid port l n in (s.0, means_in mode _ s.0 (subst (λ m. ReadsAs m (at_port port (take n (before ++ a ∷ []))) s.0) fits.reads s.1));
+      kinds = λ port l. r.kinds port l;
+      widths = λ port l. all-each _ _ (λ change e. wide change e) (at_port port (before ++ a ∷ [])) (r.types port l);
+    })
