@@ -179,7 +179,8 @@ module _ {A : Type 0} {R : A → A → Ordering} (o : IsTotalOrder R) (exact : I
   copies-add_where true x y b = copies-add o b x y
   copies-add_where false x y b = omega arith
 
-  distinct_from : (xs : List A) (y : A) → copies (gather (λ x c. add_where (copies c x == 0) x c) (none {R = R}) xs) y ≡ cond (occurs R y xs == 0) 0 1
+  -- how often an item is in what takes each item of a list once
+  pub distinct_from : (xs : List A) (y : A) → copies (gather (λ x c. add_where (copies c x == 0) x c) (none {R = R}) xs) y ≡ cond (occurs R y xs == 0) 0 1
   distinct_from [] y = copies-none o y
   distinct_from (x ∷ xs) y =
       let rest : Bag R = gather (λ x c. add_where (copies c x == 0) x c) none xs in
