@@ -1,4 +1,7 @@
 //! The catalogue of a script: the tables that CREATE TABLE declares, and the settings.
+//!
+//! Promised: `Catalog::apply` answers the next catalogue, or the first refusal in the order of the definitions
+//! (`specs/Catalogue`), and then leaves the catalogue as it was. It stands on syntax trees alone, and knows no parser.
 #![tactic(auto)]
 
 mod catalog;

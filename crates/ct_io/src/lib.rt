@@ -1,4 +1,8 @@
 //! The outside, as traits: shelves that hold files and sinks that take output; and shelves and sinks in memory.
+//!
+//! Promised: a shelf's `load` answers the bytes that it holds, and a sink's `put` takes a first part of what it is given; neither
+//! fails unless its count of faults rose, or the file isn't there. Those in memory tell all that they hold and took, as long as
+//! there is room. It stands on values.
 #![tactic(auto)]
 
 mod calls;

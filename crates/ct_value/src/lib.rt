@@ -1,4 +1,9 @@
-//! Texts, values and rows, the order of rows, bags of rows as definitions see them, and the codes of refusals.
+//! Values and what is made of them: texts, bytes, rows, lists; the order of rows; bags of rows as definitions see them; and
+//! the codes of refusals.
+//!
+//! Promised: each type is seen by contracts as the list or value that it holds, and each call answers what it says of that
+//! list; the order of rows is total and tells all rows apart (`specs/Order`); a bag is known by its copies (`specs/Bag`). It
+//! stands on std alone.
 #![tactic(auto)]
 
 mod bytes;

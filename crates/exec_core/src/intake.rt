@@ -38,12 +38,7 @@ impl From<Memory> for TakeFault {
 
 impl Intake {
     /// Nothing taken of a source with this mode, whose scan sends these columns, with room for so many changes sent.
-    pub fn new(
-        alloc: Global,
-        mode: Declared,
-        picks: Cols,
-        room: usize,
-    ) -> Result<Intake, Memory>
+    pub fn new(alloc: Global, mode: Declared, picks: Cols, room: usize) -> Result<Intake, Memory>
         ensures { IfOk result (λ intake. intake ≡ record { mode = mode; picks = picks; standing = none; sent = [] }) }
     {
         Ok(Intake {

@@ -17,10 +17,9 @@ ghost use Rattle.job_run.specs.Outcome.{outcome};
 use ct_io::{Shelf, Sink};
 use ct_value::Text;
 use job_ending::report;
+pub use job_ending::{Ending, LimitName, status};
 use job_run::run;
 use std::alloc::Global;
-
-pub use job_ending::{Ending, LimitName, status};
 
 /// Runs the job that the words name: it loads the script and the change file from the shelf, in this order, writes the
 /// changelog of the sink on `out`, each line by itself, and where it doesn't end well one line on `err`.

@@ -16,12 +16,7 @@ use std::alloc::Global;
 
 /// Drains the job: delivers what the scan sent, node by node, and prints what comes out, with the quiet line of all lines
 /// taken.
-pub fn drain<K: Sink>(
-    alloc: Global,
-    script: &Accepted,
-    sent: Sent,
-    out: &mut K,
-) -> Result<(), Halt>
+pub fn drain<K: Sink>(alloc: Global, script: &Accepted, sent: Sent, out: &mut K) -> Result<(), Halt>
     requires lawful { IsLawful script.now }
     requires sent { IsSent script.now sent.changes }
     ensures { RunsThere (outcome_of_answer sent.lines (emitted_by script.now sent.changes)) (Rose (K.faults out.old) (K.faults out.new)) (K.written out.old) (K.written out.new) result }

@@ -11,7 +11,7 @@ mod plan;
 mod takes;
 
 pub use accepted::Accepted;
+pub use drains::drain;
 pub use forms::{FormFault, form_of};
 pub use laws::{form_is_lawful, run_prints_the_answer, run_stays_in_range};
-pub use drains::drain;
 pub use takes::{Sent, take_changes};

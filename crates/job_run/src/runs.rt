@@ -39,12 +39,7 @@ pub fn run<F: Shelf, K: Sink>(alloc: Global, words: &[Text], shelf: &mut F, out:
 }
 
 // The run on the files that the words name.
-fn run_named<F: Shelf, K: Sink>(
-    alloc: Global,
-    words: &[Text],
-    shelf: &mut F,
-    out: &mut K,
-) -> Ending
+fn run_named<F: Shelf, K: Sink>(alloc: Global, words: &[Text], shelf: &mut F, out: &mut K) -> Ending
     ensures runs { Runs (F.holdings shelf.old) (outcome words.now) (Rose (F.faults shelf.old) (F.faults shelf.new)) (Rose (K.faults out.old) (K.faults out.new)) (K.written out.old) (K.written out.new) result }
     ensures usage { result ≡ Ending.Usage → files_of words.now ≡ None }
     ensures wrong_use { files_of words.now ≡ None → (result ≡ Ending.Usage) ⊎ (result ≡ Ending.Memory) }

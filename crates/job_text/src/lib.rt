@@ -1,4 +1,8 @@
 //! The texts of a job: the lines of a change file as they are read, and the lines of the sink as they are printed.
+//!
+//! Promised: the lines are those of `specs/Lines`, each read as the change that it is or refused by its code; a printed item's
+//! bytes are those of `specs/Printed`, and are offered to the sink until all are taken. It stands on changes, on declared tables
+//! and on the outside's traits.
 #![tactic(auto)]
 
 mod lines;
