@@ -3,6 +3,7 @@ ghost use Rattle.ct_io.specs.Counts.{Rose};
 ghost use Rattle.ct_io.specs.Holdings.{loaded, Whole, Long, Missing};
 ghost use Rattle.ct_io.specs.InMemory.{after_load, fails_next, holdings_of};
 
+use crate::calls::is_listed;
 use crate::shelf::copy_within;
 use crate::{Calls, Files, LoadFault, Shelf};
 use ct_value::{Bytes, Text};
@@ -61,7 +62,7 @@ impl Shelf for MemShelf {
     {
         let _ = alloc;
         self.calls = self.calls.saturating_add(1);
-        if self.fails.contains(self.calls) {
+        if is_listed(&self.fails, self.calls) {
             self.faults = self.faults.saturating_add(1);
             return Err(LoadFault::Failed);
         }

@@ -2,6 +2,7 @@ ghost use Rattle.std.specs.Prelude.{◌≡◌, [], true, false, length, IfOk, Is
 ghost use Rattle.ct_io.specs.Counts.{HasCause};
 ghost use Rattle.ct_io.specs.InMemory.{refuses, after_put};
 
+use crate::calls::is_listed;
 use crate::{Calls, PutFailed, Sink};
 use ct_value::Memory;
 use std::alloc::Global;
@@ -67,7 +68,7 @@ impl Sink for MemSink {
     {
         self.calls = self.calls.saturating_add(1);
         let room = Self::ROOM - self.bytes.len();
-        if self.fails.contains(self.calls) || room < piece.len() {
+        if is_listed(&self.fails, self.calls) || room < piece.len() {
             self.faults = self.faults.saturating_add(1);
             return Err(PutFailed);
         }

@@ -15,6 +15,12 @@ impl Dup for u32 {
     }
 }
 
+impl Dup for u64 {
+    fn dup(&self) -> Result<u64, Memory> {
+        Ok(*self)
+    }
+}
+
 impl Dup for ColTy {
     fn dup(&self) -> Result<ColTy, Memory> {
         Ok(*self)
