@@ -1,7 +1,7 @@
 -- A plan of the right shape is wired.
-use Rattle.std.specs.Prelude.{◌≡◌, ℕ, ◌+◌, ◌<◌, ◌≤◌, ◌==◌, Bool, cond, List, length, slice_get, slice_index_or, Option, option_map}
-use Rattle.std.proofs.Common.{zero, suc, true, false, [], ◌∷◌, refl, sym, ap, subst, ◌∙◌, arith, Some, None, inl, inr, ◌⊎◌, eqb}
-use Rattle.std.proofs.lemmas.Bool.{eqb-true, eq-eqb, cases_Bool}
+use Rattle.std.specs.Prelude.{◌≡◌, ℕ, ◌+◌, ◌<◌, ◌≤◌, ◌==◌, cond, List, length, slice_get, slice_index_or, Option, option_map}
+use Rattle.std.proofs.Common.{zero, suc, true, false, [], ◌∷◌, refl, sym, ap, subst, ◌∙◌, arith, Some, None, inl, inr}
+use Rattle.std.proofs.lemmas.Bool.{eqb-true, eq-eqb}
 use Rattle.std.proofs.Math.Nat.{mod-lt}
 use Rattle.ct_value.specs.declared.ty.ColTy.{ColTy}
 use Rattle.ct_value.specs.declared.row.Row.{Row}
@@ -12,7 +12,7 @@ use Rattle.phys_plan.specs.declared.edge.Update.{Update}
 use Rattle.phys_plan.specs.declared.edge.Update.TheVariants.{Absent, After, Both}
 use Rattle.phys_plan.specs.declared.node.Node.{Node}
 use Rattle.phys_plan.specs.declared.plan.Plan.{Plan}
-use Rattle.op_rules.specs.Edges.{Meaning, bag, last_rows, meaning_of, IsPartial, Exchange, forward, hash, IsWellFormed}
+use Rattle.op_rules.specs.Edges.{meaning_of, IsPartial, Exchange, forward, hash}
 use Rattle.route.specs.Routing.{key_hash, key_text, types_at}
 use Rattle.stream_model.specs.Tables.{Table}
 use Rattle.stream_model.specs.Network.{Feed, IsNode, IsWired}
