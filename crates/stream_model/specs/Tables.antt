@@ -1,12 +1,11 @@
 -- A source table: which changes it takes, and to which subtask of a scan they go.
-use Rattle.std.specs.Prelude.{◌≡◌, ℕ, ◌+◌, ◌==◌, Bool, true, false, ◌&&◌, ◌||◌, not, cond, List, [], ◌∷◌, ◌++◌, slice_index_or, Option, Some, None}
+use Rattle.std.specs.Prelude.{◌≡◌, ℕ, ◌+◌, ◌==◌, Bool, true, false, ◌&&◌, ◌||◌, not, cond, List, [], ◌∷◌, ◌++◌, Option, Some, None}
 use Rattle.ct_value.specs.Bag.{copies}
 use Rattle.ct_value.specs.Rows.{project}
-use Rattle.ct_value.specs.declared.value.Value.{Value}
-use Rattle.ct_value.specs.declared.value.Value.TheVariants.{Null, Bool as Truth, Num, Text}
 use Rattle.ct_value.specs.declared.row.Row.{Row}
 use Rattle.ct_value.specs.declared.codes.ChangeCode.{ChangeCode}
 use Rattle.ct_value.specs.declared.codes.ChangeCode.TheVariants.{KindNotDeclared, NullNotAllowed, RowAbsent, KeyPresent}
+use Rattle.ct_field.specs.Typed.{is_null, cell}
 use Rattle.ct_change.specs.declared.change.Change.{Change}
 use Rattle.ct_change.specs.Changelog.{Mode, append, retract, upsert, Rows, adds, admits, row_at, fold}
 
@@ -27,12 +26,6 @@ pub record Table : Type 0 where
 abbrev pub scanned_at : Table → Change → ℕ
 scanned_at table change = table.route (project table.spread change.row)
 
-abbrev pub is_null : Value → Bool
-is_null Null = true
-is_null (Truth b) = false
-is_null (Num n) = false
-is_null (Text t) = false
-
 abbrev pub is_there : Option Row → Bool
 is_there None = false
 is_there (Some row) = true
@@ -44,7 +37,7 @@ kind_refusal mode change = cond (admits mode change.kind) None (Some KindNotDecl
 -- NULL stands where it may not, first in this column; columns are counted from 1 here
 abbrev pub null_refusal : List ℕ → Row → Option ChangeCode
 null_refusal [] row = None
-null_refusal (column ∷ columns) row = cond (is_null (slice_index_or row column Null)) (Some (NullNotAllowed (column + 1))) (null_refusal columns row)
+null_refusal (column ∷ columns) row = cond (is_null (cell column row)) (Some (NullNotAllowed (column + 1))) (null_refusal columns row)
 
 -- the row that it removes doesn't stand
 abbrev pub row_refusal : Mode → Rows → Change → Option ChangeCode
