@@ -9,6 +9,7 @@ use route::{Channel, key_text, subtask_of};
 use std::alloc::Global;
 use std::marker::Brand;
 use std::sync::ledger::{Blank, Ledger};
+use std::test::Fail;
 
 // Whether a bag has two rows, which ascend, with these counts.
 fn has_two_rows<L: Ledger>(bag: &Bag, first_wanted: u64, second_wanted: u64, blank: Blank) -> bool
@@ -89,27 +90,29 @@ fn counts_row_by_key(alloc: Global, key: &Row, row: &Row) -> Result<bool, Memory
     Ok(there && keyed.rows_of(key).is_none())
 }
 
-// A key's row is set twice and taken.
-fn keeps_last(alloc: Global, key: &Row, row: &Row) -> Result<bool, Memory> {
-    let mut last = LastRows::new(alloc);
-    let before = last.set(key.dup()?, key.dup()?)?;
-    let replaced = last.set(key.dup()?, row.dup()?)?;
-    let kept = last.get(key).is_some();
-    let taken = last.take(key);
-    Ok(before.is_none() && replaced.is_some() && kept && taken.is_some())
+// A key's row is set twice.
+fn sets_last(last: &mut LastRows, key: &Row) -> Result<bool, Memory> {
+    let before = last.set(key.dup()?, key.dup()?)?.is_some();
+    let replaced = last.set(key.dup()?, key.dup()?)?.is_some();
+    Ok(replaced && !before)
 }
 
-fn keeps_rows(alloc: Global) -> Result<bool, Memory> {
-    let key = row(alloc, "k")?;
-    let row = row(alloc, "a")?;
-    let counted = counts_rows(alloc, &row, &key)?;
-    let keyed = counts_row_by_key(alloc, &key, &row)?;
-    Ok(counted && keyed && keeps_last(alloc, &key, &row)?)
+fn keeps_last(alloc: Global, key: &Row) -> Result<bool, Memory> {
+    let mut last = LastRows::new(alloc);
+    let set = sets_last(&mut last, key)?;
+    let kept = last.get(key).is_some();
+    Ok(set && kept && last.take(key).is_some() && last.take(key).is_none())
 }
 
 #[test]
-fn rows_are_kept(rt: HostRuntime) {
-    assert!(rt; keeps_rows(rt.alloc()).unwrap_or(false));
+fn rows_are_kept(rt: HostRuntime) -> Result<(), Fail> {
+    let alloc = rt.alloc();
+    let row_a = row(alloc, "a")?;
+    let row_b = row(alloc, "b")?;
+    assert!(rt; counts_rows(alloc, &row_a, &row_b)?);
+    assert!(rt; counts_row_by_key(alloc, &row_a, &row_b)?);
+    assert!(rt; keeps_last(alloc, &row_a)?);
+    Ok(())
 }
 
 fn passes_on(alloc: Global, row: Row) -> Result<bool, Memory> {
