@@ -1,3 +1,4 @@
 pub mod AnswerTypes
 pub mod CountStar
 pub mod Results
+pub mod Views
