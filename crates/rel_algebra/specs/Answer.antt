@@ -10,13 +10,13 @@ use Rattle.ct_change.specs.Changelog.{Rows}
 use Rattle.ct_field.specs.Typed.{col_fits}
 use Rattle.ct_expr.specs.Expr.{Expr}
 use Rattle.ct_expr.specs.Eval.{eval}
-use Rattle.ct_expr.specs.Types.{type_of, both_of}
-use Rattle.rel_clauses.specs.Clauses.{Fits}
+use Rattle.ct_expr.specs.Types.{both_of}
+use Rattle.rel_clauses.specs.Clauses.{Fits, MeanTypes}
 use Rattle.rel_clauses.specs.Sums.{Each, plus}
 use Rattle.rel_clauses.specs.Ranks.{rank_rows}
 use Rattle.rel_algebra.specs.Rel.{Rel, Rels, Scan, Filter, Project, Union, Group, Join, Semi, Rank, no_rels, rel_and}
 use Rattle.rel_algebra.specs.Batch.{filter_answer, project_answer, group_answer, join_answer, semi_answer}
-use Rattle.rel_algebra.specs.Types.{columns_of}
+use Rattle.rel_algebra.specs.Types.{columns_of, item_columns}
 
 -- the types of a table's columns, and its rows
 pub record Table : Type 0 where
@@ -81,6 +81,23 @@ module _ (tables : List Table) where
 abbrev pub AreTyped : List Table → Type 0
 AreTyped tables = AllByRecursion (λ table. Each (Fits table.columns) table.rows) tables
 
--- the values of each expression are of its column
-abbrev pub EvalFits : Type 0
-EvalFits = (expr : Expr) (columns : List ColTy) (column : ColTy) (row : Row) (value : Value) → type_of expr columns ≡ Some column → Fits columns row → eval expr row ≡ Some value → col_fits column value ≡ true
+-- where a row has the input's columns, the values of the items are of their columns
+abbrev pub ItemsMean : Option (List ColTy) → List Expr → Type 0
+ItemsMean None items = Unit {0}
+ItemsMean (Some columns) items = (made : List ColTy) → item_columns columns items ≡ Some made → MeanTypes columns (map eval items) made
+
+abbrev mutual
+  -- the same of the items of each Project of a tree, over the columns of the tables
+  pub ItemsFit : List (List ColTy) → Rel → Type 0
+  ItemsFit types (Scan source) = Unit {0}
+  ItemsFit types (Filter input condition) = ItemsFit types input
+  ItemsFit types (Project input items) = ItemsFit types input × ItemsMean (columns_of types input) items
+  ItemsFit types (Union inputs) = AllItemsFit types inputs
+  ItemsFit types (Group input keys aggs) = ItemsFit types input
+  ItemsFit types (Join left right kind pairs rest) = ItemsFit types left × ItemsFit types right
+  ItemsFit types (Semi left right anti pairs rest) = ItemsFit types left × ItemsFit types right
+  ItemsFit types (Rank input partition order bound ranked) = ItemsFit types input
+
+  pub AllItemsFit : List (List ColTy) → Rels → Type 0
+  AllItemsFit types no_rels = Unit {0}
+  AllItemsFit types (rel_and input inputs) = ItemsFit types input × AllItemsFit types inputs

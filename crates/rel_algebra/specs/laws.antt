@@ -1,3 +1,5 @@
 pub mod AnswerTypes
 pub mod CountStar
+pub mod PlainColumns
 pub mod Results
+pub mod Views

@@ -8,6 +8,8 @@
 mod laws;
 mod rel;
 
-pub use laws::{answers_have_their_columns, grouped_counts_are_the_clause};
+pub use laws::{
+    answers_have_their_columns, columns_mean_themselves, grouped_counts_are_the_clause,
+};
 pub use rel::{Rel, Rels};
 pub use rel_clauses::{Agg, AggCall, Aggs};

@@ -32,7 +32,7 @@ use Rattle.rel_clauses.specs.laws.Fits.{first, second, both}
 use Rattle.rel_algebra.specs.Rel.{Rel, Rels, Scan, Filter, Project, Union, Group, Join, Semi, Rank, no_rels, rel_and}
 use Rattle.rel_algebra.specs.Batch.{filter_answer, project_answer, group_answer, join_answer, semi_answer}
 use Rattle.rel_algebra.specs.Types.{columns_if, is_condition, item_columns, common_column, common_columns, match_fits, rank_fits as rank_is_typed, largest_bound, is_column, columns_of, common_from}
-use Rattle.rel_algebra.specs.Answer.{Table, types_in, rows_in, columns_in, answer, answers, AreTyped, EvalFits}
+use Rattle.rel_algebra.specs.Answer.{Table, types_in, rows_in, columns_in, answer, answers, AreTyped, ItemsMean, ItemsFit, AllItemsFit}
 
 -- ---- parts of what is there
 
@@ -170,13 +170,6 @@ scan_fits [] source columns h e = absurd (cc)
 scan_fits (table ∷ tables) zero columns h e = let i : table.columns ≡ columns = cc in subst (λ c. Each (Fits c) table.rows) i h.0
 scan_fits (table ∷ tables) (suc source) columns h e = scan_fits tables source columns h.1 e
 
-means_types : EvalFits → (columns : List ColTy) (items : List Expr) (made : List ColTy) → item_columns columns items ≡ Some made → MeanTypes columns (map eval items) made
-means_types evals columns [] made e = let i : [] ≡ made = cc in subst (λ c. MeanTypes columns [] c) i tt
-means_types evals columns (item ∷ items) made e =
-    let p = both_parts (λ column others. Some (column ∷ others)) (type_of item columns) (item_columns columns items) made e in
-    let i : p.0 ∷ p.1 ≡ made = let q = p.4 in cc in
-    subst (λ c. MeanTypes columns (eval item ∷ map eval items) c) i ((λ row value k l. evals item columns p.0 row value p.2 k l), means_types evals columns items p.1 p.3)
-
 plus_both : (a b : Option Rows) (c : Rows) → plus a b ≡ Some c → (d e : Rows) × ((a ≡ Some d) × (b ≡ Some e) × (c ≡ together d e))
 plus_both a b c e = plus_parts row_total row_exact a b c e
 
@@ -187,59 +180,59 @@ rank_bound : (columns : List ColTy) (partition : List ℕ) (order : List SortCol
 rank_bound columns partition order bound e =
     few bound (second (nat_le 1 bound) _ (second (list_all (λ sort. is_column columns sort.col) order) _ (second (list_all (is_column columns) partition) _ e)))
 
-module _ (evals : EvalFits) (tables : List Table) (typed : AreTyped tables) where
+module _ (tables : List Table) (typed : AreTyped tables) where
   in_columns : (rel : Rel) (columns : List ColTy) → columns_of (types_in tables) rel ≡ Some columns → columns_in tables rel ≡ columns
   in_columns rel columns e = ap (λ o. unwrap_or o []) e
 
   mutual
-    pub answer_fits : (rel : Rel) (columns : List ColTy) (rows : Rows) → columns_of (types_in tables) rel ≡ Some columns → answer tables rel ≡ Some rows → Each (Fits columns) rows
-    answer_fits (Scan source) columns rows t e = let i : rows_in tables source ≡ rows = cc in subst (λ (r : Rows). Each (Fits columns) r) i (scan_fits tables source columns typed t)
-    answer_fits (Filter input condition) columns rows t e =
+    pub answer_fits : (rel : Rel) (columns : List ColTy) (rows : Rows) → ItemsFit (types_in tables) rel → columns_of (types_in tables) rel ≡ Some columns → answer tables rel ≡ Some rows → Each (Fits columns) rows
+    answer_fits (Scan source) columns rows f t e = let i : rows_in tables source ≡ rows = cc in subst (λ (r : Rows). Each (Fits columns) r) i (scan_fits tables source columns typed t)
+    answer_fits (Filter input condition) columns rows f t e =
         let p = then_parts (λ c. columns_if (is_condition c condition) c) (columns_of (types_in tables) input) columns t in
         let q = then_parts (filter_answer condition) (answer tables input) rows e in
         let i : p.0 ≡ columns = (if_some (is_condition p.0 condition) p.0 columns p.2).1 in
-        filter_fits columns (eval condition) q.0 rows (subst (λ c. Each (Fits c) q.0) i (answer_fits input p.0 q.0 p.1 q.1)) q.2
-    answer_fits (Project input items) columns rows t e =
+        filter_fits columns (eval condition) q.0 rows (subst (λ c. Each (Fits c) q.0) i (answer_fits input p.0 q.0 f p.1 q.1)) q.2
+    answer_fits (Project input items) columns rows f t e =
         let p = then_parts (λ c. item_columns c items) (columns_of (types_in tables) input) columns t in
         let q = then_parts (project_answer items) (answer tables input) rows e in
-        project_fits p.0 (map eval items) columns q.0 rows (means_types evals p.0 items columns p.2) (answer_fits input p.0 q.0 p.1 q.1) q.2
-    answer_fits (Union no_rels) columns rows t e = absurd (cc)
-    answer_fits (Union (rel_and input inputs)) columns rows t e =
+        project_fits p.0 (map eval items) columns q.0 rows (subst (λ o. ItemsMean o items) p.1 f.1 columns p.2) (answer_fits input p.0 q.0 f.0 p.1 q.1) q.2
+    answer_fits (Union no_rels) columns rows f t e = absurd (cc)
+    answer_fits (Union (rel_and input inputs)) columns rows f t e =
         let p = plus_both (answer tables input) (answers tables inputs) rows e in
-        let q = answers_fit inputs (columns_of (types_in tables) input) columns p.1 t p.2.1 in
+        let q = answers_fit inputs (columns_of (types_in tables) input) columns p.1 f.1 t p.2.1 in
         subst (λ (r : Rows). Each (Fits columns) r) (sym p.2.2) (each-together row_total row_exact (Fits columns) p.0 p.1
-        (all_rows q.0 columns q.2 p.0 (answer_fits input q.0 p.0 q.1 p.2.0)) q.3)
-    answer_fits (Group input keys aggs) columns rows t e =
+        (all_rows q.0 columns q.2 p.0 (answer_fits input q.0 p.0 f.0 q.1 p.2.0)) q.3)
+    answer_fits (Group input keys aggs) columns rows f t e =
         let p = then_parts (λ c. group_columns keys c aggs) (columns_of (types_in tables) input) columns t in
         let q = then_parts (group_answer (columns_in tables input) keys aggs) (answer tables input) rows e in
-        group_fits keys p.0 columns aggs q.0 rows p.2 (answer_fits input p.0 q.0 p.1 q.1) (ap (λ c. group_answer c keys aggs q.0) (sym (in_columns input p.0 p.1)) ∙ q.2)
-    answer_fits (Join left right kind pairs rest) columns rows t e =
+        group_fits keys p.0 columns aggs q.0 rows p.2 (answer_fits input p.0 q.0 f p.1 q.1) (ap (λ c. group_answer c keys aggs q.0) (sym (in_columns input p.0 p.1)) ∙ q.2)
+    answer_fits (Join left right kind pairs rest) columns rows f t e =
         let p = both_parts (λ l r. columns_if (match_fits l r pairs rest) (join_columns kind l r)) (columns_of (types_in tables) left) (columns_of (types_in tables) right) columns t in
         let q = both_parts (join_answer (columns_in tables left) (columns_in tables right) kind pairs rest) (answer tables left) (answer tables right) rows e in
         let i : join_columns kind p.0 p.1 ≡ columns = (if_some (match_fits p.0 p.1 pairs rest) (join_columns kind p.0 p.1) columns p.4).1 in
-        subst (λ c. Each (Fits c) rows) i (join_fits kind p.0 p.1 (matching pairs (option_map eval rest)) q.0 q.1 rows (answer_fits left p.0 q.0 p.2 q.2) (answer_fits right p.1 q.1 p.3 q.3)
+        subst (λ c. Each (Fits c) rows) i (join_fits kind p.0 p.1 (matching pairs (option_map eval rest)) q.0 q.1 rows (answer_fits left p.0 q.0 f.0 p.2 q.2) (answer_fits right p.1 q.1 f.1 p.3 q.3)
         (sym (λ i. join_answer (in_columns left p.0 p.2 i) (in_columns right p.1 p.3 i) kind pairs rest q.0 q.1) ∙ q.4))
-    answer_fits (Semi left right anti pairs rest) columns rows t e =
+    answer_fits (Semi left right anti pairs rest) columns rows f t e =
         let p = both_parts (λ l r. columns_if (match_fits l r pairs rest) l) (columns_of (types_in tables) left) (columns_of (types_in tables) right) columns t in
         let q = both_parts (semi_answer anti pairs rest) (answer tables left) (answer tables right) rows e in
         let i : p.0 ≡ columns = (if_some (match_fits p.0 p.1 pairs rest) p.0 columns p.4).1 in
-        semi_fits anti columns (matching pairs (option_map eval rest)) q.0 q.1 rows (subst (λ c. Each (Fits c) q.0) i (answer_fits left p.0 q.0 p.2 q.2)) q.4
-    answer_fits (Rank input partition order bound ranked) columns rows t e =
+        semi_fits anti columns (matching pairs (option_map eval rest)) q.0 q.1 rows (subst (λ c. Each (Fits c) q.0) i (answer_fits left p.0 q.0 f.0 p.2 q.2)) q.4
+    answer_fits (Rank input partition order bound ranked) columns rows f t e =
         let p = then_parts (λ c. columns_if (rank_is_typed c partition order bound) (rank_columns ranked c)) (columns_of (types_in tables) input) columns t in
         let q = then_parts (rank_rows partition order bound ranked) (answer tables input) rows e in
         let k = if_some (rank_is_typed p.0 partition order bound) (rank_columns ranked p.0) columns p.2 in
-        subst (λ c. Each (Fits c) rows) k.1 (rank_fits p.0 partition order bound ranked q.0 rows (rank_bound p.0 partition order bound k.0) (answer_fits input p.0 q.0 p.1 q.1) q.2)
+        subst (λ c. Each (Fits c) rows) k.1 (rank_fits p.0 partition order bound ranked q.0 rows (rank_bound p.0 partition order bound k.0) (answer_fits input p.0 q.0 f p.1 q.1) q.2)
 
-    answers_fit : (inputs : Rels) (start : Option (List ColTy)) (columns : List ColTy) (rows : Rows) → common_from (types_in tables) start inputs ≡ Some columns → answers tables inputs ≡ Some rows
+    answers_fit : (inputs : Rels) (start : Option (List ColTy)) (columns : List ColTy) (rows : Rows) → AllItemsFit (types_in tables) inputs → common_from (types_in tables) start inputs ≡ Some columns → answers tables inputs ≡ Some rows
         → (first_columns : List ColTy) × (start ≡ Some first_columns) × ((row : Row) → Fits first_columns row → Fits columns row) × Each (Fits columns) rows
-    answers_fit no_rels start columns rows t e = (columns, t, (λ row h. h), let i : none ≡ rows = cc in subst (λ (r : Rows). Each (Fits columns) r) i (each-none row_total row_exact (Fits columns)))
-    answers_fit (rel_and input inputs) start columns rows t e =
+    answers_fit no_rels start columns rows f t e = (columns, t, (λ row h. h), let i : none ≡ rows = cc in subst (λ (r : Rows). Each (Fits columns) r) i (each-none row_total row_exact (Fits columns)))
+    answers_fit (rel_and input inputs) start columns rows f t e =
         let p = plus_both (answer tables input) (answers tables inputs) rows e in
-        let q = answers_fit inputs (both_of common_columns start (columns_of (types_in tables) input)) columns p.1 t p.2.1 in
+        let q = answers_fit inputs (both_of common_columns start (columns_of (types_in tables) input)) columns p.1 f.1 t p.2.1 in
         let r = both_parts common_columns start (columns_of (types_in tables) input) q.0 q.1 in (
           r.0,
           r.2,
           (λ row h. q.2 row (left_row r.0 r.1 q.0 row r.4 h)),
           subst (λ (c : Rows). Each (Fits columns) c) (sym p.2.2) (each-together row_total row_exact (Fits columns) p.0 p.1
-              (all_rows r.1 columns (λ row h. q.2 row (right_row r.0 r.1 q.0 row r.4 h)) p.0 (answer_fits input r.1 p.0 r.3 p.2.0)) q.3),
+              (all_rows r.1 columns (λ row h. q.2 row (right_row r.0 r.1 q.0 row r.4 h)) p.0 (answer_fits input r.1 p.0 f.0 r.3 p.2.0)) q.3),
         )
