@@ -2,5 +2,8 @@
 #![tactic(auto)]
 
 mod expr;
+mod types;
+mod values;
 
 pub use expr::{ArithOp, Expr, Exprs, When, Whens};
+pub use values::EvalFault;
