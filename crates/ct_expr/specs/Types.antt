@@ -222,10 +222,13 @@ abbrev mutual
 abbrev pub wider : Ty → Ty → Ty
 wider s t = unwrap_or (common_ty s t) s
 
+abbrev pub with_ty : Option Ty → Ty → Ty
+with_ty None t = t
+with_ty (Some s) t = wider s t
+
 -- the common type of all, from the left
 abbrev pub widest : List Ty → Ty
-widest [] = Truths
-widest (t ∷ ts) = fold wider t ts
+widest ts = unwrap_or (fold (λ o t. Some (with_ty o t)) None ts) Truths
 
 abbrev mutual
   pub ty_of : Expr → Ty

@@ -1,9 +1,11 @@
 //! The types of expressions.
-ghost use Rattle.std.specs.Prelude.{◌≡◌, ◌≤◌, nat_le};
+ghost use Rattle.std.specs.Prelude.{◌≡◌, ◌≤◌, nat_le, option_map};
+ghost use Rattle.ct_expr.specs.Expr.{exprs as expr_list, whens as when_list, optional_expr};
+ghost use Rattle.ct_expr.specs.View.{expr_view, exprs_view, whens_view};
 ghost use Rattle.ct_field.specs.Fields.{scale_of};
-ghost use Rattle.ct_expr.specs.Types.{scale, arith_ty, number_ty, is_number, is_truths, is_texts, same_ty, common_ty, comparable, can_arith, can_cast, value_fits};
+ghost use Rattle.ct_expr.specs.Types.{scale, arith_ty, number_ty, is_number, is_truths, is_texts, same_ty, common_ty, comparable, can_arith, can_cast, value_fits, ty_of, tys_of, result_tys, otherwise_ty, widest, with_ty};
 
-use crate::ArithOp;
+use crate::{ArithOp, Expr, Exprs, Whens};
 use crate::values::is_null;
 use ct_field::in_range;
 use ct_value::{Ty, Value};
@@ -120,5 +122,68 @@ fn value_fits(ty: Ty, value: &Value) -> bool
         (Value::Null, _) | (Value::Bool(_), Ty::Bool) | (Value::Text(_), Ty::Text) => true,
         (Value::Num(num), ty) => in_range(ty, *num),
         _ => false,
+    }
+}
+
+// The type that an expression says of itself.
+#[cycle(ty_of)]
+#[tactic(auto, unfolding(crate::specs::View::expr_view, crate::specs::View::when_view))]
+pub(crate) fn ty_of(expr: &Expr) -> Ty
+    ensures { result ≡ ty_of (expr_view expr.now) }
+{
+    match expr {
+        Expr::Column { ty, .. } | Expr::Literal { ty, .. } | Expr::Cast { ty, .. } => *ty,
+        Expr::Neg(value) => ty_of(value),
+        Expr::Arith { op, left, right } => arith_ty(*op, ty_of(left), ty_of(right)),
+        Expr::Case { whens, otherwise } => otherwise_ty(otherwise, result_ty(whens)),
+        Expr::Coalesce(exprs) => common_of(exprs),
+        Expr::NullIf { left, .. } => ty_of(left),
+        Expr::Concat { .. } => Ty::Text,
+        Expr::CharLength(_) => Ty::Int,
+        Expr::Compare { .. } | Expr::And(_) | Expr::Or(_) | Expr::Not(_) => Ty::Bool,
+        Expr::IsNull(_) | Expr::InList { .. } | Expr::Like { .. } => Ty::Bool,
+    }
+}
+
+// With one type more.
+fn wider(all: Option<Ty>, ty: Ty) -> Ty
+    ensures { result ≡ with_ty all ty }
+{
+    match all {
+        None => ty,
+        Some(all) => common_ty(all, ty).unwrap_or(all),
+    }
+}
+
+#[cycle(ty_of)]
+fn common_of(exprs: &Exprs) -> Ty
+    ensures { result ≡ widest (tys_of (expr_list (exprs_view exprs.now))) }
+{
+    let mut all = None;
+    for expr in exprs.as_slice() {
+        all = Some(wider(all, ty_of(expr)));
+    }
+    all.unwrap_or(Ty::Bool)
+}
+
+#[cycle(ty_of)]
+#[tactic(auto, using(crate::proofs::Lists::results_more))]
+fn result_ty(whens: &Whens) -> Ty
+    ensures { result ≡ widest (result_tys (when_list (whens_view whens.now))) }
+{
+    let mut all = None;
+    for when in whens.as_slice() {
+        all = Some(wider(all, ty_of(&when.result)));
+    }
+    all.unwrap_or(Ty::Bool)
+}
+
+#[cycle(ty_of)]
+fn otherwise_ty(otherwise: &Option<Box<Expr>>, all: Ty) -> Ty
+    ensures { result ≡ otherwise_ty (optional_expr (option_map (λ x. expr_view x.value) otherwise.now)) all }
+{
+    match otherwise {
+        None => all,
+        Some(expr) => wider(Some(all), ty_of(expr)),
     }
 }

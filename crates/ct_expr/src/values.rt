@@ -1,5 +1,5 @@
 //! The values of expressions, of the values of their operands.
-ghost use Rattle.std.specs.Prelude.{◌≡◌, ◌≤◌, ◌*ℤ◌, ◌+ℤ◌, ◌-ℤ◌, ◌^◌, pos, neg_ℤ, Some, None, length, IfOk, IsErrOf};
+ghost use Rattle.std.specs.Prelude.{◌≡◌, ◌≤◌, ◌*ℤ◌, ◌+ℤ◌, ◌-ℤ◌, ◌^◌, pos, neg_ℤ, Some, None, length, IfOk};
 ghost use Rattle.std.specs.Str.{chars};
 ghost use Rattle.ct_field.specs.Numbers.{has_38_digits};
 ghost use Rattle.std.specs.Ordering.{int_cmp};
@@ -10,38 +10,8 @@ use crate::ArithOp;
 use crate::types::{arith_ty, scale};
 use ct_field::{MAX_FIELD, in_range, power_of_ten, rescale, signed};
 use ct_value::{CompareOp, Memory, Text, Ty, Value};
-use std::alloc::{AllocError, Global};
+use std::alloc::Global;
 use std::cmp::Ordering;
-
-/// Why an expression has no value at a row.
-#[derive(Clone, Copy, Debug, PartialEq, Eq)]
-pub enum EvalFault {
-    /// It is out of range there.
-    Out,
-    Memory,
-}
-
-impl From<Memory> for EvalFault {
-    ghost use Rattle.std.specs.Prelude.{◌≡◌};
-    ghost use Rattle.ct_expr.specs.declared.values.EvalFault.TheVariants as f;
-
-    ghost from_gives = { λ _ fault. fault ≡ f.Memory };
-
-    fn from(_: Memory) -> Self {
-        EvalFault::Memory
-    }
-}
-
-impl From<AllocError> for EvalFault {
-    ghost use Rattle.std.specs.Prelude.{◌≡◌};
-    ghost use Rattle.ct_expr.specs.declared.values.EvalFault.TheVariants as f;
-
-    ghost from_gives = { λ _ fault. fault ≡ f.Memory };
-
-    fn from(_: AllocError) -> Self {
-        EvalFault::Memory
-    }
-}
 
 pub(crate) fn is_null(value: &Value) -> bool
     ensures { result ≡ is_null value.now }
@@ -87,7 +57,7 @@ pub(crate) fn not_of(value: &Value) -> Value
 }
 
 // A number of at most 38 digits that is one of the type.
-fn ranged(ty: Ty, num: i128) -> Option<Value>
+pub(crate) fn ranged(ty: Ty, num: i128) -> Option<Value>
     ensures { result ≡ ranged ty num }
 {
     if has_38_digits(num) && in_range(ty, num) {
@@ -231,26 +201,24 @@ pub(crate) fn compare_of(op: CompareOp, left_ty: Ty, right_ty: Ty, left: &Value,
     }
 }
 
-// One text behind the other.
-pub(crate) fn concat_of(alloc: Global, left: &Value, right: &Value) -> Result<Value, EvalFault>
-    ensures value { IfOk result (λ value. concat_of left.now right.now ≡ Some value) }
-    ensures out { IsErrOf result EvalFault.Out → concat_of left.now right.now ≡ None }
+// One text behind the other; None where that is longer than a text may be.
+pub(crate) fn concat_of(alloc: Global, left: &Value, right: &Value) -> Result<Option<Value>, Memory>
+    ensures { IfOk result (λ o. o ≡ concat_of left.now right.now) }
 {
     match (left, right) {
-        (Value::Text(left), Value::Text(right)) => Ok(Value::Text(joined(alloc, left, right)?)),
-        _ => Ok(Value::Null),
+        (Value::Text(left), Value::Text(right)) => joined(alloc, left, right),
+        _ => Ok(Some(Value::Null)),
     }
 }
 
-fn joined(alloc: Global, left: &Text, right: &Text) -> Result<Text, EvalFault>
-    ensures text { IfOk result (λ text. concat_of (Value.Text left.now) (Value.Text right.now) ≡ Some (Value.Text text)) }
-    ensures out { IsErrOf result EvalFault.Out → concat_of (Value.Text left.now) (Value.Text right.now) ≡ None }
+fn joined(alloc: Global, left: &Text, right: &Text) -> Result<Option<Value>, Memory>
+    ensures { IfOk result (λ o. o ≡ concat_of (Value.Text left.now) (Value.Text right.now)) }
 {
     let (left_len, right_len) = (left.as_slice().len(), right.as_slice().len());
     if left_len > MAX_FIELD || right_len > MAX_FIELD - left_len {
-        return Err(EvalFault::Out);
+        return Ok(None);
     }
-    Ok(Text::concat(alloc, left, right)?)
+    Ok(Some(Value::Text(Text::concat(alloc, left, right)?)))
 }
 
 // The number of characters.
