@@ -4,6 +4,7 @@ use Rattle.std.specs.Prelude.{◌==◌, ◌&&◌, ◌||◌, replicate}
 use Rattle.std.specs.List.{list_any}
 use Rattle.std.proofs.Math.ListN.{set}
 use Rattle.std.proofs.Math.Seq.{drop-cons}
+use Rattle.std.proofs.lemmas.List.{take_all, drop_all, append-nil}
 use Rattle.std.proofs.lemmas.Bool.Decides.{nat_tests}
 use Rattle.ct_expr.specs.Values.{is_like, one_like, rests}
 use Rattle.ct_expr.specs.Like.{likes, some_mark, some_later, first_mark, one_step}
@@ -35,16 +36,14 @@ length-one_step p [] bs h = refl
 length-one_step p (c ∷ cs) [] h = absurd (omega arith)
 length-one_step p (c ∷ cs) (b ∷ bs) h = let e = length-one_step p cs bs (omega arith) in omega arith
 
-first_get : (bs : List Bool) → first_mark bs ≡ get_or bs 0 false
-first_get [] = refl
-first_get (b ∷ bs) = refl
-
 -- the mark of a place, and of the last
-pub one_step_at : (p : ℕ) (cs : List ℕ) (bs : List Bool) (i : ℕ) → length bs ≡ length cs + 1 → i < length cs → get_or (one_step p cs bs) i false ≡ (((p == 95) || (p == get_or cs i 0)) && get_or bs (suc i) false)
-one_step_at p [] bs i h l = absurd (omega arith)
-one_step_at p (c ∷ cs) [] i h l = absurd (omega arith)
-one_step_at p (c ∷ cs) (b ∷ bs) zero h l = ap (λ m. ((p == 95) || (p == c)) && m) (first_get bs)
-one_step_at p (c ∷ cs) (b ∷ bs) (suc i) h l = one_step_at p cs bs i (omega arith) (omega arith)
+pub one_step_at : (p : ℕ) (cs : List ℕ) (bs : List Bool) (i x : ℕ) (b : Bool) → length bs ≡ length cs + 1 → i < length cs → x ≡ get_or cs i x → b ≡ get_or bs (suc i) b
+    → (((p == 95) || (p == x)) && b) ≡ get_or (one_step p cs bs) i false
+one_step_at p [] bs i x b h l e f = absurd (omega arith)
+one_step_at p (c ∷ cs) [] i x b h l e f = absurd (omega arith)
+one_step_at p (c ∷ cs) (m ∷ []) zero x b h l e f = absurd (omega arith)
+one_step_at p (c ∷ cs) (m ∷ n ∷ bs) zero x b h l e f = λ i. ((p == 95) || (p == e i)) && f i
+one_step_at p (c ∷ cs) (m ∷ bs) (suc i) x b h l e f = one_step_at p cs bs i x b (omega arith) (omega arith) e f
 
 pub one_step_last : (p : ℕ) (cs : List ℕ) (bs : List Bool) → length bs ≡ length cs + 1 → get_or (one_step p cs bs) (length cs) false ≡ false
 one_step_last p [] bs h = refl
@@ -52,11 +51,14 @@ one_step_last p (c ∷ cs) [] h = absurd (omega arith)
 one_step_last p (c ∷ cs) (b ∷ bs) h = one_step_last p cs bs (omega arith)
 
 -- a loop that goes up writes the marks of `new` over those of `old`
-pub next_there : (new old : List Bool) (k : ℕ) → length new ≡ length old → k < length old → get_or (take k new ++ drop k old) (suc k) false ≡ get_or old (suc k) false
-next_there new old zero e h = refl
-next_there [] old (suc k) e h = absurd (omega arith)
-next_there (y ∷ ys) [] (suc k) e h = absurd (omega arith)
-next_there (y ∷ ys) (x ∷ xs) (suc k) e h = next_there ys xs k (omega arith) (omega arith)
+pub next_there : (new old : List Bool) (k : ℕ) (d : Bool) → length new ≡ length old → k < length old → get_or (take k new ++ drop k old) (suc k) d ≡ get_or old (suc k) d
+next_there new old zero d e h = refl
+next_there [] old (suc k) d e h = absurd (omega arith)
+next_there (y ∷ ys) [] (suc k) d e h = absurd (omega arith)
+next_there (y ∷ ys) (x ∷ xs) (suc k) d e h = next_there ys xs k d (omega arith) (omega arith)
+
+pub all_written : (new old : List Bool) (n : ℕ) → length new ≤ n → length old ≤ n → take n new ++ drop n old ≡ new
+all_written new old n h l = rw (take_all n new h, drop_all n old l) (append-nil new)
 
 pub written : (new old : List Bool) (k : ℕ) (v : Bool) → length new ≡ length old → k < length old → v ≡ get_or new k false → set (take k new ++ drop k old) k v ≡ take (suc k) new ++ drop (suc k) old
 written [] [] k v e h g = absurd (omega arith)
@@ -71,9 +73,9 @@ pub length-likes : (p cs : List ℕ) → length (likes p cs) ≡ length cs + 1
 length-likes p [] = refl
 length-likes p (c ∷ cs) = let e = length-likes p cs in omega arith
 
-pub first_like : (p cs : List ℕ) → get_or (likes p cs) 0 false ≡ is_like p cs
-first_like p [] = refl
-first_like p (c ∷ cs) = refl
+pub first_like : (p cs : List ℕ) (d : Bool) → get_or (likes p cs) 0 d ≡ is_like p cs
+first_like p [] d = refl
+first_like p (c ∷ cs) d = refl
 
 pub likes_none : (cs : List ℕ) → likes [] cs ≡ replicate (length cs) false ++ true ∷ []
 likes_none [] = refl
@@ -100,3 +102,14 @@ pub likes_one : (p : ℕ) (ps cs : List ℕ) → p ≢ 37 → likes (p ∷ ps) c
 likes_one p ps [] h = rw (not_percent p h) refl
 likes_one p ps (c ∷ cs) h =
     rw (not_percent p h) (λ i. (((p == 95) || (p == c)) && first_of ps cs i) ∷ likes_one p ps cs h i)
+
+-- one item of the pattern more, from its end
+pub pattern_any : (p cs : List ℕ) (at k x : ℕ) → at ≡ suc k → k < length p → x ≡ get_or p k x → x ≡ 37 → some_later (likes (drop at p) cs) ≡ likes (drop k p) cs
+pattern_any p cs at k x e h g t =
+    ap (λ n. some_later (likes (drop n p) cs)) e ∙ sym (likes_any (drop (suc k) p) cs)
+    ∙ ap (λ c. likes (c ∷ drop (suc k) p) cs) (sym t ∙ g) ∙ ap (λ q. likes q cs) (sym (drop-cons p k x h))
+
+pub pattern_one : (p cs : List ℕ) (at k x : ℕ) → at ≡ suc k → k < length p → x ≡ get_or p k x → x ≢ 37 → one_step x cs (likes (drop at p) cs) ≡ likes (drop k p) cs
+pattern_one p cs at k x e h g t =
+    ap (λ n. one_step x cs (likes (drop n p) cs)) e ∙ sym (likes_one x (drop (suc k) p) cs t)
+    ∙ ap (λ c. likes (c ∷ drop (suc k) p) cs) g ∙ ap (λ q. likes q cs) (sym (drop-cons p k x h))

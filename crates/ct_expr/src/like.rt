@@ -41,10 +41,11 @@ fn is_like(alloc: Global, text: &[char], pattern: &[char]) -> Result<bool, Memor
     let mut place = pattern.len();
     'pattern: while place > 0 {
         place -= 1;
-        if pattern[place] == '%' {
+        let item = pattern[place];
+        if item == '%' {
             rests = some_later(rests);
         } else {
-            rests = one_step(rests, text, pattern[place]);
+            rests = one_step(rests, text, item);
         }
     }
     Ok(rests[0])
