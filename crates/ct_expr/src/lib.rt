@@ -11,3 +11,4 @@ mod values;
 
 pub use evaluate::{EvalFault, eval};
 pub use expr::{ArithOp, Expr, Exprs, When, Whens};
+pub use types::type_of;

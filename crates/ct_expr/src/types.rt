@@ -1,14 +1,15 @@
 //! The types of expressions.
-ghost use Rattle.std.specs.Prelude.{◌≡◌, ◌≤◌, nat_le, option_map};
+ghost use Rattle.std.specs.Prelude.{◌≡◌, ◌≤◌, nat_le, Some, option_map};
 ghost use Rattle.ct_expr.specs.Expr.{exprs as expr_list, whens as when_list, optional_expr};
 ghost use Rattle.ct_expr.specs.View.{expr_view, exprs_view, whens_view};
 ghost use Rattle.ct_field.specs.Fields.{scale_of};
+ghost use Rattle.ct_expr.specs.Types as t;
 ghost use Rattle.ct_expr.specs.Types.{scale, arith_ty, number_ty, is_number, is_truths, is_texts, same_ty, common_ty, comparable, can_arith, can_cast, value_fits, ty_of, tys_of, result_tys, otherwise_ty, widest, with_ty};
 
 use crate::{ArithOp, Expr, Exprs, Whens};
 use crate::values::is_null;
-use ct_field::in_range;
-use ct_value::{Ty, Value};
+use ct_field::{in_range, is_type};
+use ct_value::{ColTy, ColTys, Ty, Value};
 
 // The decimals of a type.
 pub(crate) fn scale(ty: Ty) -> u32
@@ -185,5 +186,255 @@ fn otherwise_ty(otherwise: &Option<Box<Expr>>, all: Ty) -> Ty
     match otherwise {
         None => all,
         Some(expr) => wider(Some(all), ty_of(expr)),
+    }
+}
+
+/// The type of an expression over the columns of a row, and whether NULL may come. `None` exactly where the table of
+/// expressions gives none. It takes no memory.
+#[cycle(type_of)]
+#[tactic(auto, unfolding(crate::specs::View::expr_view, crate::specs::View::when_view))]
+pub fn type_of(expr: &Expr, cols: &ColTys) -> Option<ColTy>
+    ensures { result ≡ t.type_of (expr_view expr.now) cols.now }
+{
+    match expr {
+        Expr::Column { col, ty } => column_col(cols, *col, *ty),
+        Expr::Literal { value, ty } => literal_col(value, *ty),
+        Expr::Neg(value) => number_col(type_of(value, cols)?),
+        Expr::Arith { op, left, right } => arith_col(*op, type_of(left, cols)?, type_of(right, cols)?),
+        Expr::Compare { left, right, .. } => compare_col(type_of(left, cols)?, type_of(right, cols)?),
+        Expr::And(exprs) | Expr::Or(exprs) => all_truths(exprs, cols),
+        Expr::Not(value) => truth_col(type_of(value, cols)?),
+        Expr::IsNull(value) => Some(null_test_col(type_of(value, cols)?)),
+        Expr::InList { value, items } => in_list_col(type_of(value, cols)?, items, cols),
+        Expr::Case { whens, otherwise } => {
+            all_conds(whens, cols)?;
+            otherwise_of(otherwise, cols, result_cols(whens, cols))
+        }
+        Expr::Coalesce(exprs) => coalesced(exprs, cols),
+        Expr::NullIf { left, right } => null_if_col(type_of(left, cols)?, type_of(right, cols)?),
+        Expr::Cast { value, ty } => cast_col(*ty, type_of(value, cols)?),
+        Expr::Concat { left, right } => texts_col(Ty::Text, type_of(left, cols)?, type_of(right, cols)?),
+        Expr::CharLength(value) => char_length_col(type_of(value, cols)?),
+        Expr::Like { value, pattern } => texts_col(Ty::Bool, type_of(value, cols)?, type_of(pattern, cols)?),
+    }
+}
+
+fn col(ty: Ty, nullable: bool) -> ColTy
+    ensures { result ≡ t.col ty nullable }
+{
+    ColTy { ty, nullable }
+}
+
+fn column_col(cols: &ColTys, column: u32, ty: Ty) -> Option<ColTy>
+    ensures { result ≡ t.column_col column ty cols.now }
+{
+    let found = *cols.get(column as usize)?;
+    if same_ty(found.ty, ty) { Some(found) } else { None }
+}
+
+fn literal_col(value: &Value, ty: Ty) -> Option<ColTy>
+    ensures { result ≡ t.literal_col value.now ty }
+{
+    if is_type(ty) && value_fits(ty, value) { Some(col(ty, is_null(value))) } else { None }
+}
+
+fn number_col(of: ColTy) -> Option<ColTy>
+    ensures { result ≡ t.number_col of }
+{
+    if is_number(of.ty) { Some(of) } else { None }
+}
+
+fn truth_col(of: ColTy) -> Option<ColTy>
+    ensures { result ≡ t.truth_col of }
+{
+    if is_truths(of.ty) { Some(of) } else { None }
+}
+
+fn null_test_col(of: ColTy) -> ColTy
+    ensures { Some result ≡ t.null_test_col of }
+{
+    let _ = of;
+    col(Ty::Bool, false)
+}
+
+fn arith_col(op: ArithOp, left: ColTy, right: ColTy) -> Option<ColTy>
+    ensures { result ≡ t.arith_col op left right }
+{
+    if can_arith(op, left.ty, right.ty) {
+        Some(col(arith_ty(op, left.ty, right.ty), left.nullable || right.nullable))
+    } else {
+        None
+    }
+}
+
+fn compare_col(left: ColTy, right: ColTy) -> Option<ColTy>
+    ensures { result ≡ t.compare_col left right }
+{
+    if comparable(left.ty, right.ty) { Some(col(Ty::Bool, left.nullable || right.nullable)) } else { None }
+}
+
+fn logic_col(left: ColTy, right: ColTy) -> Option<ColTy>
+    ensures { result ≡ t.logic_col left right }
+{
+    if is_truths(left.ty) && is_truths(right.ty) {
+        Some(col(Ty::Bool, left.nullable || right.nullable))
+    } else {
+        None
+    }
+}
+
+fn case_col(left: ColTy, right: ColTy) -> Option<ColTy>
+    ensures { result ≡ t.case_col left right }
+{
+    Some(col(common_ty(left.ty, right.ty)?, left.nullable || right.nullable))
+}
+
+fn coalesce_col(left: ColTy, right: ColTy) -> Option<ColTy>
+    ensures { result ≡ t.coalesce_col left right }
+{
+    Some(col(common_ty(left.ty, right.ty)?, left.nullable && right.nullable))
+}
+
+fn null_if_col(left: ColTy, right: ColTy) -> Option<ColTy>
+    ensures { result ≡ t.null_if_col left right }
+{
+    if comparable(left.ty, right.ty) { Some(col(left.ty, true)) } else { None }
+}
+
+fn cast_col(ty: Ty, of: ColTy) -> Option<ColTy>
+    ensures { result ≡ t.cast_col ty of }
+{
+    if is_type(ty) && can_cast(of.ty, ty) { Some(col(ty, of.nullable)) } else { None }
+}
+
+fn texts_col(ty: Ty, left: ColTy, right: ColTy) -> Option<ColTy>
+    ensures { result ≡ t.texts_col ty left right }
+{
+    if is_texts(left.ty) && is_texts(right.ty) {
+        Some(col(ty, left.nullable || right.nullable))
+    } else {
+        None
+    }
+}
+
+fn char_length_col(of: ColTy) -> Option<ColTy>
+    ensures { result ≡ t.char_length_col of }
+{
+    if is_texts(of.ty) { Some(col(Ty::Int, of.nullable)) } else { None }
+}
+
+// The type of AND or OR of expressions.
+#[cycle(type_of)]
+#[tactic(auto, using(crate::proofs::Lists::truths_out))]
+fn all_truths(exprs: &Exprs, cols: &ColTys) -> Option<ColTy>
+    ensures { result ≡ t.all_truths (t.types_of (expr_list (exprs_view exprs.now)) cols.now) }
+{
+    if exprs.is_empty() {
+        return None;
+    }
+    let mut all = col(Ty::Bool, false);
+    for expr in exprs.as_slice() {
+        all = both_truths(all, type_of(expr, cols))?;
+    }
+    Some(all)
+}
+
+// Two truth values, where the second is one.
+fn both_truths(left: ColTy, right: Option<ColTy>) -> Option<ColTy>
+    ensures { result ≡ t.both_of t.logic_col (Some left) right }
+{
+    logic_col(left, right?)
+}
+
+// The type of the conditions of branches together.
+#[cycle(type_of)]
+#[tactic(auto, using(crate::proofs::Lists::conds_out, crate::proofs::Lists::conds_more))]
+fn all_conds(whens: &Whens, cols: &ColTys) -> Option<ColTy>
+    ensures { result ≡ t.all_truths (t.conds_of (when_list (whens_view whens.now)) cols.now) }
+{
+    if whens.is_empty() {
+        return None;
+    }
+    let mut all = col(Ty::Bool, false);
+    for when in whens.as_slice() {
+        all = both_truths(all, type_of(&when.cond, cols))?;
+    }
+    Some(all)
+}
+
+// The type of the equalities of a value with items.
+#[cycle(type_of)]
+#[tactic(auto, using(crate::proofs::Lists::in_list_out))]
+fn in_list_col(of: ColTy, items: &Exprs, cols: &ColTys) -> Option<ColTy>
+    ensures { result ≡ t.in_list_col of (t.types_of (expr_list (exprs_view items.now)) cols.now) }
+{
+    if items.is_empty() {
+        return None;
+    }
+    let mut all = col(Ty::Bool, false);
+    for item in items.as_slice() {
+        all = one_equality(of, all, type_of(item, cols))?;
+    }
+    Some(all)
+}
+
+// With the equality of a value with one item more.
+fn one_equality(of: ColTy, all: ColTy, item: Option<ColTy>) -> Option<ColTy>
+    ensures { result ≡ t.both_of (λ a d. t.both_of t.logic_col (Some a) (t.compare_col of d)) (Some all) item }
+{
+    both_truths(all, compare_col(of, item?))
+}
+
+// The common type of expressions, nullable where all are.
+#[cycle(type_of)]
+fn coalesced(exprs: &Exprs, cols: &ColTys) -> Option<ColTy>
+    ensures { result ≡ t.gather_some t.coalesce_col (t.types_of (expr_list (exprs_view exprs.now)) cols.now) }
+{
+    let mut all = None;
+    for expr in exprs.as_slice() {
+        all = Some(with_operand(all, type_of(expr, cols))?);
+    }
+    all
+}
+
+fn with_operand(all: Option<ColTy>, operand: Option<ColTy>) -> Option<ColTy>
+    ensures { result ≡ t.begun t.coalesce_col all operand }
+{
+    match all {
+        None => operand,
+        Some(all) => coalesce_col(all, operand?),
+    }
+}
+
+// The common type of the results of branches, nullable where one is.
+#[cycle(type_of)]
+#[tactic(auto, using(crate::proofs::Lists::cols_more, crate::proofs::Lists::cols_out))]
+fn result_cols(whens: &Whens, cols: &ColTys) -> Option<ColTy>
+    ensures { result ≡ t.gather_some t.case_col (t.results_of (when_list (whens_view whens.now)) cols.now) }
+{
+    let mut all = None;
+    for when in whens.as_slice() {
+        all = Some(with_result(all, type_of(&when.result, cols))?);
+    }
+    all
+}
+
+fn with_result(all: Option<ColTy>, result_col: Option<ColTy>) -> Option<ColTy>
+    ensures { result ≡ t.begun t.case_col all result_col }
+{
+    match all {
+        None => result_col,
+        Some(all) => case_col(all, result_col?),
+    }
+}
+
+// The type of results with that of the ELSE; without one NULL may come.
+#[cycle(type_of)]
+fn otherwise_of(otherwise: &Option<Box<Expr>>, cols: &ColTys, results: Option<ColTy>) -> Option<ColTy>
+    ensures { result ≡ t.otherwise_of (optional_expr (option_map (λ x. expr_view x.value) otherwise.now)) cols.now results }
+{
+    match otherwise {
+        None => Some(col(results?.ty, true)),
+        Some(expr) => case_col(results?, type_of(expr, cols)?),
     }
 }
