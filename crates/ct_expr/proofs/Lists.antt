@@ -1,5 +1,5 @@
 -- Lists of expressions, as far as a loop has come.
-use Rattle.std.proofs.Common.{◌≡◌, ℕ, ◌+◌, ◌<◌, ◌≤◌, length, drop, get_or, Bool, List, [], ◌∷◌, map, Option, Some, None, sym, ap, ◌∙◌, refl, fold, cond, true, false}
+use Rattle.std.proofs.Common.{◌≡◌, ℕ, ◌+◌, ◌<◌, ◌≤◌, length, drop, get_or, List, [], ◌∷◌, Option, Some, None, sym, ap, ◌∙◌, refl, fold, cond, true, false}
 use Rattle.std.specs.Prelude.{option_and_then}
 use Rattle.std.proofs.lemmas.List.{at_drop_more, drop_all}
 use Rattle.ct_value.specs.declared.ty.Ty.{Ty}
@@ -12,7 +12,7 @@ use Rattle.ct_expr.specs.Eval.{eval, evals, typed_evals, typed, branches}
 use Rattle.ct_expr.specs.Values.{or_of, compare_of, first_known, first_chosen, is_true}
 use Rattle.ct_value.specs.declared.value.CompareOp.TheVariants.{Eq}
 use Rattle.ct_value.specs.declared.value.Value.{Value}
-use Rattle.ct_expr.specs.View.{expr_view, exprs_view, when_view, whens_view}
+use Rattle.ct_expr.specs.View.{expr_view, exprs_view, whens_view}
 use Rattle.ct_expr.proofs.Views.{view_when}
 
 abbrev pub tys_from : Option Ty → List Expr → Option Ty

@@ -1,12 +1,12 @@
 -- Marks of places, as far as a loop has come, and what they say of a pattern.
-use Rattle.std.proofs.Common.{◌≡◌, ◌≢◌, ℕ, zero, suc, ◌+◌, ◌-◌, ◌<◌, ◌≤◌, Bool, true, false, cond, List, [], ◌∷◌, ◌++◌, length, take, drop, get_or, map, refl, sym, ap, ◌∙◌, arith, add-one}
+use Rattle.std.proofs.Common.{◌≡◌, ◌≢◌, ℕ, zero, suc, ◌+◌, ◌<◌, ◌≤◌, Bool, true, false, List, [], ◌∷◌, ◌++◌, length, take, drop, get_or, refl, sym, ap, ◌∙◌, arith}
 use Rattle.std.specs.Prelude.{◌==◌, ◌&&◌, ◌||◌, replicate}
 use Rattle.std.specs.List.{list_any}
 use Rattle.std.proofs.Math.ListN.{set}
 use Rattle.std.proofs.Math.Seq.{drop-cons}
 use Rattle.std.proofs.lemmas.List.{take_all, drop_all, append-nil}
 use Rattle.std.proofs.lemmas.Bool.Decides.{nat_tests}
-use Rattle.ct_expr.specs.Values.{is_like, one_like, rests}
+use Rattle.ct_expr.specs.Values.{is_like, rests}
 use Rattle.ct_expr.specs.Like.{likes, some_mark, some_later, first_mark, one_step}
 
 put_back : (old ys : List Bool) (k : ℕ) (v : Bool) → k < length old → set (take (suc k) old ++ ys) k v ≡ take k old ++ v ∷ ys

@@ -1,27 +1,26 @@
 -- Numbers beyond 128 bits, and numbers of two scales.
-use Rattle.std.proofs.Common.{◌≡◌, ℕ, suc, zero, ◌+◌, ◌*◌, ◌-◌, ◌^◌, ◌<◌, ◌≤◌, ◌/◌, ℤ, pos, negsuc, neg_ℤ, ◌*ℤ◌, Bool, true, false, cond, Option, Some, None, refl, arith, sym, ap, ◌∙◌, lit<}
-use Rattle.std.specs.Prelude.{nat_lt, unsigned_abs, int_lt, ◌&&◌}
-use Rattle.std.specs.Int.{w128, is_negative}
+use Rattle.std.proofs.Common.{◌≡◌, ℕ, suc, zero, ◌*◌, ◌-◌, ◌^◌, ◌<◌, ◌≤◌, ◌/◌, ℤ, pos, negsuc, neg_ℤ, ◌*ℤ◌, true, false, None, refl, arith, sym, lit<}
+use Rattle.std.specs.Prelude.{nat_lt, unsigned_abs, int_lt}
+use Rattle.std.specs.Int.{w128}
 use Rattle.std.specs.Int.RustNames.{FitsSigned}
 use Rattle.std.specs.Ordering.{int_cmp, ordering_reverse}
-use Rattle.std.specs.declared.cmp.Ordering.TheVariants.{Less, Equal, Greater}
+use Rattle.std.specs.declared.cmp.Ordering.TheVariants.{Less, Greater}
 use Rattle.std.specs.Cmp.{int_cmp_total}
 use Rattle.std.proofs.lemmas.Int.{fits_signed_from_abs}
 use Rattle.std.proofs.Math.IntN.{*ℤ-one, one}
 use Rattle.std.proofs.Math.Nat.{div-le_self}
 use Rattle.std.proofs.lemmas.Bool.Decides.{nat_tests}
 use Rattle.ct_value.specs.declared.ty.Ty.{Ty}
-use Rattle.ct_field.specs.Numbers.{has_38_digits, in_range, signed}
-use Rattle.ct_expr.specs.Values.{ranged, number_cmp, truncated}
+use Rattle.ct_expr.specs.Values.{ranged, number_cmp}
 
 below : (n : ℤ) → nat_lt (unsigned_abs n) (10 ^ 38) ≡ true → unsigned_abs n < 2 ^ 127
 below n e = grind (arith, nat_tests)
 
 long : (n : ℤ) → ¬ (FitsSigned w128 n) → nat_lt (unsigned_abs n) (10 ^ 38) ≡ false
 long n h = elim (nat_lt (unsigned_abs n) (10 ^ 38)) as (λ b. nat_lt (unsigned_abs n) (10 ^ 38) ≡ b → b ≡ false) [
-    | true ↦ λ e. absurd (h (fits_signed_from_abs w128 n (below n e)))
-    | false ↦ λ e. refl
-  ] refl
+  | true ↦ λ e. absurd (h (fits_signed_from_abs w128 n (below n e)))
+  | false ↦ λ e. refl
+] refl
 
 -- a number that doesn't fit 128 bits has more than 38 digits
 pub ranged_beyond : (ty : Ty) (n : ℤ) → ¬ (FitsSigned w128 n) → None ≡ ranged ty n
@@ -29,12 +28,13 @@ ranged_beyond ty n h = rw (long n h) refl
 
 large : (n : ℕ) → ¬ (FitsSigned w128 (pos n)) → 2 ^ 127 ≤ n
 large n h = elim (nat_lt n (2 ^ 127)) as (λ b. nat_lt n (2 ^ 127) ≡ b → 2 ^ 127 ≤ n) [
-    | true ↦ λ e. absurd (h (let l : n < 2 ^ 127 = from_test n (2 ^ 127) e in record { sfits = l }))
-    | false ↦ λ e. past_test n (2 ^ 127) e
-  ] refl
+  | true ↦ λ e. absurd (h (let l : n < 2 ^ 127 = from_test n (2 ^ 127) e in record { sfits = l }))
+  | false ↦ λ e. past_test n (2 ^ 127) e
+] refl
   where
     from_test : (a b : ℕ) → nat_lt a b ≡ true → a < b
     from_test a b e = grind (arith, nat_tests)
+
     past_test : (a b : ℕ) → nat_lt a b ≡ false → b ≤ a
     past_test a b e = grind (arith, nat_tests)
 

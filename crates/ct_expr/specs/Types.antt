@@ -1,5 +1,5 @@
 -- The types of expressions, line by line of the table of expressions.
-use Rattle.std.specs.Prelude.{ℕ, ◌+◌, max, min, ◌==◌, nat_le, Bool, true, false, ◌&&◌, ◌||◌, cond, List, [], ◌∷◌, length, slice_get, Option, Some, None, option_map, option_and_then, unwrap_or, fold}
+use Rattle.std.specs.Prelude.{ℕ, ◌+◌, max, min, ◌==◌, nat_le, Bool, true, false, ◌&&◌, ◌||◌, cond, List, [], ◌∷◌, slice_get, Option, Some, None, option_map, option_and_then, unwrap_or, fold}
 use Rattle.ct_value.specs.declared.ty.Ty.{Ty}
 use Rattle.ct_value.specs.declared.ty.Ty.TheVariants.{Bool as Truths, Int, BigInt, Decimal, Text as Texts}
 use Rattle.ct_value.specs.declared.ty.ColTy.{ColTy}

@@ -12,7 +12,12 @@ use ct_value::{Memory, Text, Ty, Value};
 use std::alloc::Global;
 
 /// A value of one type as one of another; None where it is out of range.
-pub(crate) fn cast_of(alloc: Global, from: Ty, to: Ty, value: &Value) -> Result<Option<Value>, Memory>
+pub(crate) fn cast_of(
+    alloc: Global,
+    from: Ty,
+    to: Ty,
+    value: &Value,
+) -> Result<Option<Value>, Memory>
     ensures { IfOk result (λ o. o ≡ cast_of from to value.now) }
 {
     match value {

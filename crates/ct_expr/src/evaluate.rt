@@ -9,8 +9,8 @@ ghost use Rattle.ct_expr.specs.Types.{ty_of};
 ghost use Rattle.ct_expr.specs.Values.{conjunction, disjunction, in_list_of, first_known, first_chosen};
 
 use crate::found::{
-    Choice, Found, Meaning, arithmetic, char_length, comparison, concatenation, conversion, likeness,
-    minus, negation, null_if, null_test,
+    Choice, Found, Meaning, arithmetic, char_length, comparison, concatenation, conversion,
+    likeness, minus, negation, null_if, null_test,
 };
 use crate::types::ty_of;
 use crate::values::{and_of, compare_of, is_null, is_true, or_of};
@@ -143,7 +143,13 @@ fn disjunction<'a>(alloc: Global, exprs: &'a Exprs, row: &'a [Value]) -> Result<
 
 #[cycle(eval)]
 #[tactic(auto, using(crate::proofs::Lists::items_out))]
-fn in_list<'a>(alloc: Global, ty: Ty, value: &Value, items: &'a Exprs, row: &'a [Value]) -> Result<Meaning<'a>, Memory>
+fn in_list<'a>(
+    alloc: Global,
+    ty: Ty,
+    value: &Value,
+    items: &'a Exprs,
+    row: &'a [Value],
+) -> Result<Meaning<'a>, Memory>
     ensures { IfOk result (λ m. meaning m ≡ in_list_of ty value.now (e.typed_evals (expr_list (exprs_view items.now)) row.now)) }
 {
     let mut any = Value::Bool(false);

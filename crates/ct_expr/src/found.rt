@@ -125,7 +125,13 @@ pub(crate) fn null_if<'a>(
     ensures { meaning result ≡ null_if left_ty right_ty (meaning left.entry) (meaning right.entry) }
 {
     let (left, right) = both(left, right)?;
-    let equal = compare_of(CompareOp::Eq, left_ty, right_ty, left.as_value(), right.as_value());
+    let equal = compare_of(
+        CompareOp::Eq,
+        left_ty,
+        right_ty,
+        left.as_value(),
+        right.as_value(),
+    );
     if is_true(&equal) {
         return Some(Found::Made(Value::Null));
     }

@@ -13,7 +13,9 @@ pub(crate) fn like_of(alloc: Global, value: &Value, pattern: &Value) -> Result<V
     ensures { IfOk result (λ v. v ≡ like_of value.now pattern.now) }
 {
     match (value, pattern) {
-        (Value::Text(text), Value::Text(pattern)) => Ok(Value::Bool(is_like_text(alloc, text, pattern)?)),
+        (Value::Text(text), Value::Text(pattern)) => Ok(Value::Bool(is_like_text(
+            alloc, text, pattern,
+        )?)),
         _ => Ok(Value::Null),
     }
 }

@@ -6,8 +6,8 @@ ghost use Rattle.ct_field.specs.Fields.{scale_of};
 ghost use Rattle.ct_expr.specs.Types as t;
 ghost use Rattle.ct_expr.specs.Types.{scale, arith_ty, number_ty, is_number, is_truths, is_texts, same_ty, common_ty, comparable, can_arith, can_cast, value_fits, ty_of, tys_of, result_tys, otherwise_ty, widest, with_ty};
 
-use crate::{ArithOp, Expr, Exprs, Whens};
 use crate::values::is_null;
+use crate::{ArithOp, Expr, Exprs, Whens};
 use ct_field::{in_range, is_type};
 use ct_value::{ColTy, ColTys, Ty, Value};
 
@@ -44,7 +44,10 @@ fn same_ty(left: Ty, right: Ty) -> bool
     ensures { result ≡ same_ty left right }
 {
     match (left, right) {
-        (Ty::Bool, Ty::Bool) | (Ty::Int, Ty::Int) | (Ty::BigInt, Ty::BigInt) | (Ty::Text, Ty::Text) => true,
+        (Ty::Bool, Ty::Bool)
+        | (Ty::Int, Ty::Int)
+        | (Ty::BigInt, Ty::BigInt)
+        | (Ty::Text, Ty::Text) => true,
         (Ty::Decimal { p, s }, Ty::Decimal { p: q, s: t }) => p == q && s == t,
         _ => false,
     }
@@ -58,7 +61,10 @@ fn common_ty(left: Ty, right: Ty) -> Option<Ty>
         (Ty::Bool, Ty::Bool) => Some(Ty::Bool),
         (Ty::Int, Ty::Int) => Some(Ty::Int),
         (Ty::Int | Ty::BigInt, Ty::BigInt) | (Ty::BigInt, Ty::Int) => Some(Ty::BigInt),
-        (Ty::Decimal { p, s }, Ty::Decimal { p: q, s: t }) if s == t => Some(Ty::Decimal { p: p.max(q), s }),
+        (Ty::Decimal { p, s }, Ty::Decimal { p: q, s: t }) if s == t => Some(Ty::Decimal {
+            p: p.max(q),
+            s,
+        }),
         (Ty::Text, Ty::Text) => Some(Ty::Text),
         _ => None,
     }
@@ -67,7 +73,9 @@ fn common_ty(left: Ty, right: Ty) -> Option<Ty>
 fn comparable(left: Ty, right: Ty) -> bool
     ensures { result ≡ comparable left right }
 {
-    (is_number(left) && is_number(right)) || (is_truths(left) && is_truths(right)) || (is_texts(left) && is_texts(right))
+    (is_number(left) && is_number(right))
+        || (is_truths(left) && is_truths(right))
+        || (is_texts(left) && is_texts(right))
 }
 
 // The type of a number that has these decimals beside a decimal.
@@ -200,8 +208,15 @@ pub fn type_of(expr: &Expr, cols: &ColTys) -> Option<ColTy>
         Expr::Column { col, ty } => column_col(cols, *col, *ty),
         Expr::Literal { value, ty } => literal_col(value, *ty),
         Expr::Neg(value) => number_col(type_of(value, cols)?),
-        Expr::Arith { op, left, right } => arith_col(*op, type_of(left, cols)?, type_of(right, cols)?),
-        Expr::Compare { left, right, .. } => compare_col(type_of(left, cols)?, type_of(right, cols)?),
+        Expr::Arith { op, left, right } => arith_col(
+            *op,
+            type_of(left, cols)?,
+            type_of(right, cols)?,
+        ),
+        Expr::Compare { left, right, .. } => compare_col(
+            type_of(left, cols)?,
+            type_of(right, cols)?,
+        ),
         Expr::And(exprs) | Expr::Or(exprs) => all_truths(exprs, cols),
         Expr::Not(value) => truth_col(type_of(value, cols)?),
         Expr::IsNull(value) => Some(null_test_col(type_of(value, cols)?)),
@@ -213,9 +228,17 @@ pub fn type_of(expr: &Expr, cols: &ColTys) -> Option<ColTy>
         Expr::Coalesce(exprs) => coalesced(exprs, cols),
         Expr::NullIf { left, right } => null_if_col(type_of(left, cols)?, type_of(right, cols)?),
         Expr::Cast { value, ty } => cast_col(*ty, type_of(value, cols)?),
-        Expr::Concat { left, right } => texts_col(Ty::Text, type_of(left, cols)?, type_of(right, cols)?),
+        Expr::Concat { left, right } => texts_col(
+            Ty::Text,
+            type_of(left, cols)?,
+            type_of(right, cols)?,
+        ),
         Expr::CharLength(value) => char_length_col(type_of(value, cols)?),
-        Expr::Like { value, pattern } => texts_col(Ty::Bool, type_of(value, cols)?, type_of(pattern, cols)?),
+        Expr::Like { value, pattern } => texts_col(
+            Ty::Bool,
+            type_of(value, cols)?,
+            type_of(pattern, cols)?,
+        ),
     }
 }
 
@@ -229,13 +252,21 @@ fn column_col(cols: &ColTys, column: u32, ty: Ty) -> Option<ColTy>
     ensures { result ≡ t.column_col column ty cols.now }
 {
     let found = *cols.get(column as usize)?;
-    if same_ty(found.ty, ty) { Some(found) } else { None }
+    if same_ty(found.ty, ty) {
+        Some(found)
+    } else {
+        None
+    }
 }
 
 fn literal_col(value: &Value, ty: Ty) -> Option<ColTy>
     ensures { result ≡ t.literal_col value.now ty }
 {
-    if is_type(ty) && value_fits(ty, value) { Some(col(ty, is_null(value))) } else { None }
+    if is_type(ty) && value_fits(ty, value) {
+        Some(col(ty, is_null(value)))
+    } else {
+        None
+    }
 }
 
 fn number_col(of: ColTy) -> Option<ColTy>
@@ -261,7 +292,10 @@ fn arith_col(op: ArithOp, left: ColTy, right: ColTy) -> Option<ColTy>
     ensures { result ≡ t.arith_col op left right }
 {
     if can_arith(op, left.ty, right.ty) {
-        Some(col(arith_ty(op, left.ty, right.ty), left.nullable || right.nullable))
+        Some(col(
+            arith_ty(op, left.ty, right.ty),
+            left.nullable || right.nullable,
+        ))
     } else {
         None
     }
@@ -270,7 +304,11 @@ fn arith_col(op: ArithOp, left: ColTy, right: ColTy) -> Option<ColTy>
 fn compare_col(left: ColTy, right: ColTy) -> Option<ColTy>
     ensures { result ≡ t.compare_col left right }
 {
-    if comparable(left.ty, right.ty) { Some(col(Ty::Bool, left.nullable || right.nullable)) } else { None }
+    if comparable(left.ty, right.ty) {
+        Some(col(Ty::Bool, left.nullable || right.nullable))
+    } else {
+        None
+    }
 }
 
 fn logic_col(left: ColTy, right: ColTy) -> Option<ColTy>
@@ -286,25 +324,39 @@ fn logic_col(left: ColTy, right: ColTy) -> Option<ColTy>
 fn case_col(left: ColTy, right: ColTy) -> Option<ColTy>
     ensures { result ≡ t.case_col left right }
 {
-    Some(col(common_ty(left.ty, right.ty)?, left.nullable || right.nullable))
+    Some(col(
+        common_ty(left.ty, right.ty)?,
+        left.nullable || right.nullable,
+    ))
 }
 
 fn coalesce_col(left: ColTy, right: ColTy) -> Option<ColTy>
     ensures { result ≡ t.coalesce_col left right }
 {
-    Some(col(common_ty(left.ty, right.ty)?, left.nullable && right.nullable))
+    Some(col(
+        common_ty(left.ty, right.ty)?,
+        left.nullable && right.nullable,
+    ))
 }
 
 fn null_if_col(left: ColTy, right: ColTy) -> Option<ColTy>
     ensures { result ≡ t.null_if_col left right }
 {
-    if comparable(left.ty, right.ty) { Some(col(left.ty, true)) } else { None }
+    if comparable(left.ty, right.ty) {
+        Some(col(left.ty, true))
+    } else {
+        None
+    }
 }
 
 fn cast_col(ty: Ty, of: ColTy) -> Option<ColTy>
     ensures { result ≡ t.cast_col ty of }
 {
-    if is_type(ty) && can_cast(of.ty, ty) { Some(col(ty, of.nullable)) } else { None }
+    if is_type(ty) && can_cast(of.ty, ty) {
+        Some(col(ty, of.nullable))
+    } else {
+        None
+    }
 }
 
 fn texts_col(ty: Ty, left: ColTy, right: ColTy) -> Option<ColTy>
@@ -320,7 +372,11 @@ fn texts_col(ty: Ty, left: ColTy, right: ColTy) -> Option<ColTy>
 fn char_length_col(of: ColTy) -> Option<ColTy>
     ensures { result ≡ t.char_length_col of }
 {
-    if is_texts(of.ty) { Some(col(Ty::Int, of.nullable)) } else { None }
+    if is_texts(of.ty) {
+        Some(col(Ty::Int, of.nullable))
+    } else {
+        None
+    }
 }
 
 // The type of AND or OR of expressions.
@@ -430,7 +486,11 @@ fn with_result(all: Option<ColTy>, result_col: Option<ColTy>) -> Option<ColTy>
 
 // The type of results with that of the ELSE; without one NULL may come.
 #[cycle(type_of)]
-fn otherwise_of(otherwise: &Option<Box<Expr>>, cols: &ColTys, results: Option<ColTy>) -> Option<ColTy>
+fn otherwise_of(
+    otherwise: &Option<Box<Expr>>,
+    cols: &ColTys,
+    results: Option<ColTy>,
+) -> Option<ColTy>
     ensures { result ≡ t.otherwise_of (optional_expr (option_map (λ x. expr_view x.value) otherwise.now)) cols.now results }
 {
     match otherwise {

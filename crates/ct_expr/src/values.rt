@@ -85,11 +85,19 @@ pub(crate) fn minus_of(ty: Ty, value: &Value) -> Option<Value>
 }
 
 // A sum, a difference or a product.
-pub(crate) fn arith_of(op: ArithOp, left_ty: Ty, right_ty: Ty, left: &Value, right: &Value) -> Option<Value>
+pub(crate) fn arith_of(
+    op: ArithOp,
+    left_ty: Ty,
+    right_ty: Ty,
+    left: &Value,
+    right: &Value,
+) -> Option<Value>
     ensures { result ≡ arith_of op left_ty right_ty left.now right.now }
 {
     match (left, right) {
-        (Value::Num(left), Value::Num(right)) => numbers_arith(op, left_ty, right_ty, *left, *right),
+        (Value::Num(left), Value::Num(right)) => numbers_arith(
+            op, left_ty, right_ty, *left, *right,
+        ),
         _ => Some(Value::Null),
     }
 }
@@ -187,12 +195,21 @@ fn raised_cmp(num: i128, decimals: u32, other: i128) -> Ordering
 }
 
 // Whether a comparison holds, and NULL beside NULL.
-pub(crate) fn compare_of(op: CompareOp, left_ty: Ty, right_ty: Ty, left: &Value, right: &Value) -> Value
+pub(crate) fn compare_of(
+    op: CompareOp,
+    left_ty: Ty,
+    right_ty: Ty,
+    left: &Value,
+    right: &Value,
+) -> Value
     ensures { result ≡ compare_of op left_ty right_ty left.now right.now }
 {
     match (left, right) {
         (Value::Num(left), Value::Num(right)) => {
-            Value::Bool(holds(op, number_cmp(scale(left_ty), scale(right_ty), *left, *right)))
+            Value::Bool(holds(
+                op,
+                number_cmp(scale(left_ty), scale(right_ty), *left, *right),
+            ))
         }
         (Value::Text(_), Value::Text(_)) | (Value::Bool(_), Value::Bool(_)) => {
             Value::Bool(holds(op, left.cmp(right)))
@@ -247,5 +264,8 @@ pub(crate) fn truncated(num: i128, decimals: u32) -> i128
     if decimals == 0 {
         return num;
     }
-    signed(num.is_negative(), num.unsigned_abs() / power_of_ten(decimals))
+    signed(
+        num.is_negative(),
+        num.unsigned_abs() / power_of_ten(decimals),
+    )
 }

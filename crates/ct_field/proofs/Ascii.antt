@@ -28,9 +28,9 @@ whole_ascii n d h = IsAscii-decimal_wide (n / d) (omega (arith, div-le_self n d)
 
 unsigned_ascii : (s n : ℕ) → n ≤ 2 ^ 127 → IsAscii (unsigned_text s n)
 unsigned_ascii s n h = elim (s == 0) as (λ b. IsAscii (cond b (decimal n) (decimal (n / 10 ^ s) ++ 46 ∷ last_digits s n))) [
-    | true ↦ IsAscii-decimal_wide n (omega arith)
-    | false ↦ IsAscii-append (decimal (n / 10 ^ s)) (46 ∷ last_digits s n) (whole_ascii n (10 ^ s) h) (point_ascii s n)
-  ]
+  | true ↦ IsAscii-decimal_wide n (omega arith)
+  | false ↦ IsAscii-append (decimal (n / 10 ^ s)) (46 ∷ last_digits s n) (whole_ascii n (10 ^ s) h) (point_ascii s n)
+]
 
 sign_ascii : (n : ℤ) → IsAscii (sign_text n)
 sign_ascii n = elim (is_negative n) as (λ b. IsAscii (cond b (45 ∷ []) [])) [ true ↦ one_ascii 45 (lit< tt) | false ↦ IsAscii-nil ]

@@ -1,4 +1,4 @@
-use Rattle.std.proofs.Common.{◌≡◌, drop, Some, None, true, false}
+use Rattle.std.proofs.Common.{◌≡◌, drop, Some, true, false}
 use Rattle.std.specs.Prelude.{Option}
 use Rattle.ct_value.specs.declared.value.Value.{Value}
 use Rattle.ct_value.specs.declared.value.Value.TheVariants.{Bool as Truth}

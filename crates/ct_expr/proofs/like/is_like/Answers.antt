@@ -1,4 +1,4 @@
-use Rattle.std.proofs.Common.{rules, ◌≡◌, ◌≢◌, ℕ, zero, suc, ◌+◌, ◌-◌, ◌<◌, ◌≤◌, ◌++◌, ◌∷◌, [], length, drop, get_or, replicate, ap, sym, ◌∙◌, arith, true, false}
+use Rattle.std.proofs.Common.{rules, ◌≡◌, ◌+◌, ◌-◌, ◌++◌, ◌∷◌, [], length, drop, get_or, replicate, ap, sym, ◌∙◌, arith, true, false}
 use Rattle.std.proofs.lemmas.List.{drop_all}
 use Rattle.ct_expr.specs.Like.{likes, one_step, some_later}
 use Rattle.ct_expr.proofs.Marks.{likes_none, length-likes, first_like, pattern_any, pattern_one}
@@ -17,7 +17,7 @@ pattern-preserved-then-item-eq37 c =
     let w = c.pattern.invariant.within in
     record {
       marks = c.some_later-rests.ensures ∙ ap some_later c.pattern.invariant.marks
-        ∙ pattern_any c.args.pattern.now c.args.text.now c.pattern.place (c.pattern.place - 1) c.index-pattern-place.result (omega arith) (omega arith) c.index-pattern-place.is c.if-item-eq37.true;
+          ∙ pattern_any c.args.pattern.now c.args.text.now c.pattern.place (c.pattern.place - 1) c.index-pattern-place.result (omega arith) (omega arith) c.index-pattern-place.is c.if-item-eq37.true;
       within = omega arith;
     }
 
@@ -29,7 +29,7 @@ pattern-preserved c =
     let w = c.pattern.invariant.within in
     record {
       marks = c.one_step-rests.ensures ∙ ap (λ m. one_step c.index-pattern-place.result c.args.text.now m) c.pattern.invariant.marks
-        ∙ pattern_one c.args.pattern.now c.args.text.now c.pattern.place (c.pattern.place - 1) c.index-pattern-place.result (omega arith) (omega arith) c.index-pattern-place.is c.if-item-eq37.false;
+          ∙ pattern_one c.args.pattern.now c.args.text.now c.pattern.place (c.pattern.place - 1) c.index-pattern-place.result (omega arith) (omega arith) c.index-pattern-place.is c.if-item-eq37.false;
       within = omega arith;
     }
 

@@ -10,7 +10,7 @@ places-preserved c =
     let e : c.places.place ≡ suc k = omega arith in
     let h : k < length c.args.rests.items = (let w = c.places.invariant.within in omega arith) in
     let m : c.either-some.result ≡ some_mark (drop k c.args.rests.items) =
-        c.either-some.ensures ∙ mark_step c.args.rests.items c.places.marks.items c.places.place k c.index.result.now c.places.some e h c.index.ensures c.places.invariant.marks c.places.invariant.some in
+    c.either-some.ensures ∙ mark_step c.args.rests.items c.places.marks.items c.places.place k c.index.result.now c.places.some e h c.index.ensures c.places.invariant.marks c.places.invariant.some in
     record {
       marks = later_step c.args.rests.items c.places.marks.items c.places.place k c.either-some.result e h c.places.invariant.marks m;
       some = m;
