@@ -1,5 +1,5 @@
 -- What the view of each variant is.
-use Rattle.std.proofs.Common.{◌≡◌, ℕ, List, Option, Some, None, sym, ap, ◌∙◌, map}
+use Rattle.std.proofs.Common.{◌≡◌, ℕ, List, Option, Some, None, sym, ap, ◌∙◌}
 use Rattle.std.specs.Prelude.{Box, option_map}
 use Rattle.std.specs.declared.alloc.Global.{Global}
 use Rattle.ct_value.specs.declared.value.CompareOp.{CompareOp}

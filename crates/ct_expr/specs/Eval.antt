@@ -1,5 +1,5 @@
 -- What an expression is at a row: a value, or None where it is out of range.
-use Rattle.std.specs.Prelude.{ℕ, List, [], ◌∷◌, Option, Some, None, option_map, slice_index_or}
+use Rattle.std.specs.Prelude.{ℕ, List, [], ◌∷◌, Option, Some, option_map, slice_index_or}
 use Rattle.ct_value.specs.declared.value.Value.{Value}
 use Rattle.ct_value.specs.declared.value.Value.TheVariants.{Null}
 use Rattle.ct_value.specs.declared.ty.Ty.{Ty}

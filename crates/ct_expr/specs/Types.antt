@@ -1,5 +1,5 @@
 -- The types of expressions, line by line of the table of expressions.
-use Rattle.std.specs.Prelude.{ℕ, ◌+◌, max, min, ◌==◌, nat_le, Bool, true, false, ◌&&◌, ◌||◌, cond, List, [], ◌∷◌, length, slice_get, Option, Some, None, option_map, option_and_then, unwrap_or, fold}
+use Rattle.std.specs.Prelude.{ℕ, ◌+◌, max, min, ◌==◌, nat_le, Bool, true, false, ◌&&◌, ◌||◌, cond, List, [], ◌∷◌, slice_get, Option, Some, None, option_map, option_and_then, unwrap_or, fold}
 use Rattle.ct_value.specs.declared.ty.Ty.{Ty}
 use Rattle.ct_value.specs.declared.ty.Ty.TheVariants.{Bool as Truths, Int, BigInt, Decimal, Text as Texts}
 use Rattle.ct_value.specs.declared.ty.ColTy.{ColTy}
@@ -113,10 +113,17 @@ abbrev pub gather : {A B : Type 0} → (A → B → Option A) → Option A → L
 gather f a [] = a
 gather f a (o ∷ os) = gather f (both_of f a o) os
 
--- the first, and from the left over the others; none of no type
+abbrev pub begun : {A : Type 0} → (A → A → Option A) → Option A → Option A → Option A
+begun f None o = o
+begun f (Some a) o = both_of f (Some a) o
+
+abbrev pub joined : {A : Type 0} → (A → A → Option A) → Option A → List (Option A) → Option A
+joined f a [] = a
+joined f a (o ∷ os) = option_and_then (λ b. joined f (Some b) os) (begun f a o)
+
+-- the first, and from the left over the others, where each is; none of no type
 abbrev pub gather_some : {A : Type 0} → (A → A → Option A) → List (Option A) → Option A
-gather_some f [] = None
-gather_some f (o ∷ os) = gather f o os
+gather_some f os = joined f None os
 
 abbrev pub column_col : ℕ → Ty → List ColTy → Option ColTy
 column_col n ty cols = option_and_then (λ c. cond (same_ty c.ty ty) (Some c) None) (slice_get cols n)
@@ -191,7 +198,7 @@ abbrev mutual
   type_of (Not x) cols = option_and_then truth_col (type_of x cols)
   type_of (IsNull x) cols = option_and_then null_test_col (type_of x cols)
   type_of (InList x xs) cols = option_and_then (λ c. in_list_col c (types_of xs cols)) (type_of x cols)
-  type_of (Case ws o) cols = both_of (λ _ c. Some c) (all_truths (conds_of ws cols)) (otherwise_of o cols (gather_some case_col (results_of ws cols)))
+  type_of (Case ws o) cols = option_and_then (λ _. otherwise_of o cols (gather_some case_col (results_of ws cols))) (all_truths (conds_of ws cols))
   type_of (Coalesce xs) cols = gather_some coalesce_col (types_of xs cols)
   type_of (NullIf x y) cols = both_of null_if_col (type_of x cols) (type_of y cols)
   type_of (Cast x ty) cols = option_and_then (cast_col ty) (type_of x cols)
@@ -222,10 +229,13 @@ abbrev mutual
 abbrev pub wider : Ty → Ty → Ty
 wider s t = unwrap_or (common_ty s t) s
 
+abbrev pub with_ty : Option Ty → Ty → Ty
+with_ty None t = t
+with_ty (Some s) t = wider s t
+
 -- the common type of all, from the left
 abbrev pub widest : List Ty → Ty
-widest [] = Truths
-widest (t ∷ ts) = fold wider t ts
+widest ts = unwrap_or (fold (λ o t. Some (with_ty o t)) None ts) Truths
 
 abbrev mutual
   pub ty_of : Expr → Ty

@@ -1,3 +1,4 @@
+pub mod Ascii
 pub mod Bounded
 pub mod Digits
 pub mod Powers

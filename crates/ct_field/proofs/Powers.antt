@@ -16,7 +16,7 @@ ten_least (suc k) = let h = ten_least k in omega (arith, pow-suc 10 k)
 ten_more : (k : ℕ) → 38 < k → 10 ^ 39 ≤ 10 ^ k
 ten_more k h = pow-le-pow_right (lit< tt) (let e : 39 ≤ k = omega arith in e)
 
-abs_most : (n : ℤ) → FitsSigned w128 n → unsigned_abs n ≤ 2 ^ 127
+pub abs_most : (n : ℤ) → FitsSigned w128 n → unsigned_abs n ≤ 2 ^ 127
 abs_most (pos a) f = let h : a < 2 ^ 127 = f.sfits in omega arith
 abs_most (negsuc a) f = let h : a < 2 ^ 127 = f.sfits in omega arith
 

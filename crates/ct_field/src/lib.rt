@@ -7,6 +7,6 @@ mod number;
 mod read;
 mod write;
 
-pub use number::{in_range, is_type, rescale};
+pub use number::{in_range, is_type, power_of_ten, rescale, signed};
 pub use read::{FieldFault, MAX_FIELD, read_field};
-pub use write::{push_field, write_field};
+pub use write::{number_text, push_field, write_field};

@@ -57,9 +57,9 @@ pub fn rescale(num: i128, from: u32, to: u32) -> Option<i128>
     }
 }
 
-// Ten to a power.
+/// Ten to a power of at most 38.
 #[tactic(auto, using(crate::proofs::Powers::ten_most, crate::proofs::Powers::ten_least))]
-pub(crate) fn power_of_ten(k: u32) -> u128
+pub fn power_of_ten(k: u32) -> u128
     requires { k ≤ 38 }
     ensures value { result ≡ 10 ^ k }
     ensures least { k < result }
@@ -68,8 +68,8 @@ pub(crate) fn power_of_ten(k: u32) -> u128
     10u128.pow(k)
 }
 
-// A number of this magnitude, negative or not.
-pub(crate) fn signed(negative: bool, magnitude: u128) -> i128
+/// A number of this magnitude, negative or not.
+pub fn signed(negative: bool, magnitude: u128) -> i128
     requires { magnitude < 2 ^ 127 }
     ensures { result ≡ signed negative magnitude }
 {

@@ -4,7 +4,7 @@ ghost use Rattle.ct_field.specs.Numbers.{is_type};
 ghost use Rattle.ct_field.specs.Fields.{field_text, number_text, unsigned_text, last_digits, escaped, scale_of};
 
 use crate::number::power_of_ten;
-use ct_value::{Bytes, Memory, Text, Ty, Value};
+use ct_value::{Bytes, Memory, Text, TextFault, Ty, Value};
 use std::alloc::Global;
 
 /// The field text of a value: no plus sign, no leading zeros, no -0, all decimals of the type, TRUE or FALSE, `\N` for
@@ -29,6 +29,28 @@ pub fn push_field(alloc: Global, text: &mut Bytes, ty: Ty, value: &Value) -> Res
         Value::Bool(true) => text.extend(b"TRUE"),
         Value::Num(number) => push_number(alloc, text, scale_of(ty), *number),
         Value::Text(value) => push_text(text, value),
+    }
+}
+
+/// The text of an unscaled number with so many decimals.
+pub fn number_text(alloc: Global, scale: u32, number: i128) -> Result<Text, Memory>
+    requires { scale ≤ 38 }
+    ensures { IfOk result (λ text. text ≡ number_text scale number) }
+{
+    let mut text = Bytes::new(alloc);
+    push_number(alloc, &mut text, scale, number)?;
+    text_of(alloc, text.as_slice(), scale, number)
+}
+
+// Bytes of a number's text as a text.
+fn text_of(alloc: Global, bytes: &[u8], scale: u32, number: i128) -> Result<Text, Memory>
+    requires { bytes.now ≡ number_text scale number }
+    ensures { IfOk result (λ text. text ≡ bytes.now) }
+{
+    match Text::from_bytes(alloc, bytes) {
+        Ok(text) => Ok(text),
+        Err(TextFault::Memory) => Err(Memory),
+        Err(TextFault::NotUtf8) => unreachable!(),
     }
 }
 

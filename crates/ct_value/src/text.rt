@@ -1,4 +1,4 @@
-ghost use Rattle.std.specs.Prelude.{◌≡◌, ◌↔◌, Some, IfOk, IsErrOf, IsTrue};
+ghost use Rattle.std.specs.Prelude.{◌≡◌, ◌↔◌, ◌++◌, Some, IfOk, IsErrOf, IsTrue};
 ghost use Rattle.std.specs.Str.{IsUtf8, bytes_eq};
 ghost use Rattle.std.specs.Ordering.{nat_cmp, eq_by_cmp};
 ghost use Rattle.std.specs.Cmp.{eq_by_cmp_equiv, partial_equiv_from_equiv, po};
@@ -73,6 +73,15 @@ impl Text {
         Ok(Text {
             text: String::from_str(alloc, text)?,
         })
+    }
+
+    /// One text behind the other.
+    pub fn concat(alloc: Global, left: &Text, right: &Text) -> Result<Text, Memory>
+        ensures { IfOk result (λ text. text ≡ left.now ++ right.now) }
+    {
+        let mut text = String::from_str(alloc, left.as_str())?;
+        text.push_str(right.as_str())?;
+        Ok(Text { text })
     }
 
     /// The bytes, which are UTF-8.
