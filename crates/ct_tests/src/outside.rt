@@ -26,9 +26,7 @@ fn files(alloc: Global) -> Result<Files, Memory> {
 }
 
 fn has_calls(listed: &Calls) -> bool {
-    listed.len() == 2
-        && listed.get(1).copied() == Some(2)
-        && listed.get(2).is_none()
+    listed.len() == 2 && listed.get(1).copied() == Some(2) && listed.get(2).is_none()
 }
 
 fn copies_calls(listed: &Calls) -> bool {

@@ -174,7 +174,7 @@ fn cols(alloc: Global) -> Result<Cols, Memory> {
 fn has_cols(cols: &Cols) -> bool {
     matches!(cols.as_slice(), [4, 0, 4])
         && cols.len() == 3
-        && cols.get(1) == Some(0)
+        && cols.get(1).copied() == Some(0)
         && cols.get(3).is_none()
 }
 
@@ -226,7 +226,7 @@ fn types(alloc: Global) -> Result<ColTys, Memory> {
 fn has_types(types: &ColTys) -> bool {
     types.as_slice() == TYPES.as_slice()
         && types.len() == 5
-        && types.get(4) == Some(TYPES[4])
+        && types.get(4).copied() == Some(TYPES[4])
         && types.get(5).is_none()
 }
 
