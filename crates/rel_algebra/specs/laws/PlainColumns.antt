@@ -37,4 +37,4 @@ columns_mean columns (item ∷ items) made e = go (λ others f. columns_mean col
     go ih (Some c) i (Some others) j k =
         let l : c ∷ others ≡ made = cc in
         subst (λ m. MeanTypes columns (map eval (map (λ item. Column item.0 item.1) (item ∷ items))) m) l
-          ((λ row value h v. let w : cell item.0 row ≡ value = cc in subst (λ x. col_fits c x ≡ true) w (fits-cell columns row item.0 c h (there columns item.0 item.1 c i))), ih others j)
+        ((λ row value h v. let w : cell item.0 row ≡ value = cc in subst (λ x. col_fits c x ≡ true) w (fits-cell columns row item.0 c h (there columns item.0 item.1 c i))), ih others j)
