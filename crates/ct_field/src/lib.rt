@@ -1,6 +1,8 @@
 //! Numbers of types, and the texts of fields: which number fits a type, a number taken to another scale, the one
-//! text in which a value is written, and the value that a text spells. It promises that a text is read as the value
-//! that it spells, that nothing else is read, and that what is written is read back. It stands on values alone.
+//! text in which a value is written, and the value that a text spells.
+//!
+//! Promised: a text is read as the value that it spells, it is refused exactly where it spells none, and a value is
+//! written in its one text. It stands on values alone.
 #![tactic(auto)]
 
 mod number;
