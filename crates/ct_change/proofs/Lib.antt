@@ -1,4 +1,2 @@
 pub mod Counts
-pub mod Folds
-pub mod Meanings
 pub mod Runs

@@ -1,2 +1,0 @@
-pub mod GroupFacts
-pub mod Histories
