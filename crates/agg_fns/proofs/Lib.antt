@@ -1,0 +1,4 @@
+pub mod Counts
+pub mod Ends
+pub mod Added
+pub mod Stands
