@@ -1,4 +1,0 @@
-pub mod Counts
-pub mod Ends
-pub mod Added
-pub mod Stands
