@@ -3,17 +3,17 @@
 //! answers. It stands on the judgement's definitions.
 #![tactic(auto)]
 
-ghost use Rattle.std.specs.Prelude.{◌≡◌, ◌∷◌, [], codes};
+ghost use Rattle.std.specs.Prelude.{◌≡◌, ◌∷◌, [], map};
 ghost use Rattle.ct_value.specs.declared.codes.ScriptCode.TheVariants.{BadSetting, StateTtl};
 ghost use Rattle.judge.specs.Judgement.{asked_of};
 ghost use Rattle.judge_examples.specs.Checks.{AreRefused, columns_in, tables_in, Declare, DontSet, Leave, Set};
 ghost use Rattle.judge_examples.specs.Settings.{bad_settings, kept_states, last_settings, settings};
-ghost use Rattle.judge_examples.specs.Tables.{declared, refused_tables, wide, wide_tables};
+ghost use Rattle.judge_examples.specs.Tables.{declared, refused_tables, wide_tables, widest_tables};
 
-/// Tables: modes, types, names and keys, and the widest one.
+/// Tables: modes, types, names and keys, and the widest ones.
 pub fn tables_are_declared()
     ensures each { Declare declared }
-    ensures widest { columns_in (tables_in (asked_of (wide 63 (codes ");")))) ≡ 64 ∷ [] }
+    ensures widest { map (λ text. columns_in (tables_in (asked_of text))) widest_tables ≡ map (λ text. 64 ∷ []) widest_tables }
 {}
 
 /// Tables of taken names, with wrong keys, modes, types or too many columns, and scripts without one INSERT at the end.

@@ -31,7 +31,7 @@ query_answer query = answered (Insert (codes "o") query ∷ [])
 -- ---- depths
 
 abbrev pub nest_text : ℕ → Nest → List ℕ
-nest_text count nest = item_text (nested count nest)
+nest_text count nest = item_text (nested count (codes "a") nest)
 
 abbrev pub nest_answer : ℕ → Nest → Answer
 nest_answer count nest = item_answer (One (within count nest.around a) None)
@@ -41,3 +41,7 @@ abbrev pub MayNest : ℕ → ScriptCode → List Nest → Type 0
 MayNest count code nests =
     (map (λ nest. read_text (nest_text count nest)) nests ≡ map (nest_answer count) nests)
     × (map (λ nest. read_text (nest_text (count + 1) nest)) nests ≡ map (λ nest. refused code 1) nests)
+
+-- a fault within so many of each of these is found
+abbrev pub FaultIsFound : ℕ → ScriptCode → List Nest → Type 0
+FaultIsFound count code nests = map (λ nest. read_text (item_text (nested count (codes "a + ") nest))) nests ≡ map (λ nest. refused code 1) nests

@@ -4,7 +4,7 @@
 #![tactic(auto)]
 
 ghost use Rattle.ct_value.specs.declared.codes.ScriptCode.TheVariants.{BadToken, Syntax, TooDeep};
-ghost use Rattle.sql_examples.specs.Checks.{AreRead, AreRefused, MayNest, item_text, item_answer, query_text, query_answer};
+ghost use Rattle.sql_examples.specs.Checks.{AreRead, AreRefused, FaultIsFound, MayNest, item_text, item_answer, query_text, query_answer};
 ghost use Rattle.sql_examples.specs.Items.{read_items};
 ghost use Rattle.sql_examples.specs.Nested.{nests, read_deep, deep_text};
 ghost use Rattle.sql_examples.specs.Queries.{read_queries};
@@ -37,5 +37,6 @@ pub fn others_are_refused()
 /// 32 parentheses and CASEs may be open at once, and 33 may not.
 pub fn depth_is_counted()
     ensures nests { MayNest 32 TooDeep nests }
+    ensures faults { FaultIsFound 32 Syntax nests }
     ensures counted { AreRead deep_text (λ answer. answer) read_deep }
 {}
