@@ -7,8 +7,8 @@ use Rattle.ct_change.specs.declared.change.Change.{Change}
 use Rattle.ct_change.specs.Changelog.{Mode, HasKey, has, admits}
 use Rattle.rel_algebra.specs.Groups.{grouped_counts}
 use Rattle.op_rules.specs.History.{Arrival}
-use Rattle.op_rules.specs.Rule.{group, sink, output_kinds, IsSound}
-use Rattle.op_rules.specs.Rules.{emits, opening, MayArrive}
+use Rattle.count_rules.specs.Rule.{group, sink, output_kinds, IsSound}
+use Rattle.count_rules.specs.Rules.{emits, opening, MayArrive}
 use Rattle.op_rules.specs.Edges.{meaning_of, forward, hash, Edge, LiesIn, KeepsKeys}
 use Rattle.op_rules.specs.Tasks.{Task, IsReady, Facts}
 

@@ -1,9 +1,9 @@
 //! What is known of the rules over every history. These functions have nothing to do: their contracts are the facts.
 ghost use Rattle.std.specs.Prelude.{ℕ};
 ghost use Rattle.ct_change.specs.Changelog.{Mode};
-ghost use Rattle.op_rules.specs.Rule.{group, sink};
-ghost use Rattle.op_rules.specs.RuleTasks.{GroupsStand, GroupsTake, SinksStand, SinksTake};
-ghost use Rattle.op_rules.specs.Facts.{HoldsOf, FoldsToAnswer, PrefixesStand, KindsStay, WidthsStay, GroupDifference, ReadyArrives, ReadySettles};
+ghost use Rattle.count_rules.specs.Rule.{group, sink};
+ghost use Rattle.count_rules.specs.RuleTasks.{GroupsStand, GroupsTake, SinksStand, SinksTake};
+ghost use Rattle.count_rules.specs.Facts.{HoldsOf, FoldsToAnswer, PrefixesStand, KindsStay, WidthsStay, GroupDifference, ReadyArrives, ReadySettles};
 
 /// All that a group emitted means the groups' counts of what it took.
 pub fn group_folds_to_answer()

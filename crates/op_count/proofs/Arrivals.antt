@@ -1,6 +1,6 @@
 -- What an arrival makes of a group's history.
 use Rattle.std.proofs.Common.{◌≡◌, ℕ, ◌+◌, ◌<◌, ◌≤◌, ◌^◌, true, false, cond, List, [], ◌∷◌, ◌++◌, length, take, Ok, Err, ap, subst, ◌∙◌, arith, length-append, append-nil}
-use Rattle.std.proofs.lemmas.Bool.{lt-ltb}
+use Rattle.std.proofs.lemmas.Bool.{lt-ltb, leb-true}
 use Rattle.ct_value.specs.Bag.{total-le}
 use Rattle.ct_value.specs.declared.row.Row.{Row}
 use Rattle.ct_change.specs.declared.change.Change.{Change}
@@ -9,16 +9,17 @@ use Rattle.ct_change.specs.Emission.{emission}
 use Rattle.ct_change.specs.laws.Folds.{fold-push}
 use Rattle.rel_algebra.specs.Groups.{in_group, group_size, result_row}
 use Rattle.op_rules.specs.History.{Arrival, arrival, at_port}
-use Rattle.op_rules.specs.Rule.{group, KeepsGroups}
-use Rattle.op_rules.specs.Rules.{Answer, appended, answers, groups_of, group_emits, emits, MayArrive}
+use Rattle.count_rules.specs.Rule.{group, KeepsGroups}
+use Rattle.op_rules.specs.Rules.{Answer, appended, MayArrive}
+use Rattle.count_rules.specs.Rules.{answers, groups_of, group_emits, emits, rule_of}
 use Rattle.op_rules.specs.laws.Histories.{at_port-push, at_port-one}
-use Rattle.op_group.specs.State.{IsCounted, MayTake}
+use Rattle.op_count.specs.State.{IsCounted, MayTake}
 
 -- the one port
 port-first : (port : ℕ) → port < 1 → port ≡ 0
 port-first port less = omega arith
 
-module _ (keys : ℕ) (input output : Mode) (before : List Arrival) (port from : ℕ) (change : Change) (may : MayArrive (group keys input output) before (arrival port from change)) where
+module _ (keys : ℕ) (input output : Mode) (before : List Arrival) (port from : ℕ) (change : Change) (may : MayArrive (rule_of (group keys input output)) before (arrival port from change)) where
   abbrev rows : Rows
   rows = fold input (at_port 0 before)
 
@@ -35,7 +36,7 @@ module _ (keys : ℕ) (input output : Mode) (before : List Arrival) (port from :
   fold_arrives = ap (fold input) (at_port-push 0 before (arrival port from change) first) ∙ fold-push input (at_port 0 before) change
 
   pub may_take : (sizes : Rows) → KeepsGroups keys input → IsCounted keys rows sizes (length before) → length before + 1 < 2 ^ 32 → MayTake input keys rows sizes (length before) change
-  may_take sizes keeps counted few = record { keeps = keeps; counted = counted; may = comes; wide = may.wide; key = may.key; few = few }
+  may_take sizes keeps counted few = record { keeps = keeps; counted = counted; may = comes; wide = leb-true _ _ may.fits; key = may.key; few = few }
 
   groups-one : groups_of keys (at_port 0 (arrival port from change ∷ [])) ≡ take keys change.row ∷ []
   groups-one = ap (groups_of keys) (at_port-one 0 (arrival port from change) first)

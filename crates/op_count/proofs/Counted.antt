@@ -12,10 +12,10 @@ use Rattle.ct_change.specs.Emission.{difference, as_it_is, put_in, put_over, rep
 use Rattle.ct_change.specs.laws.Folds.{total-apply, weight-come, row_at-key, row_at-stands}
 use Rattle.ct_change.specs.laws.Emissions.{emission-same}
 use Rattle.rel_algebra.specs.Groups.{in_group, group_size, counted, sized, result_row, in_it}
-use Rattle.op_rules.specs.Rule.{KeepsGroups, TellsGroups}
-use Rattle.op_rules.specs.laws.Sizes.{size_after, wide_after}
-use Rattle.op_group.specs.declared.results.Results.{Results}
-use Rattle.op_group.specs.State.{IsCounted, MayTake, TellsFor}
+use Rattle.count_rules.specs.Rule.{KeepsGroups, TellsGroups}
+use Rattle.count_rules.specs.laws.Sizes.{size_after, wide_after}
+use Rattle.op_count.specs.declared.results.Results.{Results}
+use Rattle.op_count.specs.State.{IsCounted, MayTake, TellsFor}
 
 -- an empty bag has the sizes of no rows
 pub counted_none : (keys : ℕ) → IsCounted keys none none 0

@@ -6,8 +6,8 @@ use Rattle.ct_change.specs.declared.change.Change.{Change}
 use Rattle.ct_change.specs.Changelog.{Rows, Mode, MayCome, HasKey}
 use Rattle.ct_change.specs.Emission.{emission, CanTell}
 use Rattle.rel_algebra.specs.Groups.{group_size, result_row}
-use Rattle.op_rules.specs.Rule.{KeepsGroups, TellsGroups}
-use Rattle.op_group.specs.declared.results.Results.{Results}
+use Rattle.count_rules.specs.Rule.{KeepsGroups, TellsGroups}
+use Rattle.op_count.specs.declared.results.Results.{Results}
 
 -- the sizes are those of the groups, each row has the columns that name its group, and there are at most so many
 pub record IsCounted (keys : ℕ) (rows sizes : Rows) (held : ℕ) : Type 0 where

@@ -26,8 +26,9 @@ pub struct Group<I: InMode, O: OutMode> {
 
 impl<I: InMode, O: OutMode> Group<I, O> {
     ghost use Rattle.rel_algebra.specs.Groups.{count_all};
-    ghost use Rattle.op_rules.specs.Rule.{group, IsSound, TellsGroups};
-    ghost use Rattle.op_group.specs.State.{IsCounted, MayTake, TellsFor};
+    ghost use Rattle.count_rules.specs.Rule.{group, IsSound, TellsGroups};
+    ghost use Rattle.count_rules.specs.Rules.{rule_of};
+    ghost use Rattle.op_count.specs.State.{IsCounted, MayTake, TellsFor};
 
     /// A group of no rows, by the first `keys` columns, one at least. So far the aggregates have to be `COUNT(*)` alone,
     /// without a filter. The modes have to suit the columns: rows with one key of the input are of one group, and two
@@ -42,7 +43,7 @@ impl<I: InMode, O: OutMode> Group<I, O> {
         requires keyed { 0 < keys }
         requires counts { _aggs ≡ count_all ∷ [] }
         requires sound { IsSound (group keys (I.mode input) (O.mode output)) }
-        ensures rule { IfOk result (λ made. ⟦<Group<I, O> as Operator>⟧.rule made ≡ group keys (I.mode input) (O.mode output)) }
+        ensures rule { IfOk result (λ made. ⟦<Group<I, O> as Operator>⟧.rule made ≡ rule_of (group keys (I.mode input) (O.mode output))) }
         ensures stands { IfOk result (λ made. ⟦<Group<I, O> as Operator>⟧.stands_for made []) }
         ensures whole { IfOk result (λ made. ⟦<Group<I, O> as Operator>⟧.broken made ≡ false) }
     {
@@ -99,10 +100,11 @@ impl<I: InMode, O: OutMode> Operator for Group<I, O> {
     ghost use Rattle.std.specs.Prelude.{length};
     ghost use Rattle.ct_change.specs.Changelog.{fold};
     ghost use Rattle.op_rules.specs.History.{at_port};
-    ghost use Rattle.op_rules.specs.Rule.{group, IsSound};
-    ghost use Rattle.op_group.specs.State.{IsCounted};
+    ghost use Rattle.count_rules.specs.Rule.{group, IsSound};
+    ghost use Rattle.count_rules.specs.Rules.{rule_of};
+    ghost use Rattle.op_count.specs.State.{IsCounted};
 
-    ghost rule = { λ s. group s.keys (I.mode s.input) (O.mode s.output) };
+    ghost rule = { λ s. rule_of (group s.keys (I.mode s.input) (O.mode s.output)) };
 
     ghost broken = { λ s. s.broken };
 

@@ -5,7 +5,7 @@ use Rattle.ct_value.specs.declared.row.Row.{Row}
 use Rattle.ct_value.specs.declared.value.Value.{Value}
 use Rattle.ct_value.specs.declared.value.Value.TheVariants.{Null}
 use Rattle.rel_algebra.specs.Groups.{front_of, front}
-use Rattle.op_rules.specs.RuleTasks.{first_columns}
+use Rattle.count_rules.specs.RuleTasks.{first_columns}
 
 project-append : (a b : List ℕ) (row : Row) → project (a ++ b) row ≡ project a row ++ project b row
 project-append [] b row = refl

@@ -19,12 +19,14 @@ use Rattle.ct_change.specs.laws.Meanings.{same_row-true, fold_means, prefixes_me
 use Rattle.rel_algebra.specs.Groups.{first_seen, group_size, sized, result_row, count_groups, is_countable, grouped_counts, front, AreWide, in_it, one_of}
 use Rattle.rel_algebra.specs.laws.Results.{group-wide, any-first_seen, distinct-first_seen, all-first_seen, copies-count_groups, result_row-none, grouped_counts-countable}
 use Rattle.op_rules.specs.History.{Arrival, at_port, joined}
-use Rattle.op_rules.specs.Rule.{Rule, group, port_count, has_more_than_inserts, TellsGroups, IsSound}
-use Rattle.op_rules.specs.Rules.{Answer, answers, groups_of, group_emits, emits, emitted_after, emitted}
-use Rattle.op_rules.specs.Facts.{Port, FitsPort, Emitted, FoldsToAnswer, PrefixesStand, KindsStay, WidthsStay, GroupDifference}
-use Rattle.op_rules.specs.laws.Histories.{at_port-append, rows_after, all-append, all-front, all-back, all-each, appended-nothing, both-appended, ready_valid, ready_wide, arrived_all}
-use Rattle.op_rules.specs.laws.Sizes.{wide_from, other_sizes_from, grows_from}
-use Rattle.op_rules.specs.laws.SentResults.{result_at, resized, MeansAt, means_rows_at, means-same, means-nothing, AreNamed, means-emission, valid-emission, kinds_out, kinds-emission, widths-emission}
+use Rattle.count_rules.specs.Rule.{CountRule, group, port_count, has_more_than_inserts, TellsGroups, IsSound}
+use Rattle.op_rules.specs.Rules.{Answer}
+use Rattle.count_rules.specs.Rules.{answers, groups_of, group_emits, emits, emitted_after, emitted}
+use Rattle.count_rules.specs.Facts.{Port, FitsPort, Emitted, FoldsToAnswer, PrefixesStand, KindsStay, WidthsStay, GroupDifference}
+use Rattle.op_rules.specs.laws.Histories.{at_port-append, rows_after, all-append, all-front, all-back, all-each, appended-nothing, both-appended}
+use Rattle.count_rules.specs.laws.Histories.{ready_valid, ready_wide, arrived_all}
+use Rattle.count_rules.specs.laws.Sizes.{wide_from, other_sizes_from, grows_from}
+use Rattle.count_rules.specs.laws.SentResults.{result_at, resized, MeansAt, means_rows_at, means-same, means-nothing, AreNamed, means-emission, valid-emission, kinds_out, kinds-emission, widths-emission}
 
 -- what is known of all that was sent, where the groups have these sizes
 pub record Told (keys : ℕ) (output : Mode) (shrinks : Bool) (sizes : Row → ℕ) (sent : List Change) : Type 0 where
@@ -163,7 +165,7 @@ module _ (keys : ℕ) (input output : Mode) (shrinks : Bool) (sound : IsSound (g
       unseen [] = tt
       unseen (x ∷ xs) = (refl, unseen xs)
 
-  abbrev rule : Rule
+  abbrev rule : CountRule
   rule = group keys input output
 
   -- after all pieces
@@ -226,7 +228,7 @@ pub adding_where : (kinds : KindSet) (changes : List Change) → AreOf kinds cha
 adding_where kinds changes are none = all-each (λ change. has kinds change.kind ≡ true) (λ change. adds change.kind ≡ true) (λ change e. only_inserts kinds change.kind none e) changes are
 
 module _ (keys : ℕ) (input output : Mode) (ports : ℕ → Port) (sound : IsSound (group keys input output)) (fits : (port : ℕ) → port < port_count (group keys input output) → FitsPort (group keys input output) port (ports port)) where
-  abbrev rule_of : Rule
+  abbrev rule_of : CountRule
   rule_of = group keys input output
 
   at_first : 0 < port_count rule_of

@@ -15,26 +15,23 @@ use Rattle.ct_change.specs.laws.Meanings.{same_row-true, means_rows}
 use Rattle.rel_algebra.specs.Groups.{in_group, group_size, counted, sized, result_row, group_keys, count_groups, is_countable, grouped_counts, front, AreWide, one_of}
 use Rattle.rel_algebra.specs.laws.Results.{front-push, any-first_seen, all-first_seen, group-wide, sized-front, one_of-some, copies-count_groups, grouped_counts-countable}
 use Rattle.op_rules.specs.History.{Arrival, at_port, joined}
-use Rattle.op_rules.specs.Rule.{Rule, group as group_rule, sink as sink_rule, port_count, IsSound}
-use Rattle.op_rules.specs.Rules.{Answer, appended, answers, groups_of, group_emits, emits, emitted_after, emitted}
-use Rattle.op_rules.specs.Facts.{Port, FitsPort, Ready}
+use Rattle.count_rules.specs.Rule.{CountRule, group as group_rule, sink as sink_rule, port_count, IsSound}
+use Rattle.op_rules.specs.Rules.{Answer, appended, along}
+use Rattle.count_rules.specs.Rules.{answers, groups_of, group_emits, emits, emitted_after, emitted}
+use Rattle.count_rules.specs.Facts.{Port, FitsPort, Ready}
 use Rattle.op_rules.specs.Edges.{Meaning, bag, last_rows, partials, meaning_of, ReadsAs, Exchange, forward, hash, Edge, IsRoutedBy, IsUnique, IsApart, IsSeenBy, LiesIn, AreApartBy, KeepsKeys}
-use Rattle.op_rules.specs.Tasks.{Task, total, along, emitted_by, IsReady, IsSettled, IsSplitBy, ComeFixedBy, ComeApartBy, Emitted, AllEmitted, Facts, PartsAddUp, LocalKeysHold, AnswersFit, UniqueKeysHold}
-use Rattle.op_rules.specs.RuleTasks.{first_columns, group_task, GroupFits, sink_task, SinkFits, GroupsStand, SinksStand, GroupsTake, SinksTake}
-use Rattle.op_rules.specs.laws.Histories.{at_port-append, prefix_at, all-append, all-front, all-back, all-each, appended-nothing, ok-same, both-appended, ready_valid, ready_wide, ready_settled, ready_arrives}
-use Rattle.op_rules.specs.laws.SentResults.{all-emission}
+use Rattle.op_rules.specs.Tasks.{Task, total, emitted_by, IsReady, IsSettled, IsSplitBy, ComeFixedBy, ComeApartBy, Emitted, AllEmitted, Facts, PartsAddUp, LocalKeysHold, AnswersFit, UniqueKeysHold}
+use Rattle.count_rules.specs.RuleTasks.{first_columns, group_task, GroupFits, sink_task, SinkFits, GroupsStand, SinksStand, GroupsTake, SinksTake}
+use Rattle.op_rules.specs.laws.Histories.{at_port-append, prefix_at, all-append, all-front, all-back, all-each, appended-nothing, ok-same, both-appended}
+use Rattle.count_rules.specs.laws.Histories.{along-same, ready_valid, ready_wide, ready_settled, ready_arrives}
+use Rattle.count_rules.specs.laws.SentResults.{all-emission}
 use Rattle.op_rules.specs.laws.LastRows.{last_unique}
-use Rattle.op_rules.specs.laws.Turns.{turns-take, turns_mean, turns_whole}
+use Rattle.count_rules.specs.laws.Turns.{turns-take, turns_mean, turns_whole}
 use Rattle.op_rules.specs.laws.Totals.{total-same, total_one}
-use Rattle.op_rules.specs.laws.FirstColumns.{project-first, project-taken, front-take}
-use Rattle.op_rules.specs.laws.GroupFacts as groups
+use Rattle.count_rules.specs.laws.FirstColumns.{project-first, project-taken, front-take}
+use Rattle.count_rules.specs.laws.GroupFacts as groups
 
 -- ---- in common
-
--- what is emitted along the pieces
-along-same : (rule : Rule) (before : List Arrival) (pieces : List (List Arrival)) → along (emits rule) before pieces ≡ emitted_after rule before pieces
-along-same rule before [] = refl
-along-same rule before (piece ∷ pieces) = ap (appended (emits rule before piece)) (along-same rule (before ++ piece) pieces)
 
 means_in : (mode : Mode) (changes : List Change) (rows : Rows) → ReadsAs (meaning_of mode) changes rows → Means mode changes rows
 means_in append changes rows m = m
@@ -60,7 +57,7 @@ module _ (many keys : ℕ) (input output : Mode) (from to : Edge) (fits : GroupF
   abbrev task : Task
   task = group_task many keys input output from to
 
-  abbrev rule : Rule
+  abbrev rule : CountRule
   rule = group_rule keys input output
 
   abbrev ports : ℕ → Port

@@ -17,7 +17,7 @@ use Rattle.ct_change.specs.laws.Emissions.{emission_replaces}
 use Rattle.ct_change.specs.laws.Meanings.{same_row-true, same_row-itself, means_fold}
 use Rattle.rel_algebra.specs.Groups.{counted, sized, front, one_of}
 use Rattle.rel_algebra.specs.laws.Results.{one_of-some, one_of-sized, sized-front, nothing_above}
-use Rattle.op_rules.specs.Rule.{TellsGroups}
+use Rattle.count_rules.specs.Rule.{TellsGroups}
 
 -- how often a row is a result, where the groups have these sizes
 abbrev pub result_at : (Row → ℕ) → Row → ℕ

@@ -4,9 +4,10 @@ use Rattle.std.specs.List.{AllByRecursion}
 use Rattle.ct_change.specs.declared.change.Change.{Change}
 use Rattle.ct_change.specs.Changelog.{Mode, Means, AreOf}
 use Rattle.op_rules.specs.History.{Arrival, at_port, joined}
-use Rattle.op_rules.specs.Rule.{sink, port_count}
-use Rattle.op_rules.specs.Rules.{Answer, appended, emitted_after}
-use Rattle.op_rules.specs.Facts.{Port, Emitted, FoldsToAnswer, PrefixesStand, KindsStay, WidthsStay}
+use Rattle.count_rules.specs.Rule.{sink, port_count}
+use Rattle.op_rules.specs.Rules.{Answer, appended}
+use Rattle.count_rules.specs.Rules.{emitted_after}
+use Rattle.count_rules.specs.Facts.{Port, Emitted, FoldsToAnswer, PrefixesStand, KindsStay, WidthsStay}
 use Rattle.op_rules.specs.laws.Histories.{at_port-append, appended-nothing, prefix_at, ok-same}
 
 emitted_after-sink : (mode : Mode) (before : List Arrival) (pieces : List (List Arrival)) → emitted_after (sink mode) before pieces ≡ Ok (at_port 0 (joined pieces))

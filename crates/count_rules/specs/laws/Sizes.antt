@@ -11,7 +11,7 @@ use Rattle.ct_change.specs.Emission.{difference, as_it_is, put_in, put_over, rep
 use Rattle.ct_change.specs.laws.Folds.{total-apply, weight-gone, weight-come, row_at-key, row_at-stands}
 use Rattle.ct_change.specs.laws.Meanings.{same_row-true}
 use Rattle.rel_algebra.specs.Groups.{in_it, group_size, AreWide}
-use Rattle.op_rules.specs.Rule.{KeepsGroups}
+use Rattle.count_rules.specs.Rule.{KeepsGroups}
 
 pub same_group : (mode : Mode) (keys : ℕ) (rows : Rows) (change : Change) → KeepsGroups keys mode → AreWide keys rows → keys ≤ length change.row → (group : Row) → IsSame (in_it keys group) mode rows change
 same_group append keys rows change keeps wide fits group = tt

@@ -17,10 +17,11 @@ use Rattle.ct_change.specs.laws.Meanings.{same_row-true, same_row-itself}
 use Rattle.rel_algebra.specs.Groups.{first_seen, group_size, counted, sized, result_row, is_countable, front, AreWide, one_of}
 use Rattle.rel_algebra.specs.laws.Results.{front-push, any-first_seen, distinct-first_seen, result_row-none}
 use Rattle.op_rules.specs.History.{Arrival, at_port, joined}
-use Rattle.op_rules.specs.Rule.{group, KeepsGroups}
-use Rattle.op_rules.specs.Rules.{Answer, answers, groups_of, group_emits, emits, emitted_after, emitted}
+use Rattle.count_rules.specs.Rule.{group, KeepsGroups}
+use Rattle.op_rules.specs.Rules.{Answer}
+use Rattle.count_rules.specs.Rules.{answers, groups_of, group_emits, emits, emitted_after, emitted}
 use Rattle.op_rules.specs.laws.Histories.{at_port-append, rows_after, all-front, all-back, appended-nothing, both-appended}
-use Rattle.op_rules.specs.laws.Sizes.{wide_from, other_sizes_from}
+use Rattle.count_rules.specs.laws.Sizes.{wide_from, other_sizes_from}
 
 -- the result that is shown for each group
 abbrev pub Shown : Type 0

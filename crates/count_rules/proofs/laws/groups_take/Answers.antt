@@ -1,5 +1,5 @@
-use Rattle.op_rules.specs.laws.RuleTasks as facts
-use Rattle.op_rules.proofs.laws.groups_take.Goals as goal
+use Rattle.count_rules.specs.laws.RuleTasks as facts
+use Rattle.count_rules.proofs.laws.groups_take.Goals as goal
 
 pub returns : goal.returns
 returns c = facts.groups_take

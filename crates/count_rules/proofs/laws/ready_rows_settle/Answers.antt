@@ -1,5 +1,5 @@
-use Rattle.op_rules.specs.laws.Histories.{ready_settled}
-use Rattle.op_rules.proofs.laws.ready_rows_settle.Goals as goal
+use Rattle.count_rules.specs.laws.Histories.{ready_settled}
+use Rattle.count_rules.proofs.laws.ready_rows_settle.Goals as goal
 
 pub returns : goal.returns
 returns c = ready_settled

@@ -3,8 +3,8 @@ use Rattle.std.specs.Option.{is_some}
 use Rattle.ct_value.specs.Bag.{copies, add, remove}
 use Rattle.ct_change.specs.declared.change.Diff.{Diff}
 use Rattle.rel_algebra.specs.Groups.{sized}
-use Rattle.op_group.proofs.Counted.{room, come-key, counted_come, told_come, gone-key, has_row, counted_gone, told_gone, counted_alike, told_alike}
-use Rattle.op_group.proofs.group.Group.absorb.Goals as goal
+use Rattle.op_count.proofs.Counted.{room, come-key, counted_come, told_come, gone-key, has_row, counted_gone, told_gone, counted_alike, told_alike}
+use Rattle.op_count.proofs.group.Group.absorb.Goals as goal
 
 pub absorb-requires-clause-key : goal.absorb-requires-clause-key
 absorb-requires-clause-key g c = c.requires.ready.3.key

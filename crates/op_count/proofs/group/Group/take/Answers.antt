@@ -1,6 +1,6 @@
 use Rattle.std.proofs.Common.{ap, ◌∙◌}
 use Rattle.ct_change.specs.Emission.{emission}
-use Rattle.op_group.proofs.group.Group.take.Goals as goal
+use Rattle.op_count.proofs.group.Group.take.Goals as goal
 
 pub tell-requires : goal.tell-requires
 tell-requires g c =

@@ -1,8 +1,8 @@
 use Rattle.std.proofs.Common.{sym, ap, ◌∙◌, length, Ok}
 use Rattle.ct_change.specs.Changelog.{fold}
 use Rattle.op_rules.specs.History.{at_port}
-use Rattle.op_group.proofs.Arrivals.{may_take, fold_arrives, emits_arrives, counted_arrives}
-use Rattle.op_group.proofs.group.GroupOperator.consume.Goals as goal
+use Rattle.op_count.proofs.Arrivals.{may_take, fold_arrives, emits_arrives, counted_arrives}
+use Rattle.op_count.proofs.group.GroupOperator.consume.Goals as goal
 
 pub take-requires-clause-ready : goal.take-requires-clause-ready
 take-requires-clause-ready g c =

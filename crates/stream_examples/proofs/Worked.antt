@@ -19,7 +19,7 @@ use Rattle.stream_model.specs.Network.{Network}
 use Rattle.stream_model.specs.Machine.{State, opened, take_unless, take_of, step}
 use Rattle.stream_model.specs.Runs.{Item, state_in, after}
 use Rattle.stream_model.specs.Drain.{drain}
-use Rattle.stream_model.specs.Worked.{does, drains, run_order, take, move, number, rome, oslo, orders, customers, join_network, first_lines, last_lines, customer, order, result, new_row_first, old_row_first, word_network, word, two_words, printed_by, RunsAsWorked}
+use Rattle.stream_examples.specs.Worked.{does, drains, run_order, take, move, number, rome, oslo, orders, customers, join_network, first_lines, last_lines, customer, order, result, new_row_first, old_row_first, word_network, word, two_words, printed_by, RunsAsWorked}
 
 -- a change that isn't refused is taken
 took : (g : Network) (limit : ℕ) (s : State) (table : ℕ) (t : Table) (change : Change) (more : List Item) → g.tables table ≡ Some t → refusal t (fold t.mode (s.taken table)) change ≡ None

@@ -7,13 +7,11 @@ use Rattle.ct_value.specs.declared.row.Row.{Row}
 use Rattle.ct_change.specs.Changelog.{retract}
 use Rattle.op_rules.specs.Edges.{LiesIn, IsWellFormed}
 use Rattle.op_rules.specs.Tasks.{Facts}
-use Rattle.op_rules.specs.RuleTasks.{first_columns, GroupFits, SinkFits}
-use Rattle.op_rules.specs.laws.RuleTasks.{groups_stand, sinks_stand}
+use Rattle.count_rules.specs.RuleTasks.{first_columns, GroupFits, SinkFits, GroupsStand, SinksStand}
 use Rattle.stream_model.specs.Tables.{Table}
 use Rattle.stream_model.specs.Network.{Feed, Network, task, IsNode, IsWired, ScanFacts}
-use Rattle.stream_model.specs.Scans.{CarriesTable}
-use Rattle.stream_model.specs.Counted.{source_table, scan_edge, result_edge, ports, fed, scans, tables, source, edge, counted_network, CountsMeetPremises}
-use Rattle.stream_model.proofs.Scans.{scans_stand}
+use Rattle.stream_model.specs.Scans.{CarriesTable, ScansStand}
+use Rattle.stream_examples.specs.Counted.{source_table, scan_edge, result_edge, ports, fed, scans, tables, source, edge, counted_network, CountsMeetPremises}
 
 contains_one : {A : Type 0} (a k : A) → Contains (a ∷ []) k → a ≡ k
 contains_one a k c = at_zero c.0 c.1 c.2
@@ -168,21 +166,23 @@ module _ (many keys width : ℕ) (route : Row → ℕ) (some : 0 < many) (column
     fixing = λ set has. lies_in (first_columns width) set (contains_one (first_columns width) set has);
   }
 
-  facts : (v : ℕ) → 0 < ports many keys width route v → Facts (task (counted_network many keys width route) v)
-  facts zero l = absurd (omega arith)
-  facts (suc zero) l = absurd (omega arith)
-  facts (suc (suc zero)) l = groups_stand many keys retract retract (scan_edge many keys width route) (result_edge many keys width route) group_fits
-  facts (suc (suc (suc zero))) l = sinks_stand many retract (result_edge many keys width route) (result_edge many keys width route) sink_fits
-  facts (suc (suc (suc (suc v)))) l = absurd (omega arith)
+  facts : GroupsStand → SinksStand → (v : ℕ) → 0 < ports many keys width route v → Facts (task (counted_network many keys width route) v)
+  facts groups_stand sinks_stand zero l = absurd (omega arith)
+  facts groups_stand sinks_stand (suc zero) l = absurd (omega arith)
+  facts groups_stand sinks_stand (suc (suc zero)) l = groups_stand many keys retract retract (scan_edge many keys width route) (result_edge many keys width route) group_fits
+  facts groups_stand sinks_stand (suc (suc (suc zero))) l = sinks_stand many retract (result_edge many keys width route) (result_edge many keys width route) sink_fits
+  facts groups_stand sinks_stand (suc (suc (suc (suc v)))) l = absurd (omega arith)
 
-  scan_facts : (v table : ℕ) (t : Table) → scans many keys width route v ≡ Some table → tables many keys width route table ≡ Some t → ScanFacts many t (edge many keys width route v)
-  scan_facts zero table t is has = absurd (cc)
-  scan_facts (suc zero) table t is has =
+  scan_facts : ScansStand → (v table : ℕ) (t : Table) → scans many keys width route v ≡ Some table → tables many keys width route table ≡ Some t → ScanFacts many t (edge many keys width route v)
+  scan_facts scans_stand zero table t is has = absurd (cc)
+  scan_facts scans_stand (suc zero) table t is has =
       let zero_is : table ≡ 0 = cc in
       let one : source_table many keys width route ≡ t = (let same : Some (source_table many keys width route) ≡ Some t = subst (λ n. tables many keys width route n ≡ Some t) zero_is has in cc) in
       subst (λ u. ScanFacts many u (scan_edge many keys width route)) one (scans_stand many (source_table many keys width route) (scan_edge many keys width route) carries)
-  scan_facts (suc (suc v)) table t is has = absurd (cc)
+  scan_facts scans_stand (suc (suc v)) table t is has = absurd (cc)
 
-pub counts_meet_premises : CountsMeetPremises
-counts_meet_premises many keys width route some columns routed =
-    (wired many keys width route some columns routed, record { facts = facts many keys width route some columns routed; scans = scan_facts many keys width route some columns routed })
+pub counts_meet_premises : GroupsStand → SinksStand → ScansStand → CountsMeetPremises
+counts_meet_premises groups_stand sinks_stand scans_stand many keys width route some columns routed = (
+  wired many keys width route some columns routed,
+  record { facts = facts many keys width route some columns routed groups_stand sinks_stand; scans = scan_facts many keys width route some columns routed scans_stand },
+)

@@ -6,9 +6,10 @@ use Rattle.ct_change.specs.declared.kind.KindSet.{KindSet}
 use Rattle.ct_change.specs.Changelog.{retract, Rows, kinds_of}
 use Rattle.rel_algebra.specs.Groups.{grouped_counts}
 use Rattle.op_rules.specs.History.{Arrival}
-use Rattle.op_rules.specs.Rule.{group, sink, output_kinds}
-use Rattle.op_rules.specs.Rules.{Answer, emits}
-use Rattle.op_rules.specs.RuleTasks.{first_columns}
+use Rattle.count_rules.specs.Rule.{group, sink, output_kinds}
+use Rattle.op_rules.specs.Rules.{Answer}
+use Rattle.count_rules.specs.Rules.{emits}
+use Rattle.count_rules.specs.RuleTasks.{first_columns}
 use Rattle.op_rules.specs.Edges.{bag, forward, hash, Edge}
 use Rattle.stream_model.specs.Tables.{Table}
 use Rattle.stream_model.specs.Network.{Feed, Network, IsWired, MeetsFacts}
