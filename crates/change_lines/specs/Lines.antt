@@ -15,6 +15,8 @@ use Rattle.ct_change.specs.Changelog.{Mode, mode_of, admits}
 use Rattle.ct_catalog.specs.declared.table.ColDef.{ColDef}
 use Rattle.ct_catalog.specs.declared.table.TableDef.{TableDef}
 use Rattle.change_lines.specs.declared.line.Line.{Line}
+use Rattle.change_lines.specs.declared.line.LineFault.{LineFault}
+use Rattle.change_lines.specs.declared.line.LineFault.TheVariants.{Change as Refused}
 
 -- a field is a list of bytes, and a record a list of fields
 abbrev pub Field : Type 0
@@ -94,3 +96,8 @@ line_of sources (name ∷ kind ∷ fields) = line_at sources kind fields (source
 -- the lines of a change file, one for each record
 abbrev pub lines_of : List TableDef → List ℕ → List (Result Line ChangeCode)
 lines_of sources bytes = map (line_of sources) (records_of bytes)
+
+-- what is answered for a line, or for the refusal of one
+abbrev pub answer_of : Result Line ChangeCode → Result (Option Line) LineFault
+answer_of (Ok line) = Ok (Some line)
+answer_of (Err code) = Err (Refused code)

@@ -1,5 +1,5 @@
 -- What a reader of change lines has left.
-use Rattle.std.specs.Prelude.{◌≡◌, ◌+◌, ◌==◌, ◌<◌, ◌∷◌, ℕ, Bool, true, false, List, [], length, Option, Some, IsSome, unwrap_or, if◌then◌else◌, Result, Ok, Err}
+use Rattle.std.specs.Prelude.{◌≡◌, ◌+◌, ◌==◌, ◌<◌, ◌∷◌, ℕ, Bool, true, false, List, [], length, Option, Some, IsSome, unwrap_or, if◌then◌else◌}
 use Rattle.std.specs.Io.Cursor.{cursor_remaining}
 use Rattle.std.specs.declared.io.impls.Cursor.{Cursor}
 use Rattle.csv.specs.Machine.{ends_at_end}
@@ -7,10 +7,6 @@ use Rattle.csv.specs.Reading.{Ready, default_config, has_failed, is_flexible, re
 use Rattle.csv.specs.declared.parser.State.{State}
 use Rattle.csv.specs.declared.reader.Reader.{Reader}
 use Rattle.csv.specs.declared.reader.Trim.TheVariants as trim
-use Rattle.ct_value.specs.declared.codes.ChangeCode.{ChangeCode}
-use Rattle.change_lines.specs.declared.line.Line.{Line}
-use Rattle.change_lines.specs.declared.line.LineFault.{LineFault}
-use Rattle.change_lines.specs.declared.line.LineFault.TheVariants.{Change as Refused}
 use Rattle.change_lines.specs.declared.read.FileBytes.{FileBytes}
 use Rattle.change_lines.specs.Lines.{Record}
 
@@ -49,8 +45,3 @@ records_left rdr left = if left == 0 then [] else left_in bytes_left rdr
 pub record Takes {R : Type 0} (rem : R → Option (List ℕ)) (old : Reader R) (fields : Record) (new : Reader R) : Type 0 where
   pub taken : left_in rem old ≡ fields ∷ left_in rem new
   pub good : IsReading rem new
-
--- what is answered for a line, or for the refusal of one
-abbrev pub answer_of : Result Line ChangeCode → Result (Option Line) LineFault
-answer_of (Ok line) = Ok (Some line)
-answer_of (Err code) = Err (Refused code)

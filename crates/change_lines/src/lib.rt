@@ -5,8 +5,10 @@
 //! tables.
 #![tactic(auto)]
 
+mod laws;
 mod line;
 mod read;
 
+pub use laws::lines_fit_their_tables;
 pub use line::{Line, LineFault};
 pub use read::ChangeLines;

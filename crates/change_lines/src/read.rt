@@ -2,8 +2,8 @@ ghost use Rattle.std.specs.Prelude.{◌≡◌, ◌∷◌, ◌≤◌, ◌<◌, �
 ghost use Rattle.std.specs.Bool.{MatchBool};
 ghost use Rattle.csv.specs.Reading.{has_failed};
 ghost use Rattle.csv.specs.Records.{fields_of};
-ghost use Rattle.change_lines.specs.Lines.{Record, line_of, records_of};
-ghost use Rattle.change_lines.specs.Reading.{IsReading, Takes, answer_of, left_in};
+ghost use Rattle.change_lines.specs.Lines.{Record, answer_of, line_of, records_of};
+ghost use Rattle.change_lines.specs.Reading.{IsReading, Takes, left_in};
 
 use crate::line::{Line, LineFault, line_of};
 use csv::{ByteRecord, Reader, ReaderBuilder};
