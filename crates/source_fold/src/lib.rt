@@ -1,11 +1,10 @@
 //! Stub.
 #![tactic(auto)]
 
-ghost use Rattle.std.specs.Prelude.{◌≡◌};
+mod checks;
+mod keyed_rows;
+mod kept;
+mod refusals;
 
-/// Nothing.
-pub fn nothing(number: u32) -> u32
-    ensures { result ≡ number }
-{
-    number
-}
+pub use checks::SourceChecks;
+pub use refusals::SourceFault;
