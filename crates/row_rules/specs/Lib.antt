@@ -4,3 +4,4 @@ pub mod Project
 pub mod Sink
 pub mod Union
 pub mod laws
+pub mod Normalize

@@ -6,3 +6,6 @@ pub mod Filters
 pub mod Projects
 pub mod Sinks
 pub mod Unions
+pub mod Answers
+pub mod Normalizing
+pub mod Normalizes

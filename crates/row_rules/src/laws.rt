@@ -2,6 +2,7 @@
 ghost use Rattle.row_rules.specs.Filter.{FiltersStand, FiltersTake};
 ghost use Rattle.row_rules.specs.Project.{ProjectsStand, ProjectsTake};
 ghost use Rattle.row_rules.specs.Union.{UnionsStand, UnionsTake};
+ghost use Rattle.row_rules.specs.Normalize.{NormalizesStand, NormalizesTake};
 ghost use Rattle.row_rules.specs.Sink.{SinksStand, SinksTake};
 
 /// A filter between edges that suit it meets the facts of nodes, in however many subtasks it runs, and its port takes what
@@ -27,4 +28,10 @@ pub fn unions_stand()
 pub fn sinks_stand()
     ensures facts { SinksStand }
     ensures takes { SinksTake }
+{}
+
+/// The same of a normalize, whose port takes an after-only edge, and which writes updates whole or by its key.
+pub fn normalizes_stand()
+    ensures facts { NormalizesStand }
+    ensures takes { NormalizesTake }
 {}

@@ -56,22 +56,22 @@ value_at column row = slice_index_or row column Null
 made_value : (items : List Expr) (row made : Row) (column place : ℕ) → row_of (map eval items) row ≡ Some made → IsPlain items column place → value_at place made ≡ value_at column row
 made_value [] row made column place e plain = absurd (let h : None ≡ Some (Column column plain.0) = plain.1 in cc)
 made_value (item ∷ items) row made column place e plain =
-    go place plain.1 (eval item row) refl (row_of (map eval items) row) refl e
+    go (λ place values er at. made_value items row values column place er (plain.0, at)) place plain.1 (eval item row) refl (row_of (map eval items) row) refl e
   where
-    go : (place : ℕ) → slice_get (item ∷ items) place ≡ Some (Column column plain.0) → (v : Option Value) → eval item row ≡ v → (rest : Option Row) → row_of (map eval items) row ≡ rest
+    go : ((place : ℕ) (values : Row) → row_of (map eval items) row ≡ Some values → slice_get items place ≡ Some (Column column plain.0) → value_at place values ≡ value_at column row) → (place : ℕ) → slice_get (item ∷ items) place ≡ Some (Column column plain.0) → (v : Option Value) → eval item row ≡ v → (rest : Option Row) → row_of (map eval items) row ≡ rest
         → collect (v ∷ map (λ meaning. meaning row) (map eval items)) ≡ Some made → value_at place made ≡ value_at column row
-    go place at None ev rest er f = absurd (cc)
-    go place at (Some v) ev None er f = absurd (let g : option_map (λ values. v ∷ values) (row_of (map eval items) row) ≡ Some made = f in let h = ap (option_map (λ values. v ∷ values)) er in cc)
-    go zero at (Some v) ev (Some values) er f =
+    go ih place at None ev rest er f = absurd (cc)
+    go ih place at (Some v) ev None er f = absurd (let g : option_map (λ values. v ∷ values) (row_of (map eval items) row) ≡ Some made = f in let h = ap (option_map (λ values. v ∷ values)) er in cc)
+    go ih zero at (Some v) ev (Some values) er f =
         let h : Some (v ∷ values) ≡ Some made = sym (ap (option_map (λ values. v ∷ values)) er) ∙ f in
         let is : v ∷ values ≡ made = cc in
         let col : item ≡ Column column plain.0 = (let g : Some item ≡ Some (Column column plain.0) = at in cc) in
         let value : Some v ≡ Some (value_at column row) = sym ev ∙ ap (λ x. eval x row) col in
         ap (value_at 0) (sym is) ∙ (let g : v ≡ value_at column row = cc in g)
-    go (suc place) at (Some v) ev (Some values) er f =
+    go ih (suc place) at (Some v) ev (Some values) er f =
         let h : Some (v ∷ values) ≡ Some made = sym (ap (option_map (λ values. v ∷ values)) er) ∙ f in
         let is : v ∷ values ≡ made = cc in
-        ap (value_at (suc place)) (sym is) ∙ made_value items row values column place er (plain.0, at)
+        ap (value_at (suc place)) (sym is) ∙ ih place values er at
 
 abbrev tail_of : Row → Row
 tail_of [] = []

@@ -34,7 +34,7 @@ each_change-append : (answer : Change → Answer) (xs ys : List Change) → each
 each_change-append answer [] ys = sym (appended-nothing (each_change answer ys))
 each_change-append answer (x ∷ xs) ys = ap (appended (answer x)) (each_change-append answer xs ys) ∙ sym (appended-assoc (answer x) (each_change answer xs) (each_change answer ys))
 
-changes_of-append : (xs ys : List Arrival) → changes_of (xs ++ ys) ≡ changes_of xs ++ changes_of ys
+pub changes_of-append : (xs ys : List Arrival) → changes_of (xs ++ ys) ≡ changes_of xs ++ changes_of ys
 changes_of-append [] ys = refl
 changes_of-append (x ∷ xs) ys = ap (λ zs. x.change ∷ zs) (changes_of-append xs ys)
 
