@@ -7,7 +7,7 @@ use Rattle.ct_value.specs.Rows.{project}
 use Rattle.ct_value.specs.declared.row.Row.{Row}
 use Rattle.ct_change.specs.declared.change.Change.{Change}
 use Rattle.ct_change.specs.Changelog.{Mode, append, retract, upsert, Rows, same_row, adds, kinds_of, AreOf, row_at, without, with, apply, fold_from, IsValidFrom}
-use Rattle.ct_change.specs.Emission.{emission, update, replaced, Tells, Replaces}
+use Rattle.ct_change.specs.Emission.{emission, update, replaced, CanTell, Tells, Replaces}
 use Rattle.ct_change.specs.laws.Emissions.{emission_replaces, emission_admitted, tells-can}
 use Rattle.ct_change.specs.laws.Folds.{fold_from-append, IsValidFrom-append, row_at-stands, row_at-key}
 use Rattle.ct_change.specs.laws.Meanings.{same_row-true, same_row-itself, in_key, IsOnce, once_after}
@@ -142,6 +142,10 @@ module _ (normalize : Normalize) (can : TellsKey normalize.key normalize.output)
       (emission_admitted normalize.output (row_at rows normalize.key change.row) (row_left (adds change.kind) change.row)
       (tells-can normalize.output rows _ _ (tells normalize.key normalize.output can rows change.row (row_at rows normalize.key change.row) refl (adds change.kind))))
       (kinds-normalized (apply (upsert normalize.key) rows change) changes)
+
+-- the mode can tell what gives way to what
+pub can-normalize : (key : List ℕ) (mode : Mode) → TellsKey key mode → (rows : Rows) (change : Change) → CanTell mode (row_at rows key change.row) (row_left (adds change.kind) change.row)
+can-normalize key mode can rows change = tells-can mode rows (row_at rows key change.row) (row_left (adds change.kind) change.row) (tells key mode can rows change.row (row_at rows key change.row) refl (adds change.kind))
 
 -- of lists one after another
 pub normalized-append : (normalize : Normalize) (rows : Rows) (xs ys : List Change) → normalized_all normalize rows (xs ++ ys) ≡ normalized_all normalize rows xs ++ normalized_all normalize (fold_from (upsert normalize.key) rows xs) ys
