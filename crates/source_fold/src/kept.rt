@@ -73,11 +73,7 @@ pub(crate) fn take(table: &TableDef, kept: &mut Kept, change: &Change) -> Result
 }
 
 // Takes a change that the table takes by its kind.
-fn take_kept(
-    table: &TableDef,
-    kept: &mut Kept,
-    change: &Change,
-) -> Result<(), SourceFault>
+fn take_kept(table: &TableDef, kept: &mut Kept, change: &Change) -> Result<(), SourceFault>
     requires admitted { admits (table_mode table.now) change.now.kind ≡ true }
     requires room { HasRoom kept.old }
     ensures ok { OnOk result ((rows : Rows) → IsKept table.now kept.old rows → (rows_refusal table.now rows change.now ≡ None) × IsKept table.now kept.new (apply (table_mode table.now) rows change.now)) }
@@ -111,11 +107,7 @@ fn take_row(rows: &mut Bag, change: &Change) -> Result<(), SourceFault>
 }
 
 // Takes a change of a table with a key.
-fn take_keyed(
-    table: &TableDef,
-    rows: &mut KeyedRows,
-    change: &Change,
-) -> Result<(), SourceFault>
+fn take_keyed(table: &TableDef, rows: &mut KeyedRows, change: &Change) -> Result<(), SourceFault>
     ensures ok { OnOk result (rows.new ≡ keyed_after rows.old (project (key_of table.now) change.now.row) change.now) }
     ensures taken { OnOk result (table.now.mode ≡ Declared.Upsert ⊎ (keyed_refusal (map.get rows.old (project (key_of table.now) change.now.row)) change.now ≡ None)) }
     ensures refused { (code : ChangeCode) → IsErrOf result (Refused code) → (table.now.mode ≢ Declared.Upsert) × (keyed_refusal (map.get rows.old (project (key_of table.now) change.now.row)) change.now ≡ Some code) }

@@ -8,8 +8,8 @@
 
 mod checks;
 mod folds;
-mod keyed_rows;
 mod kept;
+mod keyed_rows;
 mod refusals;
 
 pub use checks::SourceChecks;

@@ -1,6 +1,5 @@
-use Rattle.std.proofs.Common.{◌≡◌, ◌+◌, ◌<◌, ap, arith}
+use Rattle.std.proofs.Common.{ap, arith}
 use Rattle.std.proofs.lemmas.List.{length-map}
-use Rattle.std.specs.BTreeMap.{values}
 use Rattle.std.specs.Map.{values_of}
 use Rattle.ct_value.specs.Bag.{copies, copies-add, copies-none, occurs, one_at_itself}
 use Rattle.ct_value.specs.Order.{row_cmp, row_total}
