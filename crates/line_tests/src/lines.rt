@@ -68,15 +68,17 @@ fn is_end(line: Result<Option<Line>, LineFault>) -> bool {
 fn reads_each_line(alloc: Global) -> Result<bool, Memory> {
     let sources = sources(alloc)?;
     let mut lines = lines_of(alloc, b"t,+I,a,1\r\n\nt,+X,a,1\nu,+I\nt,+I,\"b,\",-2")?;
-    Ok(lines.left() == 4
-        && adds(lines.next_line(&sources), b"a", 1)
-        && is_refused(lines.next_line(&sources), ChangeCode::BadKind)
-        && lines.left() == 2
-        && is_refused(lines.next_line(&sources), ChangeCode::UnknownTable)
-        && adds(lines.next_line(&sources), b"b,", -2)
-        && is_end(lines.next_line(&sources))
-        && is_end(lines.next_line(&sources))
-        && lines.left() == 0)
+    Ok(
+        lines.left() == 4
+            && adds(lines.next_line(&sources), b"a", 1)
+            && is_refused(lines.next_line(&sources), ChangeCode::BadKind)
+            && lines.left() == 2
+            && is_refused(lines.next_line(&sources), ChangeCode::UnknownTable)
+            && adds(lines.next_line(&sources), b"b,", -2)
+            && is_end(lines.next_line(&sources))
+            && is_end(lines.next_line(&sources))
+            && lines.left() == 0,
+    )
 }
 
 // A line that adds a word of so many letters, with the number 1.
@@ -97,9 +99,11 @@ fn reads_longest_field(alloc: Global) -> Result<bool, Memory> {
     let mut lines = lines_of(alloc, text.as_slice())?;
     let longest = Bytes::from_slice(alloc, &text.as_slice()[..text.len().min(65_541)])?;
     let word = &longest.as_slice()[longest.len().min(5)..];
-    Ok(adds(lines.next_line(&sources), word, 1)
-        && is_refused(lines.next_line(&sources), ChangeCode::BadField(1))
-        && is_end(lines.next_line(&sources)))
+    Ok(
+        adds(lines.next_line(&sources), word, 1)
+            && is_refused(lines.next_line(&sources), ChangeCode::BadField(1))
+            && is_end(lines.next_line(&sources)),
+    )
 }
 
 #[test]
