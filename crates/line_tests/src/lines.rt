@@ -1,32 +1,16 @@
 // Change files of one source.
+use crate::tables::words;
 use change_lines::{ChangeLines, Line, LineFault};
-use ct_catalog::{ColDef, ColDefs, Sources, TableDef};
+use ct_catalog::Sources;
 use ct_change::{Declared, Kind};
-use ct_value::{Bytes, ChangeCode, ColTy, Memory, Text, Ty, Value};
+use ct_value::{Bytes, ChangeCode, Memory, Value};
 use std::alloc::Global;
 use std::test::Fail;
 
-fn column(alloc: Global, name: &str, ty: Ty) -> Result<ColDef, Memory> {
-    let name = Text::from_str(alloc, name)?;
-    let nullable = true;
-    Ok(ColDef {
-        name,
-        ty: ColTy { ty, nullable },
-    })
-}
-
 // The source `t` of words with numbers, in append mode.
 fn sources(alloc: Global) -> Result<Sources, Memory> {
-    let mut cols = ColDefs::new(alloc);
-    cols.push(column(alloc, "word", Ty::Text)?)?;
-    cols.push(column(alloc, "n", Ty::BigInt)?)?;
     let mut sources = Sources::new(alloc);
-    sources.push(TableDef {
-        name: Text::from_str(alloc, "t")?,
-        cols,
-        key: None,
-        mode: Declared::Append,
-    })?;
+    sources.push(words(alloc, Declared::Append, false)?)?;
     Ok(sources)
 }
 
