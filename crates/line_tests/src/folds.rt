@@ -86,19 +86,33 @@ fn refuses(
 
 #[test]
 fn changes_leave_rows(rt: HostRuntime) {
-    let alloc = rt.alloc();
-    assert!(rt; matches!(leaves(alloc, Declared::Append, false, Kind::I, 1, 2), Ok(true)));
-    assert!(rt; matches!(leaves(alloc, Declared::Retract, false, Kind::D, 1, 0), Ok(true)));
-    assert!(rt; matches!(leaves(alloc, Declared::Retract, true, Kind::UB, 1, 0), Ok(true)));
-    assert!(rt; matches!(leaves(alloc, Declared::Upsert, true, Kind::UA, 3, 0), Ok(true)));
-    assert!(rt; matches!(leaves(alloc, Declared::Upsert, true, Kind::D, 3, 0), Ok(true)));
+    for (mode, has_key, last, number, left) in [
+        (Declared::Append, false, Kind::I, 1, 2),
+        (Declared::Retract, false, Kind::D, 1, 0),
+        (Declared::Retract, true, Kind::UB, 1, 0),
+        (Declared::Upsert, true, Kind::UA, 3, 0),
+        (Declared::Upsert, true, Kind::D, 3, 0),
+    ] {
+        let left = leaves(rt.alloc(), mode, has_key, last, number, left);
+        assert!(rt; matches!(left, Ok(true)));
+    }
 }
 
 #[test]
 fn changes_are_refused(rt: HostRuntime) {
-    let alloc = rt.alloc();
-    assert!(rt; matches!(refuses(alloc, Declared::Append, false, Kind::D, 1, ChangeCode::KindNotDeclared), Ok(true)));
-    assert!(rt; matches!(refuses(alloc, Declared::Retract, false, Kind::D, 3, ChangeCode::RowAbsent), Ok(true)));
-    assert!(rt; matches!(refuses(alloc, Declared::Retract, true, Kind::UB, 3, ChangeCode::RowAbsent), Ok(true)));
-    assert!(rt; matches!(refuses(alloc, Declared::Append, true, Kind::I, 3, ChangeCode::KeyPresent), Ok(true)));
+    for (mode, has_key, last, number, code) in [
+        (
+            Declared::Append,
+            false,
+            Kind::D,
+            1,
+            ChangeCode::KindNotDeclared,
+        ),
+        (Declared::Retract, false, Kind::D, 3, ChangeCode::RowAbsent),
+        (Declared::Retract, true, Kind::UB, 3, ChangeCode::RowAbsent),
+        (Declared::Append, true, Kind::I, 3, ChangeCode::KeyPresent),
+    ] {
+        let refused = refuses(rt.alloc(), mode, has_key, last, number, code);
+        assert!(rt; matches!(refused, Ok(true)));
+    }
 }
