@@ -1,0 +1,5 @@
+pub mod Bags
+pub mod Bound
+pub mod Nodes
+pub mod Options
+pub mod Types
