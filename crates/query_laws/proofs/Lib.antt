@@ -1,4 +1,3 @@
-pub mod Bags
 pub mod Bound
 pub mod Nodes
 pub mod Options

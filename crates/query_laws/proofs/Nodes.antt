@@ -1,6 +1,7 @@
 -- Node by node: what a node is bound to is what it stands for, where its operands are.
-use Rattle.std.proofs.Common.{◌≡◌, ℕ, Bool, true, false, ◌&&◌, List, [], ◌∷◌, ◌++◌, map, Option, Some, None, cond, Ok, Err, IfOk, refl, sym, ap, ◌∙◌, subst, option_and_then, option_map, ℤ}
+use Rattle.std.proofs.Common.{◌≡◌, ℕ, Bool, true, false, ◌&&◌, ◌||◌, not, List, [], ◌∷◌, ◌++◌, map, Option, Some, None, cond, Ok, Err, IfOk, refl, sym, ap, ◌∙◌, subst, option_and_then, option_map, ℤ}
 use Rattle.ct_value.specs.declared.codes.ScriptCode.{ScriptCode}
+use Rattle.ct_value.specs.declared.codes.ScriptCode.TheVariants.{Unsupported, NotGrouped}
 use Rattle.ct_value.specs.declared.row.Row.{Row}
 use Rattle.ct_value.specs.declared.ty.ColTy.{ColTy}
 use Rattle.ct_value.specs.declared.ty.Ty.{Ty}
@@ -205,18 +206,21 @@ module _ (cols : List ColTy) (R : Row → Row → Type 0) where
   either true c d P = tt
   either false c d P = tt
 
+  pub aggregate_is_refused : (c : AggCall) (form : CallForm) (xs : List Bound) (P : Bound → Type 0) → IfOk (n.call (Aggregate c) form xs) P
+  aggregate_is_refused c form xs P = either (form.over || (form.distinct && not (n.is_count c))) Unsupported NotGrouped P
+
+  scalar : (form : CallForm) (r : Checked Bound) (P : Bound → Type 0) → IfOk r P → IfOk (cond (form.distinct || (form.filter || form.over)) (Err Unsupported) r) P
+  scalar form r P h = tested (form.distinct || (form.filter || form.over)) Unsupported r P h
+
   -- a call whose operands are what theirs are; of an aggregate nothing is asked, as it is refused
   pub call_is : (f : Function) (form : CallForm) (xs : List Bound) (zs : List Typed) → AllAre xs zs → IfOk (n.call f form xs) (λ b. Is b (s.applied f zs))
-  call_is (Aggregate c) form xs zs h = either _ _ _ _
-  call_is Coalesce form xs zs h = tested _ _ _ _ (coalesce_is xs zs h)
-  call_is NullIf form xs zs h = tested _ _ _ _ (null_if_is xs zs h)
-  call_is CharLength form xs zs h = tested _ _ _ _ (length_is xs zs h)
+  call_is (Aggregate c) form xs zs h = aggregate_is_refused c form xs (λ b. Is b (s.applied (Aggregate c) zs))
+  call_is Coalesce form xs zs h = scalar form (n.applied Coalesce xs) (λ b. Is b (s.applied Coalesce zs)) (coalesce_is xs zs h)
+  call_is NullIf form xs zs h = scalar form (n.applied NullIf xs) (λ b. Is b (s.applied NullIf zs)) (null_if_is xs zs h)
+  call_is CharLength form xs zs h = scalar form (n.applied CharLength xs) (λ b. Is b (s.applied CharLength zs)) (length_is xs zs h)
   call_is RowNumber form xs zs h = tt
   call_is Changing form xs zs h = tt
   call_is Unknown form xs zs h = tt
-
-  pub aggregate_is_refused : (c : AggCall) (form : CallForm) (xs : List Bound) (P : Bound → Type 0) → IfOk (n.call (Aggregate c) form xs) P
-  aggregate_is_refused c form xs P = either _ _ _ _
 
   -- ---- CASE
 

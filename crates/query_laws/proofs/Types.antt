@@ -1,5 +1,5 @@
 -- What an expression says of its type is its type, where it has one.
-use Rattle.std.proofs.Common.{◌≡◌, ℕ, Bool, true, false, ◌&&◌, ◌==◌, List, [], ◌∷◌, Option, Some, None, refl, sym, ap, ◌∙◌, fold, option_and_then, option_map, slice_get, cond, unwrap_or}
+use Rattle.std.proofs.Common.{◌≡◌, ℕ, Bool, true, false, ◌&&◌, ◌==◌, List, [], ◌∷◌, Option, Some, None, refl, sym, ap, ◌∙◌, fold, option_and_then, option_map, slice_get, cond, unwrap_or, eq-eqb}
 use Rattle.std.proofs.lemmas.Bool.{eqb-true}
 use Rattle.ct_value.specs.declared.ty.ColTy.{ColTy}
 use Rattle.ct_value.specs.declared.ty.Ty.{Ty}
@@ -49,7 +49,7 @@ same_is Texts BigInt e = absurd (cc)
 same_is Texts (Decimal q u) e = absurd (cc)
 
 eq_itself : (n : ℕ) → (n == n) ≡ true
-eq_itself n = omega arith
+eq_itself n = eq-eqb n n refl
 
 pub same_itself : (t : Ty) → same_ty t t ≡ true
 same_itself Truths = refl
