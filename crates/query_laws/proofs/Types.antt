@@ -70,7 +70,7 @@ gathered f h a k (o ∷ os) c e = gathered f h (both_of f a o) (λ d i. let p = 
 begins : (c : ColTy) → Some (col Truths false) ≡ Some c → c.ty ≡ Truths
 begins c e = let i : col Truths false ≡ c = cc in ap (λ z. z.ty) (sym i)
 
-all_truths_are : (os : List (Option ColTy)) (c : ColTy) → all_truths os ≡ Some c → c.ty ≡ Truths
+pub all_truths_are : (os : List (Option ColTy)) (c : ColTy) → all_truths os ≡ Some c → c.ty ≡ Truths
 all_truths_are [] c e = absurd (cc)
 all_truths_are (o ∷ os) c e = gathered logic_col (λ a d c i. truths_of a c d i) (Some (col Truths false)) begins (o ∷ os) c e
 
