@@ -12,14 +12,14 @@ use Rattle.rel_algebra.specs.Rel as r
 use Rattle.rel_algebra.specs.Types.{common_columns, is_boolean}
 use Rattle.sql_syntax.specs.Tree.{Tree, Text}
 use Rattle.sql_syntax.specs.Tree as t
-use Rattle.query_answer.specs.Calls.{Call, calls, arguments, filters}
+use Rattle.query_answer.specs.Calls.{Call, calls}
 use Rattle.query_answer.specs.Names.{Scope, find}
 use Rattle.query_answer.specs.Shapes.{column_shape}
 use Rattle.query_answer.specs.Answer.{under, table_scope, renamed_scope, Listed, Placed, Written, NoSource, Entry, entries, listed_calls, select_calls, is_grouped, listed_trees, types, retyped}
 use Rattle.binding.specs.Checked.{Checked, ◌>>=◌, or_code, refused_if}
 use Rattle.binding.specs.Nodes.{Bound, expr_list, operands}
 use Rattle.binding.specs.Expressions.{Leaf, bound, bound_over, each_bound, conditions, conjuncts_bound, column}
-use Rattle.binding.specs.InGroups.{in_group, key_for}
+use Rattle.binding.specs.InGroups.{in_group, key_for, has_no_keys, calls_bound, bound_arguments, bound_filters}
 
 -- the algebra, and the columns in reach over its rows
 pub record Relation : Type 0 where
@@ -141,10 +141,9 @@ grouped_select es groups having x =
     each_bound x.scope groups >>= λ keys.
     having_bound (in_group x.scope groups keys) (length (flat_map (λ e. listed_calls e.listed) es)) having >>= λ h.
     list_bound (group_listed x.scope groups keys) es >>= λ xs.
-    each_bound x.scope (arguments cs) >>= λ args.
-    each_bound x.scope (filters cs) >>= λ conditions.
+    calls_bound x.scope (has_no_keys keys) cs >>= λ ys.
     Ok (record {
-      rel = projected (length keys + length cs) xs (filter_if h (group_rel (length x.scope) keys args conditions cs x.rel));
+      rel = projected (length keys + length cs) xs (filter_if h (group_rel (length x.scope) keys (bound_arguments ys) (bound_filters ys) cs x.rel));
       scope = headed es xs;
     })
 

@@ -49,7 +49,7 @@ abbrev pub AllTyped : List ColTy → List Bound → Type 0
 AllTyped cols [] = Unit {0}
 AllTyped cols (x ∷ xs) = (type_of x.expr cols ≡ Some x.column) × AllTyped cols xs
 
-pub tys : List Bound → List ColTy
+abbrev pub tys : List Bound → List ColTy
 tys xs = map (λ x. x.column) xs
 
 -- what is in place: the n-th column, and there are as many columns as items
@@ -74,7 +74,6 @@ place_row n width (x ∷ xs) pre (v ∷ rest) l w h =
     ap (λ o. collect (o ∷ map (λ f. f (pre ++ v ∷ rest)) (map eval (expr_list xs)))) value ∙ ap (option_map (λ vs. v ∷ vs)) others
 
 place_types : (n width : ℕ) (xs : List Bound) (pre rest : List ColTy) → length pre ≡ n → length (pre ++ rest) ≡ width → is_in_place n width xs ≡ true → AllTyped (pre ++ rest) xs → rest ≡ tys xs
-unfolding tys
 place_types n width [] pre rest l w h k = no_length rest (let q = eqb-true n width h in omega (arith, length-append pre rest))
 place_types n width (x ∷ xs) pre [] l w h k = absurd (let p = both_true (is_column n x.expr) _ h in let q = place_length (suc n) width xs p.1 in omega (arith, length-append pre []))
 place_types n width (x ∷ xs) pre (c ∷ rest) l w h k =
@@ -89,7 +88,6 @@ place_types n width (x ∷ xs) pre (c ∷ rest) l w h k =
 
 -- the columns of items that have their types
 items_typed : (cols : List ColTy) (xs : List Bound) → AllTyped cols xs → item_columns cols (expr_list xs) ≡ Some (tys xs)
-unfolding tys
 items_typed cols [] h = refl
 items_typed cols (x ∷ xs) h = λ i. both_of (λ column others. Some (column ∷ others)) (h.0 i) (items_typed cols xs h.1 i)
 
@@ -106,7 +104,6 @@ module _ (tables : List Table) where
   -- ---- a Project, also where it is left out
 
   project_wide : (xs : List Bound) (o : Option Rows) (rows : Rows) → option_and_then (project_rows (map eval (expr_list xs))) o ≡ Some rows → Each (λ row. length row ≡ length (tys xs)) rows
-  unfolding tys
   project_wide xs None rows q = absurd (cc)
   project_wide xs (Some first) rows q =
       each-project_rows (λ row. Unit {0}) (λ row. length row ≡ length (tys xs)) (map eval (expr_list xs))

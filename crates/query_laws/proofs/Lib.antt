@@ -1,8 +1,10 @@
 pub mod Bags
 pub mod Bound
 pub mod Clauses
+pub mod InGroups
 pub mod Lists
 pub mod Names
 pub mod Nodes
 pub mod Options
+pub mod Selects
 pub mod Types
