@@ -66,7 +66,7 @@ truth_types (Decimal p s) = refl
 truth_types Texts = refl
 
 module _ (scope : Scope) where
-  keys_or_none : (keys : List Bound) (zs : List Typed) → AllAre scope keys zs → b.has_no_keys keys ≡ has_no_keys zs
+  pub keys_or_none : (keys : List Bound) (zs : List Typed) → AllAre scope keys zs → b.has_no_keys keys ≡ has_no_keys zs
   keys_or_none [] [] h = refl
   keys_or_none [] (z ∷ zs) h = absurd h
   keys_or_none (x ∷ xs) [] h = absurd h

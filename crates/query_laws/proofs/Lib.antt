@@ -1,6 +1,9 @@
 pub mod Bags
 pub mod Bound
+pub mod Calls
 pub mod Clauses
+pub mod GroupSelects
+pub mod Grouped
 pub mod InGroups
 pub mod Lists
 pub mod Names
