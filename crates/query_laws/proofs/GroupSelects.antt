@@ -50,7 +50,7 @@ use Rattle.query_laws.proofs.Lists.{map_length, slice_past, slice_before, slice_
 use Rattle.query_laws.proofs.Names.{Same, AllAre, each_means, all_append}
 use Rattle.query_laws.proofs.Nodes as k
 use Rattle.query_laws.proofs.Options.{bind, weaker, for_all, map_append}
-use Rattle.query_laws.proofs.Selects.{AreListed, list_means, typed_all, headed_same, types_headed, length_headed, plain_meanings, filter_fine, projected_right, reach, FineAt, Selected}
+use Rattle.query_laws.proofs.Selects.{plain_meanings}
 
 -- as many are told as are bound
 are_length : (scope : Scope) (ys : List Bound) (zs : List Typed) → AllAre scope ys zs → length zs ≡ length ys
@@ -68,7 +68,7 @@ no_keys (x ∷ xs) = go (suc (length xs) == 0) refl
     go false e = refl
 
 module _ (scope : Scope) (groups : List Tree) (keys : List Bound) (hk : AllAre scope keys (map (over scope) groups)) (cs : List Call) (bcs : List BoundCall) (hb : CallsAre scope (bg.has_no_keys keys) cs bcs) where
-  abbrev KZ : List Typed
+  abbrev pub KZ : List Typed
   KZ = map (over scope) groups
 
   abbrev AZ : List Typed
@@ -80,13 +80,13 @@ module _ (scope : Scope) (groups : List Tree) (keys : List Bound) (hk : AllAre s
   abbrev pub ys : List Bound
   ys = keys ++ (bound_arguments bcs ++ bound_filters bcs)
 
-  abbrev zs : List Typed
+  abbrev pub zs : List Typed
   zs = KZ ++ (AZ ++ FZ)
 
   pub hz : AllAre scope ys zs
   hz = all_append scope keys (bound_arguments bcs ++ bound_filters bcs) KZ (AZ ++ FZ) hk (all_append scope (bound_arguments bcs) (bound_filters bcs) AZ FZ (arguments_are scope (bg.has_no_keys keys) cs bcs hb) (filters_are scope (bg.has_no_keys keys) cs bcs hb))
 
-  abbrev width : ℕ
+  abbrev pub width : ℕ
   width = length keys
 
   abbrev filters_from : ℕ
@@ -127,6 +127,9 @@ module _ (scope : Scope) (groups : List Tree) (keys : List Bound) (hk : AllAre s
       ∙ ap (λ b. option_map (λ results. take width (tys ys) ++ results) (agg_types (tys ys) b aggs)) (no_keys keys)
       ∙ ap (option_map (λ results. take width (tys ys) ++ results)) (agg_columns scope ys zs hz (bg.has_no_keys keys) width filters_from cs bcs hb arguments_at filters_at)
       ∙ (λ i. Some (front_types i ++ map (λ c. some_column (call_column_told c i)) cs))
+
+  pub columns_width : length (group_cols scope groups keys hk cs none) ≡ width + length cs
+  columns_width = let p = length-append (tys keys) (map (λ c. some_column (told scope groups keys hk cs none c).column) cs) in let l = map_length (λ x. x.column) keys in let m = map_length (λ c. some_column (told scope groups keys hk cs none c).column) cs in omega arith
 
   -- ---- the rows of the Group
 
@@ -172,9 +175,6 @@ module _ (scope : Scope) (groups : List Tree) (keys : List Bound) (hk : AllAre s
     pub group_wide : (c : Rows) → option_and_then (λ _. sum_over (entry V) gs) (project_rows (meanings zs) rows) ≡ Some c → Each (λ row. length row ≡ length (group_cols scope groups keys hk cs none)) c
     group_wide c q = go (project_rows (meanings zs) rows) refl q
       where
-        columns_width : length (group_cols scope groups keys hk cs none) ≡ width + length cs
-        columns_width = let p = length-append (tys keys) (map (λ c. some_column (told scope groups keys hk cs none c).column) cs) in let l = map_length (λ x. x.column) keys in let m = map_length (λ c. some_column (told scope groups keys hk cs none c).column) cs in omega arith
-
         values_width : (key vs : Row) → V key ≡ Some vs → length vs ≡ length cs
         values_width key vs e = length-collect (map (λ f. f key) (meanings (map (told scope groups keys hk cs rows) cs))) vs e ∙ map_length (λ f. f key) (meanings (map (told scope groups keys hk cs rows) cs)) ∙ meanings_length (map (told scope groups keys hk cs rows) cs) ∙ map_length (told scope groups keys hk cs rows) cs
 

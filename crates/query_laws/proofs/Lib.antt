@@ -2,6 +2,7 @@ pub mod Bags
 pub mod Bound
 pub mod Calls
 pub mod Clauses
+pub mod GroupRight
 pub mod GroupSelects
 pub mod Grouped
 pub mod InGroups
@@ -9,5 +10,6 @@ pub mod Lists
 pub mod Names
 pub mod Nodes
 pub mod Options
+pub mod Queries
 pub mod Selects
 pub mod Types

@@ -64,6 +64,7 @@ module _ (cols : List ColTy) (R : Row → Row → Type 0) (leaf : s.Leaf) (w : L
   pub list_means : Listing → (es : List Entry) → Known cols R leaf w C 0 (flat_map (λ e. listed_calls e.listed) es) → IfOk (list_bound list es) (AreListed es)
   list_means h es f = bind (in_turn list 0 es) few (AreListed es) (AreListed es) (in_turn_means h 0 es f) (λ ys p. tested (nat_lt 64 (length ys)) TooManyColumns (Ok ys) (AreListed es) p)
 
+module _ (cols : List ColTy) (R : Row → Row → Type 0) where
   pub typed_all : (ys : List Bound) (zs : List Typed) → k.AllAre cols R ys zs → AllTyped cols ys
   typed_all [] [] h = tt
   typed_all [] (z ∷ zs) h = absurd h
@@ -164,9 +165,9 @@ module _ (tables : List Table) where
       let R = Same x.scope in
       bind (list_bound (plain_listed x.scope) es) _ (λ ys. AllAre x.scope ys zs × (length ys ≡ length es)) _
       (list_means cols R (λ y. None) (λ n y. Ok None) (λ n c. Unit {0}) (plain_listed x.scope) (listed_over x.scope) (λ n l h. listed_means x.scope n l) es (nothing_known cols R 0 _)) (λ ys p.
-      let q = projected_right x.rel cols (length x.scope) (sym (map_length (λ c. c.ty) x.scope)) f ys (typed_all cols R (λ y. None) (λ n y. Ok None) (λ n c. Unit {0}) (plain_listed x.scope) (listed_over x.scope) ys zs p.0) in (
+      let q = projected_right x.rel cols (length x.scope) (sym (map_length (λ c. c.ty) x.scope)) f ys (typed_all cols R ys zs p.0) in (
         λ i. record {
-          scope = headed_same cols R (λ y. None) (λ n y. Ok None) (λ n c. Unit {0}) (plain_listed x.scope) (listed_over x.scope) es ys zs p.0 i;
+          scope = headed_same cols R es ys zs p.0 i;
           rows = (q.0 ∙ ap (λ ms. option_and_then (project_rows ms) (answer tables x.rel)) (plain_meanings x.scope ys zs p.0)) i;
         },
         subst (λ cs. Fine tables (projected (length x.scope) ys x.rel) cs) (sym (types_headed es ys p.1)) q.1,
