@@ -60,13 +60,13 @@ abbrev pub is_column : ℕ → Expr → Bool
 is_column n (e.Column m ty) = n == m
 is_column n _ = false
 
-abbrev pub is_in_place : ℕ → ℕ → List Bound → Bool
+abbrev pub is_in_place : ℕ → ℕ → List Expr → Bool
 is_in_place n width [] = n == width
-is_in_place n width (x ∷ xs) = is_column n x.expr && is_in_place (suc n) width xs
+is_in_place n width (x ∷ xs) = is_column n x && is_in_place (suc n) width xs
 
 -- a Project whose items are the input's columns in place is left out
 abbrev pub projected : ℕ → List Bound → Rel → Rel
-projected width xs input = cond (is_in_place 0 width xs) input (r.Project input (expr_list xs))
+projected width xs input = cond (is_in_place 0 width (expr_list xs)) input (r.Project input (expr_list xs))
 
 abbrev pub headed : List Entry → List Bound → Scope
 headed [] xs = []

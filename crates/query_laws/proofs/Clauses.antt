@@ -1,5 +1,5 @@
 -- Each clause of the binding makes the algebra whose answer is that clause of the query's answer.
-use Rattle.std.proofs.Common.{◌≡◌, ℕ, zero, suc, ◌+◌, ◌<◌, ◌==◌, Bool, true, false, ◌&&◌, List, [], ◌∷◌, ◌++◌, map, length, take, Option, Some, None, cond, Ok, Err, IfOk, refl, sym, ap, ◌∙◌, subst, option_and_then, option_map, slice_get, arith, append_assoc, append-nil, length-append, eqb-true}
+use Rattle.std.proofs.Common.{◌≡◌, ℕ, zero, suc, ◌+◌, ◌<◌, ◌==◌, Bool, true, false, ◌&&◌, ◌||◌, List, [], ◌∷◌, ◌++◌, map, length, take, Option, Some, None, cond, Ok, Err, IfOk, refl, sym, ap, ◌∙◌, subst, option_and_then, option_map, slice_get, unwrap_or, arith, append_assoc, append-nil, length-append, eqb-true}
 use Rattle.std.specs.Prelude.{flat_map, nat_le}
 use Rattle.ct_value.specs.Bag.{items}
 use Rattle.ct_value.specs.Order.{row_cmp, row_total, row_exact}
@@ -36,7 +36,7 @@ use Rattle.binding.specs.Expressions.{bound_over, column, conditions, conjuncts_
 use Rattle.binding.specs.Nodes.{Bound, expr_list, operands}
 use Rattle.binding.specs.Queries.{Relation, Lister, all_of, is_column, is_in_place, projected, in_turn, few, list_bound, plain_listed}
 use Rattle.binding.specs.Queries as b
-use Rattle.query_laws.specs.Statement.{has_full_unions}
+use Rattle.query_laws.specs.Statement.{has_full_unions, has_idle_project}
 use Rattle.query_laws.proofs.Bags.{made_all, mapped_itself, mapped_same, each_map, each_any}
 use Rattle.query_laws.proofs.Lists.{map_length, slice_map, slice_behind, cell_behind, take_whole, no_length, both_true}
 use Rattle.query_laws.proofs.Names.{Same, Is, AllAre, AreTruths, column_is, over_means, conjuncts_mean, conditions_are, all_of_holds, all_of_boolean}
@@ -57,11 +57,11 @@ column_there : (n : ℕ) (x : Expr) → is_column n x ≡ true → (ty : Ty) × 
 column_there n (e.Column m ty) h = (ty, ap (λ k. e.Column k ty) (sym (eqb-true n m h)))
 column_there n _ h = absurd (cc)
 
-place_length : (n width : ℕ) (xs : List Bound) → is_in_place n width xs ≡ true → n + length xs ≡ width
+place_length : (n width : ℕ) (xs : List Bound) → is_in_place n width (expr_list xs) ≡ true → n + length xs ≡ width
 place_length n width [] h = let q = eqb-true n width h in omega arith
 place_length n width (x ∷ xs) h = let p = both_true (is_column n x.expr) _ h in let q = place_length (suc n) width xs p.1 in omega arith
 
-place_row : (n width : ℕ) (xs : List Bound) (pre rest : Row) → length pre ≡ n → length (pre ++ rest) ≡ width → is_in_place n width xs ≡ true → row_of (map eval (expr_list xs)) (pre ++ rest) ≡ Some rest
+place_row : (n width : ℕ) (xs : List Bound) (pre rest : Row) → length pre ≡ n → length (pre ++ rest) ≡ width → is_in_place n width (expr_list xs) ≡ true → row_of (map eval (expr_list xs)) (pre ++ rest) ≡ Some rest
 place_row n width [] pre rest l w h = ap Some (sym (no_length rest (let q = eqb-true n width h in omega (arith, length-append pre rest))))
 place_row n width (x ∷ xs) pre [] l w h = absurd (let p = both_true (is_column n x.expr) _ h in let q = place_length (suc n) width xs p.1 in omega (arith, length-append pre []))
 place_row n width (x ∷ xs) pre (v ∷ rest) l w h =
@@ -73,7 +73,7 @@ place_row n width (x ∷ xs) pre (v ∷ rest) l w h =
     ap (row_of (map eval (expr_list xs))) (sym moved) ∙ place_row (suc n) width xs (pre ++ v ∷ []) rest (omega (arith, length-append pre (v ∷ []))) (ap length moved ∙ w) p.1 in
     ap (λ o. collect (o ∷ map (λ f. f (pre ++ v ∷ rest)) (map eval (expr_list xs)))) value ∙ ap (option_map (λ vs. v ∷ vs)) others
 
-place_types : (n width : ℕ) (xs : List Bound) (pre rest : List ColTy) → length pre ≡ n → length (pre ++ rest) ≡ width → is_in_place n width xs ≡ true → AllTyped (pre ++ rest) xs → rest ≡ tys xs
+place_types : (n width : ℕ) (xs : List Bound) (pre rest : List ColTy) → length pre ≡ n → length (pre ++ rest) ≡ width → is_in_place n width (expr_list xs) ≡ true → AllTyped (pre ++ rest) xs → rest ≡ tys xs
 place_types n width [] pre rest l w h k = no_length rest (let q = eqb-true n width h in omega (arith, length-append pre rest))
 place_types n width (x ∷ xs) pre [] l w h k = absurd (let p = both_true (is_column n x.expr) _ h in let q = place_length (suc n) width xs p.1 in omega (arith, length-append pre []))
 place_types n width (x ∷ xs) pre (c ∷ rest) l w h k =
@@ -100,6 +100,7 @@ module _ (tables : List Table) where
     -- its rows are as wide
     pub wide : (rows : Rows) → answer tables rel ≡ Some rows → Each (λ row. length row ≡ length columns) rows
     pub unions : has_full_unions rel ≡ true
+    pub projects : has_idle_project (types_in tables) rel ≡ false
 
   -- ---- a Project, also where it is left out
 
@@ -111,20 +112,20 @@ module _ (tables : List Table) where
       first rows (each_any (λ row. Unit {0}) (λ row. tt) first) q
 
   -- rows whose items are in place are themselves
-  in_place_rows : (width : ℕ) (xs : List Bound) (rows : Rows) → is_in_place 0 width xs ≡ true → Each (λ row. length row ≡ width) rows → project_rows (map eval (expr_list xs)) rows ≡ Some rows
+  in_place_rows : (width : ℕ) (xs : List Bound) (rows : Rows) → is_in_place 0 width (expr_list xs) ≡ true → Each (λ row. length row ≡ width) rows → project_rows (map eval (expr_list xs)) rows ≡ Some rows
   in_place_rows width xs rows h wide =
       made_all row_total row_exact row_total row_exact (row_of (map eval (expr_list xs))) (λ row. row) rows (each_map (λ row. length row ≡ width) (λ row. row_of (map eval (expr_list xs)) row ≡ Some row) (λ row l. place_row 0 width xs [] row refl l h) rows wide)
       ∙ ap Some (mapped_itself row_total row_exact (λ row. row) rows (each_any (λ row. row ≡ row) (λ row. refl) rows))
 
   pub projected_rows : (rel : Rel) (columns : List ColTy) → Fine rel columns → (xs : List Bound) → AllTyped columns xs
       → (answer tables (projected (length columns) xs rel) ≡ option_and_then (project_rows (map eval (expr_list xs))) (answer tables rel)) × Fine (projected (length columns) xs rel) (tys xs)
-  projected_rows rel columns f xs h = go (is_in_place 0 (length columns) xs) refl
+  projected_rows rel columns f xs h = go (is_in_place 0 (length columns) (expr_list xs)) refl
     where
-      same : (o : Option Rows) → answer tables rel ≡ o → is_in_place 0 (length columns) xs ≡ true → o ≡ option_and_then (project_rows (map eval (expr_list xs))) o
+      same : (o : Option Rows) → answer tables rel ≡ o → is_in_place 0 (length columns) (expr_list xs) ≡ true → o ≡ option_and_then (project_rows (map eval (expr_list xs))) o
       same None q k = refl
       same (Some rows) q k = sym (in_place_rows (length columns) xs rows k (f.wide rows q))
 
-      go : (b : Bool) → is_in_place 0 (length columns) xs ≡ b
+      go : (b : Bool) → is_in_place 0 (length columns) (expr_list xs) ≡ b
           → (answer tables (cond b rel (r.Project rel (expr_list xs))) ≡ option_and_then (project_rows (map eval (expr_list xs))) (answer tables rel)) × Fine (cond b rel (r.Project rel (expr_list xs))) (tys xs)
       go true q =
           let they : columns ≡ tys xs = place_types 0 (length columns) xs [] columns refl refl q h in (
@@ -137,5 +138,9 @@ module _ (tables : List Table) where
           typed = ap (option_and_then (λ cs. item_columns cs (expr_list xs))) f.typed ∙ items_typed columns xs h;
           wide = λ rows k. project_wide xs (answer tables rel) rows k;
           unions = f.unions;
+          projects = (λ i. is_in_place 0 (width i) (expr_list xs) || f.projects i) ∙ ap (λ t. t || false) q;
         },
       )
+        where
+          width : length (unwrap_or (columns_of (types_in tables) rel) []) ≡ length columns
+          width = ap (λ o. length (unwrap_or o [])) f.typed

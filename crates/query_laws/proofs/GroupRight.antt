@@ -143,6 +143,7 @@ module _ (tables : List Table) where
       typed = ap (option_and_then (λ columns. group_columns (length keys) columns aggs')) the_project.1.typed ∙ group_typed x.scope groups keys hk cs bcs hb;
       wide = λ c q. go (answer tables x.rel) c (sym group_answer_is ∙ q);
       unions = the_project.1.unions;
+      projects = the_project.1.projects;
     }
       where
         go : (o : Option Rows) (c : Rows) → option_and_then made_of o ≡ Some c → Each (λ row. length row ≡ length group_columns_of) c

@@ -1,5 +1,5 @@
 -- What a query is bound to has the query's answer: one induction over the tree, a clause a step.
-use Rattle.std.proofs.Common.{◌≡◌, ℕ, zero, suc, ◌+◌, Bool, true, false, ◌&&◌, List, [], ◌∷◌, ◌++◌, map, length, Option, Some, None, cond, Ok, Err, IfOk, refl, sym, ap, ◌∙◌, subst, option_and_then, option_map, slice_get, unwrap_or, arith}
+use Rattle.std.proofs.Common.{◌≡◌, ℕ, zero, suc, ◌+◌, Bool, true, false, ◌&&◌, ◌||◌, List, [], ◌∷◌, ◌++◌, map, length, Option, Some, None, cond, Ok, Err, IfOk, refl, sym, ap, ◌∙◌, subst, option_and_then, option_map, slice_get, unwrap_or, arith}
 use Rattle.std.specs.List.{AllByRecursion}
 use Rattle.std.specs.Str.{bytes_eq}
 use Rattle.ct_value.specs.Bag.{none}
@@ -28,7 +28,7 @@ use Rattle.query_answer.specs.Names.{Scope}
 use Rattle.binding.specs.Checked.{Checked, ◌>>=◌, or_code}
 use Rattle.binding.specs.Queries.{Relation, query_bound, selects_bound, select_bound, source_bound, find_source, union_of, united, is_plain}
 use Rattle.binding.specs.Queries as b
-use Rattle.query_laws.specs.Statement.{tables_of, table_of, has_full_unions, all_have_full_unions, has_two}
+use Rattle.query_laws.specs.Statement.{tables_of, table_of, has_full_unions, all_have_full_unions, has_idle_project, any_has_idle_project}
 use Rattle.query_laws.proofs.Bags.{each_map}
 use Rattle.query_laws.proofs.Clauses.{Fine}
 use Rattle.query_laws.proofs.GroupRight.{grouped_right}
@@ -98,6 +98,7 @@ module _ (tables : List TableRows) (fit : AreTyped (tables_of tables)) where
               subst (λ (c : Rows). Each (λ row. length row ≡ length (map (λ c. c.ty) y.table.cols)) c) e
               (each_map (Fits (map (λ c. c.ty) y.table.cols)) (λ row. length row ≡ length (map (λ c. c.ty) y.table.cols)) (λ row p. fits-length (map (λ c. c.ty) y.table.cols) row p) y.rows (typed_there tables f.0 y fit there));
           unions = refl;
+          projects = refl;
         }),
       )
 
@@ -130,6 +131,7 @@ module _ (tables : List TableRows) (fit : AreTyped (tables_of tables)) where
     pub width : length (types last) ≡ length (types scope)
     pub wide : (rows : Rows) → answers T rels ≡ Some rows → Each (λ row. length row ≡ length (types scope)) rows
     pub unions : all_have_full_unions rels ≡ true
+    pub projects : any_has_idle_project (types_in T) rels ≡ false
 
   no_more : (scope : Scope) → Unions scope t.no_selects no_rels scope
   no_more scope = record {
@@ -138,6 +140,7 @@ module _ (tables : List TableRows) (fit : AreTyped (tables_of tables)) where
     width = refl;
     wide = λ rows q. let e : none ≡ rows = some_is none rows q in subst (λ (c : Rows). Each (λ row. length row ≡ length (types scope)) c) e (each-none row_total row_exact (λ row. length row ≡ length (types scope)));
     unions = refl;
+    projects = refl;
   }
 
   common_length : (cs ds es : List ColTy) → common_columns cs ds ≡ Some es → (length es ≡ length cs) × (length es ≡ length ds)
@@ -176,6 +179,7 @@ module _ (tables : List TableRows) (fit : AreTyped (tables_of tables)) where
             let others : Each (λ row. length row ≡ length (types scope)) p.1 = each_map (λ row. length row ≡ length (types (retyped scope cs))) (λ row. length row ≡ length (types scope)) (λ row k. k ∙ width') p.1 (u.wide p.1 p.2.1) in
             subst (λ (d : Rows). Each (λ row. length row ≡ length (types scope)) d) (sym p.2.2) (each-together row_total row_exact (λ row. length row ≡ length (types scope)) p.0 p.1 first others);
         unions = λ i. h.1.unions i && u.unions i;
+        projects = λ i. h.1.projects i || u.projects i;
       }
 
   -- the first select with the others
@@ -198,6 +202,7 @@ module _ (tables : List TableRows) (fit : AreTyped (tables_of tables)) where
         typed = (λ i. common_from (types_in T) (h.1.typed i) (sym e i)) ∙ u.typed;
         wide = λ rows q. joined_wide rows (ap (λ z. plus (answer T x.rel) (answers T z)) e ∙ q);
         unions = (λ i. h.1.unions i && all_have_full_unions (sym e i)) ∙ u.unions;
+        projects = (λ i. h.1.projects i || any_has_idle_project (types_in T) (sym e i)) ∙ u.projects;
       }
 
   -- ---- the tree

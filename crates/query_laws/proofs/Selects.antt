@@ -127,6 +127,7 @@ module _ (tables : List Table) where
     typed = ap (option_and_then (λ cs. columns_if (is_condition cs condition) cs)) f.typed ∙ ap (λ t. cond t (Some columns) None) h;
     wide = λ rows q. kept (answer tables rel) refl rows q;
     unions = f.unions;
+    projects = f.projects;
   }
     where
       kept : (o : Option Rows) → answer tables rel ≡ o → (rows : Rows) → option_and_then (filter_rows (eval condition)) o ≡ Some rows → Each (λ row. length row ≡ length columns) rows
@@ -197,6 +198,7 @@ module _ (tables : List Table) where
           ∙ ap Some (append-nil (take (length x.scope) (types x.scope)) ∙ take_whole (types x.scope) (length x.scope) width);
       wide = λ rows q. subst (λ (c : Rows). Each (λ row. length row ≡ length (types x.scope)) c) refl (kept (answer tables x.rel) refl rows (sym (rows_same (answer tables x.rel) refl) ∙ q));
       unions = f.unions;
+    projects = f.projects;
     },
   )
     where
