@@ -1,0 +1,6 @@
+pub mod Bound
+pub mod Checks
+pub mod Inserts
+pub mod Refused
+pub mod Tables
+pub mod Values
