@@ -1,5 +1,5 @@
 -- What a step of the walk answers: something, or why the script is refused.
-use Rattle.std.specs.Prelude.{Bool, true, false, cond, Option, Some, None, Result, Ok, Err}
+use Rattle.std.specs.Prelude.{Bool, cond, Option, Some, None, Result, Ok, Err}
 use Rattle.ct_value.specs.declared.codes.ScriptCode.{ScriptCode}
 
 abbrev pub Checked : Type 0 → Type 0

@@ -1,17 +1,14 @@
 -- Binding of expressions in a grouped select: over the row of a group, whose columns are the GROUP BY expressions and then the aggregate
 -- calls.
-use Rattle.std.specs.Prelude.{ℕ, suc, ◌+◌, Bool, true, false, cond, not, ◌&&◌, ◌||◌, List, [], ◌∷◌, length, slice_get, Option, Some, None, option_map, is_some, Result, Ok, Err}
-use Rattle.ct_value.specs.declared.codes.ScriptCode.TheVariants.{UnknownColumn, AmbiguousColumn, TypeMismatch, Unsupported, NotGrouped, Nondeterministic}
+use Rattle.std.specs.Prelude.{ℕ, ◌+◌, Bool, true, false, cond, not, ◌&&◌, ◌||◌, List, [], ◌∷◌, length, slice_get, Option, Some, None, option_map, is_some, Ok, Err}
+use Rattle.ct_value.specs.declared.codes.ScriptCode.TheVariants.{TypeMismatch, Unsupported, NotGrouped}
 use Rattle.ct_value.specs.declared.ty.ColTy.{ColTy}
-use Rattle.rel_clauses.specs.declared.agg.Agg.{Agg}
 use Rattle.rel_clauses.specs.declared.agg.AggCall.{AggCall}
 use Rattle.rel_clauses.specs.Aggregates.{call_type}
 use Rattle.rel_algebra.specs.Types.{is_boolean}
 use Rattle.sql_syntax.specs.Tree.{Tree}
 use Rattle.sql_syntax.specs.Tree as t
-use Rattle.query_answer.specs.declared.scope.Found.{Found}
-use Rattle.query_answer.specs.declared.scope.Found.TheVariants.{Absent, At, Several}
-use Rattle.query_answer.specs.Calls.{Call, aggregate_of, agg_call, optional, call_at}
+use Rattle.query_answer.specs.Calls.{Call, aggregate_of, agg_call}
 use Rattle.query_answer.specs.Functions.{function_of}
 use Rattle.query_answer.specs.Names.{Scope, find}
 use Rattle.query_answer.specs.Shapes.{Shape, shape, place_of}

@@ -1,6 +1,6 @@
 -- An expression over columns for each node of a tree, where the table of expressions gives it a type: from the expressions of its
 -- operands.
-use Rattle.std.specs.Prelude.{ℤ, Bool, true, false, cond, ◌&&◌, ◌||◌, not, List, [], ◌∷◌, ◌++◌, map, Option, Some, None, option_map, option_and_then, Result, Ok, Err}
+use Rattle.std.specs.Prelude.{ℤ, Bool, true, false, ◌&&◌, ◌||◌, not, List, [], ◌∷◌, ◌++◌, map, Option, Some, None, option_map, option_and_then, Ok, Err}
 use Rattle.ct_value.specs.declared.codes.ScriptCode.TheVariants.{TypeMismatch, Unsupported, NotGrouped, Nondeterministic}
 use Rattle.ct_value.specs.declared.ty.ColTy.{ColTy}
 use Rattle.ct_value.specs.declared.ty.Ty.{Ty}
@@ -15,7 +15,7 @@ use Rattle.ct_expr.specs.Expr.{Expr, Exprs, exprs, whens, optional_expr}
 use Rattle.ct_expr.specs.Expr as e
 use Rattle.ct_expr.specs.Types.{gather_some, literal_col, number_col, arith_col, compare_col, truth_col, all_truths, null_test_col, in_list_col, case_col, coalesce_col, null_if_col, cast_col, texts_col, char_length_col}
 use Rattle.rel_clauses.specs.declared.agg.AggCall.{AggCall}
-use Rattle.rel_clauses.specs.declared.agg.AggCall.TheVariants.{CountAll, Count, CountDistinct, Sum, Min, Max, Avg}
+use Rattle.rel_clauses.specs.declared.agg.AggCall.TheVariants.{Count}
 use Rattle.sql_syntax.specs.declared.tree.ProductWord.{ProductWord}
 use Rattle.sql_syntax.specs.declared.tree.ProductWord.TheVariants.{Times, Divide, Modulo}
 use Rattle.sql_syntax.specs.declared.tree.SumWord.{SumWord}
@@ -23,7 +23,7 @@ use Rattle.sql_syntax.specs.declared.tree.SumWord.TheVariants.{Plus, Minus, Conc
 use Rattle.query_answer.specs.declared.function.Function.{Function}
 use Rattle.query_answer.specs.declared.function.Function.TheVariants.{Aggregate, Coalesce, NullIf, CharLength, RowNumber, Changing, Unknown}
 use Rattle.query_answer.specs.Table.{with_otherwise}
-use Rattle.binding.specs.Checked.{Checked, ◌>>=◌, or_code, refused_if}
+use Rattle.binding.specs.Checked.{Checked, ◌>>=◌, refused_if}
 
 -- an expression with its type
 pub record Bound : Type 0 where

@@ -1,8 +1,7 @@
 -- Binding of a query: the first refusal of the walk, or the algebra with the columns in reach.
-use Rattle.std.specs.Prelude.{ℕ, suc, ◌+◌, ◌==◌, nat_lt, Bool, true, false, cond, ◌&&◌, List, [], ◌∷◌, ◌++◌, map, flat_map, length, slice_get, Option, Some, None, option_map, Result, Ok, Err}
+use Rattle.std.specs.Prelude.{ℕ, suc, ◌+◌, ◌==◌, nat_lt, Bool, true, false, cond, ◌&&◌, List, [], ◌∷◌, ◌++◌, flat_map, length, slice_get, Option, Some, None, option_map, Ok, Err}
 use Rattle.std.specs.Str.{bytes_eq}
 use Rattle.ct_value.specs.declared.codes.ScriptCode.TheVariants.{UnknownTable, UnknownColumn, TypeMismatch, Unsupported, NotGrouped, TooManyColumns}
-use Rattle.ct_value.specs.declared.ty.ColTy.{ColTy}
 use Rattle.ct_expr.specs.Expr.{Expr}
 use Rattle.ct_expr.specs.Expr as e
 use Rattle.ct_catalog.specs.declared.table.TableDef.{TableDef}
@@ -12,8 +11,8 @@ use Rattle.rel_algebra.specs.Rel as r
 use Rattle.rel_algebra.specs.Types.{common_columns, is_boolean}
 use Rattle.sql_syntax.specs.Tree.{Tree, Text}
 use Rattle.sql_syntax.specs.Tree as t
-use Rattle.query_answer.specs.Calls.{Call, calls}
-use Rattle.query_answer.specs.Names.{Scope, find}
+use Rattle.query_answer.specs.Calls.{Call}
+use Rattle.query_answer.specs.Names.{Scope}
 use Rattle.query_answer.specs.Shapes.{column_shape}
 use Rattle.query_answer.specs.Answer.{under, table_scope, renamed_scope, Listed, Placed, Written, NoSource, Entry, entries, listed_calls, select_calls, is_grouped, listed_trees, types, retyped}
 use Rattle.binding.specs.Checked.{Checked, ◌>>=◌, or_code, refused_if}

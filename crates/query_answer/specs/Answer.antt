@@ -1,6 +1,6 @@
 -- The answer of a query on its tree, with its names: clause by clause, each a function from bags, and from what its expressions are,
 -- to a bag or out of range.
-use Rattle.std.specs.Prelude.{ℕ, suc, Bool, true, false, cond, not, ◌||◌, ◌==◌, List, [], ◌∷◌, ◌++◌, map, flat_map, length, slice_get, Option, Some, None, option_map, option_and_then}
+use Rattle.std.specs.Prelude.{ℕ, suc, Bool, true, false, cond, not, ◌==◌, List, [], ◌∷◌, ◌++◌, map, flat_map, length, slice_get, Option, Some, None, option_map, option_and_then}
 use Rattle.std.specs.Option.{unwrap_or}
 use Rattle.std.specs.Str.{bytes_eq}
 use Rattle.ct_value.specs.Bag.{none}
@@ -8,9 +8,7 @@ use Rattle.ct_value.specs.declared.ty.ColTy.{ColTy}
 use Rattle.ct_value.specs.declared.ty.Ty.TheVariants.{Bool as Truths}
 use Rattle.ct_change.specs.Changelog.{Rows}
 use Rattle.ct_expr.specs.Types.{col}
-use Rattle.ct_catalog.specs.declared.table.ColDef.{ColDef}
 use Rattle.ct_catalog.specs.declared.table.TableDef.{TableDef}
-use Rattle.rel_clauses.specs.declared.agg.AggCall.{AggCall}
 use Rattle.rel_clauses.specs.Clauses.{Meaning, filter_rows, project_rows}
 use Rattle.rel_clauses.specs.Sums.{distinct, plus}
 use Rattle.rel_algebra.specs.Types.{common_columns}
@@ -21,7 +19,7 @@ use Rattle.query_answer.specs.declared.scope.Found.{Found}
 use Rattle.query_answer.specs.declared.scope.ScopeColumn.{ScopeColumn}
 use Rattle.query_answer.specs.Calls.{Call, calls, call_at, arguments, filters}
 use Rattle.query_answer.specs.Groups.{grouped_rows, called, key_at, meanings}
-use Rattle.query_answer.specs.Names.{Scope, Lookup, find, named, column_at, is_called}
+use Rattle.query_answer.specs.Names.{Scope, find, named, column_at, is_called}
 use Rattle.query_answer.specs.Shapes.{shape, place_of, column_shape}
 use Rattle.query_answer.specs.Stands.{Leaf, stands, or_else}
 use Rattle.query_answer.specs.Table.{Typed, nothing, conjunction}

@@ -1,15 +1,14 @@
 -- GROUP BY: a group is its key, the row of the values of the GROUP BY expressions; an aggregate is evaluated over the rows of the group.
-use Rattle.std.specs.Prelude.{ℕ, suc, Bool, true, false, cond, ◌||◌, ◌&&◌, List, [], ◌∷◌, ◌++◌, Option, Some, None, option_map, option_and_then, is_some, slice_get}
+use Rattle.std.specs.Prelude.{ℕ, Bool, true, false, cond, ◌||◌, ◌&&◌, List, [], ◌∷◌, ◌++◌, Option, Some, None, option_map, option_and_then, is_some, slice_get}
 use Rattle.std.specs.Option.{unwrap_or}
 use Rattle.ct_value.specs.declared.row.Row.{Row}
 use Rattle.ct_value.specs.declared.ty.ColTy.{ColTy}
-use Rattle.ct_value.specs.declared.ty.Ty.{Ty}
 use Rattle.ct_value.specs.declared.value.Value.{Value}
 use Rattle.ct_value.specs.declared.value.Value.TheVariants.{Null}
 use Rattle.ct_change.specs.Changelog.{Rows}
 use Rattle.ct_field.specs.Typed.{cell, is_true}
 use Rattle.rel_clauses.specs.declared.agg.AggCall.{AggCall}
-use Rattle.rel_clauses.specs.Aggregates.{Values, agg_value, call_type, column_is_truth, ty_or_bigint}
+use Rattle.rel_clauses.specs.Aggregates.{agg_value, call_type, column_is_truth, ty_or_bigint}
 use Rattle.rel_clauses.specs.Clauses.{Meaning, row_of, filter_rows, project_rows}
 use Rattle.rel_clauses.specs.Keys.{keys_in, rows_of_key}
 use Rattle.rel_clauses.specs.Sums.{one, mapped, restrict}

@@ -1,5 +1,5 @@
 -- What literals and the names of types mean.
-use Rattle.std.specs.Prelude.{ℕ, ◌+◌, ◌==◌, max, nat_lt, nat_le, ℤ, pos, Bool, true, false, cond, ◌||◌, ◌&&◌, List, [], ◌∷◌, ◌++◌, length, take, drop, position, Option, Some, None}
+use Rattle.std.specs.Prelude.{ℕ, ◌+◌, ◌==◌, max, nat_le, ℤ, pos, Bool, true, false, cond, List, ◌++◌, length, take, drop, position, Option, Some, None}
 use Rattle.std.specs.Fmt.{decimal}
 use Rattle.std.specs.Str.Parse.{digits_value}
 use Rattle.ct_value.specs.declared.ty.Ty.{Ty}

@@ -1,5 +1,5 @@
 -- What names stand for: the columns in reach, and the look-up of a name among them.
-use Rattle.std.specs.Prelude.{ℕ, suc, Bool, true, false, cond, ◌&&◌, List, [], ◌∷◌, Option, Some, None}
+use Rattle.std.specs.Prelude.{ℕ, suc, Bool, false, cond, ◌&&◌, List, [], ◌∷◌, Option, Some, None}
 use Rattle.std.specs.Str.{bytes_eq}
 use Rattle.ct_value.specs.declared.ty.ColTy.{ColTy}
 use Rattle.ct_field.specs.Typed.{cell}
