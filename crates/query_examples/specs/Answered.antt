@@ -1,5 +1,5 @@
 -- Queries with the rows of t and u, and the rows of their answers in order, or out of range.
-use Rattle.std.specs.Prelude.{◌≡◌, ℕ, pos, negsuc, true, false, List, [], ◌∷◌, map, Option, Some, None, option_map, Result, Ok, Err, codes}
+use Rattle.std.specs.Prelude.{◌≡◌, ℕ, pos, true, false, List, [], ◌∷◌, map, Option, Some, None, option_map, Ok, Err, codes}
 use Rattle.ct_value.specs.Bag.{items, bag_of}
 use Rattle.ct_value.specs.declared.row.Row.{Row}
 use Rattle.ct_value.specs.declared.value.Value.{Value}

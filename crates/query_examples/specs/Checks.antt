@@ -1,5 +1,5 @@
 -- What it is that a table of examples holds: what a query is bound to, or what it is refused as.
-use Rattle.std.specs.Prelude.{◌≡◌, ℕ, List, [], ◌∷◌, ◌++◌, map, Option, Some, None, option_map, Result, Ok, Err, Bool, codes}
+use Rattle.std.specs.Prelude.{◌≡◌, List, [], ◌∷◌, ◌++◌, map, Option, Some, None, option_map, Ok, Err, Bool, codes}
 use Rattle.ct_value.specs.declared.codes.ScriptCode.{ScriptCode}
 use Rattle.ct_value.specs.declared.codes.ScriptCode.TheVariants.{Syntax}
 use Rattle.ct_value.specs.declared.row.Row.{Row}
@@ -7,9 +7,9 @@ use Rattle.ct_value.specs.declared.ty.ColTy.{ColTy}
 use Rattle.ct_value.specs.declared.ty.Ty.{Ty}
 use Rattle.ct_value.specs.declared.value.Value.{Value}
 use Rattle.rel_algebra.specs.Rel.{Rel}
-use Rattle.sql_syntax.specs.Tree.{Statement, Query, Tree, Text, Create, Set, Insert, query_of, select_of, select_and, no_selects, item_and, no_items, One, All, AllOf, Selects, Select, Items, Item}
+use Rattle.sql_syntax.specs.Tree.{Query, Tree, Text, Insert, query_of, select_of, select_and, no_selects, item_and, no_items, One, All, AllOf, Selects, Select, Items, Item}
 use Rattle.sql_rules.specs.ReadsScripts.{Answer, answered, refused, read_text}
-use Rattle.query_answer.specs.Answer.{over, types, table_scope}
+use Rattle.query_answer.specs.Answer.{over, table_scope}
 use Rattle.query_answer.specs.Names.{Scope}
 use Rattle.binding.specs.Checked.{Checked, ◌>>=◌}
 use Rattle.binding.specs.Inserts.{Inserted, insert_bound}

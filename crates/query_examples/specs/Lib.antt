@@ -1,3 +1,4 @@
+pub mod Answered
 pub mod Bound
 pub mod Checks
 pub mod Inserts

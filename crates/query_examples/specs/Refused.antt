@@ -1,7 +1,7 @@
 -- Queries that are refused, each with the first refusal of its walk, and queries beside them that are accepted.
 use Rattle.std.specs.Prelude.{ℕ, zero, suc, List, [], ◌∷◌, ◌++◌, codes}
 use Rattle.ct_value.specs.declared.codes.ScriptCode.{ScriptCode}
-use Rattle.ct_value.specs.declared.codes.ScriptCode.TheVariants.{UnknownTable, UnknownColumn, AmbiguousColumn, TypeMismatch, NotGrouped, Nondeterministic, Unsupported, TooManyColumns}
+use Rattle.ct_value.specs.declared.codes.ScriptCode.TheVariants.{UnknownColumn, TypeMismatch, NotGrouped, Nondeterministic, Unsupported, TooManyColumns}
 use Rattle.sql_syntax.specs.Tree.{Text}
 
 -- S3

@@ -4,11 +4,15 @@
 #![tactic(auto)]
 
 ghost use Rattle.ct_value.specs.declared.codes.ScriptCode.TheVariants.{UnknownTable, UnknownColumn, AmbiguousColumn, TypeMismatch, NotGrouped, Nondeterministic, Unsupported};
+ghost use Rattle.query_examples.specs.Answered.{HaveAnswers, answered};
 ghost use Rattle.query_examples.specs.Bound.{bound, columns};
 ghost use Rattle.query_examples.specs.Checks.{AreAccepted, AreBound, AreRefused, HaveCodes, HaveColumns, HaveTypes, HaveValues, InsertsHave};
 ghost use Rattle.query_examples.specs.Inserts.{inserts};
 ghost use Rattle.query_examples.specs.Refused.{accepted, ambiguous, long_chains, mismatched, nondeterministic, ungrouped, unknown_columns, unknown_tables, unsupported, walks, wide};
 ghost use Rattle.query_examples.specs.Values.{null_row, null_values, row, values};
+
+use query_laws::binding_keeps_the_answer;
+use rel_examples::listed_answer_is_the_answer;
 
 /// Names: tables and columns that there aren't, and columns that are named twice.
 pub fn names_are_refused()
@@ -63,3 +67,12 @@ pub fn expressions_have_their_values()
     ensures null_types { HaveTypes null_values }
     ensures null_values { HaveValues null_row null_values }
 {}
+
+/// The rows of queries' answers. They are computed on the trees of the algebra that the queries are bound to, whose answers are the
+/// queries' by the theorem of binding.
+pub fn queries_have_their_answers()
+    ensures { HaveAnswers answered }
+{
+    binding_keeps_the_answer();
+    listed_answer_is_the_answer();
+}

@@ -1,5 +1,5 @@
 -- What a tree is bound to is what it stands for: one induction over trees, for every meaning of whole nodes.
-use Rattle.std.proofs.Common.{◌≡◌, ℕ, suc, ◌+◌, Bool, true, false, List, [], ◌∷◌, ◌++◌, length, Option, Some, None, cond, Ok, Err, IfOk, refl, sym, ap, ◌∙◌, subst, option_map, arith}
+use Rattle.std.proofs.Common.{◌≡◌, ℕ, suc, ◌+◌, Bool, true, false, List, [], ◌∷◌, ◌++◌, length, Option, Some, None, cond, Ok, Err, IfOk, subst, option_map, arith}
 use Rattle.ct_value.specs.declared.codes.ScriptCode.{ScriptCode}
 use Rattle.ct_value.specs.declared.codes.ScriptCode.TheVariants.{Unsupported}
 use Rattle.ct_value.specs.declared.row.Row.{Row}
@@ -7,7 +7,6 @@ use Rattle.ct_value.specs.declared.ty.ColTy.{ColTy}
 use Rattle.ct_value.specs.declared.ty.Ty.TheVariants.{Bool as Truths, Text as Texts}
 use Rattle.ct_value.specs.declared.value.Value.TheVariants.{Bool as Truth, Text as Words}
 use Rattle.ct_catalog.specs.Types.{type_of}
-use Rattle.rel_clauses.specs.declared.agg.AggCall.{AggCall}
 use Rattle.sql_syntax.specs.Tree.{Tree}
 use Rattle.sql_syntax.specs.Tree as t
 use Rattle.query_answer.specs.declared.function.Function.{Function}
@@ -24,7 +23,7 @@ use Rattle.binding.specs.Expressions.{Leaf, or_else, unless_null, is_long, sum_l
 use Rattle.binding.specs.Nodes.{Bound, CallForm}
 use Rattle.binding.specs.Nodes as node_of
 use Rattle.query_laws.proofs.Nodes as k
-use Rattle.query_laws.proofs.Options.{bind, then, weaker, tested}
+use Rattle.query_laws.proofs.Options.{bind, then, tested}
 
 refused : {A B : Type 0} (r : Checked A) (code : ScriptCode) (Q : B → Type 0) → IfOk (r >>= λ _. Err code) Q
 refused (Ok x) code Q = tt

@@ -1,16 +1,14 @@
 -- The aggregates of a Group are the calls of its select.
-use Rattle.std.proofs.Common.{◌≡◌, ℕ, zero, suc, ◌+◌, ◌<◌, ◌==◌, Bool, true, false, ◌&&◌, ◌||◌, List, [], ◌∷◌, ◌++◌, map, length, Option, Some, None, cond, Ok, Err, IfOk, refl, sym, ap, ◌∙◌, subst, option_and_then, option_map, slice_get, is_some, unwrap_or, arith}
-use Rattle.ct_value.specs.Order.{row_cmp, row_total, row_exact, value_cmp, value_total, value_exact}
+use Rattle.std.proofs.Common.{◌≡◌, ℕ, zero, suc, ◌+◌, Bool, ◌&&◌, ◌||◌, List, [], ◌∷◌, map, Option, Some, None, cond, Ok, IfOk, refl, sym, ap, ◌∙◌, subst, option_map, slice_get, is_some, unwrap_or, arith}
+use Rattle.ct_value.specs.Order.{row_cmp, row_total, row_exact, value_total, value_exact}
 use Rattle.ct_value.specs.declared.codes.ScriptCode.TheVariants.{TypeMismatch}
 use Rattle.ct_value.specs.declared.row.Row.{Row}
 use Rattle.ct_value.specs.declared.ty.ColTy.{ColTy}
-use Rattle.ct_value.specs.declared.value.Value.{Value}
 use Rattle.ct_value.specs.declared.value.Value.TheVariants.{Null}
 use Rattle.ct_change.specs.Changelog.{Rows}
 use Rattle.ct_field.specs.Typed.{cell, is_true}
-use Rattle.rel_clauses.specs.declared.agg.Agg.{Agg}
-use Rattle.rel_clauses.specs.Aggregates.{Values, agg_value, agg_result, agg_type, agg_types, call_type, column_before, column_is_truth, ty_or_bigint, type_in, values_of, argument, passes, filter_fits, arg_fits}
-use Rattle.rel_clauses.specs.Clauses.{Meaning, row_of, collect}
+use Rattle.rel_clauses.specs.Aggregates.{Values, agg_value, agg_result, agg_type, agg_types, call_type, column_before, column_is_truth, ty_or_bigint, type_in, argument, passes, filter_fits, arg_fits}
+use Rattle.rel_clauses.specs.Clauses.{row_of}
 use Rattle.rel_clauses.specs.Sums.{Each, mapped, restrict}
 use Rattle.sql_syntax.specs.Tree.{Tree}
 use Rattle.query_answer.specs.Answer.{over, some_column}
@@ -18,7 +16,7 @@ use Rattle.query_answer.specs.Calls.{Call, arguments, filters, with_tree}
 use Rattle.query_answer.specs.Groups.{meanings, taken, counts, column_of, is_condition_if, is_typed_if, call_column, call_value}
 use Rattle.query_answer.specs.Names.{Scope}
 use Rattle.query_answer.specs.Table.{Typed}
-use Rattle.binding.specs.Checked.{Checked, ◌>>=◌, or_code}
+use Rattle.binding.specs.Checked.{◌>>=◌, or_code}
 use Rattle.binding.specs.InGroups.{BoundCall, optional_over, operands_bound, calls_bound, bound_arguments, bound_filters, with_bound}
 use Rattle.binding.specs.InGroups as b
 use Rattle.binding.specs.Nodes.{Bound}

@@ -1,46 +1,27 @@
 -- Each clause of the binding makes the algebra whose answer is that clause of the query's answer.
-use Rattle.std.proofs.Common.{◌≡◌, ℕ, zero, suc, ◌+◌, ◌<◌, ◌==◌, Bool, true, false, ◌&&◌, ◌||◌, List, [], ◌∷◌, ◌++◌, map, length, take, Option, Some, None, cond, Ok, Err, IfOk, refl, sym, ap, ◌∙◌, subst, option_and_then, option_map, slice_get, unwrap_or, arith, append_assoc, append-nil, length-append, eqb-true}
-use Rattle.std.specs.Prelude.{flat_map, nat_le}
-use Rattle.ct_value.specs.Bag.{items}
-use Rattle.ct_value.specs.Order.{row_cmp, row_total, row_exact}
-use Rattle.ct_value.specs.declared.codes.ScriptCode.TheVariants.{UnknownColumn, TooManyColumns}
+use Rattle.std.proofs.Common.{◌≡◌, ℕ, suc, ◌+◌, Bool, true, false, ◌||◌, List, [], ◌∷◌, ◌++◌, map, length, Option, Some, None, cond, refl, sym, ap, ◌∙◌, subst, option_and_then, option_map, slice_get, unwrap_or, arith, append_assoc, length-append, eqb-true}
+use Rattle.ct_value.specs.Order.{row_total, row_exact}
 use Rattle.ct_value.specs.declared.row.Row.{Row}
 use Rattle.ct_value.specs.declared.ty.ColTy.{ColTy}
 use Rattle.ct_value.specs.declared.ty.Ty.{Ty}
-use Rattle.ct_value.specs.declared.value.Value.{Value}
 use Rattle.ct_change.specs.Changelog.{Rows}
-use Rattle.ct_field.specs.Typed.{cell}
 use Rattle.ct_expr.specs.Expr.{Expr}
 use Rattle.ct_expr.specs.Expr as e
 use Rattle.ct_expr.specs.Eval.{eval}
 use Rattle.ct_expr.specs.Types.{type_of, both_of, same_ty}
-use Rattle.rel_clauses.specs.Clauses.{Meaning, holds, rows_where, row_of, collect, project_rows, filter_rows}
-use Rattle.rel_clauses.specs.Sums.{one, distinct, mapped, Each}
-use Rattle.rel_clauses.specs.laws.Bags.{each-distinct}
-use Rattle.rel_clauses.specs.laws.Clauses.{each-rows_where, each-project_rows, length-collect}
-use Rattle.rel_algebra.specs.Answer.{Table, answer, types_in, columns_in}
+use Rattle.rel_clauses.specs.Clauses.{row_of, collect, project_rows}
+use Rattle.rel_clauses.specs.Sums.{Each}
+use Rattle.rel_clauses.specs.laws.Clauses.{each-project_rows, length-collect}
+use Rattle.rel_algebra.specs.Answer.{Table, answer, types_in}
 use Rattle.rel_algebra.specs.Rel.{Rel}
 use Rattle.rel_algebra.specs.Rel as r
-use Rattle.rel_algebra.specs.Types.{columns_of, columns_if, item_columns, is_condition}
-use Rattle.sql_syntax.specs.Tree.{Tree}
-use Rattle.sql_syntax.specs.Tree as t
-use Rattle.query_answer.specs.declared.scope.ScopeColumn.{ScopeColumn}
-use Rattle.query_answer.specs.Answer.{Reach, Listed, Placed, Written, NoSource, Entry, over, conjuncts, listed_over, found_at, listed_calls, types, under, some_column}
-use Rattle.query_answer.specs.Answer as a
-use Rattle.query_answer.specs.Calls.{Call}
-use Rattle.query_answer.specs.Groups.{meanings}
-use Rattle.query_answer.specs.Names.{Scope, column_at}
-use Rattle.query_answer.specs.Table.{Typed, conjunction}
-use Rattle.binding.specs.Checked.{Checked, ◌>>=◌, or_code}
-use Rattle.binding.specs.Expressions.{bound_over, column, conditions, conjuncts_bound}
-use Rattle.binding.specs.Nodes.{Bound, expr_list, operands}
-use Rattle.binding.specs.Queries.{Relation, Lister, all_of, is_column, is_in_place, projected, in_turn, few, list_bound, plain_listed}
-use Rattle.binding.specs.Queries as b
+use Rattle.rel_algebra.specs.Types.{columns_of, item_columns}
+use Rattle.binding.specs.Nodes.{Bound, expr_list}
+use Rattle.binding.specs.Queries.{is_column, is_in_place, projected}
 use Rattle.query_laws.specs.Statement.{has_full_unions, has_idle_project}
-use Rattle.query_laws.proofs.Bags.{made_all, mapped_itself, mapped_same, each_map, each_any}
-use Rattle.query_laws.proofs.Lists.{map_length, slice_map, slice_behind, cell_behind, take_whole, no_length, both_true}
-use Rattle.query_laws.proofs.Names.{Same, Is, AllAre, AreTruths, column_is, over_means, conjuncts_mean, conditions_are, all_of_holds, all_of_boolean}
-use Rattle.query_laws.proofs.Options.{bind, weaker, tested, cond_true, cond_some, and_then_parts, map_append, some_is}
+use Rattle.query_laws.proofs.Bags.{made_all, mapped_itself, each_map, each_any}
+use Rattle.query_laws.proofs.Lists.{map_length, slice_behind, cell_behind, no_length, both_true}
+use Rattle.query_laws.proofs.Options.{cond_some, and_then_parts, some_is}
 
 -- ---- items in place
 

@@ -1,5 +1,5 @@
 -- A grouped select is bound to the algebra whose answer is that of the select.
-use Rattle.std.proofs.Common.{◌≡◌, ℕ, zero, suc, ◌+◌, Bool, true, false, List, [], ◌∷◌, ◌++◌, map, length, Option, Some, None, cond, Ok, Err, IfOk, refl, sym, ap, ◌∙◌, subst, option_and_then, option_map, slice_get, unwrap_or, arith}
+use Rattle.std.proofs.Common.{◌≡◌, ℕ, ◌+◌, true, List, [], map, length, Option, Some, None, Ok, IfOk, refl, sym, ap, ◌∙◌, subst, option_and_then, slice_get, unwrap_or, arith}
 use Rattle.std.specs.Prelude.{flat_map}
 use Rattle.ct_value.specs.Bag.{none}
 use Rattle.ct_value.specs.declared.codes.ScriptCode.TheVariants.{TypeMismatch}
@@ -10,23 +10,22 @@ use Rattle.ct_expr.specs.Expr.{Expr}
 use Rattle.ct_expr.specs.Eval.{eval}
 use Rattle.rel_clauses.specs.declared.agg.Agg.{Agg}
 use Rattle.rel_clauses.specs.Aggregates.{agg_results}
-use Rattle.rel_clauses.specs.Clauses.{Meaning, project_rows, filter_rows}
+use Rattle.rel_clauses.specs.Clauses.{Meaning, project_rows}
 use Rattle.rel_clauses.specs.Groups.{group_rows, group_columns}
 use Rattle.rel_clauses.specs.Sums.{Each}
-use Rattle.rel_algebra.specs.Answer.{Table, answer, types_in, columns_in}
+use Rattle.rel_algebra.specs.Answer.{Table, answer}
 use Rattle.rel_algebra.specs.Rel.{Rel}
-use Rattle.rel_algebra.specs.Rel as r
-use Rattle.rel_algebra.specs.Types.{columns_of, is_boolean}
+use Rattle.rel_algebra.specs.Types.{is_boolean}
 use Rattle.sql_syntax.specs.Tree.{Tree}
 use Rattle.sql_syntax.specs.Tree as t
 use Rattle.query_answer.specs.Answer.{Entry, over, types, listed_calls, having_calls, select_calls}
 use Rattle.query_answer.specs.Answer as a
-use Rattle.query_answer.specs.Calls.{Call, calls}
+use Rattle.query_answer.specs.Calls.{Call}
 use Rattle.query_answer.specs.Groups.{meanings}
 use Rattle.query_answer.specs.Names.{Scope}
 use Rattle.query_answer.specs.Stands.{stands}
 use Rattle.query_answer.specs.Table.{Typed}
-use Rattle.binding.specs.Checked.{Checked, ◌>>=◌}
+use Rattle.binding.specs.Checked.{◌>>=◌}
 use Rattle.binding.specs.Expressions.{bound, each_bound}
 use Rattle.binding.specs.InGroups.{in_group, BoundCall, calls_bound, bound_arguments, bound_filters}
 use Rattle.binding.specs.InGroups as bg
@@ -37,12 +36,12 @@ use Rattle.query_laws.proofs.Bound.{Known, front, back}
 use Rattle.query_laws.proofs.Calls.{CallsAre, calls_mean}
 use Rattle.query_laws.proofs.Clauses.{tys, Fine}
 use Rattle.query_laws.proofs.Grouped.{filter_rel, filter_none}
-use Rattle.query_laws.proofs.GroupSelects.{ys, zs, hz, width, KZ, aggs, group_typed, columns_width, group_answered, group_wide, HavingIs, ItemsAre, expr_of, rows_are}
-use Rattle.query_laws.proofs.InGroups.{RowOf, Nth, group_cols, told, group_listing, in_group_means, all_known}
+use Rattle.query_laws.proofs.GroupSelects.{ys, zs, hz, aggs, group_typed, columns_width, group_answered, group_wide, HavingIs, expr_of, rows_are}
+use Rattle.query_laws.proofs.InGroups.{RowOf, Nth, group_cols, group_listing, in_group_means, all_known}
 use Rattle.query_laws.proofs.Lists.{map_length}
 use Rattle.query_laws.proofs.Names.{Same, AllAre, each_means}
 use Rattle.query_laws.proofs.Nodes as k
-use Rattle.query_laws.proofs.Options.{bind, weaker, for_all, tested_else}
+use Rattle.query_laws.proofs.Options.{bind, for_all, tested_else}
 use Rattle.query_laws.proofs.Selects.{AreListed, list_means, typed_all, headed_same, types_headed, length_headed, plain_meanings, filter_fine, projected_right, reach, FineAt, Selected}
 
 -- ---- HAVING and the items, as they are bound
@@ -150,15 +149,15 @@ module _ (tables : List Table) where
         go None c q = absurd (cc)
         go (Some rows) c q = group_wide x.scope groups keys hk cs bcs hb rows c (sym (group_answered x.scope groups keys hk cs bcs hb rows) ∙ q)
 
-    having_fine : (h : Option Bound) (having : t.OptionalTree) (xs : List Bound) (es : List Entry) → HavingIs x.scope groups keys hk cs bcs hb none h having xs es h having → Fine tables (filter_if h G) group_columns_of
-    having_fine None t.no_tree xs es p = group_fine
-    having_fine None (t.some_tree c) xs es p = absurd p
-    having_fine (Some v) t.no_tree xs es p = absurd p
-    having_fine (Some v) (t.some_tree c) xs es p = filter_fine tables G group_columns_of v.expr group_fine (ap is_boolean p.0.1 ∙ p.1)
+    having_fine : (h : Option Bound) (having : t.OptionalTree) → HavingIs x.scope groups keys hk cs bcs hb none h having → Fine tables (filter_if h G) group_columns_of
+    having_fine None t.no_tree p = group_fine
+    having_fine None (t.some_tree c) p = absurd p
+    having_fine (Some v) t.no_tree p = absurd p
+    having_fine (Some v) (t.some_tree c) p = filter_fine tables G group_columns_of v.expr group_fine (ap is_boolean p.0.1 ∙ p.1)
 
-    filter_answer_is : (h : Option Bound) (having : t.OptionalTree) (xs : List Bound) (es : List Entry) → answer tables (filter_if h G) ≡ filter_rel (expr_of x.scope groups keys hk cs bcs hb none h having xs es h) (answer tables G)
-    filter_answer_is None having xs es = refl
-    filter_answer_is (Some v) having xs es = refl
+    filter_answer_is : (h : Option Bound) → answer tables (filter_if h G) ≡ filter_rel (expr_of h) (answer tables G)
+    filter_answer_is None = refl
+    filter_answer_is (Some v) = refl
 
   module _ (es : List Entry) (having : t.OptionalTree) (x : Relation) (f : FineAt tables x) (groups : List Tree) (keys : List Bound) (hk : AllAre x.scope keys (map (over x.scope) groups)) (h : Option Bound)
       (ph : (rows : Rows) → HavingAt x.scope groups keys hk es having rows h having) (xs : List Bound) (px : (rows : Rows) → ItemsAt x.scope groups keys hk es having rows xs)
@@ -173,11 +172,11 @@ module _ (tables : List Table) where
     items' = map eval (expr_list xs)
 
     abbrev condition' : Option Expr
-    condition' = expr_of x.scope groups keys hk calls' bcs hb none h having xs es h
+    condition' = expr_of h
 
     last_project : (answer tables (projected (length keys + length calls') xs filtered) ≡ option_and_then (project_rows items') (answer tables filtered)) × Fine tables (projected (length keys + length calls') xs filtered) (tys xs)
     last_project = projected_right tables filtered (group_cols x.scope groups keys hk calls' none) (length keys + length calls') (sym (columns_width x.scope groups keys hk calls' bcs hb))
-        (having_fine x f groups keys hk calls' bcs hb h having xs es (ph none)) xs
+        (having_fine x f groups keys hk calls' bcs hb h having (ph none)) xs
         (typed_all (group_cols x.scope groups keys hk calls' none) (RowOf x.scope groups keys hk calls' none) xs (map (λ e. a.listed_in x.scope groups none e.listed) es) (px none).0)
 
     rows_of : (o : Option Rows) → option_and_then (project_rows items') (filter_rel condition' (option_and_then (made_of x f groups keys hk calls' bcs hb) o)) ≡ option_and_then (λ rows. a.grouped x.scope groups rows es having) o
@@ -190,7 +189,7 @@ module _ (tables : List Table) where
         scope = headed_same (group_cols x.scope groups keys hk calls' none) (RowOf x.scope groups keys hk calls' none) es xs (map (λ e. a.listed_in x.scope groups none e.listed) es) (px none).0 i;
         rows =
             (last_project.0
-            ∙ ap (option_and_then (project_rows items')) (filter_answer_is x f groups keys hk calls' bcs hb h having xs es ∙ ap (filter_rel condition') (group_answer_is x f groups keys hk calls' bcs hb))
+            ∙ ap (option_and_then (project_rows items')) (filter_answer_is x f groups keys hk calls' bcs hb h ∙ ap (filter_rel condition') (group_answer_is x f groups keys hk calls' bcs hb))
             ∙ rows_of (answer tables x.rel)) i;
       },
       subst (λ cs. Fine tables (projected (length keys + length calls') xs filtered) cs) (sym (types_headed es xs (px none).1)) last_project.1,

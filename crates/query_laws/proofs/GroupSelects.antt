@@ -1,56 +1,42 @@
 -- A grouped select: a Project, a Group, a Filter for HAVING and a Project.
-use Rattle.std.proofs.Common.{◌≡◌, ℕ, zero, suc, ◌+◌, ◌<◌, ◌==◌, Bool, true, false, ◌&&◌, List, [], ◌∷◌, ◌++◌, map, length, take, Option, Some, None, cond, Ok, Err, IfOk, refl, sym, ap, ◌∙◌, subst, option_and_then, option_map, slice_get, is_some, unwrap_or, ◌≤◌, arith, length-append, le-leb, eqb-true}
-use Rattle.std.specs.Prelude.{flat_map, nat_le}
-use Rattle.ct_value.specs.Bag.{items, none}
+use Rattle.std.proofs.Common.{◌≡◌, ℕ, suc, ◌+◌, ◌==◌, Bool, true, false, List, [], ◌∷◌, ◌++◌, map, length, take, Option, Some, None, cond, refl, sym, ap, ◌∙◌, subst, option_and_then, option_map, slice_get, unwrap_or, ◌≤◌, arith, length-append, le-leb, eqb-true}
+use Rattle.ct_value.specs.Bag.{none}
 use Rattle.ct_value.specs.Order.{row_cmp, row_total, row_exact}
-use Rattle.ct_value.specs.declared.codes.ScriptCode.TheVariants.{TypeMismatch}
 use Rattle.ct_value.specs.declared.row.Row.{Row}
-use Rattle.ct_value.specs.declared.ty.ColTy.{ColTy}
-use Rattle.ct_value.specs.declared.value.Value.{Value}
 use Rattle.ct_change.specs.Changelog.{Rows, same_row}
 use Rattle.ct_field.specs.Typed.{is_true}
 use Rattle.ct_expr.specs.Expr.{Expr}
 use Rattle.ct_expr.specs.Eval.{eval}
 use Rattle.rel_clauses.specs.declared.agg.Agg.{Agg}
-use Rattle.rel_clauses.specs.Aggregates.{agg_results, agg_result, agg_types}
-use Rattle.rel_clauses.specs.Clauses.{Meaning, holds, row_of, collect, filter_rows, project_rows}
+use Rattle.rel_clauses.specs.Aggregates.{agg_results, agg_types}
+use Rattle.rel_clauses.specs.Clauses.{row_of, collect, project_rows}
 use Rattle.rel_clauses.specs.Groups.{group_rows, group_columns}
-use Rattle.rel_clauses.specs.Keys.{rows_of_key}
 use Rattle.rel_clauses.specs.Sums.{one, mapped, sum_over, Each}
 use Rattle.rel_clauses.specs.laws.Bags.{each-sum_over, each-add, each-none}
 use Rattle.rel_clauses.specs.laws.Clauses.{length-collect}
-use Rattle.rel_algebra.specs.Answer.{Table, answer, types_in, columns_in}
-use Rattle.rel_algebra.specs.Rel.{Rel}
-use Rattle.rel_algebra.specs.Rel as r
-use Rattle.rel_algebra.specs.Types.{columns_of, is_boolean, is_condition}
+use Rattle.rel_algebra.specs.Types.{is_boolean}
 use Rattle.sql_syntax.specs.Tree.{Tree}
 use Rattle.sql_syntax.specs.Tree as t
 use Rattle.query_answer.specs.Answer.{Reach, Listed, Entry, over, types, some_column, listed_calls, having_calls, select_calls}
 use Rattle.query_answer.specs.Answer as a
-use Rattle.query_answer.specs.Calls.{Call, calls, arguments, filters}
+use Rattle.query_answer.specs.Calls.{Call, arguments, filters}
 use Rattle.query_answer.specs.Groups.{meanings, key_of, groups_of, members, grouped_rows, filter_if, call_value, call_column}
-use Rattle.query_answer.specs.Groups as g
 use Rattle.query_answer.specs.Names.{Scope}
 use Rattle.query_answer.specs.Stands.{stands}
 use Rattle.query_answer.specs.Table.{Typed}
-use Rattle.binding.specs.Checked.{Checked, ◌>>=◌}
-use Rattle.binding.specs.Expressions.{bound, each_bound}
 use Rattle.binding.specs.InGroups.{in_group, BoundCall, calls_bound, bound_arguments, bound_filters}
 use Rattle.binding.specs.InGroups as bg
 use Rattle.binding.specs.Nodes.{Bound, expr_list}
-use Rattle.binding.specs.Queries.{Relation, projected, list_bound, group_listed, having_bound, condition, aggs_from}
-use Rattle.binding.specs.Queries as b
-use Rattle.query_laws.proofs.Bags.{made_one, each_map, each_restrict}
-use Rattle.query_laws.proofs.Bound.{Known, front, back}
-use Rattle.query_laws.proofs.Calls.{CallsAre, column_told, calls_mean, arguments_are, filters_are, made, IsMade, PlacesAt, agg_columns, aggs_same}
-use Rattle.query_laws.proofs.Clauses.{AllTyped, tys, Fine}
+use Rattle.binding.specs.Queries.{aggs_from}
+use Rattle.query_laws.proofs.Bags.{made_one, each_restrict}
+use Rattle.query_laws.proofs.Calls.{CallsAre, column_told, arguments_are, filters_are, made, IsMade, PlacesAt, agg_columns, aggs_same}
+use Rattle.query_laws.proofs.Clauses.{tys}
 use Rattle.query_laws.proofs.Grouped.{meanings_append, meanings_length, key_made, entry, group_made, groups_wide, Alike, Having, filter_rel, filter_none, over_groups}
-use Rattle.query_laws.proofs.InGroups.{RowOf, Nth, group_cols, told, group_listing, in_group_means, all_known, keys_or_none}
+use Rattle.query_laws.proofs.InGroups.{RowOf, group_cols, told, keys_or_none}
 use Rattle.query_laws.proofs.Lists.{map_length, slice_past, slice_before, slice_there, take_front}
-use Rattle.query_laws.proofs.Names.{Same, AllAre, each_means, all_append}
+use Rattle.query_laws.proofs.Names.{AllAre, all_append}
 use Rattle.query_laws.proofs.Nodes as k
-use Rattle.query_laws.proofs.Options.{bind, weaker, for_all, map_append}
-use Rattle.query_laws.proofs.Selects.{plain_meanings}
+use Rattle.query_laws.proofs.Options.{map_append}
 
 -- as many are told as are bound
 are_length : (scope : Scope) (ys : List Bound) (zs : List Typed) → AllAre scope ys zs → length zs ≡ length ys
@@ -66,6 +52,10 @@ no_keys (x ∷ xs) = go (suc (length xs) == 0) refl
     go : (b : Bool) → (suc (length xs) == 0) ≡ b → b ≡ false
     go true e = absurd (let q = eqb-true (suc (length xs)) 0 e in omega arith)
     go false e = refl
+
+abbrev pub expr_of : Option Bound → Option Expr
+expr_of None = None
+expr_of (Some v) = Some v.expr
 
 module _ (scope : Scope) (groups : List Tree) (keys : List Bound) (hk : AllAre scope keys (map (over scope) groups)) (cs : List Call) (bcs : List BoundCall) (hb : CallsAre scope (bg.has_no_keys keys) cs bcs) where
   abbrev pub KZ : List Typed
@@ -194,20 +184,17 @@ module _ (scope : Scope) (groups : List Tree) (keys : List Bound) (hk : AllAre s
             each-sum_over row_total row_exact row_total row_exact (λ key. length key ≡ width) (λ row. length row ≡ length (group_cols scope groups keys hk cs none)) (entry V) (λ key d l j. one_wide key l (V key) refl d j) gs
             (groups_wide rows F E made_all.1 V KZ width keys_width (λ x e. ap length (key_fact x e).0 ∙ (key_fact x e).1)) c i
 
+    -- HAVING is BOOLEAN, and means what it stands for
+    abbrev pub HavingIs : Option Bound → t.OptionalTree → Type 0
+    HavingIs None t.no_tree = Unit {0}
+    HavingIs None (t.some_tree x) = ⊥
+    HavingIs (Some v) t.no_tree = ⊥
+    HavingIs (Some v) (t.some_tree x) = k.Is (group_cols scope groups keys hk cs none) (RowOf scope groups keys hk cs rows) v (stands (a.in_group scope groups rows) x) × (is_boolean (Some v.column) ≡ true)
+
     -- HAVING and the items over it
     module _ (h : Option Bound) (having : t.OptionalTree) (xs : List Bound) (es : List Entry) where
-      abbrev pub HavingIs : Option Bound → t.OptionalTree → Type 0
-      HavingIs None t.no_tree = Unit {0}
-      HavingIs None (t.some_tree x) = ⊥
-      HavingIs (Some v) t.no_tree = ⊥
-      HavingIs (Some v) (t.some_tree x) = k.Is (group_cols scope groups keys hk cs none) (RowOf scope groups keys hk cs rows) v (stands (a.in_group scope groups rows) x) × (is_boolean (Some v.column) ≡ true)
-
       abbrev pub ItemsAre : Type 0
       ItemsAre = k.AllAre (group_cols scope groups keys hk cs none) (RowOf scope groups keys hk cs rows) xs (map (λ e. a.listed_in scope groups rows e.listed) es)
-
-      abbrev pub expr_of : Option Bound → Option Expr
-      expr_of None = None
-      expr_of (Some v) = Some v.expr
 
       having_alike : (o : Option Bound) (w : t.OptionalTree) → HavingIs o w → Having V width (expr_of o) (a.having_in scope groups rows w)
       having_alike None t.no_tree p = tt

@@ -1,6 +1,6 @@
 -- A grouped select over the rows of groups is the select over the groups.
-use Rattle.std.proofs.Common.{◌≡◌, ℕ, zero, suc, ◌+◌, ◌<◌, ◌==◌, Bool, true, false, ◌&&◌, List, [], ◌∷◌, ◌++◌, map, length, take, Option, Some, None, cond, Ok, Err, IfOk, refl, sym, ap, ◌∙◌, subst, option_and_then, option_map, slice_get, is_some, unwrap_or, arith}
-use Rattle.std.specs.List.{AllByRecursion, list_all}
+use Rattle.std.proofs.Common.{◌≡◌, ℕ, zero, suc, Bool, true, false, List, [], ◌∷◌, ◌++◌, map, length, take, Option, Some, None, refl, sym, ap, ◌∙◌, option_and_then, option_map, is_some, unwrap_or, arith}
+use Rattle.std.specs.List.{list_all}
 use Rattle.ct_value.specs.Bag.{items, none, add}
 use Rattle.ct_value.specs.Order.{row_cmp, row_total, row_exact}
 use Rattle.ct_value.specs.declared.row.Row.{Row}
@@ -12,11 +12,11 @@ use Rattle.rel_clauses.specs.Clauses.{Meaning, holds, row_of, collect, rows_wher
 use Rattle.rel_clauses.specs.Groups.{group_rows}
 use Rattle.rel_clauses.specs.Keys.{keys_in, rows_of_key}
 use Rattle.rel_clauses.specs.Sums.{one, kept, together, plus, distinct, mapped, restrict, sum_over, Each}
-use Rattle.rel_clauses.specs.laws.Bags.{by_items, sum_over-none, sum_over-add, sum_over-one, sum_over-same, is_some-sum_over, each-copies, copies-each, each-distinct, each-mapped, each-none, each-add, mapped-none, mapped-add, mapped-together, restrict-none, restrict-add}
+use Rattle.rel_clauses.specs.laws.Bags.{by_items, sum_over-none, sum_over-add, sum_over-one, sum_over-same, is_some-sum_over, each-distinct, each-mapped, each-none, each-add, mapped-none, mapped-add, mapped-together, restrict-none, restrict-add}
 use Rattle.rel_clauses.specs.laws.Clauses.{length-collect, each-rows_where}
 use Rattle.query_answer.specs.Groups.{meanings, key_of, groups_of, members, filter_if}
 use Rattle.query_answer.specs.Table.{Typed}
-use Rattle.query_laws.proofs.Bags.{restrict_mapped, restrict_same, mapped_mapped, mapped_same, mapped_itself, made_one, made_all, sum_over_mapped, each_map, each_both, each_any}
+use Rattle.query_laws.proofs.Bags.{restrict_mapped, restrict_same, mapped_mapped, mapped_same, made_one, made_all, sum_over_mapped, each_map, each_both}
 use Rattle.query_laws.proofs.Lists.{map_length, take_front}
 use Rattle.query_laws.proofs.Options.{map_parts}
 

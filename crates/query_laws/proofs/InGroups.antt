@@ -1,8 +1,6 @@
 -- In a grouped select: what a tree is bound to is at a group's row what the tree stands for in the group.
-use Rattle.std.proofs.Common.{◌≡◌, ℕ, zero, suc, ◌+◌, ◌<◌, ◌==◌, Bool, true, false, ◌&&◌, ◌||◌, List, [], ◌∷◌, ◌++◌, map, length, Option, Some, None, cond, Ok, Err, IfOk, refl, sym, ap, ◌∙◌, subst, option_and_then, option_map, slice_get, is_some, not, arith}
-use Rattle.std.specs.Prelude.{flat_map}
-use Rattle.ct_value.specs.declared.codes.ScriptCode.{ScriptCode}
-use Rattle.ct_value.specs.declared.codes.ScriptCode.TheVariants.{NotGrouped, TypeMismatch, Unsupported, UnknownColumn}
+use Rattle.std.proofs.Common.{◌≡◌, ℕ, zero, suc, ◌+◌, Bool, true, false, ◌&&◌, ◌||◌, List, [], ◌∷◌, ◌++◌, map, length, Option, Some, None, cond, Err, IfOk, refl, sym, ap, ◌∙◌, subst, option_map, slice_get, is_some, not, arith}
+use Rattle.ct_value.specs.declared.codes.ScriptCode.TheVariants.{NotGrouped, TypeMismatch, Unsupported}
 use Rattle.ct_value.specs.declared.row.Row.{Row}
 use Rattle.ct_value.specs.declared.ty.ColTy.{ColTy}
 use Rattle.ct_value.specs.declared.ty.Ty.{Ty}
@@ -13,9 +11,7 @@ use Rattle.ct_field.specs.Typed.{cell, is_truths}
 use Rattle.ct_expr.specs.Types as y
 use Rattle.rel_clauses.specs.declared.agg.AggCall.{AggCall}
 use Rattle.rel_clauses.specs.Aggregates.{call_type, column_is_truth}
-use Rattle.rel_clauses.specs.Clauses.{Meaning, row_of, collect}
-use Rattle.rel_clauses.specs.laws.Clauses.{length-collect}
-use Rattle.rel_algebra.specs.Types.{is_boolean}
+use Rattle.rel_clauses.specs.Clauses.{row_of, collect}
 use Rattle.sql_syntax.specs.Tree.{Tree}
 use Rattle.sql_syntax.specs.Tree as t
 use Rattle.query_answer.specs.declared.scope.Found.{Found}
@@ -26,11 +22,11 @@ use Rattle.query_answer.specs.Calls.{Call, calls, call_of, call_at, aggregate_of
 use Rattle.query_answer.specs.Functions.{function_of}
 use Rattle.query_answer.specs.Groups.{meanings, key_at, called, call_column, is_condition_if, is_typed_if, has_no_keys}
 use Rattle.query_answer.specs.Groups as g
-use Rattle.query_answer.specs.Names.{Scope, find, named, column_at}
-use Rattle.query_answer.specs.Shapes.{Shape, shape, place_of, column_shape}
+use Rattle.query_answer.specs.Names.{Scope, find, named}
+use Rattle.query_answer.specs.Shapes.{shape, place_of, column_shape}
 use Rattle.query_answer.specs.Stands.{stands, args_stand, or_else}
 use Rattle.query_answer.specs.Table.{Typed, nothing}
-use Rattle.binding.specs.Checked.{Checked, ◌>>=◌, or_code}
+use Rattle.binding.specs.Checked.{◌>>=◌, or_code}
 use Rattle.binding.specs.Expressions.{names, column, found_column, may_change, bound, bound_over, args_bound, optional_bound, is_distinct}
 use Rattle.binding.specs.InGroups.{in_group, key_for, key_column, or_refused, ungrouped, call_bound, call_or_key, has_operands, first_column, column_if}
 use Rattle.binding.specs.InGroups as b
@@ -38,11 +34,11 @@ use Rattle.binding.specs.Nodes.{Bound, is_count}
 use Rattle.binding.specs.Queries.{group_listed}
 use Rattle.query_laws.proofs.Bound.{Known, bound_means}
 use Rattle.query_laws.proofs.Clauses.{tys}
-use Rattle.query_laws.proofs.Lists.{map_length, slice_map, slice_before, slice_past, slice_there, cell_before, cell_past, both_true}
+use Rattle.query_laws.proofs.Lists.{map_length, slice_map, slice_before, slice_past, slice_there, cell_before, cell_past}
 use Rattle.query_laws.proofs.Names.{Same, AllAre, column_typed, over_means, args_over}
 use Rattle.query_laws.proofs.Names as n
 use Rattle.query_laws.proofs.Nodes as k
-use Rattle.query_laws.proofs.Options.{bind, then, weaker, tested, some_is, cond_some, map_parts}
+use Rattle.query_laws.proofs.Options.{bind, tested, some_is, map_parts}
 
 -- ---- values that were collected
 
@@ -212,7 +208,7 @@ module _ (scope : Scope) (groups : List Tree) (keys : List Bound) (hk : AllAre s
   call_is m c ty e h = (
     h,
     column_typed group_cols (width + m) ty
-    (ap (λ w. slice_get group_cols (w + m)) (sym keys_width) ∙ slice_past (tys keys) (map (λ c. some_column (told c).column) cs) m ∙ slice_map (λ c. some_column (told c).column) cs m ∙ ap (option_map (λ c. some_column (told c).column)) e ∙ ap (λ o. Some (some_column o)) h),
+        (ap (λ w. slice_get group_cols (w + m)) (sym keys_width) ∙ slice_past (tys keys) (map (λ c. some_column (told c).column) cs) m ∙ slice_map (λ c. some_column (told c).column) cs m ∙ ap (option_map (λ c. some_column (told c).column)) e ∙ ap (λ o. Some (some_column o)) h),
     λ r key q. ap (λ w. Some (cell (width + m) w)) q.1 ∙ ap Some (cell_past key q.0 width m q.2) ∙ sym (nth_value m c key q.0 e q.3),
   )
 

@@ -1,15 +1,13 @@
 -- An INSERT: its query over the sources and the sink doesn't scan the sink.
-use Rattle.std.proofs.Common.{◌≡◌, ℕ, suc, Bool, true, false, ◌||◌, not, List, [], ◌∷◌, ◌++◌, map, length, Option, Some, None, cond, Ok, Err, IfOk, refl, sym, ap, ◌∙◌, subst, find}
-use Rattle.std.specs.List.{AllByRecursion}
+use Rattle.std.proofs.Common.{◌≡◌, Bool, true, false, ◌||◌, not, List, [], ◌∷◌, ◌++◌, map, length, Option, Some, None, cond, Ok, Err, IfOk, refl, sym, ap, ◌∙◌, subst, find}
 use Rattle.ct_value.specs.Bag.{none}
-use Rattle.ct_value.specs.Order.{row_cmp, row_total, row_exact}
+use Rattle.ct_value.specs.Order.{row_total, row_exact}
 use Rattle.ct_value.specs.declared.codes.ScriptCode.TheVariants.{UnknownTable, SinkShape}
-use Rattle.ct_value.specs.declared.row.Row.{Row}
 use Rattle.ct_catalog.specs.declared.table.TableDef.{TableDef}
 use Rattle.ct_change.specs.Changelog.{Rows}
 use Rattle.rel_clauses.specs.Clauses.{Fits}
 use Rattle.rel_clauses.specs.laws.Bags.{each-none}
-use Rattle.rel_algebra.specs.Answer.{Table, AreTyped, answer, types_in}
+use Rattle.rel_algebra.specs.Answer.{AreTyped, answer, types_in}
 use Rattle.rel_algebra.specs.Types.{columns_of}
 use Rattle.sql_syntax.specs.Tree.{Query, Text}
 use Rattle.query_answer.specs.Answer.{TableRows, types}
@@ -17,10 +15,10 @@ use Rattle.query_answer.specs.Answer as a
 use Rattle.binding.specs.Checked.{Checked, ◌>>=◌, or_code}
 use Rattle.binding.specs.Inserts.{Inserted, insert_bound, into_sink, is_table, sources_for, scans, go_into, column_types}
 use Rattle.binding.specs.Queries.{Relation, query_bound}
-use Rattle.query_laws.specs.Statement.{declared, filled, has_full_unions, has_idle_project, table_of, tables_of}
+use Rattle.query_laws.specs.Statement.{declared, filled, table_of, tables_of}
 use Rattle.query_laws.proofs.Clauses.{Fine}
 use Rattle.query_laws.proofs.Lists.{map_length}
-use Rattle.query_laws.proofs.Options.{bind, weaker, map_map, map_append}
+use Rattle.query_laws.proofs.Options.{weaker, map_append}
 use Rattle.query_laws.proofs.Queries.{Right, query_right}
 use Rattle.query_laws.proofs.Sources.{answer_without, columns_without, none_of}
 

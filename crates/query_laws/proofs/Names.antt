@@ -1,9 +1,7 @@
 -- Trees over the columns in reach are bound to what they stand for.
-use Rattle.std.proofs.Common.{◌≡◌, ℕ, zero, suc, ◌+◌, Bool, true, false, List, [], ◌∷◌, ◌++◌, map, length, Option, Some, None, cond, Ok, Err, IfOk, refl, sym, ap, ◌∙◌, subst, option_and_then, option_map, slice_get, arith}
-use Rattle.ct_value.specs.declared.codes.ScriptCode.TheVariants.{TypeMismatch}
+use Rattle.std.proofs.Common.{◌≡◌, ℕ, suc, ◌+◌, Bool, true, false, List, [], ◌∷◌, ◌++◌, map, Option, Some, None, cond, Ok, IfOk, refl, sym, ap, ◌∙◌, subst, option_and_then, option_map, slice_get, arith}
 use Rattle.ct_value.specs.declared.row.Row.{Row}
 use Rattle.ct_value.specs.declared.ty.ColTy.{ColTy}
-use Rattle.ct_value.specs.declared.ty.Ty.{Ty}
 use Rattle.ct_value.specs.declared.ty.Ty.TheVariants.{Bool as Truths}
 use Rattle.ct_value.specs.declared.value.Value.{Value}
 use Rattle.ct_value.specs.declared.value.Value.TheVariants.{Null, Bool as Truth, Num, Text}
@@ -11,10 +9,10 @@ use Rattle.ct_field.specs.Typed.{is_true, cell}
 use Rattle.ct_expr.specs.Expr.{Expr}
 use Rattle.ct_expr.specs.Expr as e
 use Rattle.ct_expr.specs.Eval.{eval}
-use Rattle.ct_expr.specs.Types.{type_of, same_ty, is_truths, logic_col, all_truths, both_of, col}
+use Rattle.ct_expr.specs.Types.{type_of, same_ty, is_truths, all_truths, both_of, col}
 use Rattle.ct_expr.specs.Values as v
 use Rattle.rel_algebra.specs.Types.{is_boolean, is_condition}
-use Rattle.rel_clauses.specs.Clauses.{Meaning, holds}
+use Rattle.rel_clauses.specs.Clauses.{holds}
 use Rattle.sql_syntax.specs.Tree.{Tree}
 use Rattle.sql_syntax.specs.Tree as t
 use Rattle.query_answer.specs.declared.scope.Found.{Found}
@@ -23,16 +21,16 @@ use Rattle.query_answer.specs.declared.scope.ScopeColumn.{ScopeColumn}
 use Rattle.query_answer.specs.Answer.{over, conjuncts, all_conjuncts, types}
 use Rattle.query_answer.specs.Calls.{Call, calls}
 use Rattle.query_answer.specs.Names.{Scope, find, find_from, is_named, also, named, column_at}
-use Rattle.query_answer.specs.Stands.{stands, all_stand, args_stand}
-use Rattle.query_answer.specs.Table.{Typed, conjunction, values}
-use Rattle.binding.specs.Checked.{Checked, ◌>>=◌}
-use Rattle.binding.specs.Expressions.{bound_over, each_bound, names, column, found_column, may_change, args_bound, optional_bound, conditions, truths, conjuncts_bound, all_conjuncts_bound}
+use Rattle.query_answer.specs.Stands.{args_stand}
+use Rattle.query_answer.specs.Table.{Typed, conjunction}
+use Rattle.binding.specs.Checked.{◌>>=◌}
+use Rattle.binding.specs.Expressions.{bound_over, each_bound, names, column, found_column, may_change, args_bound, conditions, truths, conjuncts_bound, all_conjuncts_bound}
 use Rattle.binding.specs.Nodes.{Bound, operands}
 use Rattle.binding.specs.Nodes as node_of
 use Rattle.binding.specs.Queries.{all_of}
 use Rattle.query_laws.proofs.Bound.{Known, bound_means, args_mean}
 use Rattle.query_laws.proofs.Nodes as k
-use Rattle.query_laws.proofs.Options.{bind, then, weaker, map_append, cond_true, some_is}
+use Rattle.query_laws.proofs.Options.{bind, weaker, map_append, cond_true}
 use Rattle.query_laws.proofs.Types.{same_itself, all_truths_are}
 
 -- ---- look-up

@@ -1,5 +1,5 @@
 -- Node by node: what a node is bound to is what it stands for, where its operands are.
-use Rattle.std.proofs.Common.{◌≡◌, ℕ, Bool, true, false, ◌&&◌, ◌||◌, not, List, [], ◌∷◌, ◌++◌, map, Option, Some, None, cond, Ok, Err, IfOk, refl, sym, ap, ◌∙◌, subst, option_and_then, option_map, ℤ}
+use Rattle.std.proofs.Common.{◌≡◌, Bool, true, false, ◌&&◌, ◌||◌, not, List, [], ◌∷◌, ◌++◌, map, Option, Some, None, cond, Err, IfOk, refl, sym, ap, ◌∙◌, subst, option_and_then, option_map, ℤ}
 use Rattle.ct_value.specs.declared.codes.ScriptCode.{ScriptCode}
 use Rattle.ct_value.specs.declared.codes.ScriptCode.TheVariants.{Unsupported, NotGrouped}
 use Rattle.ct_value.specs.declared.row.Row.{Row}
@@ -12,7 +12,7 @@ use Rattle.ct_value.specs.declared.value.Value.{Value}
 use Rattle.ct_value.specs.declared.value.Value.TheVariants.{Null, Num}
 use Rattle.ct_expr.specs.declared.expr.ArithOp.{ArithOp}
 use Rattle.ct_expr.specs.declared.expr.ArithOp.TheVariants.{Add, Sub, Mul}
-use Rattle.ct_expr.specs.Eval.{eval, evals, typed_evals, branches, otherwise, typed as typed_value}
+use Rattle.ct_expr.specs.Eval.{eval, evals, typed_evals, branches, typed as typed_value}
 use Rattle.ct_expr.specs.Expr.{Expr, Exprs, exprs, whens, optional_expr, no_expr, some_expr}
 use Rattle.ct_expr.specs.Expr as e
 use Rattle.ct_expr.specs.Types as y
@@ -31,7 +31,7 @@ use Rattle.query_answer.specs.Table as t
 use Rattle.binding.specs.Checked.{Checked, ◌>>=◌}
 use Rattle.binding.specs.Nodes.{Bound, CallForm, typed, operands, expr_list}
 use Rattle.binding.specs.Nodes as n
-use Rattle.query_laws.proofs.Options.{bind, weaker, cond_some, some_is, tested}
+use Rattle.query_laws.proofs.Options.{bind, cond_some, tested}
 use Rattle.query_laws.proofs.Types.{says}
 
 -- over the rows of the algebra, with these columns; R ties each to the row at which trees are told

@@ -1,5 +1,5 @@
 -- What is known of something that may be missing, or refused.
-use Rattle.std.proofs.Common.{◌≡◌, ℕ, suc, Bool, true, false, List, [], ◌∷◌, ◌++◌, map, Option, Some, None, cond, Ok, Err, IfOk, refl, sym, ap, ◌∙◌, option_and_then, option_map}
+use Rattle.std.proofs.Common.{◌≡◌, Bool, true, false, List, [], ◌∷◌, ◌++◌, map, Option, Some, None, cond, Ok, Err, IfOk, refl, ap, option_and_then, option_map}
 use Rattle.ct_value.specs.declared.codes.ScriptCode.{ScriptCode}
 use Rattle.ct_expr.specs.Types.{both_of}
 use Rattle.binding.specs.Checked.{Checked, ◌>>=◌}

@@ -1,15 +1,12 @@
 -- What a query is bound to has the query's answer: one induction over the tree, a clause a step.
-use Rattle.std.proofs.Common.{◌≡◌, ℕ, zero, suc, ◌+◌, Bool, true, false, ◌&&◌, ◌||◌, List, [], ◌∷◌, ◌++◌, map, length, Option, Some, None, cond, Ok, Err, IfOk, refl, sym, ap, ◌∙◌, subst, option_and_then, option_map, slice_get, unwrap_or, arith}
-use Rattle.std.specs.List.{AllByRecursion}
+use Rattle.std.proofs.Common.{◌≡◌, ℕ, zero, suc, ◌+◌, Bool, true, false, ◌&&◌, ◌||◌, List, [], ◌∷◌, map, length, Option, Some, None, cond, Ok, IfOk, refl, sym, ap, ◌∙◌, subst, option_map, slice_get, unwrap_or, arith}
 use Rattle.std.specs.Str.{bytes_eq}
 use Rattle.ct_value.specs.Bag.{none}
-use Rattle.ct_value.specs.Order.{row_cmp, row_total, row_exact}
+use Rattle.ct_value.specs.Order.{row_total, row_exact}
 use Rattle.ct_value.specs.declared.codes.ScriptCode.TheVariants.{TypeMismatch, Unsupported}
-use Rattle.ct_value.specs.declared.row.Row.{Row}
 use Rattle.ct_value.specs.declared.ty.ColTy.{ColTy}
 use Rattle.ct_change.specs.Changelog.{Rows}
 use Rattle.ct_expr.specs.Types.{both_of}
-use Rattle.ct_catalog.specs.declared.table.ColDef.{ColDef}
 use Rattle.ct_catalog.specs.declared.table.TableDef.{TableDef}
 use Rattle.rel_clauses.specs.Clauses.{Fits}
 use Rattle.rel_clauses.specs.Sums.{plus, together, Each}
@@ -18,22 +15,21 @@ use Rattle.rel_clauses.specs.laws.Fits.{fits-length}
 use Rattle.rel_algebra.specs.Answer.{Table, answer, answers, types_in, AreTyped}
 use Rattle.rel_algebra.specs.Rel.{Rel, Rels, no_rels, rel_and}
 use Rattle.rel_algebra.specs.Rel as r
-use Rattle.rel_algebra.specs.Types.{columns_of, union_columns, common_from, common_columns, common_column}
+use Rattle.rel_algebra.specs.Types.{columns_of, common_from, common_columns, common_column}
 use Rattle.sql_syntax.specs.Tree.{Text}
 use Rattle.sql_syntax.specs.Tree as t
-use Rattle.query_answer.specs.declared.scope.ScopeColumn.{ScopeColumn}
 use Rattle.query_answer.specs.Answer.{TableRows, Reach, Entry, types, entries, listed_trees, is_grouped, union, union_scope, retyped, find_table, table_scope}
 use Rattle.query_answer.specs.Answer as a
 use Rattle.query_answer.specs.Names.{Scope}
 use Rattle.binding.specs.Checked.{Checked, ◌>>=◌, or_code}
 use Rattle.binding.specs.Queries.{Relation, query_bound, selects_bound, select_bound, source_bound, find_source, union_of, united, is_plain}
 use Rattle.binding.specs.Queries as b
-use Rattle.query_laws.specs.Statement.{tables_of, table_of, has_full_unions, all_have_full_unions, has_idle_project, any_has_idle_project}
+use Rattle.query_laws.specs.Statement.{tables_of, table_of, all_have_full_unions, any_has_idle_project}
 use Rattle.query_laws.proofs.Bags.{each_map}
 use Rattle.query_laws.proofs.Clauses.{Fine}
 use Rattle.query_laws.proofs.GroupRight.{grouped_right}
-use Rattle.query_laws.proofs.Lists.{map_length, slice_map, both_true}
-use Rattle.query_laws.proofs.Options.{bind, weaker, tested_else, map_map, both_parts, map_parts, some_is}
+use Rattle.query_laws.proofs.Lists.{slice_map}
+use Rattle.query_laws.proofs.Options.{bind, weaker, tested_else, map_map, both_parts, some_is}
 use Rattle.query_laws.proofs.Selects.{reach, FineAt, Selected, where_right, plain_right, once_right}
 
 -- ---- FROM

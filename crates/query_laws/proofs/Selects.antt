@@ -1,8 +1,7 @@
 -- WHERE, the select list and DISTINCT: what `reach` says of the bound clause is the clause of what it says.
-use Rattle.std.proofs.Common.{◌≡◌, ℕ, zero, suc, ◌+◌, ◌==◌, Bool, true, false, List, [], ◌∷◌, ◌++◌, map, length, take, Option, Some, None, cond, Ok, Err, IfOk, refl, sym, ap, ◌∙◌, subst, option_and_then, option_map, slice_get, arith, append-nil}
-use Rattle.std.specs.Prelude.{flat_map, nat_le, nat_lt}
-use Rattle.std.proofs.Common.{le-leb, le_refl}
-use Rattle.ct_value.specs.Bag.{items}
+use Rattle.std.proofs.Common.{◌≡◌, ℕ, suc, ◌+◌, Bool, true, false, List, [], ◌∷◌, ◌++◌, map, length, take, Option, Some, None, cond, Ok, IfOk, refl, sym, ap, ◌∙◌, subst, option_and_then, option_map, slice_get, arith, append-nil}
+use Rattle.std.specs.Prelude.{flat_map, nat_lt}
+use Rattle.std.proofs.Common.{le-leb}
 use Rattle.ct_value.specs.Order.{row_cmp, row_total, row_exact}
 use Rattle.ct_value.specs.declared.codes.ScriptCode.TheVariants.{UnknownColumn, TooManyColumns}
 use Rattle.ct_value.specs.declared.row.Row.{Row}
@@ -11,15 +10,15 @@ use Rattle.ct_change.specs.Changelog.{Rows}
 use Rattle.ct_expr.specs.Expr.{Expr}
 use Rattle.ct_expr.specs.Eval.{eval}
 use Rattle.rel_clauses.specs.Aggregates.{agg_results}
-use Rattle.rel_clauses.specs.Clauses.{Meaning, holds, rows_where, project_rows, filter_rows}
+use Rattle.rel_clauses.specs.Clauses.{holds, rows_where, project_rows, filter_rows}
 use Rattle.rel_clauses.specs.Groups.{group_rows, group_columns}
-use Rattle.rel_clauses.specs.Sums.{one, distinct, mapped, sum_over, Each}
+use Rattle.rel_clauses.specs.Sums.{one, distinct, sum_over, Each}
 use Rattle.rel_clauses.specs.laws.Bags.{each-distinct}
 use Rattle.rel_clauses.specs.laws.Clauses.{each-rows_where}
-use Rattle.rel_algebra.specs.Answer.{Table, answer, types_in, columns_in}
+use Rattle.rel_algebra.specs.Answer.{Table, answer, columns_in}
 use Rattle.rel_algebra.specs.Rel.{Rel}
 use Rattle.rel_algebra.specs.Rel as r
-use Rattle.rel_algebra.specs.Types.{columns_of, columns_if, is_condition}
+use Rattle.rel_algebra.specs.Types.{columns_if, is_condition}
 use Rattle.sql_syntax.specs.Tree as t
 use Rattle.query_answer.specs.declared.scope.ScopeColumn.{ScopeColumn}
 use Rattle.query_answer.specs.Answer.{Reach, Listed, Placed, Written, NoSource, Entry, over, conjuncts, listed_over, found_at, listed_calls, types, under, some_column}
@@ -28,8 +27,8 @@ use Rattle.query_answer.specs.Calls.{Call}
 use Rattle.query_answer.specs.Groups.{meanings}
 use Rattle.query_answer.specs.Names.{Scope, column_at}
 use Rattle.query_answer.specs.Stands as s
-use Rattle.query_answer.specs.Table.{Typed, conjunction}
-use Rattle.binding.specs.Checked.{Checked, ◌>>=◌, or_code}
+use Rattle.query_answer.specs.Table.{Typed}
+use Rattle.binding.specs.Checked.{◌>>=◌, or_code}
 use Rattle.binding.specs.Expressions.{Leaf, column, conditions, conjuncts_bound}
 use Rattle.binding.specs.Nodes.{Bound, expr_list}
 use Rattle.binding.specs.Queries.{Relation, Lister, all_of, projected, in_turn, few, list_bound, plain_listed}
@@ -40,7 +39,7 @@ use Rattle.query_laws.proofs.Clauses.{AllTyped, tys, Fine, projected_rows}
 use Rattle.query_laws.proofs.Lists.{map_length, slice_map, take_whole}
 use Rattle.query_laws.proofs.Names.{Same, Is, AllAre, AreTruths, column_is, over_means, conjuncts_mean, conditions_are, all_of_holds, all_of_boolean}
 use Rattle.query_laws.proofs.Nodes as k
-use Rattle.query_laws.proofs.Options.{bind, weaker, tested}
+use Rattle.query_laws.proofs.Options.{bind, tested}
 
 -- ---- what is listed, one after the other
 
@@ -198,7 +197,7 @@ module _ (tables : List Table) where
           ∙ ap Some (append-nil (take (length x.scope) (types x.scope)) ∙ take_whole (types x.scope) (length x.scope) width);
       wide = λ rows q. subst (λ (c : Rows). Each (λ row. length row ≡ length (types x.scope)) c) refl (kept (answer tables x.rel) refl rows (sym (rows_same (answer tables x.rel) refl) ∙ q));
       unions = f.unions;
-    projects = f.projects;
+      projects = f.projects;
     },
   )
     where

@@ -1,8 +1,7 @@
 -- A tree that doesn't scan the last table has its answer and its columns without that table.
-use Rattle.std.proofs.Common.{◌≡◌, ℕ, zero, suc, ◌+◌, ◌==◌, Bool, true, false, ◌||◌, List, [], ◌∷◌, ◌++◌, map, length, Option, Some, None, cond, refl, sym, ap, ◌∙◌, option_and_then, option_map, slice_get, unwrap_or, arith, eq-eqb, eqb-true}
+use Rattle.std.proofs.Common.{◌≡◌, ℕ, zero, suc, ◌==◌, Bool, true, false, ◌||◌, List, [], ◌∷◌, ◌++◌, map, length, Option, Some, refl, sym, ap, ◌∙◌, option_and_then, slice_get, unwrap_or, eq-eqb, eqb-true}
 use Rattle.ct_value.specs.Bag.{none}
 use Rattle.ct_value.specs.declared.ty.ColTy.{ColTy}
-use Rattle.ct_change.specs.Changelog.{Rows}
 use Rattle.ct_expr.specs.Types.{both_of}
 use Rattle.rel_clauses.specs.Groups.{group_columns}
 use Rattle.rel_clauses.specs.Joins.{join_columns}

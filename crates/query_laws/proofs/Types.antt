@@ -1,14 +1,12 @@
 -- What an expression says of its type is its type, where it has one.
-use Rattle.std.proofs.Common.{◌≡◌, ℕ, Bool, true, false, ◌&&◌, ◌==◌, List, [], ◌∷◌, Option, Some, None, refl, sym, ap, ◌∙◌, fold, option_and_then, option_map, slice_get, cond, unwrap_or, eq-eqb}
+use Rattle.std.proofs.Common.{◌≡◌, ℕ, Bool, true, false, ◌&&◌, ◌==◌, List, [], ◌∷◌, Option, Some, None, refl, sym, ap, ◌∙◌, fold, option_map, slice_get, cond, unwrap_or, eq-eqb}
 use Rattle.std.proofs.lemmas.Bool.{eqb-true}
 use Rattle.ct_value.specs.declared.ty.ColTy.{ColTy}
 use Rattle.ct_value.specs.declared.ty.Ty.{Ty}
 use Rattle.ct_value.specs.declared.ty.Ty.TheVariants.{Bool as Truths, Int, BigInt, Decimal, Text as Texts}
-use Rattle.ct_value.specs.declared.value.Value.{Value}
 use Rattle.ct_field.specs.Numbers.{is_type}
-use Rattle.ct_expr.specs.declared.expr.ArithOp.{ArithOp}
 use Rattle.ct_expr.specs.Expr.{Expr, Exprs, Whens, OptionalExpr, Column, Literal, Neg, Arith, Compare, And, Or, Not, IsNull, InList, Case, Coalesce, NullIf, Cast, Concat, CharLength, Like, no_exprs, expr_and, no_whens, when_and, no_expr, some_expr}
-use Rattle.ct_expr.specs.Types.{same_ty, common_ty, col, both_of, gather, begun, joined, gather_some, column_col, literal_col, number_col, arith_col, arith_ty, compare_col, logic_col, truth_col, all_truths, null_test_col, in_list_col, case_col, coalesce_col, null_if_col, cast_col, texts_col, char_length_col, or_null, value_fits, is_null, can_arith, comparable, can_cast, is_truths, is_texts, is_number, type_of, types_of, conds_of, results_of, otherwise_of, wider, with_ty, widest, ty_of, tys_of, result_tys, otherwise_ty}
+use Rattle.ct_expr.specs.Types.{same_ty, common_ty, col, both_of, gather, joined, gather_some, number_col, arith_col, arith_ty, compare_col, logic_col, truth_col, all_truths, null_test_col, in_list_col, case_col, coalesce_col, null_if_col, cast_col, texts_col, char_length_col, or_null, value_fits, is_null, can_arith, comparable, can_cast, is_truths, is_texts, is_number, type_of, types_of, conds_of, results_of, otherwise_of, wider, with_ty, widest, ty_of, tys_of, result_tys, otherwise_ty}
 use Rattle.query_laws.proofs.Options.{cond_some, cond_true, and_then_parts, both_parts, map_parts, some_is}
 
 -- ---- types that are the same

@@ -1,5 +1,5 @@
 -- What the theorem speaks of: the tables of a query as the algebra sees them, and trees whose unions have two inputs or more.
-use Rattle.std.specs.Prelude.{ℕ, Bool, true, false, ◌&&◌, ◌||◌, List, [], map, length, Option}
+use Rattle.std.specs.Prelude.{Bool, true, false, ◌&&◌, ◌||◌, List, [], map, length}
 use Rattle.std.specs.Option.{unwrap_or}
 use Rattle.ct_value.specs.declared.ty.ColTy.{ColTy}
 use Rattle.ct_expr.specs.Expr.{Expr}

@@ -1,5 +1,5 @@
 -- Both are parts of the one fact of the induction over queries.
-use Rattle.std.proofs.Common.{ap, map}
+use Rattle.std.proofs.Common.{ap}
 use Rattle.binding.specs.Queries.{query_bound}
 use Rattle.query_laws.specs.Statement.{declared}
 use Rattle.query_laws.proofs.Options.{weaker}
