@@ -13,8 +13,8 @@ use Rattle.count_rules.specs.Rule.{CountRule}
 use Rattle.op_rules.specs.Rules.{Answer}
 use Rattle.count_rules.specs.Rules.{emits, opening}
 use Rattle.job_text.specs.Lines.{refusal}
-use Rattle.job_text.specs.declared.printed.PrintItem.{PrintItem}
-use Rattle.job_text.specs.declared.printed.PrintItem.TheVariants.{Change as Printed}
+use Rattle.stream_model.specs.declared.events.PrintItem.{PrintItem}
+use Rattle.stream_model.specs.declared.events.PrintItem.TheVariants.{Change as Printed}
 
 -- ---- plans
 

@@ -12,8 +12,8 @@ use Rattle.exec_core.specs.Machine.{scan, run, Plan, State, Event, take, move, S
 use Rattle.exec_core.specs.Pieces.{piece_of, pieces_of, joined-append, joined-push}
 use Rattle.job_forms.specs.Plan.{node}
 use Rattle.job_forms.specs.Run.{takes, whole_run}
-use Rattle.job_text.specs.declared.printed.PrintItem.{PrintItem}
-use Rattle.job_text.specs.declared.printed.PrintItem.TheVariants.{Change as Printed}
+use Rattle.stream_model.specs.declared.events.PrintItem.{PrintItem}
+use Rattle.stream_model.specs.declared.events.PrintItem.TheVariants.{Change as Printed}
 
 -- what stands at the places of a state that these plans use
 pub record View : Type 0 where

@@ -10,8 +10,8 @@ use Rattle.count_rules.specs.Rule.{output_kinds}
 use Rattle.op_rules.specs.Rules.{Answer}
 use Rattle.op_rules.specs.laws.Histories.{all-each, ok-same}
 use Rattle.job_ending.specs.declared.ending.Ending.TheVariants as e
-use Rattle.job_text.specs.declared.printed.PrintItem.{PrintItem}
-use Rattle.job_text.specs.declared.printed.PrintItem.TheVariants.{Change as Printed, Quiet}
+use Rattle.stream_model.specs.declared.events.PrintItem.{PrintItem}
+use Rattle.stream_model.specs.declared.events.PrintItem.TheVariants.{Change as Printed, Quiet}
 use Rattle.job_forms.specs.declared.accepted.Accepted.{Accepted}
 use Rattle.job_forms.specs.Lawful.{IsLawful}
 use Rattle.job_forms.specs.Answer.{select_rows, answer_counted, answer}

@@ -15,7 +15,7 @@ use Rattle.ct_catalog.specs.declared.table.ColDef.{ColDef}
 use Rattle.ct_catalog.specs.declared.table.TableDef.{TableDef}
 use Rattle.job_forms.specs.declared.accepted.Accepted.{Accepted}
 use Rattle.exec_core.specs.declared.intake.Intake.{Intake}
-use Rattle.job_text.specs.declared.printed.PrintItem.TheVariants.{Change as Printed}
+use Rattle.stream_model.specs.declared.events.PrintItem.TheVariants.{Change as Printed}
 use Rattle.exec_core.specs.Intake.{AllTaken, StandsFor, Holds}
 use Rattle.exec_core.specs.Scans.{IsBagMode}
 use Rattle.job_forms.specs.Lawful.{IsLawful}

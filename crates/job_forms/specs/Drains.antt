@@ -7,7 +7,7 @@ use Rattle.count_rules.specs.Rule.{group}
 use Rattle.op_rules.specs.Rules.{Answer}
 use Rattle.count_rules.specs.Rules.{emitted_after}
 use Rattle.job_ending.specs.declared.ending.Ending.TheVariants.{Done, Range}
-use Rattle.job_text.specs.declared.printed.PrintItem.TheVariants.{Change as Printed, Quiet}
+use Rattle.stream_model.specs.declared.events.PrintItem.TheVariants.{Change as Printed, Quiet}
 use Rattle.job_forms.specs.declared.accepted.Accepted.{Accepted}
 use Rattle.job_ending.specs.Outcome.{Outcome}
 use Rattle.exec_core.specs.Pieces.{pieces_of}

@@ -5,8 +5,8 @@ use Rattle.ct_change.specs.declared.kind.KindSet.{KindSet}
 use Rattle.ct_change.specs.declared.change.Change.{Change}
 use Rattle.ct_change.specs.Changelog.{Mode, retract, Rows, fold, IsValid, AreOf, kinds_of}
 use Rattle.count_rules.specs.Rule.{output_kinds}
-use Rattle.job_text.specs.declared.printed.PrintItem.{PrintItem}
-use Rattle.job_text.specs.declared.printed.PrintItem.TheVariants.{Change as Printed, Quiet}
+use Rattle.stream_model.specs.declared.events.PrintItem.{PrintItem}
+use Rattle.stream_model.specs.declared.events.PrintItem.TheVariants.{Change as Printed, Quiet}
 use Rattle.job_forms.specs.declared.accepted.Accepted.{Accepted}
 use Rattle.job_text.specs.Lines.{source_mode, change_of}
 use Rattle.job_forms.specs.Answer.{answer}

@@ -6,7 +6,7 @@ use Rattle.ct_change.specs.declared.change.Change.{Change as TableChange}
 use Rattle.job_ending.specs.declared.ending.Ending.{Ending}
 use Rattle.job_ending.specs.declared.ending.Ending.TheVariants.{Done, Change, Order, Range}
 use Rattle.job_ending.specs.Outcome.{Outcome, ends}
-use Rattle.job_text.specs.declared.printed.PrintItem.TheVariants.{Quiet}
+use Rattle.stream_model.specs.declared.events.PrintItem.TheVariants.{Quiet}
 use Rattle.job_text.specs.Lines.{plain_text, lines_of, taken_of}
 use Rattle.job_text.specs.Printed.{text_of}
 use Rattle.exec_core.specs.Machine.{Plan, Event, take, Stop, refused, misplaced, out_of_range, Ran, opened, run_events, drain}

@@ -3,7 +3,7 @@ use Rattle.std.proofs.Common.{◌≡◌, ℕ, List, [], ◌∷◌, ◌++◌, map
 use Rattle.ct_io.specs.Written.{Appends, AppendsUpTo, AppendsPart}
 use Rattle.ct_io.specs.Appending.{appends_both, up_to_end}
 use Rattle.ct_change.specs.declared.change.Change.{Change as TableChange}
-use Rattle.job_text.specs.declared.printed.PrintItem.TheVariants.{Change, Quiet}
+use Rattle.stream_model.specs.declared.events.PrintItem.TheVariants.{Change, Quiet}
 use Rattle.job_text.specs.Printed.{item_text, text_of}
 
 -- the lines of changes and of a quiet moment behind them

@@ -5,8 +5,8 @@ use Rattle.ct_value.specs.declared.value.Value.{Value}
 use Rattle.ct_value.specs.declared.value.Value.TheVariants.{Null, Bool as Truth, Num, Text}
 use Rattle.ct_change.specs.declared.kind.Kind.{Kind}
 use Rattle.ct_change.specs.declared.kind.Kind.TheVariants.{I, UB, UA, D}
-use Rattle.job_text.specs.declared.printed.PrintItem.{PrintItem}
-use Rattle.job_text.specs.declared.printed.PrintItem.TheVariants.{Change, Quiet}
+use Rattle.stream_model.specs.declared.events.PrintItem.{PrintItem}
+use Rattle.stream_model.specs.declared.events.PrintItem.TheVariants.{Change, Quiet}
 
 abbrev pub kind_text : Kind → List ℕ
 kind_text I = codes "+I"

@@ -3,12 +3,13 @@ ghost use Rattle.ct_io.specs.Counts.{Rose};
 ghost use Rattle.ct_io.specs.Written.{Appends, AppendsPart};
 ghost use Rattle.job_text.specs.Printed.{item_text, text_of};
 
-use crate::printed::{PrintItem, push_item};
+use crate::printed::push_item;
 use crate::put::put_all;
 use ct_change::Changes;
 use ct_io::Sink;
 use ct_value::{Bytes, Memory};
 use std::alloc::Global;
+use stream_model::PrintItem;
 
 /// Why an item is not printed.
 #[derive(Clone, Copy, Debug, PartialEq, Eq)]

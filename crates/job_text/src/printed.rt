@@ -4,13 +4,7 @@ ghost use Rattle.job_text.specs.Printed.{kind_text, escaped, field_text, fields_
 use ct_change::{Change, Kind};
 use ct_value::{Bytes, Memory, Row, Text, Value};
 use std::alloc::Global;
-
-/// What a job prints, line by line: a change of the sink, or the quiet moment after so many lines were taken.
-#[derive(Debug, Drop)]
-pub enum PrintItem {
-    Change(Change),
-    Quiet(u32),
-}
+use stream_model::PrintItem;
 
 /// Puts the line of an item behind a text.
 pub fn push_item(alloc: Global, text: &mut Bytes, item: &PrintItem) -> Result<(), Memory>

@@ -2,7 +2,7 @@ use Rattle.std.proofs.Common.{◌≡◌, ◌++◌, [], arith}
 use Rattle.std.proofs.lemmas.Grind.{common_steps}
 use Rattle.std.specs.Vec.Iter.{into_iter_items}
 use Rattle.job_text.specs.Printed.{item_text}
-use Rattle.job_text.specs.declared.printed.PrintItem.TheVariants.{Change}
+use Rattle.stream_model.specs.declared.events.PrintItem.TheVariants.{Change}
 use Rattle.job_text.proofs.Prints.{lines_text, next_text, last_text, up_to_piece, part_in_piece, whole_at_last, part_at_last}
 use Rattle.job_text.proofs.print.print_all.Goals as goal
 

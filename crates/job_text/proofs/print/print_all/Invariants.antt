@@ -2,7 +2,7 @@ use Rattle.std.proofs.Common.{◌≤◌, ◌++◌, ◌∷◌, [], map}
 use Rattle.std.specs.Vec.Iter.{into_iter_items}
 use Rattle.ct_io.specs.Written.{AppendsUpTo}
 use Rattle.job_text.specs.Printed.{text_of}
-use Rattle.job_text.specs.declared.printed.PrintItem.TheVariants.{Change, Quiet}
+use Rattle.stream_model.specs.declared.events.PrintItem.TheVariants.{Change, Quiet}
 use Rattle.job_text.proofs.print.print_all.Given as goal
 
 abbrev pub invariant-loop-change : goal.invariant-loop-change
