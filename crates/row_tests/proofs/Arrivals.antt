@@ -1,11 +1,11 @@
 -- A row may come to an operator that took nothing.
-use Rattle.std.proofs.Common.{◌≡◌, ℕ, ◌<◌, true, List, [], ◌∷◌, length, Option, None, refl, sym, ap, subst, ◌∙◌, arith}
+use Rattle.std.proofs.Common.{◌≡◌, ℕ, ◌<◌, true, [], ◌∷◌, length, refl, sym, ap, subst, arith}
 use Rattle.ct_change.specs.declared.kind.Kind.TheVariants.{I}
 use Rattle.ct_change.specs.declared.change.Change.{Change}
 use Rattle.std.specs.List.{AllByRecursion}
-use Rattle.ct_change.specs.Changelog.{Mode, retract, upsert, adds, admits}
+use Rattle.ct_change.specs.Changelog.{retract, upsert, adds, admits}
 use Rattle.op_rules.specs.History.{arrival}
-use Rattle.op_rules.specs.Rules.{Answer, Rule, MayArrive}
+use Rattle.op_rules.specs.Rules.{Answer, MayArrive}
 use Rattle.row_rules.specs.Changes.{row_rule}
 use Rattle.row_rules.specs.Normalize.{Normalize, normalize_rule}
 

@@ -36,10 +36,10 @@ pub changes_of-append : (xs ys : List Arrival) → changes_of (xs ++ ys) ≡ cha
 changes_of-append [] ys = refl
 changes_of-append (x ∷ xs) ys = ap (λ zs. x.change ∷ zs) (changes_of-append xs ys)
 
-pub along-each : (ports : ℕ) (mode : Mode) (answer : Change → Answer) (before : List Arrival) (pieces : List (List Arrival)) → along (λ b piece. each_change answer (changes_of piece)) before pieces ≡ each_change answer (changes_of (joined pieces))
-along-each ports mode answer before [] = refl
-along-each ports mode answer before (piece ∷ pieces) =
-    ap (appended (each_change answer (changes_of piece))) (along-each ports mode answer (before ++ piece) pieces)
+pub along-each : (answer : Change → Answer) (before : List Arrival) (pieces : List (List Arrival)) → along (λ b piece. each_change answer (changes_of piece)) before pieces ≡ each_change answer (changes_of (joined pieces))
+along-each answer before [] = refl
+along-each answer before (piece ∷ pieces) =
+    ap (appended (each_change answer (changes_of piece))) (along-each answer (before ++ piece) pieces)
     ∙ sym (each_change-append answer (changes_of piece) (changes_of (joined pieces)))
     ∙ ap (each_change answer) (sym (changes_of-append piece (joined pieces)))
 
@@ -113,7 +113,7 @@ module _ (fate : Row → Fate) (turn : Kind → Kind) (stays : (kind : Kind) →
       told : InRange (at_port 0 (joined pieces)) × (sent ≡ becomes (at_port 0 (joined pieces)))
       told = answered fate turn stays answer is (at_port 0 (joined pieces)) sent
           (ap (each_change answer) (sym (first_port (joined pieces) e.ready.ports))
-          ∙ sym (along-each 1 mode answer [] pieces)
+          ∙ sym (along-each answer [] pieces)
           ∙ sym (appended-nothing (along (λ b piece. each_change answer (changes_of piece)) [] pieces))
           ∙ e.emitted)
 

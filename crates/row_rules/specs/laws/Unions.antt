@@ -122,7 +122,7 @@ module _ (union : Union) (many : ℕ) (from : ℕ → Edge) (to : Edge) (fits : 
   sent_is j pieces sent e =
       ok-same (changes_of (joined pieces)) sent
       (sym (each-same (changes_of (joined pieces)))
-      ∙ sym (along-each union.inputs retract union_change [] pieces)
+      ∙ sym (along-each union_change [] pieces)
       ∙ sym (appended-nothing (along (λ b piece. each_change union_change (changes_of piece)) [] pieces))
       ∙ e.emitted)
 
