@@ -1,7 +1,7 @@
 -- The answer for one change, as a rule on single rows emits it.
 use Rattle.std.proofs.Common.{◌≡◌, [], ◌∷◌, ◌∙◌}
 use Rattle.ct_change.specs.declared.change.Change.{Change}
-use Rattle.op_rules.specs.Rules.{Answer, appended}
+use Rattle.op_rules.specs.Rules.{Answer}
 use Rattle.row_rules.specs.Changes.{each_change}
 use Rattle.row_rules.specs.laws.Answers.{each_change-one}
 

@@ -53,7 +53,12 @@ impl<O: OutMode> NormalizeOp<O> {
         ensures same { (self.new.input ≡ self.old.input) × (self.new.output ≡ self.old.output) × (self.new.broken ≡ self.old.broken) }
     {
         let diff = self.input.absorb(&mut self.kept, change)?;
-        let sent = told(self.alloc, &self.output, row_in(diff.gone), row_in(diff.come))?;
+        let sent = told(
+            self.alloc,
+            &self.output,
+            row_in(diff.gone),
+            row_in(diff.come),
+        )?;
         Ok(sent)
     }
 }
@@ -107,7 +112,12 @@ fn row_in(change: Option<Change>) -> Option<Row>
 }
 
 // The changes that replace one row by the other.
-fn told<O: OutMode>(alloc: Global, output: &O, old: Option<Row>, fresh: Option<Row>) -> Result<Changes, Memory>
+fn told<O: OutMode>(
+    alloc: Global,
+    output: &O,
+    old: Option<Row>,
+    fresh: Option<Row>,
+) -> Result<Changes, Memory>
     requires { CanTell (O.mode output.now) old fresh }
     ensures { IfOk result (λ sent. sent ≡ emission (O.mode output.now) old fresh) }
 {

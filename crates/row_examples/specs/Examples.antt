@@ -1,5 +1,5 @@
 -- Worked histories: a rule, what comes at which port, and what is emitted, or the row at which it is out of range.
-use Rattle.std.specs.Prelude.{ℕ, pos, negsuc, true, false, List, [], ◌∷◌, map, ◌++◌, codes, Option, Some, None, Ok, Err}
+use Rattle.std.specs.Prelude.{ℕ, pos, List, [], ◌∷◌, map, ◌++◌, codes, Some, None, Ok, Err}
 use Rattle.ct_value.specs.declared.row.Row.{Row}
 use Rattle.ct_value.specs.declared.ty.Ty.TheVariants.{Int, Text as Texts}
 use Rattle.ct_value.specs.declared.value.CompareOp.TheVariants.{Gt}

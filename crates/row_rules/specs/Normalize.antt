@@ -4,7 +4,7 @@ use Rattle.std.specs.List.{Contains}
 use Rattle.ct_value.specs.declared.row.Row.{Row}
 use Rattle.ct_change.specs.declared.kind.Kind.{Kind}
 use Rattle.ct_change.specs.declared.change.Change.{Change}
-use Rattle.ct_change.specs.Changelog.{Mode, append, retract, upsert, Rows, adds, has, admits, kinds_of, row_at, apply, fold, HasKey}
+use Rattle.ct_change.specs.Changelog.{Mode, append, retract, upsert, Rows, adds, has, admits, row_at, apply, fold, HasKey}
 use Rattle.ct_change.specs.Emission.{emission}
 use Rattle.op_rules.specs.Rules.{Answer, Rule}
 use Rattle.op_rules.specs.Edges.{last_rows, meaning_of, hash, Edge, LiesIn, HoldsOver}

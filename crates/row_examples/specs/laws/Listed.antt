@@ -1,5 +1,5 @@
 -- What is computed on the list is what the normalizer's rule emits.
-use Rattle.std.proofs.Common.{◌≡◌, ℕ, Bool, true, false, cond, List, [], ◌∷◌, ◌++◌, map, Option, Some, None, Ok, refl, sym, ap, subst, ◌∙◌, append-nil}
+use Rattle.std.proofs.Common.{◌≡◌, ℕ, true, false, cond, List, [], ◌∷◌, ◌++◌, map, None, Ok, refl, ap, ◌∙◌, append-nil}
 use Rattle.std.specs.FinMap as map
 use Rattle.ct_value.specs.Bag.{none}
 use Rattle.ct_value.specs.Order.{row_cmp, row_total}
@@ -9,13 +9,12 @@ use Rattle.ct_change.specs.declared.change.Change.{Change}
 use Rattle.ct_change.specs.Changelog.{upsert, Rows, same_row, adds, row_at, apply, fold, fold_from}
 use Rattle.ct_change.specs.Emission.{emission}
 use Rattle.ct_change.specs.LastRows.{Lasts, AreLast, last_after}
-use Rattle.ct_change.specs.laws.Folds.{fold-push}
 use Rattle.ct_change.specs.laws.Lasts.{last_none, last-after}
 use Rattle.op_rules.specs.History.{Arrival, arrival}
 use Rattle.op_rules.specs.Rules.{Answer, appended, along, emitted}
 use Rattle.op_rules.specs.laws.Histories.{appended-nothing}
 use Rattle.row_rules.specs.Changes.{changes_of}
-use Rattle.row_rules.specs.Normalize.{Normalize, row_left, normalized, normalized_all, normalize_emits, normalize_rule}
+use Rattle.row_rules.specs.Normalize.{Normalize, row_left, normalized, normalize_emits, normalize_rule}
 use Rattle.row_rules.specs.laws.RowFacts.{changes_of-append}
 use Rattle.row_examples.specs.Examples.{examples, normalized_examples, arrivals}
 use Rattle.row_examples.specs.Listed.{last_of, listed_changes}

@@ -1,6 +1,5 @@
 -- The answer for one change.
-use Rattle.std.proofs.Common.{◌≡◌, List, [], ◌∷◌, ◌++◌, Ok, Err, refl, ap, append-nil}
-use Rattle.ct_value.specs.declared.row.Row.{Row}
+use Rattle.std.proofs.Common.{◌≡◌, List, [], ◌∷◌, Ok, Err, refl, ap, append-nil}
 use Rattle.ct_change.specs.declared.change.Change.{Change}
 use Rattle.op_rules.specs.Rules.{Answer, appended}
 use Rattle.row_rules.specs.Changes.{each_change}

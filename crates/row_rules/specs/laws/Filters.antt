@@ -11,7 +11,7 @@ use Rattle.ct_expr.specs.Eval.{eval}
 use Rattle.rel_clauses.specs.Clauses.{holds}
 use Rattle.rel_clauses.specs.Sums.{kept, sum_over}
 use Rattle.rel_algebra.specs.Batch.{filter_answer}
-use Rattle.op_rules.specs.Edges.{Meaning, bag, last_rows, partials, Edge}
+use Rattle.op_rules.specs.Edges.{Meaning, bag, Edge}
 use Rattle.op_rules.specs.Ports.{IsReadIn, Takes}
 use Rattle.row_rules.specs.Filter.{Filter, kept_where, filter_change, filter_rule, FilterFits, FiltersStand, FiltersTake}
 use Rattle.row_rules.specs.laws.Moved.{Fate, moved, shown, image, Carries}

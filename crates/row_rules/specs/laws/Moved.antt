@@ -1,19 +1,19 @@
 -- Changes whose rows become others, each by itself: what they stand for.
-use Rattle.std.proofs.Common.{◌≡◌, ℕ, zero, suc, ◌+◌, ◌<◌, ◌≤◌, ◌==◌, Bool, true, false, cond, List, [], ◌∷◌, ◌++◌, take, Option, Some, None, Ok, Err, refl, sym, ap, subst, ◌∙◌, arith}
+use Rattle.std.proofs.Common.{◌≡◌, ℕ, zero, suc, ◌+◌, ◌<◌, ◌≤◌, Bool, true, false, cond, List, [], ◌∷◌, ◌++◌, take, Option, Some, None, Ok, Err, refl, sym, ap, ◌∙◌, arith}
 use Rattle.std.specs.Prelude.{option_map, is_some}
 use Rattle.std.specs.List.{AllByRecursion}
-use Rattle.ct_value.specs.Bag.{copies, none, total, weigh, one_at, one_at_itself, same_bag, copies-none, copies-occurs, total-none}
+use Rattle.ct_value.specs.Bag.{copies, none, total, one_at, one_at_itself, copies-none, copies-occurs, total-none}
 use Rattle.ct_value.specs.Order.{row_cmp, row_total, row_exact}
 use Rattle.ct_value.specs.Rows.{project}
 use Rattle.ct_value.specs.declared.row.Row.{Row}
 use Rattle.ct_change.specs.declared.kind.Kind.{Kind}
 use Rattle.ct_change.specs.declared.change.Change.{Change}
-use Rattle.ct_change.specs.Changelog.{Mode, retract, upsert, Rows, same_row, adds, admits, addition, removal, additions, removals, last_shown, apply, fold, fold_from, Means}
+use Rattle.ct_change.specs.Changelog.{retract, upsert, Rows, same_row, adds, admits, addition, additions, removals, last_shown, apply, fold, fold_from, Means}
 use Rattle.ct_change.specs.laws.Meanings.{same_row-true, same_row-itself, means_rows, fold_means, valid-upsert, in_key, IsOnce, once_after, copies-upsert}
-use Rattle.rel_clauses.specs.Sums.{one, together, plus, sum_over, Each}
+use Rattle.rel_clauses.specs.Sums.{one, together, plus, sum_over}
 use Rattle.rel_clauses.specs.laws.Bags.{copies-each, copies-one, copies-together, some_weighs, weight, total-one, total-sum_over, sum_over-none, sum_over-together, sum_over-same, sum_over-some}
 use Rattle.op_rules.specs.Edges.{IsUnique}
-use Rattle.op_rules.specs.Rules.{Answer, appended}
+use Rattle.op_rules.specs.Rules.{Answer}
 use Rattle.op_rules.specs.Tasks.{total as total_below}
 use Rattle.op_rules.specs.laws.Histories.{both-appended, ok-same}
 use Rattle.row_rules.specs.Changes.{each_change}
@@ -165,12 +165,11 @@ module _ (fate : Row → Fate) (turn : Kind → Kind) (stays : (kind : Kind) →
   -- it is there where none of its rows is out of range
   image-some : (rows : Rows) → ((row : Row) → 0 < copies rows row → is_some (fate row) ≡ true) → (answer : Rows) × (image rows ≡ Some answer)
   image-some rows known =
-      let all = sum_over-some row_total row_exact row_total row_exact (λ row. Some (sure (fate row))) (λ row. (sure (fate row), refl)) rows in
-      (
+      let all = sum_over-some row_total row_exact row_total row_exact (λ row. Some (sure (fate row))) (λ row. (sure (fate row), refl)) rows in (
         all.0,
         sum_over-same row_total row_exact row_total row_exact (λ row. option_map shown (fate row)) (λ row. Some (sure (fate row))) rows
             (copies-each row_total row_exact (λ row. option_map shown (fate row) ≡ Some (sure (fate row))) rows (λ row p. certain (fate row) (known row p)))
-        ∙ all.1,
+            ∙ all.1,
       )
     where
       sure : Fate → Rows
@@ -299,9 +298,12 @@ module _ (fate : Row → Fate) (turn : Kind → Kind) (stays : (kind : Kind) →
         → (answer : Rows) × (image rows ≡ Some answer) × Means (upsert key) (sent_of changes) answer
     moved_last changes rows kinds known means =
         let made = image-some rows (means_rows (λ row. is_some (fate row) ≡ true) (upsert own) changes rows means known) in
-        let folded : rows ≡ fold (upsert own) changes = fold_means (upsert own) changes rows (valid-upsert own none changes kinds) means in
-        (made.0, made.1, λ row.
-            copies-image rows made.0 made.1 row
-            ∙ ap (total (becomes row)) folded
-            ∙ last-sent row none (λ other. let e = total-none row_total (in_key own other) in omega arith) changes known
-            ∙ ap (λ n. last_shown key row n (sent_of changes)) (total-none row_total (becomes row)))
+        let folded : rows ≡ fold (upsert own) changes = fold_means (upsert own) changes rows (valid-upsert own none changes kinds) means in (
+          made.0,
+          made.1,
+          λ row.
+              copies-image rows made.0 made.1 row
+              ∙ ap (total (becomes row)) folded
+              ∙ last-sent row none (λ other. let e = total-none row_total (in_key own other) in omega arith) changes known
+              ∙ ap (λ n. last_shown key row n (sent_of changes)) (total-none row_total (becomes row)),
+        )

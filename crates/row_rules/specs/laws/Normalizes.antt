@@ -1,18 +1,18 @@
 -- A normalize meets its facts.
-use Rattle.std.proofs.Common.{◌≡◌, ℕ, zero, suc, ◌<◌, ◌≤◌, ◌==◌, true, false, cond, List, [], ◌∷◌, ◌++◌, take, Option, Some, Ok, refl, sym, ap, subst, ◌∙◌, arith, eqb}
-use Rattle.std.specs.List.{Contains, AllByRecursion}
-use Rattle.ct_value.specs.Bag.{copies, none, total, total-none, copies-none}
+use Rattle.std.proofs.Common.{◌≡◌, ℕ, ◌<◌, ◌==◌, true, cond, List, [], ◌∷◌, ◌++◌, take, Some, Ok, refl, sym, ap, subst, ◌∙◌, arith}
+use Rattle.std.specs.List.{AllByRecursion}
+use Rattle.ct_value.specs.Bag.{copies, none, total-none, copies-none}
 use Rattle.ct_value.specs.Order.{row_total}
 use Rattle.ct_value.specs.Rows.{project}
 use Rattle.ct_value.specs.declared.row.Row.{Row}
 use Rattle.ct_change.specs.declared.change.Change.{Change}
-use Rattle.ct_change.specs.Changelog.{Mode, append, retract, upsert, Rows, has, admits, AreOf, fold, fold_from, IsValid, Means}
+use Rattle.ct_change.specs.Changelog.{Mode, append, retract, upsert, Rows, AreOf, fold, fold_from, IsValid, Means}
 use Rattle.ct_change.specs.laws.Folds.{fold_from-append}
 use Rattle.ct_change.specs.laws.Meanings.{in_key, IsOnce, means_fold, fold_means, prefixes_mean, valid-upsert, IsValidFrom-take}
 use Rattle.op_rules.specs.History.{Arrival, at_port, joined}
 use Rattle.op_rules.specs.Rules.{Answer, appended, along}
-use Rattle.op_rules.specs.Edges.{Meaning, bag, last_rows, partials, meaning_of, ReadsAs, hash, Edge, IsRoutedBy, IsUnique, IsApart, LiesIn, AreApartBy}
-use Rattle.op_rules.specs.Tasks.{Task, total as total_below, IsSplitBy, Emitted, AllEmitted, Facts, LocalKeysHold}
+use Rattle.op_rules.specs.Edges.{last_rows, meaning_of, ReadsAs, hash, Edge, IsRoutedBy, IsUnique, IsApart, LiesIn, AreApartBy}
+use Rattle.op_rules.specs.Tasks.{Task, IsSplitBy, Emitted, AllEmitted, Facts}
 use Rattle.op_rules.specs.Ports.{IsReadIn, Takes}
 use Rattle.op_rules.specs.laws.Histories.{all-each, ok-same, appended-nothing}
 use Rattle.op_rules.specs.laws.LastRows.{last_unique}

@@ -1,7 +1,7 @@
 -- What a normalize emits: changes that are valid in its mode, and that leave the rows of the table.
-use Rattle.std.proofs.Common.{◌≡◌, ℕ, zero, suc, ◌+◌, ◌<◌, ◌≤◌, ◌==◌, Bool, true, false, cond, List, [], ◌∷◌, ◌++◌, take, Option, Some, None, refl, sym, ap, subst, ◌∙◌, arith, append_assoc, append-nil}
+use Rattle.std.proofs.Common.{◌≡◌, ℕ, zero, suc, ◌+◌, ◌<◌, ◌≤◌, Bool, true, false, cond, List, [], ◌∷◌, ◌++◌, take, Option, Some, None, refl, sym, ap, subst, ◌∙◌, arith, append_assoc}
 use Rattle.std.specs.List.{AllByRecursion, find}
-use Rattle.ct_value.specs.Bag.{items, copies, none, add, remove, total, weigh, weigh-sum, one_at, copies-occurs, copies-add, copies-remove, total-remove}
+use Rattle.ct_value.specs.Bag.{items, copies, add, remove, total, weigh-sum, one_at, copies-occurs, copies-add, copies-remove, total-remove}
 use Rattle.ct_value.specs.Order.{row_cmp, row_total, row_exact}
 use Rattle.ct_value.specs.Rows.{project}
 use Rattle.ct_value.specs.declared.row.Row.{Row}

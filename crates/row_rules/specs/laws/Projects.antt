@@ -4,27 +4,25 @@ use Rattle.std.specs.Prelude.{option_map, slice_get, slice_index_or}
 use Rattle.std.specs.List.{Contains, AllByRecursion}
 use Rattle.ct_value.specs.Rows.{project as values_of}
 use Rattle.ct_value.specs.declared.row.Row.{Row}
-use Rattle.ct_value.specs.declared.ty.Ty.{Ty}
 use Rattle.ct_value.specs.declared.value.Value.{Value}
 use Rattle.ct_value.specs.declared.value.Value.TheVariants.{Null}
 use Rattle.ct_change.specs.declared.kind.Kind.{Kind}
 use Rattle.ct_change.specs.declared.change.Change.{Change}
-use Rattle.ct_change.specs.Changelog.{Mode, Rows, adds, has, admits, upsert}
+use Rattle.ct_change.specs.Changelog.{Rows, adds, has, admits, upsert}
 use Rattle.ct_expr.specs.Expr.{Expr, Column}
 use Rattle.ct_expr.specs.Eval.{eval}
 use Rattle.rel_clauses.specs.Clauses.{collect, row_of}
 use Rattle.rel_clauses.specs.Sums.{one, sum_over}
 use Rattle.rel_algebra.specs.Batch.{project_answer}
-use Rattle.op_rules.specs.History.{Arrival, at_port}
-use Rattle.op_rules.specs.Edges.{Meaning, bag, last_rows, partials, meaning_of, IsPartial, ReadsAs, Edge}
-use Rattle.op_rules.specs.Tasks.{IsReady}
+use Rattle.op_rules.specs.History.{at_port}
+use Rattle.op_rules.specs.Edges.{Meaning, meaning_of, IsPartial, Edge}
 use Rattle.op_rules.specs.Ports.{IsReadIn, Takes}
 use Rattle.row_rules.specs.Changes.{mode_after}
 use Rattle.row_rules.specs.Project.{Project, with_row, row_made, project_change, project_rule, IsPlain, StayPlain, WritesImage, ProjectFits, ProjectsStand, ProjectsTake}
 use Rattle.row_rules.specs.laws.Moved.{Fate, moved, shown, image, Carries, AreInRange}
-use Rattle.row_rules.specs.laws.RowFacts.{Moves, LeavesOne, node, row_facts}
+use Rattle.row_rules.specs.laws.RowFacts.{Moves, LeavesOne, row_facts}
 use Rattle.row_rules.specs.laws.RowReads.{reads_bag, reads_last, bag_whole, last_whole, ReadsFront}
-use Rattle.row_rules.specs.laws.Filters.{reads_retract, retracts_all, from_first}
+use Rattle.row_rules.specs.laws.Filters.{reads_retract, from_first}
 
 -- a row that is made
 abbrev making : Option Row → Fate

@@ -1,6 +1,5 @@
 -- The facts of a node with one port that answers each change by itself.
-use Rattle.std.proofs.Common.{◌≡◌, ℕ, zero, suc, ◌+◌, ◌<◌, ◌≤◌, ◌⊎◌, true, List, [], ◌∷◌, ◌++◌, length, take, Option, Some, Ok, Err, refl, sym, ap, subst, ◌∙◌, arith, inl, inr, append_assoc, cond, ◌==◌}
-use Rattle.std.specs.Prelude.{is_some}
+use Rattle.std.proofs.Common.{◌≡◌, ℕ, ◌<◌, ◌⊎◌, true, List, [], ◌∷◌, ◌++◌, length, take, Option, Some, Ok, Err, refl, sym, ap, subst, ◌∙◌, arith, inl, inr, append_assoc, cond}
 use Rattle.std.specs.List.{Contains, AllByRecursion}
 use Rattle.std.proofs.lemmas.List.{take_all}
 use Rattle.std.proofs.lemmas.Bool.{eq-eqb}
@@ -10,15 +9,14 @@ use Rattle.ct_value.specs.Rows.{project}
 use Rattle.ct_value.specs.declared.row.Row.{Row}
 use Rattle.ct_change.specs.declared.kind.Kind.{Kind}
 use Rattle.ct_change.specs.declared.change.Change.{Change}
-use Rattle.ct_change.specs.Changelog.{Mode, retract, upsert, Rows, adds, has, AreOf}
+use Rattle.ct_change.specs.Changelog.{Mode, retract, upsert, Rows, adds, has}
 use Rattle.ct_change.specs.laws.Meanings.{means_one}
 use Rattle.op_rules.specs.History.{Arrival, at_port, joined}
 use Rattle.op_rules.specs.Rules.{Answer, Rule, appended, along}
 use Rattle.op_rules.specs.Edges.{Meaning, bag, last_rows, partials, IsPartial, ReadsAs, Exchange, forward, hash, Edge, IsUnique, IsApart, HoldsOver, IsSeenBy, AreApartBy}
-use Rattle.op_rules.specs.Tasks.{Task, total, emitted_by, IsReady, IsSettled, IsSplitBy, ComeFixedBy, ComeApartBy, Emitted, AllEmitted, Facts}
+use Rattle.op_rules.specs.Tasks.{Task, total, IsReady, IsSplitBy, ComeFixedBy, ComeApartBy, Emitted, AllEmitted, Facts}
 use Rattle.op_rules.specs.Ports.{task_of}
-use Rattle.op_rules.specs.laws.Histories.{all-append, all-each, appended-nothing, prefix_at}
-use Rattle.op_rules.specs.laws.Totals.{total-same}
+use Rattle.op_rules.specs.laws.Histories.{appended-nothing, prefix_at}
 use Rattle.row_rules.specs.Changes.{changes_of, each_change, row_rule}
 use Rattle.row_rules.specs.laws.Moved.{Fate, moved, sum_of, copies-sum_of, sent_of, AreInRange, answered, take-sent, all-sent, image, came_from, image-sum, Carries, image_unique}
 
@@ -38,10 +36,10 @@ pub changes_of-append : (xs ys : List Arrival) → changes_of (xs ++ ys) ≡ cha
 changes_of-append [] ys = refl
 changes_of-append (x ∷ xs) ys = ap (λ zs. x.change ∷ zs) (changes_of-append xs ys)
 
-pub along-each : (ports : ℕ) (mode : Mode) (answer : Change → Answer) (before : List Arrival) (pieces : List (List Arrival)) → along (λ b piece. each_change answer (changes_of piece)) before pieces ≡ each_change answer (changes_of (joined pieces))
-along-each ports mode answer before [] = refl
-along-each ports mode answer before (piece ∷ pieces) =
-    ap (appended (each_change answer (changes_of piece))) (along-each ports mode answer (before ++ piece) pieces)
+pub along-each : (answer : Change → Answer) (before : List Arrival) (pieces : List (List Arrival)) → along (λ b piece. each_change answer (changes_of piece)) before pieces ≡ each_change answer (changes_of (joined pieces))
+along-each answer before [] = refl
+along-each answer before (piece ∷ pieces) =
+    ap (appended (each_change answer (changes_of piece))) (along-each answer (before ++ piece) pieces)
     ∙ sym (each_change-append answer (changes_of piece) (changes_of (joined pieces)))
     ∙ ap (each_change answer) (sym (changes_of-append piece (joined pieces)))
 
@@ -115,7 +113,7 @@ module _ (fate : Row → Fate) (turn : Kind → Kind) (stays : (kind : Kind) →
       told : InRange (at_port 0 (joined pieces)) × (sent ≡ becomes (at_port 0 (joined pieces)))
       told = answered fate turn stays answer is (at_port 0 (joined pieces)) sent
           (ap (each_change answer) (sym (first_port (joined pieces) e.ready.ports))
-          ∙ sym (along-each 1 mode answer [] pieces)
+          ∙ sym (along-each answer [] pieces)
           ∙ sym (appended-nothing (along (λ b piece. each_change answer (changes_of piece)) [] pieces))
           ∙ e.emitted)
 

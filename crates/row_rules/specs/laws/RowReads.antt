@@ -1,14 +1,12 @@
 -- What is sent for changes of a bag, or for changes of last rows, stands for the batch answer.
-use Rattle.std.proofs.Common.{◌≡◌, ℕ, zero, suc, true, List, [], ◌∷◌, take, Option, Some, None, refl, sym, ap, subst, ◌∙◌, arith}
+use Rattle.std.proofs.Common.{◌≡◌, ℕ, zero, suc, true, List, [], ◌∷◌, take, Option, Some, None, sym, subst, ◌∙◌}
 use Rattle.std.specs.List.{AllByRecursion}
 use Rattle.ct_value.specs.Rows.{project}
 use Rattle.ct_value.specs.declared.row.Row.{Row}
 use Rattle.ct_change.specs.declared.kind.Kind.{Kind}
 use Rattle.ct_change.specs.declared.change.Change.{Change}
-use Rattle.ct_change.specs.Changelog.{Mode, retract, upsert, Rows, adds, has, admits, Means}
-use Rattle.op_rules.specs.History.{Arrival, at_port}
-use Rattle.op_rules.specs.Edges.{Meaning, bag, last_rows, partials, IsPartial, ReadsAs, Edge}
-use Rattle.op_rules.specs.Tasks.{Task, IsReady}
+use Rattle.ct_change.specs.Changelog.{upsert, Rows, adds, has, admits}
+use Rattle.op_rules.specs.Edges.{Meaning, bag, last_rows, IsPartial, ReadsAs, Edge}
 use Rattle.op_rules.specs.laws.Histories.{all-each}
 use Rattle.row_rules.specs.laws.Moved.{Fate, sent_of, AreInRange, image, Carries, moved_means, moved_last}
 
@@ -42,6 +40,6 @@ module _ (fate : Row → Fate) (turn : Kind → Kind) (stays : (kind : Kind) →
       → (took : List Change) → AllByRecursion (λ change. has from.kinds change.kind ≡ true) took → AreInRange fate turn stays took → (n : ℕ) → ReadsFront took n
   reads_last own key reads writes never back forth admitted took kinds known n rows means =
       let r = moved_last fate turn stays own key never back forth (take n took) rows
-          (all-each (λ change. has from.kinds change.kind ≡ true) (λ change. admits (upsert own) change.kind ≡ true) (λ change h. admitted change.kind h) (take n took) (all-take _ n took kinds))
-          (all-take _ n took known) (subst (λ m. ReadsAs m (take n took) rows) reads means) in
+      (all-each (λ change. has from.kinds change.kind ≡ true) (λ change. admits (upsert own) change.kind ≡ true) (λ change h. admitted change.kind h) (take n took) (all-take _ n took kinds))
+      (all-take _ n took known) (subst (λ m. ReadsAs m (take n took) rows) reads means) in
       (r.0, batch_is rows ∙ r.1, subst (λ m. ReadsAs m (sent_of fate turn stays (take n took)) r.0) (sym writes) r.2)

@@ -1,15 +1,15 @@
 -- A sink's writer meets its facts.
-use Rattle.std.proofs.Common.{◌≡◌, ℕ, zero, suc, ◌+◌, ◌<◌, ◌≤◌, ◌⊎◌, ◌==◌, Bool, true, false, cond, List, [], ◌∷◌, take, Option, Some, None, refl, sym, ap, subst, ◌∙◌, arith, inl, inr}
-use Rattle.std.specs.List.{Contains, AllByRecursion}
+use Rattle.std.proofs.Common.{◌≡◌, ℕ, zero, suc, ◌<◌, ◌==◌, Bool, true, false, cond, List, [], ◌∷◌, take, Option, Some, None, refl, sym, ap, subst, ◌∙◌, arith, inl, inr}
+use Rattle.std.specs.List.{Contains}
 use Rattle.std.proofs.lemmas.Bool.{eqb-true, eqb-false}
-use Rattle.ct_value.specs.Bag.{copies, none, add, one_at, one_at_itself, copies-none}
+use Rattle.ct_value.specs.Bag.{copies, none, one_at, one_at_itself, copies-none}
 use Rattle.ct_value.specs.Order.{row_cmp, row_total, row_exact}
 use Rattle.ct_value.specs.Rows.{project}
 use Rattle.ct_value.specs.declared.row.Row.{Row}
 use Rattle.ct_change.specs.declared.kind.Kind.{Kind}
 use Rattle.ct_change.specs.declared.kind.Kind.TheVariants.{I, UB, UA, D}
 use Rattle.ct_change.specs.declared.change.Change.{Change}
-use Rattle.ct_change.specs.Changelog.{Mode, retract, upsert, Rows, same_row as is_row, adds, has, admits, addition, removal, last_shown, apply, fold, fold_from, MayCome, IsValid, IsValidFrom, Means}
+use Rattle.ct_change.specs.Changelog.{retract, upsert, Rows, same_row as is_row, adds, has, admits, addition, removal, last_shown, apply, fold, fold_from, MayCome, IsValid, IsValidFrom, Means}
 use Rattle.ct_change.specs.laws.Meanings.{same_row-true, same_row-itself, copies-apply, means_fold, fold_means, valid_where_prefixes_mean, IsValidFrom-take}
 use Rattle.rel_clauses.specs.Sums.{one, plus, sum_over}
 use Rattle.rel_clauses.specs.laws.Bags.{by_items, plus-one, sum_over-none, sum_over-add}
@@ -19,10 +19,10 @@ use Rattle.op_rules.specs.Tasks.{Task, IsReady}
 use Rattle.op_rules.specs.Ports.{Takes}
 use Rattle.op_rules.specs.laws.Histories.{prefix_at}
 use Rattle.row_rules.specs.Changes.{mode_after}
-use Rattle.row_rules.specs.Sink.{Sink, splits, kind_alone, kind_printed, printed, sink_change, sink_rule, MayBeRead, SinkFits, SinksStand, SinksTake}
-use Rattle.row_rules.specs.laws.Moved.{Fate, moved, shown, image, sent_of, Carries, AreInRange, one_at-same}
+use Rattle.row_rules.specs.Sink.{Sink, splits, kind_printed, sink_change, sink_rule, MayBeRead, SinkFits, SinksStand, SinksTake}
+use Rattle.row_rules.specs.laws.Moved.{Fate, moved, image, sent_of, Carries, AreInRange}
 use Rattle.row_rules.specs.laws.RowFacts.{Moves, LeavesOne, node, row_facts}
-use Rattle.row_rules.specs.laws.RowReads.{reads_bag, reads_last, bag_whole, last_whole, ReadsFront}
+use Rattle.row_rules.specs.laws.RowReads.{reads_bag, reads_last, ReadsFront}
 use Rattle.row_rules.specs.laws.Filters.{from_first}
 use Rattle.row_rules.specs.laws.Projects.{reads_after}
 
@@ -191,9 +191,8 @@ module _ (sink : Sink) where
         let f = prefix_at 0 m history in
         let folded : Means retract (take m (at_port 0 history)) (fold retract (take m (at_port 0 history))) = means_fold retract (take m (at_port 0 history)) (IsValidFrom-take retract none m (at_port 0 history) valid) in
         let one_row = ready.keys 0 (omega arith) over.local (seen (from 0).exchange fits.forwards over.local over.is_local) f.0 (fold retract (take m (at_port 0 history)))
-            (subst (λ x. ReadsAs x (at_port 0 (take f.0 history)) (fold retract (take m (at_port 0 history)))) (sym is_bag) (subst (λ l. Means retract l (fold retract (take m (at_port 0 history)))) (sym f.1) folded)) in
-        λ a b same x y. one_row a b (over.has_local a b same) x y in
-        (
+        (subst (λ x. ReadsAs x (at_port 0 (take f.0 history)) (fold retract (take m (at_port 0 history)))) (sym is_bag) (subst (λ l. Means retract l (fold retract (take m (at_port 0 history)))) (sym f.1) folded)) in
+        λ a b same x y. one_row a b (over.has_local a b same) x y in (
           rows,
           refl,
           subst (λ x. ReadsAs x (sent_of fate turn stays (take n (at_port 0 history))) rows) (sym is_last)

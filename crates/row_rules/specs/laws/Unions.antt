@@ -1,23 +1,22 @@
 -- A union meets its facts.
-use Rattle.std.proofs.Common.{◌≡◌, ℕ, zero, suc, ◌+◌, ◌<◌, ◌≤◌, ◌==◌, Bool, true, false, cond, List, [], ◌∷◌, ◌++◌, take, Option, Some, None, Ok, refl, sym, ap, subst, ◌∙◌, arith, eqb}
+use Rattle.std.proofs.Common.{◌≡◌, ℕ, zero, suc, ◌+◌, ◌<◌, ◌==◌, Bool, true, false, cond, List, [], ◌∷◌, take, Some, Ok, refl, sym, ap, subst, ◌∙◌, arith}
 use Rattle.std.specs.List.{AllByRecursion}
 use Rattle.std.proofs.lemmas.Bool.{eqb-true, eqb-false, eq-eqb}
 use Rattle.ct_value.specs.Bag.{copies, none, weigh, copies-none}
-use Rattle.ct_value.specs.Order.{row_cmp, row_total, row_exact}
+use Rattle.ct_value.specs.Order.{row_total, row_exact}
 use Rattle.ct_value.specs.declared.row.Row.{Row}
 use Rattle.ct_change.specs.declared.change.Change.{Change}
-use Rattle.ct_change.specs.Changelog.{retract, Rows, has, AreOf, addition, removal, additions, removals, Means}
+use Rattle.ct_change.specs.Changelog.{retract, Rows, has, addition, removal, additions, removals, Means}
 use Rattle.rel_clauses.specs.Clauses.{union_rows}
 use Rattle.rel_clauses.specs.laws.Bags.{copies-together}
 use Rattle.op_rules.specs.History.{Arrival, at_port, joined}
 use Rattle.op_rules.specs.Rules.{appended, along}
-use Rattle.op_rules.specs.Edges.{Meaning, bag, last_rows, partials, ReadsAs, Exchange, forward, hash, Edge, AreApartBy}
-use Rattle.op_rules.specs.Tasks.{Task, total, IsReady, IsSettled, IsSplitBy, Emitted, Facts}
-use Rattle.op_rules.specs.Ports.{Takes}
+use Rattle.op_rules.specs.Edges.{Meaning, bag, ReadsAs, forward, Edge, AreApartBy}
+use Rattle.op_rules.specs.Tasks.{Task, total, IsSplitBy, Emitted, Facts}
 use Rattle.op_rules.specs.laws.Histories.{all-each, appended-nothing, ok-same}
 use Rattle.op_rules.specs.laws.Totals.{total-same, total_one}
 use Rattle.row_rules.specs.Changes.{changes_of, each_change}
-use Rattle.row_rules.specs.Union.{Union, union_change, union_rule, rows_of_ports, union_answer, union_task, UnionFits, UnionsStand, UnionsTake}
+use Rattle.row_rules.specs.Union.{Union, union_change, rows_of_ports, union_task, UnionFits, UnionsStand, UnionsTake}
 use Rattle.row_rules.specs.laws.RowFacts.{along-each}
 use Rattle.row_rules.specs.laws.RowReads.{all-take}
 use Rattle.row_rules.specs.laws.Filters.{reads_retract, retracts_all}
@@ -123,7 +122,7 @@ module _ (union : Union) (many : ℕ) (from : ℕ → Edge) (to : Edge) (fits : 
   sent_is j pieces sent e =
       ok-same (changes_of (joined pieces)) sent
       (sym (each-same (changes_of (joined pieces)))
-      ∙ sym (along-each union.inputs retract union_change [] pieces)
+      ∙ sym (along-each union_change [] pieces)
       ∙ sym (appended-nothing (along (λ b piece. each_change union_change (changes_of piece)) [] pieces))
       ∙ e.emitted)
 
@@ -133,9 +132,11 @@ module _ (union : Union) (many : ℕ) (from : ℕ → Edge) (to : Edge) (fits : 
   prefix : (j : ℕ) (pieces : List (List Arrival)) (sent : List Change) → Emitted task j pieces sent → (n : ℕ) → (rows : Rows) × ReadsAs to.meaning (take n sent) rows
   prefix j pieces sent e n =
       let each = choose none (λ p rows. Means retract (at_port p (take n (joined pieces))) rows) union.inputs (λ p l. let s = e.ready.valid p l n in (s.0, came p l _ s.0 s.1)) in
-      let whole : Rows = union_rows (rows_of_ports union.inputs each.0) in
-      (whole, leaves (take n sent) whole (subst (λ l. Means retract l whole) (sym (ap (take n) (sent_is j pieces sent e) ∙ changes_of-take n (joined pieces)))
-      (ports_mean union.inputs (take n (joined pieces)) each.0 (all-take _ n (joined pieces) e.ready.ports) each.1)))
+      let whole : Rows = union_rows (rows_of_ports union.inputs each.0) in (
+        whole,
+        leaves (take n sent) whole (subst (λ l. Means retract l whole) (sym (ap (take n) (sent_is j pieces sent e) ∙ changes_of-take n (joined pieces)))
+            (ports_mean union.inputs (take n (joined pieces)) each.0 (all-take _ n (joined pieces) e.ready.ports) each.1)),
+      )
 
   apart : (m : Meaning) → m ≡ bag → (sent : ℕ → List Change) → AreApartBy m many sent
   apart m is sent = subst (λ x. AreApartBy x many sent) (sym is) tt

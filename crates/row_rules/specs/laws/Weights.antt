@@ -2,13 +2,13 @@
 use Rattle.std.proofs.Common.{◌≡◌, ℕ, ◌+◌, ◌<◌, ◌≤◌, ◌==◌, Bool, true, false, cond, not, List, [], ◌∷◌, refl, sym, ap, ◌∙◌, arith}
 use Rattle.std.specs.List.{AllByRecursion}
 use Rattle.std.proofs.lemmas.Bool.{eqb-true, eqb-false}
-use Rattle.ct_value.specs.Bag.{copies, items, none, total, weigh, bag_of, one_at, occurs, same_bag, copies-bag_of, total-bag_of, copies-occurs}
+use Rattle.ct_value.specs.Bag.{copies, items, total, weigh, bag_of, one_at, occurs, same_bag, copies-bag_of, total-bag_of}
 use Rattle.ct_value.specs.Order.{row_cmp, row_total, row_exact}
 use Rattle.ct_value.specs.declared.row.Row.{Row}
 use Rattle.ct_change.specs.declared.change.Change.{Change}
-use Rattle.ct_change.specs.Changelog.{Rows, adds, retract, additions, removals, Means}
-use Rattle.rel_clauses.specs.Sums.{together, restrict, Each}
-use Rattle.rel_clauses.specs.laws.Bags.{copies-together, total-together, copies-restrict, total-restrict, copies-each, total-same}
+use Rattle.ct_change.specs.Changelog.{Rows, adds, retract, Means}
+use Rattle.rel_clauses.specs.Sums.{together, restrict}
+use Rattle.rel_clauses.specs.laws.Bags.{copies-together, total-together, copies-restrict, total-restrict, copies-each}
 
 -- what the rows that come weigh, and those that go
 abbrev pub coming : (Row → ℕ) → List Change → ℕ
