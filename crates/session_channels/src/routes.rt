@@ -2,6 +2,7 @@ ghost use Rattle.std.specs.Prelude.{◌≡◌, ◌==◌, ◌<◌, ℕ, length, I
 ghost use Rattle.ct_value.specs.Rows.{project};
 ghost use Rattle.op_rules.specs.Edges.{Edge, goes};
 ghost use Rattle.route.specs.Routing.{route_of, types_at};
+ghost use Rattle.stream_model.specs.Machine.{has_channel};
 ghost use Rattle.session_channels.specs.Routes.{IsWide, RoutesFor};
 
 use crate::{KeyRoute, Route};
@@ -22,6 +23,18 @@ impl KeyRoute {
         }
         let text = key_text(alloc, row, &self.columns, &self.types)?;
         Ok(subtask_of(text.as_slice(), parallelism))
+    }
+}
+
+impl Route {
+    /// Whether there is a channel from one subtask to the other.
+    pub fn joins(&self, from: u32, to: u32) -> bool
+        ensures { (many : ℕ) (edge : Edge) → RoutesFor many self.now edge → result ≡ has_channel edge.exchange from to }
+    {
+        match self {
+            Route::Forward => from == to,
+            Route::Hash(_) => true,
+        }
     }
 }
 

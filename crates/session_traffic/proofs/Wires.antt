@@ -39,12 +39,6 @@ channel_there g e i j q =
     let a = and_parts (nat_lt i g.subtasks) (nat_lt j g.subtasks && has_channel (g.edge e).exchange i j) q in
     (ltb-true i g.subtasks a.0, ltb-true j g.subtasks (and_parts (nat_lt j g.subtasks) (has_channel (g.edge e).exchange i j) a.1).0)
 
-pub joins_forward : (many : ℕ) (edge : Edge) (i j : ℕ) → RoutesFor many Forward edge → (i == j) ≡ has_channel edge.exchange i j
-joins_forward many edge i j is = sym (ap (λ (e : Exchange). has_channel e i j) is)
-
-pub joins_hash : (many : ℕ) (key : KeyRoute) (edge : Edge) (i j : ℕ) → RoutesFor many (Hash key) edge → true ≡ has_channel edge.exchange i j
-joins_hash many key edge i j is = sym (ap (λ (e : Exchange). has_channel e i j) is.exchange)
-
 -- what stands at an index
 pub get_at : {A : Type 0} (xs : List A) (n : ℕ) (x : A) → n < length xs → x ≡ get_or xs n x → slice_get xs n ≡ Some x
 get_at xs n x within is = slice_get-get_or xs n x within ∙ ap Some (sym is)

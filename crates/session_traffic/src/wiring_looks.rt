@@ -7,7 +7,6 @@ ghost use Rattle.session_traffic.specs.LaidOut.{IsLaidOut, IsThere, feed_of, sta
 
 use crate::{Feed, Lane, TableWiring, Wiring};
 use ct_value::{ColTys, Memory};
-use session_channels::Route;
 
 impl Wiring {
     /// The port that an edge feeds.
@@ -33,10 +32,7 @@ impl Wiring {
         requires edge { edge < length self.now.routes.items }
         ensures { (g : Network) (limit : ℕ) → IsLaidOut self.now g limit → result ≡ machine.has_channel (g.edge edge).exchange from to }
     {
-        match &self.routes[edge as usize] {
-            Route::Forward => from == to,
-            Route::Hash(_) => true,
-        }
+        self.routes[edge as usize].joins(from, to)
     }
 
     /// What is kept of a table.
