@@ -1,0 +1,132 @@
+ghost use Rattle.std.specs.Prelude.{◌≡◌, ◌∷◌, ◌++◌, [], ℕ, List, Ok, OnOk, OnErr, IfOk, IfErr};
+ghost use Rattle.ct_change.specs.declared.change.Change.{Change};
+ghost use Rattle.stream_model.specs.declared.events.Event.TheVariants.{Move as Moves, Take as Takes};
+ghost use Rattle.stream_model.specs.declared.events.PrintItem.{PrintItem};
+ghost use Rattle.stream_model.specs.Network.{Network};
+ghost use Rattle.stream_model.specs.Machine as machine;
+ghost use Rattle.stream_model.specs.Machine.{State, opened};
+ghost use Rattle.stream_model.specs.Runs.{Item, IsTyped, after, happens};
+ghost use Rattle.stream_model.specs.Drain.{StopsBy};
+ghost use Rattle.session_traffic.specs.LaidOut.{IsLaidOut};
+ghost use Rattle.session_core.specs.Sources.{AllCheck, IsAccepted, MayCheck};
+ghost use Rattle.session_core.specs.Stands.{Keeps, StandsFor};
+
+use crate::operators::consume_at;
+use crate::{Session, SourceCheck, SourceFault};
+use ct_change::{Change, Steps};
+use ct_value::OrderCode;
+use op_rules::Operator;
+use session_traffic::Wiring;
+use std::sync::ledger::Ledger;
+use stream_model::{Event, StepFault, Stopped};
+
+impl<O: Operator + Drop, S: SourceCheck> Session<O, S> {
+    // One change leaves the front of a channel and is consumed.
+    pub(crate) fn advance<L: Ledger>(
+        &mut self,
+        edge: u32,
+        from: u32,
+        to: u32,
+        steps: &mut Steps<L>,
+    ) -> Result<(), StepFault>
+        requires ready { (g : Network) × (limit : ℕ) × (handed : List PrintItem) × (s : State) × Keeps O.rule O.broken O.stands_for S.stands_for g limit self.old handed s }
+        ensures ok { OnOk result ((g : Network) (limit : ℕ) (handed : List PrintItem) (s : State) → Keeps O.rule O.broken O.stands_for S.stands_for g limit self.old handed s
+            → (next : State) × (machine.move g limit s edge from to ≡ Ok next) × Keeps O.rule O.broken O.stands_for S.stands_for g limit self.new handed next) }
+        ensures err { IfErr result (λ fault. (g : Network) (limit : ℕ) (handed : List PrintItem) (s : State) → Keeps O.rule O.broken O.stands_for S.stands_for g limit self.old handed s
+            → StopsBy (machine.move g limit s edge from to) fault) }
+        ensures printed { OnErr result (self.new.traffic.printed ≡ self.old.traffic.printed) }
+    {
+        let (feed, change) = self.traffic.fetch(&self.wiring, edge, from, to)?;
+        let sent = consume_at(&mut self.operators, &self.wiring, feed, to, change, steps)?;
+        self.traffic.hand_on(&self.wiring, feed.node, to, sent)?;
+        Ok(())
+    }
+
+    // One change of a table enters the channels of its scans.
+    fn take(&mut self, table: u32, change: Change) -> Result<(), StepFault>
+        requires ready { (g : Network) × (limit : ℕ) × (handed : List PrintItem) × (s : State) × Keeps O.rule O.broken O.stands_for S.stands_for g limit self.old handed s × IsTyped g (happens (Takes table change)) }
+        ensures ok { OnOk result ((g : Network) (limit : ℕ) (handed : List PrintItem) (s : State) → Keeps O.rule O.broken O.stands_for S.stands_for g limit self.old handed s → IsTyped g (happens (Takes table change))
+            → (next : State) × (machine.take g limit s table change ≡ Ok next) × Keeps O.rule O.broken O.stands_for S.stands_for g limit self.new handed next) }
+        ensures err { IfErr result (λ fault. (g : Network) (limit : ℕ) (handed : List PrintItem) (s : State) → Keeps O.rule O.broken O.stands_for S.stands_for g limit self.old handed s → IsTyped g (happens (Takes table change))
+            → StopsBy (machine.take g limit s table change) fault) }
+        ensures printed { OnErr result (self.new.traffic.printed ≡ self.old.traffic.printed) }
+    {
+        check_source(&mut self.sources, table, &change)?;
+        self.traffic.scan(&self.wiring, table, change)?;
+        Ok(())
+    }
+
+    // One event.
+    fn apply<L: Ledger>(&mut self, event: Event, steps: &mut Steps<L>) -> Result<(), StepFault>
+        requires ready { (g : Network) × (limit : ℕ) × (handed : List PrintItem) × (s : State) × Keeps O.rule O.broken O.stands_for S.stands_for g limit self.old handed s × IsTyped g (happens event) }
+        ensures ok { OnOk result ((g : Network) (limit : ℕ) (handed : List PrintItem) (s : State) → Keeps O.rule O.broken O.stands_for S.stands_for g limit self.old handed s → IsTyped g (happens event)
+            → (next : State) × (machine.step g limit s event ≡ Ok next) × Keeps O.rule O.broken O.stands_for S.stands_for g limit self.new handed next) }
+        ensures err { IfErr result (λ fault. (g : Network) (limit : ℕ) (handed : List PrintItem) (s : State) → Keeps O.rule O.broken O.stands_for S.stands_for g limit self.old handed s → IsTyped g (happens event)
+            → StopsBy (machine.step g limit s event) fault) }
+        ensures printed { OnErr result (self.new.traffic.printed ≡ self.old.traffic.printed) }
+    {
+        match event {
+            Event::Move { edge, from, to } => self.advance(edge, from, to, steps),
+            Event::Take { table, change } => self.take(table, change),
+            Event::Flush { node, subtask } => Err(flush_fault(&self.wiring, node, subtask)),
+        }
+    }
+
+    /// The session after one event. A change that is taken has to have its table's columns. A stop comes exactly where the
+    /// machine stops, with its cause, or for want of memory; it consumes the session, adds nothing to what was printed, and
+    /// hands back what was printed and not yet handed out.
+    pub fn step<L: Ledger>(
+        mut self,
+        event: Event,
+        steps: &mut Steps<L>,
+    ) -> Result<Session<O, S>, Stopped>
+        requires ready { (g : Network) × (limit : ℕ) × (handed : List PrintItem) × (items : List Item) × StandsFor O.rule O.broken O.stands_for S.stands_for g limit self handed items × IsTyped g (happens event) }
+        ensures ok { IfOk result (λ next. (g : Network) (limit : ℕ) (handed : List PrintItem) (items : List Item) → StandsFor O.rule O.broken O.stands_for S.stands_for g limit self handed items → IsTyped g (happens event)
+            → (now : State) × (machine.step g limit (after g limit (opened g) items) event ≡ Ok now) × StandsFor O.rule O.broken O.stands_for S.stands_for g limit next handed (items ++ happens event ∷ [])) }
+        ensures err { IfErr result (λ stopped. (g : Network) (limit : ℕ) (handed : List PrintItem) (items : List Item) → StandsFor O.rule O.broken O.stands_for S.stands_for g limit self handed items → IsTyped g (happens event)
+            → StopsBy (machine.step g limit (after g limit (opened g) items) event) stopped.cause) }
+        ensures printed { IfErr result (λ stopped. stopped.printed ≡ self.traffic.printed) }
+    {
+        match self.apply(event, steps) {
+            Ok(()) => Ok(self),
+            Err(cause) => {
+                let traffic = self.traffic;
+                Err(Stopped {
+                    cause,
+                    printed: traffic.printed,
+                })
+            }
+        }
+    }
+}
+
+// The check of a table tests a change and takes it.
+fn check_source<S: SourceCheck>(
+    sources: &mut Vec<S>,
+    table: u32,
+    change: &Change,
+) -> Result<(), StepFault>
+    requires ready { (g : Network) × (s : State) × MayCheck S.stands_for g s sources.old.items table change.now }
+    ensures ok { OnOk result ((g : Network) (s : State) → MayCheck S.stands_for g s sources.old.items table change.now → IsAccepted S.stands_for g s sources.new.items table change.now) }
+    ensures err { IfErr result (λ fault. (g : Network) (limit : ℕ) (s : State) → MayCheck S.stands_for g s sources.old.items table change.now → StopsBy (machine.take g limit s table change.now) fault) }
+{
+    match sources.get_mut(table as usize) {
+        None => Err(StepFault::Order(OrderCode::NoSuchPlace)),
+        Some(source) => match source.check(change) {
+            Ok(()) => Ok(()),
+            Err(SourceFault::Refused(code)) => Err(StepFault::Change(code)),
+            Err(SourceFault::Memory) => Err(StepFault::Memory),
+        },
+    }
+}
+
+// Why there is no flush: no node keeps bundles.
+fn flush_fault(wiring: &Wiring, node: u32, subtask: u32) -> StepFault
+    ensures { (g : Network) (limit : ℕ) (s : State) → IsLaidOut wiring.now g limit → StopsBy (machine.flush g limit s node subtask) result }
+{
+    if node > 0 && node <= wiring.nodes && subtask < wiring.parallelism {
+        StepFault::Order(OrderCode::NoBuffer)
+    } else {
+        StepFault::Order(OrderCode::NoSuchPlace)
+    }
+}
