@@ -5,8 +5,8 @@ use Rattle.ct_value.specs.declared.row.Row.{Row}
 use Rattle.op_rules.specs.Edges.{Edge, Exchange, goes, goes_by}
 use Rattle.stream_model.specs.Machine.{has_channel}
 use Rattle.route.specs.Routing.{route_of, types_at}
-use Rattle.session_channels.specs.declared.route.KeyRoute.{KeyRoute}
-use Rattle.session_channels.specs.declared.route.Route.TheVariants.{Forward, Hash}
+use Rattle.session_channels.specs.declared.exchange.KeyRoute.{KeyRoute}
+use Rattle.session_channels.specs.declared.exchange.Route.TheVariants.{Forward, Hash}
 use Rattle.session_channels.specs.Routes.{RoutesFor}
 
 pub goes_forward : (many : ℕ) (edge : Edge) (i j : ℕ) (row : Row) → RoutesFor many Forward edge → goes edge i j row ≡ (i == j)

@@ -4,9 +4,9 @@ use Rattle.ct_value.specs.declared.row.Row.{Row}
 use Rattle.ct_change.specs.declared.change.Change.{Change}
 use Rattle.op_rules.specs.Edges.{Edge, forward, hash}
 use Rattle.route.specs.Routing.{route_of, types_at}
-use Rattle.session_channels.specs.declared.route.KeyRoute.{KeyRoute}
-use Rattle.session_channels.specs.declared.route.Route.{Route}
-use Rattle.session_channels.specs.declared.route.Route.TheVariants.{Forward, Hash}
+use Rattle.session_channels.specs.declared.exchange.KeyRoute.{KeyRoute}
+use Rattle.session_channels.specs.declared.exchange.Route.{Route}
+use Rattle.session_channels.specs.declared.exchange.Route.TheVariants.{Forward, Hash}
 
 -- a row has the columns by whose types its subtask is found
 abbrev pub IsWide : Route → Row → Type 0

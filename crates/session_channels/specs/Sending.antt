@@ -6,7 +6,7 @@ use Rattle.ct_change.specs.declared.change.Change.{Change}
 use Rattle.op_rules.specs.Edges.{Edge, goes}
 use Rattle.stream_model.specs.Machine as machine
 use Rattle.session_channels.specs.declared.channels.Channels.{Channels}
-use Rattle.session_channels.specs.declared.route.Route.{Route}
+use Rattle.session_channels.specs.declared.exchange.Route.{Route}
 use Rattle.session_channels.specs.Lanes.{flight_in}
 use Rattle.session_channels.specs.Routes.{IsWide, RoutesFor}
 

@@ -6,14 +6,14 @@
 #![tactic(auto)]
 
 mod channels;
+mod exchange;
 mod queue;
 mod quiet;
-mod route;
 mod routes;
 mod sending;
 
 pub use channels::Channels;
+pub use exchange::{KeyRoute, Route};
 pub use queue::Queue;
-pub use route::{KeyRoute, Route};
 pub use routes::goes_to;
 pub use sending::{scan_all, send_all};

@@ -18,8 +18,8 @@ use Rattle.stream_model.specs.Network.{Network, IsWired, IsNode}
 use Rattle.stream_model.specs.Machine as machine
 use Rattle.stream_model.specs.Machine.{State, put, hand_on, send, print, is_number, is_scan_of, scan_count, scanned, take_within}
 use Rattle.session_channels.specs.declared.channels.Channels.{Channels}
-use Rattle.session_channels.specs.declared.route.Route.{Route}
-use Rattle.session_channels.specs.declared.route.Route.TheVariants.{Forward, Hash}
+use Rattle.session_channels.specs.declared.exchange.Route.{Route}
+use Rattle.session_channels.specs.declared.exchange.Route.TheVariants.{Forward, Hash}
 use Rattle.session_channels.specs.Lanes as lanes
 use Rattle.session_channels.specs.Lanes.{flight_in}
 use Rattle.session_channels.specs.Routes.{IsWide, RoutesFor}

@@ -10,9 +10,9 @@ use Rattle.ct_change.specs.declared.change.Change.{Change}
 use Rattle.stream_model.specs.Tables.{Table}
 use Rattle.stream_model.specs.Network.{Feed, Network, IsWired}
 use Rattle.stream_model.specs.Machine.{State, has_channel, is_channel, move, move_front, move_to}
-use Rattle.session_channels.specs.declared.route.KeyRoute.{KeyRoute}
-use Rattle.session_channels.specs.declared.route.Route.{Route}
-use Rattle.session_channels.specs.declared.route.Route.TheVariants.{Forward, Hash}
+use Rattle.session_channels.specs.declared.exchange.KeyRoute.{KeyRoute}
+use Rattle.session_channels.specs.declared.exchange.Route.{Route}
+use Rattle.session_channels.specs.declared.exchange.Route.TheVariants.{Forward, Hash}
 use Rattle.session_channels.specs.Routes.{RoutesFor}
 use Rattle.session_traffic.specs.declared.wiring.Lane.{Lane}
 use Rattle.session_traffic.specs.declared.wiring.TableWiring.{TableWiring}

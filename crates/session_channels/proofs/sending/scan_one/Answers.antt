@@ -4,7 +4,7 @@ use Rattle.std.proofs.lemmas.List.{take_more}
 use Rattle.std.proofs.lemmas.List.Sums.{fold-append}
 use Rattle.std.proofs.lemmas.Option.{get_or_from_slice_get}
 use Rattle.ct_change.specs.declared.change.Change.{Change}
-use Rattle.session_channels.specs.declared.route.Route.{Route}
+use Rattle.session_channels.specs.declared.exchange.Route.{Route}
 use Rattle.session_channels.specs.Routes.{IsWide}
 use Rattle.session_channels.specs.Sending.{Carry, MayScan, scanned_by, sent_by}
 use Rattle.session_channels.proofs.Sends.{carry_same, sent_none}

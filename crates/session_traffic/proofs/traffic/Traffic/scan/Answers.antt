@@ -5,7 +5,7 @@ use Rattle.ct_value.specs.Rows.{project}
 use Rattle.route.specs.Routing.{route_of, types_at}
 use Rattle.stream_model.specs.Tables.{scanned_at}
 use Rattle.stream_model.specs.Machine.{scan_count, scanned}
-use Rattle.session_channels.specs.declared.route.Route.TheVariants.{Forward}
+use Rattle.session_channels.specs.declared.exchange.Route.TheVariants.{Forward}
 use Rattle.session_channels.specs.Sending.{AllRoute, Carry, MayScan, scanned_by}
 use Rattle.session_traffic.specs.LaidOut.{scans_below}
 use Rattle.session_traffic.proofs.Wires.{is_table}
