@@ -1,8 +1,9 @@
 //! The accumulators of aggregates.
 //!
 //! Promised: an `Acc` that stands for a bag of values stands for that bag with a value more after `add`, with one less after
-//! `remove` and with one in the place of another after `replace`, and its `result` is the value of its call on that bag (`specs/Standing`); a sum is out of range exactly where it leaves
-//! its limit. It stands on the definition of aggregates of `rel_clauses`.
+//! `remove` and with one in the place of another after `replace`, and its `result` is the value of its call on that bag
+//! (`specs/Standing`); a sum is out of range exactly where it leaves its limit. It stands on the definition of aggregates of
+//! `rel_clauses`.
 #![tactic(auto)]
 
 mod acc;

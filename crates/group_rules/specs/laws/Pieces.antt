@@ -64,7 +64,7 @@ value_of_none Min ty = refl
 value_of_none Max ty = refl
 value_of_none Avg ty = if_none (size (known none)) (average ty (sum_of (known none)) (size (known none))) (ap size known_none ∙ size_none)
 
-counted_none : (columns : List ColTy) (aggs : List Agg) → is_some (agg_results columns aggs none) ≡ true
+pub counted_none : (columns : List ColTy) (aggs : List Agg) → is_some (agg_results columns aggs none) ≡ true
 counted_none columns [] = refl
 counted_none columns (agg ∷ aggs) =
     go (agg_result columns none agg) (map (agg_result columns none) aggs)

@@ -1,0 +1,6 @@
+use Rattle.std.proofs.Common.{option_copied}
+use Rattle.op_group.proofs.Shifts.{IsShifted, Upto}
+use Rattle.op_group.proofs.kept.shift_all.Given as goal
+
+abbrev pub invariant-loop-counter : goal.invariant-loop-counter
+invariant-loop-counter l = Upto (IsShifted (option_copied l.gone) (option_copied l.come)) l.counter-index l.fn.counters l.counters

@@ -1,0 +1,78 @@
+-- What is kept of a group, and what it is for rows of which one gives way to another.
+use Rattle.std.specs.Prelude.{◌≡◌, ◌<◌, ◌==◌, ◌||◌, ◌++◌, not, ℕ, Bool, true, cond, List, map, Option, Some, None, option_map, is_some}
+use Rattle.std.specs.List.{list_all, AllByRecursion}
+use Rattle.ct_value.specs.Bag.{copies, add, remove}
+use Rattle.ct_value.specs.declared.row.Row.{Row}
+use Rattle.ct_value.specs.declared.ty.Ty.{Ty}
+use Rattle.ct_value.specs.declared.ty.ColTy.{ColTy}
+use Rattle.ct_value.specs.declared.value.Value.{Value}
+use Rattle.ct_change.specs.Changelog.{Rows}
+use Rattle.rel_clauses.specs.declared.agg.Agg.{Agg}
+use Rattle.rel_clauses.specs.Aggregates.{Values, values_of, argument, passes, type_in, ty_or_bigint, agg_results}
+use Rattle.agg_fns.specs.Standing.{StandsFor, retracts, sum_fits}
+use Rattle.group_rules.specs.Grouping.{row_count}
+use Rattle.op_group.specs.declared.counter.Counter.{Counter}
+use Rattle.op_group.specs.declared.kept.Kept.{Kept}
+
+-- the value that a row has for a call; none where there is no row, or it doesn't count
+abbrev pub picked : Agg → Option Row → Option Value
+picked agg None = None
+picked agg (Some row) = cond (passes agg.filter row) (Some (argument agg.arg row)) None
+
+-- values without one, and with another
+abbrev pub shifted : Values → Option Value → Option Value → Values
+shifted values None None = values
+shifted values None (Some fresh) = add values fresh
+shifted values (Some old) None = remove values old
+shifted values (Some old) (Some fresh) = add (remove values old) fresh
+
+-- the value stands, if there is one
+abbrev pub HasValue : Values → Option Value → Type 0
+HasValue values None = Unit {0}
+HasValue values (Some value) = 0 < copies values value
+
+-- the row stands, if there is one
+abbrev pub HasRow : Rows → Option Row → Type 0
+HasRow rows None = Unit {0}
+HasRow rows (Some row) = 0 < copies rows row
+
+-- the type of a call's argument among these columns
+abbrev pub type_among : List ColTy → Agg → Ty
+type_among columns agg = ty_or_bigint (type_in columns agg.arg)
+
+-- a counter stands for rows of these columns
+abbrev pub Stands : List ColTy → Rows → Counter → Type 0
+Stands columns rows counter = StandsFor counter.agg.call (type_among columns counter.agg) counter.acc (values_of counter.agg rows)
+
+abbrev pub AllStand : List ColTy → Rows → List Counter → Type 0
+AllStand columns rows counters = AllByRecursion (Stands columns rows) counters
+
+-- rows can be removed from each
+abbrev pub AllRetract : List Counter → Type 0
+AllRetract counters = AllByRecursion (λ counter. retracts counter.acc ≡ true) counters
+
+abbrev pub calls : List Counter → List Agg
+calls counters = map (λ counter. counter.agg) counters
+
+-- whether the sums of calls over rows are within their limits
+abbrev pub all_fit : List ColTy → List Agg → Rows → Bool
+all_fit columns aggs rows = list_all (λ agg. sum_fits agg.call (type_among columns agg) (values_of agg rows)) aggs
+
+-- what is kept of a group stands for its rows
+pub record IsKept (columns : List ColTy) (aggs : List Agg) (kept : Kept) (rows : Rows) : Type 0 where
+  pub count : kept.rows ≡ row_count rows
+  pub calls_are : calls kept.counters.items ≡ aggs
+  pub stand : AllStand columns rows kept.counters.items
+
+-- the row of a group with these rows, none where it has none: all rows, of no key columns, always have one
+abbrev pub row_in : ℕ → List ColTy → List Agg → Row → Rows → Option Row
+row_in keys columns aggs key rows = cond ((keys == 0) || not (row_count rows == 0)) (option_map (λ values. key ++ values) (agg_results columns aggs rows)) None
+
+-- whether all calls have results over rows
+abbrev pub all_counted : List ColTy → List Agg → Rows → Bool
+all_counted columns aggs rows = is_some (agg_results columns aggs rows)
+
+-- what is kept of a group, if anything is, stands for its rows; nothing is of a group without rows
+abbrev pub KeptAt : List ColTy → List Agg → Bool → Rows → Option Kept → Type 0
+KeptAt columns aggs retracting rows None = row_count rows ≡ 0
+KeptAt columns aggs retracting rows (Some kept) = IsKept columns aggs kept rows × (retracting ≡ true → AllRetract kept.counters.items)

@@ -1,0 +1,143 @@
+ghost use Rattle.std.specs.Prelude.{◌≡◌, ◌+◌, ◌<◌, ◌^◌, true, false, IsSome, IfOk, IfErr, OnOk, option_copied};
+ghost use Rattle.ct_value.specs.Bag as bag;
+ghost use Rattle.ct_value.specs.declared.ty.Ty.{Ty};
+ghost use Rattle.ct_value.specs.declared.value.Value.TheVariants.{Null};
+ghost use Rattle.ct_field.specs.Typed.{cell, is_true};
+ghost use Rattle.rel_clauses.specs.declared.agg.AggCall.{AggCall};
+ghost use Rattle.rel_clauses.specs.Aggregates.{Values, size, argument, passes};
+ghost use Rattle.agg_fns.specs.Standing.{StandsFor, retracts, sum_fits};
+ghost use Rattle.agg_fns.specs.declared.acc.AccFault.TheVariants.{Out};
+ghost use Rattle.op_group.specs.Kept.{picked, shifted, HasValue, type_among};
+
+use agg_fns::{Acc, AccFault};
+use ct_value::{ColTys, Row, Ty, Value};
+use rel_clauses::Agg;
+use std::alloc::Global;
+
+/// A call of an aggregate function, with what it keeps of the values of a group.
+#[derive(Drop)]
+pub struct Counter {
+    pub agg: Agg,
+    pub acc: Acc,
+}
+
+impl Counter {
+    // The counter of a call over rows of these columns, of no rows. Rows can be removed again where `retracting` is true.
+    pub(crate) fn new(alloc: Global, agg: Agg, tys: &ColTys, retracting: bool) -> Counter
+        ensures agg { result.agg ≡ agg }
+        ensures stands { StandsFor agg.call (type_among tys.now agg) result.acc bag.none }
+        ensures retracts { retracting ≡ true → retracts result.acc ≡ true }
+    {
+        let ty = type_among(tys, agg);
+        Counter {
+            agg,
+            acc: Acc::new(alloc, agg.call, ty, retracting),
+        }
+    }
+
+    // Takes away what a row has for the call, which has to stand, and adds what another one has.
+    pub(crate) fn shift(&mut self, gone: Option<&Row>, come: Option<&Row>) -> Result<(), AccFault>
+        requires retracts { IsSome (picked self.old.agg (option_copied gone)) → retracts self.old.acc ≡ true }
+        requires stands { (ty : Ty) × (values : Values) × StandsFor self.old.agg.call ty self.old.acc values × HasValue values (picked self.old.agg (option_copied gone)) × (size values + 1 < 2 ^ 63) }
+        ensures agg { self.new.agg ≡ self.old.agg }
+        ensures stands { OnOk result ((ty : Ty) (values : Values) → StandsFor self.old.agg.call ty self.old.acc values → HasValue values (picked self.old.agg (option_copied gone.entry)) → StandsFor self.old.agg.call ty self.new.acc (shifted values (picked self.old.agg (option_copied gone.entry)) (picked self.old.agg (option_copied come.entry)))) }
+        ensures fits { OnOk result ((ty : Ty) (values : Values) → StandsFor self.old.agg.call ty self.old.acc values → HasValue values (picked self.old.agg (option_copied gone.entry)) → sum_fits self.old.agg.call ty values ≡ true → sum_fits self.old.agg.call ty (shifted values (picked self.old.agg (option_copied gone.entry)) (picked self.old.agg (option_copied come.entry))) ≡ true) }
+        ensures out { IfErr result (λ fault. fault ≡ Out → (ty : Ty) (values : Values) → StandsFor self.old.agg.call ty self.old.acc values → HasValue values (picked self.old.agg (option_copied gone.entry)) → sum_fits self.old.agg.call ty (shifted values (picked self.old.agg (option_copied gone.entry)) (picked self.old.agg (option_copied come.entry))) ≡ false) }
+        ensures retracts { retracts self.new.acc ≡ retracts self.old.acc }
+    {
+        let null = Value::Null;
+        let agg = self.agg;
+        shift_acc(
+            &mut self.acc,
+            picked(&agg, gone, &null),
+            picked(&agg, come, &null),
+        )
+    }
+}
+
+// Takes away a value, which has to stand, and adds another.
+fn shift_acc(acc: &mut Acc, old: Option<&Value>, fresh: Option<&Value>) -> Result<(), AccFault>
+    requires retracts { IsSome (option_copied old) → retracts acc.old ≡ true }
+    requires stands { (call : AggCall) × (ty : Ty) × (values : Values) × StandsFor call ty acc.old values × HasValue values (option_copied old) × (size values + 1 < 2 ^ 63) }
+    ensures stands { OnOk result ((call : AggCall) (ty : Ty) (values : Values) → StandsFor call ty acc.old values → HasValue values (option_copied old.entry) → StandsFor call ty acc.new (shifted values (option_copied old.entry) (option_copied fresh.entry))) }
+    ensures fits { OnOk result ((call : AggCall) (ty : Ty) (values : Values) → StandsFor call ty acc.old values → HasValue values (option_copied old.entry) → sum_fits call ty values ≡ true → sum_fits call ty (shifted values (option_copied old.entry) (option_copied fresh.entry)) ≡ true) }
+    ensures out { IfErr result (λ fault. fault ≡ Out → (call : AggCall) (ty : Ty) (values : Values) → StandsFor call ty acc.old values → HasValue values (option_copied old.entry) → sum_fits call ty (shifted values (option_copied old.entry) (option_copied fresh.entry)) ≡ false) }
+    ensures retracts { retracts acc.new ≡ retracts acc.old }
+{
+    match (old, fresh) {
+        (None, None) => Ok(()),
+        (None, Some(fresh)) => acc.add(fresh),
+        (Some(old), None) => acc.remove(old),
+        (Some(old), Some(fresh)) => acc.replace(old, fresh),
+    }
+}
+
+// The type of a call's argument among these columns.
+fn type_among(tys: &ColTys, agg: Agg) -> Ty
+    ensures { result ≡ type_among tys.now agg }
+{
+    match agg.arg {
+        None => Ty::BigInt,
+        Some(column) => match tys.get(column as usize) {
+            Some(column) => column.ty,
+            None => Ty::BigInt,
+        },
+    }
+}
+
+// The value that a row has for a call; none where there is no row, or it doesn't count.
+fn picked<'a>(agg: &Agg, row: Option<&'a Row>, null: &'a Value) -> Option<&'a Value>
+    requires { null.now ≡ Null }
+    ensures { option_copied result ≡ picked agg.now (option_copied row.entry) }
+{
+    let row = row?;
+    if passes(agg.filter, row, null) {
+        Some(argument(agg.arg, row, null))
+    } else {
+        None
+    }
+}
+
+// Whether a row counts: the filter's column, if there is one, is TRUE.
+fn passes(filter: Option<u32>, row: &Row, null: &Value) -> bool
+    requires { null.now ≡ Null }
+    ensures { result ≡ passes filter row.now }
+{
+    match filter {
+        None => true,
+        Some(column) => is_true(cell(row, column, null)),
+    }
+}
+
+// The value that a call takes of a row, NULL where it looks at none.
+fn argument<'a>(arg: Option<u32>, row: &'a Row, null: &'a Value) -> &'a Value
+    requires { null.now ≡ Null }
+    ensures { result.now ≡ argument arg row.now }
+{
+    match arg {
+        None => null,
+        Some(column) => cell(row, column, null),
+    }
+}
+
+// The value of a column.
+#[tactic(auto, using(crate::proofs::Cells::unwrapped))]
+fn cell<'a>(row: &'a Row, column: u32, null: &'a Value) -> &'a Value
+    requires { null.now ≡ Null }
+    ensures { result.now ≡ cell column row.now }
+{
+    match row.get(column as usize) {
+        Some(value) => value,
+        None => null,
+    }
+}
+
+// Whether a value is TRUE.
+fn is_true(value: &Value) -> bool
+    ensures { result ≡ is_true value.now }
+{
+    match value {
+        Value::Bool(truth) => *truth,
+        _ => false,
+    }
+}
