@@ -1,0 +1,12 @@
+use session_channels::Route;
+use session_traffic::Feed;
+
+/// How nodes are joined: into how many subtasks each is split, how many nodes there are, and by edge the port that it feeds
+/// and its route.
+#[derive(Drop)]
+pub struct Wires {
+    pub parallelism: u32,
+    pub nodes: u32,
+    pub feeds: Vec<Option<Feed>>,
+    pub routes: Vec<Route>,
+}
