@@ -5,3 +5,4 @@ pub mod Like
 pub mod Types
 pub mod Values
 pub mod View
+pub mod laws
