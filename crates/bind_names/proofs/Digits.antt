@@ -81,7 +81,7 @@ too_large n ds h = let p = after-le n ds in let q : 10 ^ 38 ≤ digits_value_aft
 pub stopped : (n m i whole : ℕ) (ds : List ℕ) → i < length ds → m ≡ n * 10 + digit_value (get_or ds i 0) → digits_value_after 10 n (drop i ds) ≡ whole → 10 ^ 38 ≤ m → None ≡ bounded_number whole
 stopped n m i whole ds l e same h =
     let turn : digits_value_after 10 n (drop i ds) ≡ digits_value_after 10 m (drop (i + 1) ds) =
-        at_drop_more (digits_value_after 10 n) ds i 0 l ∙ ap (λ k. digits_value_after 10 k (drop (i + 1) ds)) (sym e) in
+    at_drop_more (digits_value_after 10 n) ds i 0 l ∙ ap (λ k. digits_value_after 10 k (drop (i + 1) ds)) (sym e) in
     sym (ap bounded_number (sym same ∙ turn) ∙ too_large m (drop (i + 1) ds) h)
 
 -- ---- numbers with a point

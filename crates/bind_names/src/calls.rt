@@ -75,7 +75,10 @@ pub fn push_calls<'a>(found: &mut CallRefs<'a>, tree: &'a Tree) -> Result<(), Me
             push_calls(found, pattern)
         }
         Tree::Between {
-            value, low, high, ..
+            value,
+            low,
+            high,
+            ..
         } => {
             push_calls(found, value)?;
             push_calls(found, low)?;
@@ -164,8 +167,9 @@ fn push_product<'a>(found: &mut CallRefs<'a>, tails: &'a ProductTails) -> Result
     Ok(())
 }
 
+/// Puts the aggregate calls of branches behind those that were found.
 #[cycle(calls)]
-fn push_whens<'a>(found: &mut CallRefs<'a>, whens: &'a TreeWhens) -> Result<(), Memory>
+pub fn push_whens<'a>(found: &mut CallRefs<'a>, whens: &'a TreeWhens) -> Result<(), Memory>
     ensures { OnOk result (map call_view found.new ≡ map call_view found.old ++ when_calls (tree_whens (whens_view whens.now))) }
 {
     for when in whens.as_slice() {
@@ -176,10 +180,7 @@ fn push_whens<'a>(found: &mut CallRefs<'a>, whens: &'a TreeWhens) -> Result<(), 
 }
 
 #[cycle(calls)]
-fn push_optional<'a>(
-    found: &mut CallRefs<'a>,
-    tree: &'a Option<Box<Tree>>,
-) -> Result<(), Memory>
+fn push_optional<'a>(found: &mut CallRefs<'a>, tree: &'a Option<Box<Tree>>) -> Result<(), Memory>
     ensures { OnOk result (map call_view found.new ≡ map call_view found.old ++ optional_calls (optional_tree (option_map (λ y. view y.value) tree.now))) }
 {
     match tree {
@@ -188,9 +189,10 @@ fn push_optional<'a>(
     }
 }
 
+/// Puts the aggregate calls of arguments behind those that were found.
 #[cycle(calls)]
 #[tactic(auto, unfolding(sql_syntax::specs::View::args_view, sql_syntax::specs::View::view))]
-fn push_args<'a>(found: &mut CallRefs<'a>, args: &'a Args) -> Result<(), Memory>
+pub fn push_args<'a>(found: &mut CallRefs<'a>, args: &'a Args) -> Result<(), Memory>
     ensures { OnOk result (map call_view found.new ≡ map call_view found.old ++ args_calls (args_view args.now)) }
 {
     match args {

@@ -11,7 +11,7 @@ mod functions;
 mod literals;
 mod names;
 
-pub use calls::{CallRef, CallRefs, agg_call, aggregate_of, push_calls};
+pub use calls::{CallRef, CallRefs, agg_call, aggregate_of, push_args, push_calls, push_whens};
 pub use fault::BindFault;
 pub use functions::{function_of, is_changing};
 pub use literals::{is_null, is_short, number_of};

@@ -1,9 +1,13 @@
 -- Columns gathered over lists, as far as a loop has come.
-use Rattle.std.proofs.Common.{◌≡◌, ℕ, ◌+◌, ◌<◌, ◌≤◌, length, drop, get_or, List, [], ◌∷◌, ◌++◌, map, Option, Some, None, sym, ap, ◌∙◌, refl, append-nil}
+use Rattle.std.proofs.Common.{◌≡◌, ℕ, ◌+◌, ◌<◌, ◌≤◌, length, drop, get_or, List, [], ◌∷◌, ◌++◌, map, Option, Some, None, sym, ap, ◌∙◌, refl, append-nil, append_assoc}
 use Rattle.std.specs.Prelude.{option_map, option_and_then}
-use Rattle.std.proofs.lemmas.List.{at_drop_more, drop_all}
+use Rattle.std.proofs.lemmas.List.{at_drop_more, drop_all, map-append}
 use Rattle.ct_value.specs.declared.ty.ColTy.{ColTy}
 use Rattle.ct_expr.specs.Types.{gather, both_of, begun, joined, logic_col, compare_col, case_col, coalesce_col}
+use Rattle.ct_expr.specs.Expr as e
+use Rattle.ct_expr.specs.View.{expr_view, when_view, whens_view}
+use Rattle.ct_expr.specs.declared.expr.When.{When}
+use Rattle.ct_expr.specs.laws.Views.{view_when}
 use Rattle.binding.specs.Nodes as n
 use Rattle.binding.specs.Nodes.{columns, known_columns, results_of}
 use Rattle.bind_nodes.specs.declared.bound.Bound.{Bound}
@@ -99,3 +103,15 @@ known_end o bs more i l = ap (λ cs. known_from o cs more) (drop_all i bs l)
 
 pub last_known : (o : Option ColTy) (r : Option n.Bound) → joined case_col o (known_columns (r ∷ [])) ≡ option_and_then (λ p. p) (with_known o r)
 last_known o r = one_known o r []
+
+-- ---- branches of a CASE without literal NULLs
+
+abbrev pub pairs : List Choice → List (e.Expr × e.Expr)
+pairs cs = map (λ b. (b.0.expr, b.1.expr)) (choices_view cs)
+
+pub whens_turn : (ws more : List When) (w : When) (cs rest : List Choice) (c : Choice) (whole : List (e.Expr × e.Expr)) → whens_view ws ++ pairs cs ≡ whole → cs ≡ c ∷ rest → more ≡ ws ++ w ∷ []
+    → w.cond ≡ c.cond.expr.value → w.result ≡ c.result.expr.value → whens_view more ++ pairs rest ≡ whole
+whens_turn ws more w cs rest c whole same step pushed is_cond is_result =
+    ap (λ v. whens_view v ++ pairs rest) pushed ∙ ap (λ xs. xs ++ pairs rest) (map-append when_view ws (w ∷ [])) ∙ append_assoc (whens_view ws) (when_view w ∷ []) (pairs rest)
+    ∙ ap (λ p. whens_view ws ++ p ∷ pairs rest) (view_when w ∙ (λ i. (expr_view (is_cond i), expr_view (is_result i))))
+    ∙ ap (λ xs. whens_view ws ++ pairs xs) (sym step) ∙ same

@@ -1,3 +1,4 @@
+pub mod Behind
 pub mod Folds
-pub mod Operands
+pub mod OneOrTwo
 pub mod Pairs

@@ -63,7 +63,7 @@ fn coalesce(alloc: Global, bounds: Bounds) -> Result<Bound, BindFault>
 }
 
 // The only operand of a call.
-#[tactic(auto, using(crate::proofs::Operands::only_one))]
+#[tactic(auto, using(crate::proofs::OneOrTwo::only_one))]
 fn only(bounds: Bounds) -> Option<Bound>
     ensures one { IfSome result (λ x. bounds_view bounds ≡ bound_view x ∷ []) }
     ensures none { IfNone result (¬ (length bounds ≡ 1)) }
@@ -76,7 +76,7 @@ fn only(bounds: Bounds) -> Option<Bound>
 }
 
 // The two operands of a call.
-#[tactic(auto, using(crate::proofs::Operands::only_two))]
+#[tactic(auto, using(crate::proofs::OneOrTwo::only_two))]
 fn both(bounds: Bounds) -> Option<(Bound, Bound)>
     ensures two { IfSome result (λ p. bounds_view bounds ≡ bound_view p.0 ∷ bound_view p.1 ∷ []) }
     ensures none { IfNone result (¬ (length bounds ≡ 2)) }
@@ -90,7 +90,7 @@ fn both(bounds: Bounds) -> Option<(Bound, Bound)>
     Some((first, last))
 }
 
-#[tactic(auto, using(ct_expr::specs::laws::Views::view_char_length, crate::proofs::Operands::not_one))]
+#[tactic(auto, using(ct_expr::specs::laws::Views::view_char_length, crate::proofs::OneOrTwo::not_one))]
 fn char_length(alloc: Global, bounds: Bounds) -> Result<Bound, BindFault>
     ensures ok { IfOk result (λ x. n.applied v.CharLength (bounds_view bounds) ≡ Ok (bound_view x)) }
     ensures refused { (code : ScriptCode) → IsErrOf result (f.Refused code) → n.applied v.CharLength (bounds_view bounds) ≡ Err code }
@@ -105,7 +105,7 @@ fn char_length(alloc: Global, bounds: Bounds) -> Result<Bound, BindFault>
     }
 }
 
-#[tactic(auto, using(ct_expr::specs::laws::Views::view_null_if, crate::proofs::Operands::not_two))]
+#[tactic(auto, using(ct_expr::specs::laws::Views::view_null_if, crate::proofs::OneOrTwo::not_two))]
 fn null_if(alloc: Global, bounds: Bounds) -> Result<Bound, BindFault>
     ensures ok { IfOk result (λ x. n.applied v.NullIf (bounds_view bounds) ≡ Ok (bound_view x)) }
     ensures refused { (code : ScriptCode) → IsErrOf result (f.Refused code) → n.applied v.NullIf (bounds_view bounds) ≡ Err code }

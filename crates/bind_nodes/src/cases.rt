@@ -68,7 +68,7 @@ pub fn case(
     let common = common_column(&branches, &otherwise);
     let choices = with_nulls(alloc, common, branches)?;
     let otherwise = otherwise_with_null(alloc, common, otherwise)?;
-    choice(alloc, choices, otherwise)
+    whole_case(alloc, choices, otherwise)
 }
 
 // The common column of the results that are no literal NULL.
@@ -97,11 +97,7 @@ fn with_known(all: Option<ColTy>, outcome: &Option<Bound>) -> Option<Option<ColT
 }
 
 // A result, of which a literal NULL is of the common type.
-fn or_null(
-    alloc: Global,
-    common: Option<ColTy>,
-    outcome: Option<Bound>,
-) -> Result<Bound, BindFault>
+fn or_null(alloc: Global, common: Option<ColTy>, outcome: Option<Bound>) -> Result<Bound, BindFault>
     ensures ok { IfOk result (λ x. n.or_null_of common (option_map bound_view outcome) ≡ Ok (bound_view x)) }
     ensures refused { (code : ScriptCode) → IsErrOf result (f.Refused code) → n.or_null_of common (option_map bound_view outcome) ≡ Err code }
 {
@@ -145,12 +141,8 @@ fn otherwise_with_null(
     }
 }
 
-#[tactic(auto, using(ct_expr::specs::laws::Views::view_case, crate::proofs::Folds::otherwise_seen))]
-fn choice(
-    alloc: Global,
-    choices: Choices,
-    otherwise: Option<Bound>,
-) -> Result<Bound, BindFault>
+#[tactic(auto, using(ct_expr::specs::laws::Views::view_case))]
+fn whole_case(alloc: Global, choices: Choices, otherwise: Option<Bound>) -> Result<Bound, BindFault>
     ensures ok { IfOk result (λ x. n.choice (choices_view choices) (option_map bound_view otherwise) ≡ Ok (bound_view x)) }
     ensures refused { (code : ScriptCode) → IsErrOf result (f.Refused code) → n.choice (choices_view choices) (option_map bound_view otherwise) ≡ Err code }
 {

@@ -14,6 +14,6 @@ pub use bound::{Bound, Bounds, columns_are_truths, operands};
 pub use calls::{CallForm, call, is_count};
 pub use cases::{Branch, Branches, case, cast_to};
 pub use nodes::{
-    added, between, column, compare, conjunction, disjunction, found_column, in_list, like, literal,
-    multiplied, negated_if, negation, null_test, number, signed,
+    added, between, column, compare, conjunction, disjunction, found_column, in_list, like,
+    literal, multiplied, negated_if, negation, null_test, number, signed,
 };

@@ -15,9 +15,9 @@ use Rattle.query_answer.specs.Calls.{Call, aggregate_of, agg_call, optional, cal
 use Rattle.query_answer.specs.Functions.{function_of}
 use Rattle.query_answer.specs.Names.{Scope, find}
 use Rattle.query_answer.specs.Shapes.{Shape, shape, place_of}
-use Rattle.binding.specs.Checked.{Checked, ◌>>=◌, refused_if}
+use Rattle.binding.specs.Checked.{Checked, ◌>>=◌, or_code, refused_if}
 use Rattle.binding.specs.Nodes.{Bound, is_count}
-use Rattle.binding.specs.Expressions.{Leaf, is_distinct, args_bound, optional_bound, names, may_change, found_column, column}
+use Rattle.binding.specs.Expressions.{Leaf, is_distinct, args_bound, optional_bound, bound_over, names, may_change, found_column, column}
 
 -- one operand, or the star of COUNT
 abbrev pub has_operands : AggCall → t.Args → Bool
@@ -51,6 +51,49 @@ call_column global place c args xs filter =
 abbrev pub call_bound : Scope → Bool → ℕ → AggCall → t.Args → t.OptionalTree → Checked Bound
 call_bound scope global place c args filter =
     args_bound (names scope) 0 args >>= λ xs. optional_bound (names scope) 0 filter >>= λ condition. call_column global place c args xs condition
+
+-- ---- the calls of a select again, once they are accepted: what a Group is made of
+
+-- a call with its operands
+pub record BoundCall : Type 0 where
+  pub arg : Option Bound
+  pub filter : Option Bound
+  pub column : ColTy
+
+abbrev pub optional_over : Scope → Option Tree → Checked (Option Bound)
+optional_over scope None = Ok None
+optional_over scope (Some x) = bound_over scope x >>= λ a. Ok (Some a)
+
+abbrev pub bound_column : Option Bound → Option ColTy
+bound_column None = None
+bound_column (Some x) = Some x.column
+
+abbrev pub column_of : Bool → AggCall → Option Bound → Option Bound → Option ColTy
+column_of global c arg filter = cond (is_condition_if filter) (call_type (global || is_some filter) c (bound_column arg)) None
+
+abbrev pub operands_bound : Scope → Bool → Call → Checked BoundCall
+operands_bound scope global c =
+    optional_over scope c.arg >>= λ arg. optional_over scope c.filter >>= λ filter. or_code TypeMismatch (column_of global c.call arg filter) >>= λ ty.
+    Ok (record { arg = arg; filter = filter; column = ty })
+
+abbrev pub calls_bound : Scope → Bool → List Call → Checked (List BoundCall)
+calls_bound scope global [] = Ok []
+calls_bound scope global (c ∷ cs) = operands_bound scope global c >>= λ x. calls_bound scope global cs >>= λ xs. Ok (x ∷ xs)
+
+abbrev pub with_bound : Option Bound → List Bound → List Bound
+with_bound None xs = xs
+with_bound (Some x) xs = x ∷ xs
+
+-- the arguments of calls, and their FILTER conditions, in order
+abbrev pub bound_arguments : List BoundCall → List Bound
+bound_arguments [] = []
+bound_arguments (c ∷ cs) = with_bound c.arg (bound_arguments cs)
+
+abbrev pub bound_filters : List BoundCall → List Bound
+bound_filters [] = []
+bound_filters (c ∷ cs) = with_bound c.filter (bound_filters cs)
+
+-- ---- whole nodes
 
 abbrev pub has_no_keys : List Bound → Bool
 has_no_keys [] = true

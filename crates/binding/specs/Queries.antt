@@ -12,14 +12,14 @@ use Rattle.rel_algebra.specs.Rel as r
 use Rattle.rel_algebra.specs.Types.{common_columns, is_boolean}
 use Rattle.sql_syntax.specs.Tree.{Tree, Text}
 use Rattle.sql_syntax.specs.Tree as t
-use Rattle.query_answer.specs.Calls.{Call, calls, arguments, filters}
+use Rattle.query_answer.specs.Calls.{Call, calls}
 use Rattle.query_answer.specs.Names.{Scope, find}
 use Rattle.query_answer.specs.Shapes.{column_shape}
 use Rattle.query_answer.specs.Answer.{under, table_scope, renamed_scope, Listed, Placed, Written, NoSource, Entry, entries, listed_calls, select_calls, is_grouped, listed_trees, types, retyped}
 use Rattle.binding.specs.Checked.{Checked, ◌>>=◌, or_code, refused_if}
 use Rattle.binding.specs.Nodes.{Bound, expr_list, operands}
 use Rattle.binding.specs.Expressions.{Leaf, bound, bound_over, each_bound, conditions, conjuncts_bound, column}
-use Rattle.binding.specs.InGroups.{in_group, key_for}
+use Rattle.binding.specs.InGroups.{in_group, key_for, has_no_keys, calls_bound, bound_arguments, bound_filters}
 
 -- the algebra, and the columns in reach over its rows
 pub record Relation : Type 0 where
@@ -60,13 +60,13 @@ abbrev pub is_column : ℕ → Expr → Bool
 is_column n (e.Column m ty) = n == m
 is_column n _ = false
 
-abbrev pub is_in_place : ℕ → ℕ → List Bound → Bool
+abbrev pub is_in_place : ℕ → ℕ → List Expr → Bool
 is_in_place n width [] = n == width
-is_in_place n width (x ∷ xs) = is_column n x.expr && is_in_place (suc n) width xs
+is_in_place n width (x ∷ xs) = is_column n x && is_in_place (suc n) width xs
 
 -- a Project whose items are the input's columns in place is left out
 abbrev pub projected : ℕ → List Bound → Rel → Rel
-projected width xs input = cond (is_in_place 0 width xs) input (r.Project input (expr_list xs))
+projected width xs input = cond (is_in_place 0 width (expr_list xs)) input (r.Project input (expr_list xs))
 
 abbrev pub headed : List Entry → List Bound → Scope
 headed [] xs = []
@@ -141,10 +141,9 @@ grouped_select es groups having x =
     each_bound x.scope groups >>= λ keys.
     having_bound (in_group x.scope groups keys) (length (flat_map (λ e. listed_calls e.listed) es)) having >>= λ h.
     list_bound (group_listed x.scope groups keys) es >>= λ xs.
-    each_bound x.scope (arguments cs) >>= λ args.
-    each_bound x.scope (filters cs) >>= λ conditions.
+    calls_bound x.scope (has_no_keys keys) cs >>= λ ys.
     Ok (record {
-      rel = projected (length keys + length cs) xs (filter_if h (group_rel (length x.scope) keys args conditions cs x.rel));
+      rel = projected (length keys + length cs) xs (filter_if h (group_rel (length x.scope) keys (bound_arguments ys) (bound_filters ys) cs x.rel));
       scope = headed es xs;
     })
 

@@ -19,7 +19,7 @@ pub use dup::dup_exprs;
 pub use evaluate::{EvalFault, eval};
 pub use expr::{ArithOp, Expr, Exprs, When, Whens};
 pub use types::{
-    arith_col, case_col, cast_col, char_length_col, coalesce_col, common_ty, compare_col, is_truths,
-    literal_col, logic_col, null_if_col, null_test_col, number_col, same_ty, texts_col, truth_col,
-    type_of,
+    arith_col, case_col, cast_col, char_length_col, coalesce_col, common_ty, compare_col,
+    is_truths, literal_col, logic_col, null_if_col, null_test_col, number_col, same_ty, texts_col,
+    truth_col, type_of,
 };
