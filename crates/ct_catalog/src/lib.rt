@@ -14,3 +14,4 @@ mod types;
 pub use catalog::{Catalog, CatalogFault};
 pub use settings::{Materialize, Settings};
 pub use table::{ColDef, ColDefs, Sources, TableDef};
+pub use types::type_of;

@@ -10,7 +10,7 @@ use sql_syntax::TypeName;
 const MOST_DIGITS: u32 = 38;
 
 /// The type of a name with its numbers, and `None` where there is none.
-pub(crate) fn type_of(name: &TypeName) -> Option<Ty>
+pub fn type_of(name: &TypeName) -> Option<Ty>
     ensures { result ≡ type_of name.now }
 {
     if is_decimal(&name.name) {

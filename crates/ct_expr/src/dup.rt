@@ -95,7 +95,7 @@ fn dup_whens(whens: &Whens) -> Result<Whens, Memory>
 }
 
 #[cycle(dup)]
-#[tactic(auto, using(crate::proofs::Views::view_when))]
+#[tactic(auto, using(crate::specs::laws::Views::view_when))]
 fn dup_when(when: &When) -> Result<When, Memory>
     ensures { IfOk result (λ copy. when_view copy ≡ when_view when.now) }
 {

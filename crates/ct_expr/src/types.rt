@@ -28,7 +28,8 @@ fn is_number(ty: Ty) -> bool
     matches!(ty, Ty::Int | Ty::BigInt | Ty::Decimal { .. })
 }
 
-fn is_truths(ty: Ty) -> bool
+/// Whether a type is BOOLEAN.
+pub fn is_truths(ty: Ty) -> bool
     ensures { result ≡ is_truths ty }
 {
     matches!(ty, Ty::Bool)
@@ -40,7 +41,8 @@ fn is_texts(ty: Ty) -> bool
     matches!(ty, Ty::Text)
 }
 
-fn same_ty(left: Ty, right: Ty) -> bool
+/// Whether two types are the same.
+pub fn same_ty(left: Ty, right: Ty) -> bool
     ensures { result ≡ same_ty left right }
 {
     match (left, right) {
@@ -53,8 +55,8 @@ fn same_ty(left: Ty, right: Ty) -> bool
     }
 }
 
-// The common type of two types.
-fn common_ty(left: Ty, right: Ty) -> Option<Ty>
+/// The common type of two types; `None` exactly where they have none.
+pub fn common_ty(left: Ty, right: Ty) -> Option<Ty>
     ensures { result ≡ common_ty left right }
 {
     match (left, right) {
@@ -259,7 +261,8 @@ fn column_col(cols: &ColTys, column: u32, ty: Ty) -> Option<ColTy>
     }
 }
 
-fn literal_col(value: &Value, ty: Ty) -> Option<ColTy>
+/// The column of a literal: of its type, where the value is NULL or of that type; NULL stands in it only where it is NULL.
+pub fn literal_col(value: &Value, ty: Ty) -> Option<ColTy>
     ensures { result ≡ t.literal_col value.now ty }
 {
     if is_type(ty) && value_fits(ty, value) {
@@ -269,26 +272,31 @@ fn literal_col(value: &Value, ty: Ty) -> Option<ColTy>
     }
 }
 
-fn number_col(of: ColTy) -> Option<ColTy>
+/// The column of a number with a sign before it; `None` exactly where it is no number.
+pub fn number_col(of: ColTy) -> Option<ColTy>
     ensures { result ≡ t.number_col of }
 {
     if is_number(of.ty) { Some(of) } else { None }
 }
 
-fn truth_col(of: ColTy) -> Option<ColTy>
+/// The column of NOT; `None` exactly where the operand is no truth value.
+pub fn truth_col(of: ColTy) -> Option<ColTy>
     ensures { result ≡ t.truth_col of }
 {
     if is_truths(of.ty) { Some(of) } else { None }
 }
 
-fn null_test_col(of: ColTy) -> ColTy
+/// The column of IS NULL, in which NULL never stands.
+pub fn null_test_col(of: ColTy) -> ColTy
     ensures { Some result ≡ t.null_test_col of }
 {
     let _ = of;
     col(Ty::Bool, false)
 }
 
-fn arith_col(op: ArithOp, left: ColTy, right: ColTy) -> Option<ColTy>
+/// The column of a sum, a difference or a product of two numbers; `None` exactly where one is no number, or the result would have
+/// more than 38 decimals.
+pub fn arith_col(op: ArithOp, left: ColTy, right: ColTy) -> Option<ColTy>
     ensures { result ≡ t.arith_col op left right }
 {
     if can_arith(op, left.ty, right.ty) {
@@ -301,7 +309,8 @@ fn arith_col(op: ArithOp, left: ColTy, right: ColTy) -> Option<ColTy>
     }
 }
 
-fn compare_col(left: ColTy, right: ColTy) -> Option<ColTy>
+/// The column of a comparison; `None` exactly where the two types have no order in common.
+pub fn compare_col(left: ColTy, right: ColTy) -> Option<ColTy>
     ensures { result ≡ t.compare_col left right }
 {
     if comparable(left.ty, right.ty) {
@@ -311,7 +320,8 @@ fn compare_col(left: ColTy, right: ColTy) -> Option<ColTy>
     }
 }
 
-fn logic_col(left: ColTy, right: ColTy) -> Option<ColTy>
+/// The column of AND or OR of two truth values; `None` exactly where one is none.
+pub fn logic_col(left: ColTy, right: ColTy) -> Option<ColTy>
     ensures { result ≡ t.logic_col left right }
 {
     if is_truths(left.ty) && is_truths(right.ty) {
@@ -321,7 +331,8 @@ fn logic_col(left: ColTy, right: ColTy) -> Option<ColTy>
     }
 }
 
-fn case_col(left: ColTy, right: ColTy) -> Option<ColTy>
+/// The common column of two results of a CASE, nullable where one is; `None` exactly where they have no common type.
+pub fn case_col(left: ColTy, right: ColTy) -> Option<ColTy>
     ensures { result ≡ t.case_col left right }
 {
     Some(col(
@@ -330,7 +341,8 @@ fn case_col(left: ColTy, right: ColTy) -> Option<ColTy>
     ))
 }
 
-fn coalesce_col(left: ColTy, right: ColTy) -> Option<ColTy>
+/// The common column of two operands of COALESCE, nullable where both are; `None` exactly where they have no common type.
+pub fn coalesce_col(left: ColTy, right: ColTy) -> Option<ColTy>
     ensures { result ≡ t.coalesce_col left right }
 {
     Some(col(
@@ -339,7 +351,8 @@ fn coalesce_col(left: ColTy, right: ColTy) -> Option<ColTy>
     ))
 }
 
-fn null_if_col(left: ColTy, right: ColTy) -> Option<ColTy>
+/// The column of NULLIF: that of the first operand, nullable; `None` exactly where the two cannot be compared.
+pub fn null_if_col(left: ColTy, right: ColTy) -> Option<ColTy>
     ensures { result ≡ t.null_if_col left right }
 {
     if comparable(left.ty, right.ty) {
@@ -349,7 +362,8 @@ fn null_if_col(left: ColTy, right: ColTy) -> Option<ColTy>
     }
 }
 
-fn cast_col(ty: Ty, of: ColTy) -> Option<ColTy>
+/// The column of a CAST to a type; `None` exactly where there is no such cast.
+pub fn cast_col(ty: Ty, of: ColTy) -> Option<ColTy>
     ensures { result ≡ t.cast_col ty of }
 {
     if is_type(ty) && can_cast(of.ty, ty) {
@@ -359,7 +373,8 @@ fn cast_col(ty: Ty, of: ColTy) -> Option<ColTy>
     }
 }
 
-fn texts_col(ty: Ty, left: ColTy, right: ColTy) -> Option<ColTy>
+/// A column of this type over two texts; `None` exactly where one is no text.
+pub fn texts_col(ty: Ty, left: ColTy, right: ColTy) -> Option<ColTy>
     ensures { result ≡ t.texts_col ty left right }
 {
     if is_texts(left.ty) && is_texts(right.ty) {
@@ -369,7 +384,8 @@ fn texts_col(ty: Ty, left: ColTy, right: ColTy) -> Option<ColTy>
     }
 }
 
-fn char_length_col(of: ColTy) -> Option<ColTy>
+/// The column of CHAR_LENGTH; `None` exactly where the operand is no text.
+pub fn char_length_col(of: ColTy) -> Option<ColTy>
     ensures { result ≡ t.char_length_col of }
 {
     if is_texts(of.ty) {

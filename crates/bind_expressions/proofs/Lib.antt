@@ -1,0 +1,4 @@
+pub mod Counts
+pub mod Exits
+pub mod Lists
+pub mod Nodes

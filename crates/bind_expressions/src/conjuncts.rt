@@ -1,0 +1,98 @@
+//! Trees over the columns in reach, and the conjuncts of a WHERE.
+ghost use Rattle.bind_names.specs.declared.fault.BindFault.TheVariants as f;
+ghost use Rattle.std.specs.Prelude.{◌≡◌, Ok, Err, IfOk, IsErrOf};
+ghost use Rattle.ct_value.specs.declared.codes.ScriptCode.{ScriptCode};
+ghost use Rattle.sql_syntax.specs.Tree.{trees as tree_list};
+ghost use Rattle.sql_syntax.specs.View.{view, trees_view};
+ghost use Rattle.binding.specs.Expressions.{all_conjuncts_bound, bound_over, conditions, conjuncts_bound, each_bound};
+ghost use Rattle.bind_nodes.specs.Views.{bound_view, bounds_view};
+ghost use Rattle.bind_expressions.specs.Walk.{only_conjunct};
+
+use crate::reach::Reach;
+use crate::walk::bind;
+use bind_names::BindFault;
+use bind_nodes::{Bound, Bounds, columns_are_truths};
+use ct_value::ScriptCode;
+use query_answer::Scope;
+use sql_syntax::{Tree, Trees};
+use std::alloc::Global;
+
+/// What a tree over the columns in reach is bound to; it has no place for aggregate calls.
+#[tactic(auto, unfolding(crate::specs::Reach::leaf_of))]
+pub fn bind_over(alloc: Global, scope: &Scope, tree: &Tree) -> Result<Bound, BindFault>
+    ensures ok { IfOk result (λ x. bound_over scope.now (view tree.now) ≡ Ok (bound_view x)) }
+    ensures refused { (code : ScriptCode) → IsErrOf result (f.Refused code) → bound_over scope.now (view tree.now) ≡ Err code }
+{
+    let reach = Reach { scope };
+    bind(alloc, &reach, 0, tree)
+}
+
+/// Trees over the columns in reach, one after the other.
+pub fn bind_each(alloc: Global, scope: &Scope, trees: &[Tree]) -> Result<Bounds, BindFault>
+    ensures ok { IfOk result (λ xs. each_bound scope.now (trees_view trees.now) ≡ Ok (bounds_view xs)) }
+    ensures refused { (code : ScriptCode) → IsErrOf result (f.Refused code) → each_bound scope.now (trees_view trees.now) ≡ Err code }
+{
+    let mut bounds = Bounds::with_capacity(alloc, trees.len())?;
+    for tree in trees {
+        bounds.push(bind_over(alloc, scope, tree)?)?;
+    }
+    Ok(bounds)
+}
+
+/// The same expressions, of which there is one or more and each is BOOLEAN.
+pub fn conditions(bounds: Bounds) -> Result<Bounds, BindFault>
+    ensures ok { IfOk result (λ xs. conditions (bounds_view bounds) ≡ Ok (bounds_view xs)) }
+    ensures refused { (code : ScriptCode) → IsErrOf result (f.Refused code) → conditions (bounds_view bounds) ≡ Err code }
+{
+    match columns_are_truths(&bounds) {
+        Some(_) => Ok(bounds),
+        None => Err(BindFault::Refused(ScriptCode::TypeMismatch)),
+    }
+}
+
+// A tree that is one conjunct.
+fn one_conjunct(alloc: Global, scope: &Scope, tree: &Tree) -> Result<Bounds, BindFault>
+    ensures ok { IfOk result (λ xs. only_conjunct scope.now (view tree.now) ≡ Ok (bounds_view xs)) }
+    ensures refused { (code : ScriptCode) → IsErrOf result (f.Refused code) → only_conjunct scope.now (view tree.now) ≡ Err code }
+{
+    let mut bounds = Bounds::with_capacity(alloc, 1)?;
+    bounds.push(bind_over(alloc, scope, tree)?)?;
+    Ok(bounds)
+}
+
+/// The top-level conjuncts of a condition, also those in parentheses.
+#[cycle(conjuncts)]
+#[tactic(auto, unfolding(sql_syntax::specs::View::view))]
+pub fn bind_conjuncts(alloc: Global, scope: &Scope, tree: &Tree) -> Result<Bounds, BindFault>
+    ensures ok { IfOk result (λ xs. conjuncts_bound scope.now (view tree.now) ≡ Ok (bounds_view xs)) }
+    ensures refused { (code : ScriptCode) → IsErrOf result (f.Refused code) → conjuncts_bound scope.now (view tree.now) ≡ Err code }
+{
+    match tree {
+        Tree::And(trees) => {
+            let bounds = all_conjuncts(alloc, scope, trees)?;
+            conditions(bounds)
+        }
+        Tree::Paren(value) => bind_conjuncts(alloc, scope, value),
+        Tree::Or(_) | Tree::Not(_) | Tree::Exists(_) => one_conjunct(alloc, scope, tree),
+        Tree::Compare { .. } | Tree::IsNull { .. } => one_conjunct(alloc, scope, tree),
+        Tree::Between { .. } | Tree::InList { .. } => one_conjunct(alloc, scope, tree),
+        Tree::InQuery { .. } | Tree::Like { .. } => one_conjunct(alloc, scope, tree),
+        Tree::Sum { .. } | Tree::Product { .. } => one_conjunct(alloc, scope, tree),
+        Tree::Sign { .. } | Tree::Number(_) | Tree::Str(_) => one_conjunct(alloc, scope, tree),
+        Tree::Bool(_) | Tree::Null | Tree::Name { .. } => one_conjunct(alloc, scope, tree),
+        Tree::Call { .. } | Tree::Cast { .. } => one_conjunct(alloc, scope, tree),
+        Tree::Sub(_) | Tree::Case { .. } => one_conjunct(alloc, scope, tree),
+    }
+}
+
+#[cycle(conjuncts)]
+fn all_conjuncts(alloc: Global, scope: &Scope, trees: &Trees) -> Result<Bounds, BindFault>
+    ensures ok { IfOk result (λ xs. all_conjuncts_bound scope.now (tree_list (trees_view trees.now)) ≡ Ok (bounds_view xs)) }
+    ensures refused { (code : ScriptCode) → IsErrOf result (f.Refused code) → all_conjuncts_bound scope.now (tree_list (trees_view trees.now)) ≡ Err code }
+{
+    let mut bounds = Bounds::new(alloc);
+    for tree in trees.as_slice() {
+        bounds.append(bind_conjuncts(alloc, scope, tree)?)?;
+    }
+    Ok(bounds)
+}

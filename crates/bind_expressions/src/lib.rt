@@ -1,0 +1,13 @@
+//! Trees of expressions are bound: the first refusal of the walk, or an expression over the columns in reach.
+//!
+//! Promised: each call answers what the definition of `binding` says of the tree. It stands on the nodes of `bind_nodes`, and
+//! knows no clauses of queries.
+#![tactic(auto)]
+
+mod conjuncts;
+mod reach;
+mod walk;
+
+pub use conjuncts::{bind_conjuncts, bind_each, bind_over, conditions};
+pub use reach::Reach;
+pub use walk::bind;

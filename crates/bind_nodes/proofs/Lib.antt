@@ -1,0 +1,4 @@
+pub mod Behind
+pub mod Folds
+pub mod OneOrTwo
+pub mod Pairs
