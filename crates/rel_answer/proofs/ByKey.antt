@@ -30,6 +30,10 @@ keys_of-units : (entries : List (Row × List (Row × ℕ))) → keys_of (units e
 keys_of-units [] = refl
 keys_of-units (entry ∷ entries) = ap (λ ks. entry.0 ∷ ks) (keys_of-units entries)
 
+-- an entry has its key's rows
+abbrev pub IsMember : (Row → Row) → Rows → Row × List (Row × ℕ) → Type 0
+IsMember key_of rows entry = (bag_of_counts entry.1 ≡ rows_of_key key_of entry.0 rows) × IsFilled entry.1
+
 -- 1 where something is there
 abbrev pub is_there : {A : Type 0} → Option A → ℕ
 is_there None = 0
@@ -92,15 +96,11 @@ module _ (key_of : Row → Row) (rows : Rows) (index : Index) (is : IsIndex key_
       ∙ sym (copies-bag_of_counts row_total (units index.entries) key (subst (λ ks. Rattle.std.specs.List.IsDistinct (eq_by_cmp row_cmp) ks) (sym (keys_of-units index.entries)) (IsDistinct-from_sorted row_cmp (keys_of index.entries) is.ordered))
       ∙ lookup-units (is_at (row_cmp key)) index.entries))
 
-  -- an entry is its key's rows
-  abbrev pub IsEntry : Row × List (Row × ℕ) → Type 0
-  IsEntry entry = (bag_of_counts entry.1 ≡ rows_of_key key_of entry.0 rows) × IsFilled entry.1
-
   each_place : (P : Row × List (Row × ℕ) → Type 0) (entries : List (Row × List (Row × ℕ))) → ((i : ℕ) (entry : Row × List (Row × ℕ)) → slice_get entries i ≡ Some entry → P entry) → AllByRecursion P entries
   each_place P [] h = tt
   each_place P (entry ∷ entries) h = (h zero entry refl, each_place P entries (λ i e p. h (suc i) e p))
 
-  pub entries-are : AllByRecursion IsEntry index.entries
-  entries-are = each_place IsEntry index.entries (λ i entry p.
+  pub entries-are : AllByRecursion (IsMember key_of rows) index.entries
+  entries-are = each_place (IsMember key_of rows) index.entries (λ i entry p.
       let e : get row_cmp index entry.0 ≡ Some entry.1 = btree_map_get_place row_total index i entry.0 entry.1 is.ordered p in
       (sym (ap (λ (o : Option (List (Row × ℕ))). bag_of_counts (unwrap_or o [])) e) ∙ is.found entry.0, each-lookup IsFilled (is_at (row_cmp entry.0)) index.entries entry.1 is.filled e))

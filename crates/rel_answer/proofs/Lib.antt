@@ -7,3 +7,4 @@ pub mod ByKey
 pub mod Cells
 pub mod Found
 pub mod Lists
+pub mod Ranking

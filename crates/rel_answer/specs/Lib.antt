@@ -1,3 +1,4 @@
 pub mod Indexes
 pub mod Matches
 pub mod Tallies
+pub mod Ranking

@@ -7,10 +7,12 @@
 mod index;
 mod joins;
 mod matches;
+mod ranks;
 mod rows;
 mod tally;
 
 pub use index::{Counted, Index};
 pub use joins::{inner_join, join_rows, semi_join};
+pub use ranks::rank_rows;
 pub use rows::{filter_rows, project_rows, union_rows};
 pub use tally::Tally;
