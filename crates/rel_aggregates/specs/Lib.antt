@@ -1,1 +1,3 @@
+pub mod Sums
+pub mod Taken
 pub mod Wide

@@ -4,6 +4,8 @@
 //! 256 bits, which no sum of fewer than 2^64 values with counts below 2^64 leaves.
 #![tactic(auto)]
 
+mod results;
+mod totals;
 mod wide;
 
 pub use wide::Wide;
