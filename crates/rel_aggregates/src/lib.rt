@@ -4,8 +4,11 @@
 //! 256 bits, which no sum of fewer than 2^64 values with counts below 2^64 leaves.
 #![tactic(auto)]
 
+mod aggregate;
+mod distinct;
+mod extremes;
 mod results;
 mod totals;
 mod wide;
 
-pub use wide::Wide;
+pub use aggregate::agg_result;

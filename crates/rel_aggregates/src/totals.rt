@@ -7,7 +7,7 @@ ghost use Rattle.rel_clauses.specs.Aggregates as a;
 ghost use Rattle.rel_aggregates.specs.Taken as t;
 ghost use Rattle.rel_aggregates.specs.Wide.{wide_number};
 
-use crate::Wide;
+use crate::wide::Wide;
 use ct_value::{Row, Value};
 use rel_clauses::Agg;
 
@@ -62,7 +62,10 @@ fn with_row(before: Totals, agg: &Agg, row: &Row, count: u64) -> Totals
     if !passes(agg.filter, row) {
         return before;
     }
-    let counted = Totals { rows: before.rows + count as u128, ..before };
+    let counted = Totals {
+        rows: before.rows + count as u128,
+        ..before
+    };
     match taken(agg, row) {
         None => counted,
         Some(value) => with_value(counted, value, count),
@@ -85,9 +88,17 @@ fn with_value(before: Totals, value: &Value, count: u64) -> Totals
     let magnitude = Wide::product(count as u128, number.unsigned_abs());
     let known = before.known + count as u128;
     if number < 0 {
-        Totals { known, below: before.below.plus(magnitude), ..before }
+        Totals {
+            known,
+            below: before.below.plus(magnitude),
+            ..before
+        }
     } else {
-        Totals { known, above: before.above.plus(magnitude), ..before }
+        Totals {
+            known,
+            above: before.above.plus(magnitude),
+            ..before
+        }
     }
 }
 

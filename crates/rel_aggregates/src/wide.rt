@@ -34,9 +34,15 @@ impl Wide {
     {
         let (low, carries) = self.low.overflowing_add(other.low);
         if carries {
-            Wide { high: self.high + other.high + 1, low }
+            Wide {
+                high: self.high + other.high + 1,
+                low,
+            }
         } else {
-            Wide { high: self.high + other.high, low }
+            Wide {
+                high: self.high + other.high,
+                low,
+            }
         }
     }
 
@@ -46,9 +52,15 @@ impl Wide {
         ensures { wide_number result + wide_number other ≡ wide_number self }
     {
         if self.low < other.low {
-            Wide { high: self.high - other.high - 1, low: u128::MAX - other.low + self.low + 1 }
+            Wide {
+                high: self.high - other.high - 1,
+                low: u128::MAX - other.low + self.low + 1,
+            }
         } else {
-            Wide { high: self.high - other.high, low: self.low - other.low }
+            Wide {
+                high: self.high - other.high,
+                low: self.low - other.low,
+            }
         }
     }
 
@@ -87,7 +99,12 @@ fn parts(a_high: u128, a_low: u128, b_high: u128, b_low: u128) -> Wide
     requires b_low { b_low < 2 ^ 64 }
     ensures { wide_number result ≡ (a_high * 2 ^ 64 + a_low) * (b_high * 2 ^ 64 + b_low) }
 {
-    gathered(a_high * b_high, a_high * b_low, a_low * b_high, a_low * b_low)
+    gathered(
+        a_high * b_high,
+        a_high * b_low,
+        a_low * b_high,
+        a_low * b_low,
+    )
 }
 
 // A number by the products of its halves.
