@@ -1,10 +1,10 @@
 -- The first and the last of the values that a call takes, row by row from the last.
-use Rattle.std.proofs.Common.{◌≡◌, ℕ, zero, suc, ◌+◌, ◌<◌, ◌≤◌, ◌^◌, Bool, true, false, cond, not, T, List, [], ◌∷◌, drop, length, get_or, Option, Some, None, refl, sym, ap, ◌∙◌, subst, arith}
+use Rattle.std.proofs.Common.{◌≡◌, ℕ, zero, suc, ◌+◌, ◌<◌, ◌≤◌, Bool, true, false, cond, not, T, List, [], ◌∷◌, drop, length, get_or, Option, Some, None, refl, sym, ap, ◌∙◌, subst, arith}
 use Rattle.std.specs.Prelude.{◌&&◌}
 use Rattle.std.specs.Ordering.{is_gt}
 use Rattle.std.specs.Cmp.{upto}
 use Rattle.std.proofs.lemmas.List.{at_drop_more, at_drop_all}
-use Rattle.ct_value.specs.Bag.{Bag, items, items-none, items-add, items_in_order, none, add, add_many, bag_of_counts, put, at_most_all, in_order}
+use Rattle.ct_value.specs.Bag.{items, items-add, items_in_order, none, add, add_many, bag_of_counts, put, at_most_all, in_order}
 use Rattle.ct_value.specs.Order.{value_cmp, value_total, value_exact, row_cmp, row_total, row_exact}
 use Rattle.ct_value.specs.declared.row.Row.{Row}
 use Rattle.ct_value.specs.declared.value.Value.{Value}

@@ -1,7 +1,6 @@
 -- Products by halves, and quotients.
-use Rattle.std.proofs.Common.{◌≡◌, ℕ, ◌+◌, ◌*◌, ◌/◌, ◌<◌, ◌≤◌, ◌^◌, refl, sym, ap, ◌∙◌, arith}
+use Rattle.std.proofs.Common.{◌≡◌, ℕ, ◌+◌, ◌*◌, ◌<◌, ◌≤◌, ◌^◌, arith}
 use Rattle.std.proofs.lemmas.Nat.{mul-le}
-use Rattle.std.proofs.Math.Nat.{mul_comm, mul_assoc, le-div_iff_mul-le, div-mul-le_self}
 
 pub half_product : (x y : ℕ) → x < 2 ^ 64 → y < 2 ^ 64 → x * y ≤ 340282366920938463426481119284349108225
 half_product x y p q = mul-le x y 18446744073709551615 18446744073709551615 (omega arith) (omega arith)

@@ -1,20 +1,20 @@
 -- What totals say of the values that a call takes.
-use Rattle.std.proofs.Common.{◌≡◌, ℕ, ◌+◌, ◌*◌, Bool, true, false, cond, not, List, Option, Some, None, ℤ, pos, negsuc, refl, sym, ap, ◌∙◌, arith}
+use Rattle.std.proofs.Common.{◌≡◌, ℕ, Bool, true, false, cond, not, List, Some, None, ℤ, pos, negsuc, refl, sym, ap, ◌∙◌, arith}
 use Rattle.std.specs.Prelude.{◌&&◌, ◌+ℤ◌, unsigned_abs}
 use Rattle.std.specs.Int.{is_negative}
 use Rattle.std.proofs.lemmas.Int.{ints}
-use Rattle.ct_value.specs.Bag.{none, add, total, total-none, total-add, total-bag_of_counts, bag_of_counts}
-use Rattle.ct_value.specs.Order.{value_cmp, value_total, value_exact, number_of, row_cmp, row_total, row_exact}
+use Rattle.ct_value.specs.Bag.{total, total-none, total-add, total-bag_of_counts, bag_of_counts}
+use Rattle.ct_value.specs.Order.{value_cmp, value_total, value_exact, number_of, row_total, row_exact}
 use Rattle.ct_value.specs.declared.row.Row.{Row}
 use Rattle.ct_value.specs.declared.value.Value.{Value}
 use Rattle.ct_change.specs.Changelog.{Rows}
 use Rattle.ct_field.specs.Typed.{is_null}
 use Rattle.rel_clauses.specs.declared.agg.Agg.{Agg}
 use Rattle.rel_clauses.specs.Aggregates.{Values, size, known, sum_of, argument, passes, values_of}
-use Rattle.rel_clauses.specs.Sums.{restrict, mapped}
+use Rattle.rel_clauses.specs.Sums.{restrict}
 use Rattle.rel_clauses.specs.laws.Aggregates.{sum_of-none, sum_of-add}
 use Rattle.rel_clauses.specs.laws.Bags.{by_items, total-restrict, total-mapped}
-use Rattle.rel_aggregates.specs.Taken.{taken, weight, together_weigh, counts, known_in, above, below, above_in, below_in}
+use Rattle.rel_aggregates.specs.Taken.{taken, weight, together_weigh, counts, above, below, above_in, below_in}
 
 values-total : (agg : Agg) (w : Value → ℕ) (rows : Rows) → total w (values_of agg rows) ≡ total (λ row. cond (passes agg.filter row) (w (argument agg.arg row)) 0) rows
 values-total agg w rows =

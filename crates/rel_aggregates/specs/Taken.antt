@@ -1,5 +1,5 @@
 -- The values that a call takes of rows with counts, and what they weigh together.
-use Rattle.std.specs.Prelude.{ℕ, ◌*◌, ◌<◌, ◌^◌, Bool, cond, not, ◌&&◌, List, Option, Some, None, unsigned_abs}
+use Rattle.std.specs.Prelude.{ℕ, ◌*◌, ◌<◌, ◌^◌, cond, not, ◌&&◌, List, Option, Some, None, unsigned_abs}
 use Rattle.std.specs.Int.{is_negative}
 use Rattle.std.specs.List.{AllByRecursion}
 use Rattle.ct_value.specs.Bag.{weigh}

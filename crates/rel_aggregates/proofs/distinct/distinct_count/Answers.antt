@@ -1,7 +1,7 @@
-use Rattle.std.proofs.Common.{◌≡◌, ◌+◌, ◌-◌, ◌≤◌, ◌<◌, ℕ, List, [], ◌∷◌, drop, length, sym, ap, arith, ◌∙◌}
+use Rattle.std.proofs.Common.{◌≡◌, ◌+◌, ◌-◌, ◌<◌, ℕ, List, ◌∷◌, drop, length, sym, ap, arith, ◌∙◌}
 use Rattle.std.specs.BTreeMap.{keys}
 use Rattle.std.specs.Map.{keys_of}
-use Rattle.ct_value.specs.Bag.{bag_of, bag_of_counts, none}
+use Rattle.ct_value.specs.Bag.{bag_of, bag_of_counts}
 use Rattle.ct_value.specs.Order.{value_cmp, row_cmp}
 use Rattle.ct_value.specs.declared.row.Row.{Row}
 use Rattle.rel_clauses.specs.Aggregates.{Values, size, known, values_of}

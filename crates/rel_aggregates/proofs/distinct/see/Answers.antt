@@ -1,9 +1,8 @@
-use Rattle.std.proofs.Common.{List, Some, option_copied, sym, ap, ◌∙◌}
+use Rattle.std.proofs.Common.{Some, option_copied, sym, ap, ◌∙◌}
 use Rattle.std.specs.BTreeMap.{keys}
 use Rattle.std.specs.Map.{keys_of}
 use Rattle.ct_value.specs.Bag.{bag_of}
 use Rattle.ct_value.specs.Order.{value_cmp}
-use Rattle.ct_value.specs.declared.value.Value.{Value}
 use Rattle.rel_aggregates.specs.Seen.{seen_too}
 use Rattle.rel_aggregates.proofs.Different.{keys-insert}
 use Rattle.rel_aggregates.proofs.distinct.see.Goals as goal

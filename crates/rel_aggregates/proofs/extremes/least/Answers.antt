@@ -1,4 +1,4 @@
-use Rattle.std.proofs.Common.{◌≡◌, ◌+◌, ◌-◌, ◌≤◌, ◌<◌, ℕ, List, [], ◌∷◌, drop, length, sym, ap, arith, ◌∙◌}
+use Rattle.std.proofs.Common.{◌≡◌, ◌+◌, ◌-◌, ◌<◌, ℕ, List, ◌∷◌, drop, length, sym, ap, arith, ◌∙◌}
 use Rattle.ct_value.specs.Bag.{items, items-none, bag_of_counts}
 use Rattle.ct_value.specs.Order.{value_cmp, row_cmp}
 use Rattle.ct_value.specs.declared.row.Row.{Row}

@@ -1,4 +1,4 @@
-use Rattle.std.proofs.Common.{◌≡◌, true, Some, rules, ap, sym, ◌∙◌}
+use Rattle.std.proofs.Common.{◌≡◌, true, Some, rules, ap, ◌∙◌}
 use Rattle.rel_clauses.specs.Aggregates.{passes}
 use Rattle.rel_aggregates.specs.Taken.{unless_null}
 use Rattle.rel_aggregates.proofs.Weights.{known_got, taken_known}

@@ -1,6 +1,4 @@
-use Rattle.std.proofs.Common.{◌≡◌, ◌+◌, ◌*◌, ◌≤◌, ◌^◌, drop}
-use Rattle.rel_aggregates.specs.Taken.{AreCounted, together_weigh, counts, known_in, above_in, below_in}
-use Rattle.rel_aggregates.specs.Wide.{wide_number}
+use Rattle.std.proofs.Common.{drop}
 use Rattle.rel_aggregates.proofs.Weights.{Summed}
 use Rattle.rel_aggregates.proofs.totals.total_of.Given as goal
 

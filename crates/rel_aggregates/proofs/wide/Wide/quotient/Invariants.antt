@@ -1,4 +1,4 @@
-use Rattle.std.proofs.Common.{◌+◌, ◌-◌, ◌*◌, ◌<◌, ◌≤◌, ◌^◌}
+use Rattle.std.proofs.Common.{◌+◌, ◌-◌, ◌*◌, ◌<◌, ◌≤◌}
 use Rattle.rel_aggregates.specs.Wide.{wide_number}
 use Rattle.rel_aggregates.proofs.wide.Wide.quotient.Given as goal
 
