@@ -1,5 +1,6 @@
 -- What is made key by key, over the entries of an index.
-use Rattle.std.proofs.Common.{◌≡◌, ℕ, zero, suc, ◌+◌, ◌*◌, ◌<◌, ◌==◌, Bool, true, false, cond, List, [], ◌∷◌, map, length, Option, Some, None, refl, sym, ap, ◌∙◌, subst, arith}
+use Rattle.std.proofs.Common.{◌≡◌, ℕ, zero, suc, ◌+◌, ◌*◌, ◌<◌, ◌==◌, Bool, true, false, cond, List, [], ◌∷◌, ◌++◌, map, take, length, Option, Some, None, refl, sym, ap, ◌∙◌, subst, arith}
+use Rattle.std.specs.Prelude.{option_map}
 use Rattle.std.specs.List.{AllByRecursion, slice_get}
 use Rattle.std.specs.Ordering.{eq_by_cmp, is_eq}
 use Rattle.std.specs.Option.{unwrap_or}
@@ -12,11 +13,12 @@ use Rattle.ct_value.specs.Bag.{Bag, none, add_many, bag_of_counts, copies, copie
 use Rattle.ct_value.specs.Order.{row_cmp, row_total, row_exact}
 use Rattle.ct_value.specs.declared.row.Row.{Row}
 use Rattle.ct_change.specs.Changelog.{Rows, same_row}
-use Rattle.rel_clauses.specs.Sums.{mapped, distinct, sum_over}
+use Rattle.rel_clauses.specs.Sums.{one, mapped, distinct, sum_over}
+use Rattle.rel_clauses.specs.Groups.{group_rows}
 use Rattle.rel_clauses.specs.Keys.{rows_of_key, keys_in, by_key}
 use Rattle.rel_clauses.specs.laws.Bags.{copies-restrict, copies-distinct}
-use Rattle.rel_clauses.specs.laws.Keys.{key_there, there_key}
-use Rattle.rel_answer.specs.Tallies.{AreCounted}
+use Rattle.rel_clauses.specs.laws.Keys.{key_there, there_key, rows_of_key-all}
+use Rattle.rel_answer.specs.Tallies.{AreCounted, OfRows}
 use Rattle.rel_answer.specs.Indexes.{Index, found_at, IsFilled, IsIndex}
 use Rattle.rel_answer.proofs.Sums.{copies-many}
 use Rattle.rel_answer.proofs.Indexes.{each-lookup}
@@ -60,11 +62,13 @@ module _ (key_of : Row → Row) (rows : Rows) (index : Index) (is : IsIndex key_
   -- an entry's first row
   first_there : (entries : List (Row × ℕ)) → IsFilled entries → (row : Row) × (0 < copies (bag_of_counts {R = row_cmp} entries) row)
   first_there [] h = absurd (let p = h.0 in omega arith)
-  first_there (entry ∷ entries) h = (entry.0,
-      let e = copies-many (bag_of_counts entries) entry.0 entry.0 entry.1 in
-      let i : one_at row_cmp entry.0 entry.0 ≡ 1 = one_at_itself row_cmp row_total entry.0 in
-      let j : entry.1 * one_at row_cmp entry.0 entry.0 ≡ entry.1 = ap (λ k. entry.1 * k) i ∙ omega arith in
-      let some : 0 < entry.1 = h.1.0.0 in omega arith)
+  first_there (entry ∷ entries) h = (
+    entry.0,
+    let e = copies-many (bag_of_counts entries) entry.0 entry.0 entry.1 in
+        let i : one_at row_cmp entry.0 entry.0 ≡ 1 = one_at_itself row_cmp row_total entry.0 in
+        let j : entry.1 * one_at row_cmp entry.0 entry.0 ≡ entry.1 = ap (λ k. entry.1 * k) i ∙ omega arith in
+        let some : 0 < entry.1 = h.1.0.0 in omega arith,
+  )
 
   once_there : (key : Row) (n : ℕ) → 0 < cond {A = ℕ} (n == 0) 0 1 → ◌≡◌ {A = ℕ} (cond (n == 0) 0 1) 1
   once_there key n h = elim (n == 0) as (λ b. 0 < cond {A = ℕ} b 0 1 → ◌≡◌ {A = ℕ} (cond b 0 1) 1) [ true ↦ λ p. absurd (omega arith) | false ↦ λ p. refl ] h
@@ -104,3 +108,16 @@ module _ (key_of : Row → Row) (rows : Rows) (index : Index) (is : IsIndex key_
   entries-are = each_place (IsMember key_of rows) index.entries (λ i entry p.
       let e : get row_cmp index entry.0 ≡ Some entry.1 = btree_map_get_place row_total index i entry.0 entry.1 is.ordered p in
       (sym (ap (λ (o : Option (List (Row × ℕ))). bag_of_counts (unwrap_or o [])) e) ∙ is.found entry.0, each-lookup IsFilled (is_at (row_cmp entry.0)) index.entries entry.1 is.filled e))
+
+-- what a group's key and rows make
+abbrev pub group_made : (Row → Row) → (Rows → Option Row) → Rows → OfRows
+group_made key_of results rows key = option_map (λ values. one (key ++ values)) (results (rows_of_key key_of key rows))
+
+-- grouping by one column or more goes key by key
+pub groups-by_key : (keys : ℕ) (results : Rows → Option Row) (rows : Rows) → 0 < keys → group_rows keys results rows ≡ sum_over (group_made (take keys) results rows) (keys_in (take keys) rows)
+groups-by_key zero results rows h = absurd (omega arith)
+groups-by_key (suc keys) results rows h = refl
+
+-- all rows have the key of no columns
+pub all-found : (rows : Rows) (index : Index) → IsIndex (take 0) rows index → bag_of_counts (found_at index []) ≡ rows
+all-found rows index is = is.found [] ∙ rows_of_key-all (take 0) [] rows (λ row h. refl)

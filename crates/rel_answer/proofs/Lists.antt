@@ -44,3 +44,30 @@ row_from-more item items row values new value e g =
 
 pub row_from-out : (item : Expr) (items : List Expr) (row values : Row) → eval (expr_view item) row ≡ None → row_from (item ∷ items) row values ≡ None
 row_from-out item items row values e = ap (λ o. option_map (λ rest. values ++ rest) (collect (o ∷ map (λ meaning. meaning row) (map eval (exprs_view items))))) e
+
+-- ---- values gathered from calls
+
+-- the values so far, and those of what is left
+abbrev pub collected : {X : Type 0} → (X → Option Value) → List X → Row → Option Row
+collected f items values = option_map (λ rest. values ++ rest) (collect (map f items))
+
+pub collected-start : {X : Type 0} (f : X → Option Value) (items : List X) (values : Row) → values ≡ [] → collected f items values ≡ collect (map f items)
+collected-start f items values e = ap (collected f items) e ∙ same (collect (map f items))
+  where
+    same : (o : Option Row) → option_map (λ rest. [] ++ rest) o ≡ o
+    same None = refl
+    same (Some rest) = refl
+
+pub collected-end : {X : Type 0} (f : X → Option Value) (items : List X) (values : Row) → items ≡ [] → collected f items values ≡ Some values
+collected-end f items values e = ap (λ xs. collected f xs values) e ∙ ap Some (append_nil values)
+
+pub collected-more : {X : Type 0} (f : X → Option Value) (item : X) (items : List X) (values new : Row) (value : Value) → f item ≡ Some value → new ≡ values ++ value ∷ [] → collected f (item ∷ items) values ≡ collected f items new
+collected-more f item items values new value e g =
+    ap (λ o. option_map (λ rest. values ++ rest) (collect (o ∷ map f items))) e ∙ behind (collect (map f items)) ∙ ap (collected f items) (sym g)
+  where
+    behind : (o : Option Row) → option_map (λ rest. values ++ rest) (option_map (λ others. value ∷ others) o) ≡ option_map (λ rest. (values ++ value ∷ []) ++ rest) o
+    behind None = refl
+    behind (Some rest) = ap Some (sym (append_assoc values (value ∷ []) rest))
+
+pub collected-out : {X : Type 0} (f : X → Option Value) (item : X) (items : List X) (values : Row) → f item ≡ None → collected f (item ∷ items) values ≡ None
+collected-out f item items values e = ap (λ o. option_map (λ rest. values ++ rest) (collect (o ∷ map f items))) e

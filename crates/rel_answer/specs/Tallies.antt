@@ -1,17 +1,13 @@
 -- Rows with their counts as the program keeps them, and answers that it can't give.
 use Rattle.std.specs.Prelude.{ℕ, zero, suc, ◌<◌, ◌≤◌, ◌^◌, List, Option, Some, None}
-use Rattle.std.specs.List.{AllByRecursion}
 use Rattle.std.specs.BTreeMap.{BTreeMap, IsOrdered, get}
 use Rattle.std.specs.Option.{unwrap_or}
+pub use Rattle.rel_aggregates.specs.Taken.{AreCounted}
 use Rattle.ct_value.specs.Bag.{copies, none, bag_of_counts}
 use Rattle.ct_value.specs.Order.{row_cmp}
 use Rattle.ct_value.specs.declared.row.Row.{Row}
 use Rattle.ct_change.specs.Changelog.{Rows}
 use Rattle.rel_clauses.specs.Sums.{plus, sum_over}
-
--- each row has a copy, and so few that they can be counted
-abbrev pub AreCounted : List (Row × ℕ) → Type 0
-AreCounted entries = AllByRecursion (λ entry. (0 < entry.1) × (entry.1 < 2 ^ 64)) entries
 
 -- the rows stand in order, each with its count
 pub record IsTally (counts : BTreeMap Row ℕ) : Type 0 where

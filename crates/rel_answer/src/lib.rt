@@ -4,6 +4,7 @@
 //! or has 2^64 copies of a row or more. It stands on the clauses and on expressions.
 #![tactic(auto)]
 
+mod groups;
 mod index;
 mod joins;
 mod matches;
@@ -11,6 +12,7 @@ mod ranks;
 mod rows;
 mod tally;
 
+pub use groups::group_rows;
 pub use index::{Counted, Index};
 pub use joins::{inner_join, join_rows, semi_join};
 pub use ranks::rank_rows;

@@ -22,5 +22,5 @@ returns-in_err-add-clause-out c =
     let more : suc (c.copies.left - 1) ≡ c.copies.left = omega (arith, c.copies-test.true) in
     let many : IsErrOf c.from_residual-in_err-add.result EvalFault.Out → 2 ^ 64 ≤ copies c.copies.first c.in_ok-line.line + 1 = search rules in
     λ e rest. unfit-same (Some (together c.copies.first (tail c.args.bound c.args.ranked c.copies.taken (repeated c.args.row.now (suc (c.copies.left - 1)) rest)))) _
-        (ap Some (ap (λ n. together c.copies.first (tail c.args.bound c.args.ranked c.copies.taken (repeated c.args.row.now n rest))) more ∙ c.copies.invariant rest))
-        (taken-full c.args.bound c.args.ranked c.copies.first c.copies.taken (c.copies.left - 1) c.args.row.now c.in_ok-line.line rest c.if-taken-bound.true c.in_ok-line.ensures (many e))
+    (ap Some (ap (λ n. together c.copies.first (tail c.args.bound c.args.ranked c.copies.taken (repeated c.args.row.now n rest))) more ∙ c.copies.invariant rest))
+    (taken-full c.args.bound c.args.ranked c.copies.first c.copies.taken (c.copies.left - 1) c.args.row.now c.in_ok-line.line rest c.if-taken-bound.true c.in_ok-line.ensures (many e))

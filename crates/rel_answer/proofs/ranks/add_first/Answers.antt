@@ -33,8 +33,8 @@ returns-in_err-taken-clause-out c =
     let more : drop c.loop-row.row-index c.deref-row-items.result.now ≡ x ∷ rest = drop_more c.deref-row-items.result.now c.loop-row.row-index x c.loop-row-test.true c.loop-row-item.is in
     let out : IsErrOf c.from_residual.result EvalFault.Out → (others : List Row) → Unfit (Some (together c.loop-row.first (tail c.args.bound c.args.ranked c.loop-row.taken (repeated x.0 x.1 others)))) = search rules in
     λ e. unfit-same (Some (together c.loop-row.first (tail c.args.bound c.args.ranked c.loop-row.taken (repeated x.0 x.1 (each_copy rest))))) _
-        (ap Some (ap (λ (es : List (Row × ℕ)). together c.loop-row.first (tail c.args.bound c.args.ranked c.loop-row.taken (each_copy es))) (sym more) ∙ c.loop-row.invariant))
-        (out e (each_copy rest))
+    (ap Some (ap (λ (es : List (Row × ℕ)). together c.loop-row.first (tail c.args.bound c.args.ranked c.loop-row.taken (each_copy es))) (sym more) ∙ c.loop-row.invariant))
+    (out e (each_copy rest))
 
 pub returns-clause-ok : goal.returns-clause-ok
 returns-clause-ok c =

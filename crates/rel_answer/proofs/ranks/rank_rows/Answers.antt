@@ -22,9 +22,10 @@ pub loop-members-init : goal.loop-members-init
 loop-members-init c =
     let f : OfRows = firsts c.args.partition.now c.args.order.now c.args.bound c.args.ranked c.args.rows in
     let key_of : Row → Row = project c.args.partition.now in
-    let gives = c.into_iter-members-iterator.ensures.into_iter_gives.0 in
-    (left-start f (keys_in key_of c.args.rows) c.new-first.result (units c.into_iter-members-iterator.result) c.new-first.ensures (ap (λ (es : List (Row × List (Row × ℕ))). bag_of_counts {R = row_cmp} (units es)) gives ∙ sym (keys-units key_of c.args.rows c.in_ok-index.index c.in_ok-index.ensures)),
-        subst (λ (es : List (Row × List (Row × ℕ))). AllByRecursion (IsMember key_of c.args.rows) es) (sym gives) (entries-are key_of c.args.rows c.in_ok-index.index c.in_ok-index.ensures))
+    let gives = c.into_iter-members-iterator.ensures.into_iter_gives.0 in (
+      left-start f (keys_in key_of c.args.rows) c.new-first.result (units c.into_iter-members-iterator.result) c.new-first.ensures (ap (λ (es : List (Row × List (Row × ℕ))). bag_of_counts {R = row_cmp} (units es)) gives ∙ sym (keys-units key_of c.args.rows c.in_ok-index.index c.in_ok-index.ensures)),
+      subst (λ (es : List (Row × List (Row × ℕ))). AllByRecursion (IsMember key_of c.args.rows) es) (sym gives) (entries-are key_of c.args.rows c.in_ok-index.index c.in_ok-index.ensures),
+    )
 
 pub loop-members-preserved : goal.loop-members-preserved
 loop-members-preserved c =
@@ -34,9 +35,11 @@ loop-members-preserved c =
     let made : Rows = first_rows c.args.order.now c.args.bound c.args.ranked (bag_of_counts c.in-Some.members) in
     let more = rest_more (λ (p : Row × List (Row × ℕ)). p) c.loop-members.members-iterator c.next.new.self c.next.result entry c.in-Some.is c.next.ensures.steps in
     let before : Left f (keys_in key_of c.args.rows) c.loop-members.first (units (entry ∷ c.next.new.self)) = subst (λ (es : List (Row × List (Row × ℕ))). Left f (keys_in key_of c.args.rows) c.loop-members.first (units es)) more c.loop-members.invariant.0 in
-    let members : AllByRecursion (IsMember key_of c.args.rows) (entry ∷ c.next.new.self) = subst (λ (es : List (Row × List (Row × ℕ))). AllByRecursion (IsMember key_of c.args.rows) es) more c.loop-members.invariant.1 in
-    (left-made f (keys_in key_of c.args.rows) c.loop-members.first entry.0 1 (units c.next.new.self) (Some made) c.add_first.new.first (ap (λ (r : Rows). Some (first_rows c.args.order.now c.args.bound c.args.ranked r)) (sym members.0.0))
-        (firsts-beside c.loop-members.first c.add_first.new.first made c.in_ok-add_first.ensures.ok) before, members.1)
+    let members : AllByRecursion (IsMember key_of c.args.rows) (entry ∷ c.next.new.self) = subst (λ (es : List (Row × List (Row × ℕ))). AllByRecursion (IsMember key_of c.args.rows) es) more c.loop-members.invariant.1 in (
+      left-made f (keys_in key_of c.args.rows) c.loop-members.first entry.0 1 (units c.next.new.self) (Some made) c.add_first.new.first (ap (λ (r : Rows). Some (first_rows c.args.order.now c.args.bound c.args.ranked r)) (sym members.0.0))
+          (firsts-beside c.loop-members.first c.add_first.new.first made c.in_ok-add_first.ensures.ok) before,
+      members.1,
+    )
 
 pub returns-in_err-add_first-clause-out : goal.returns-in_err-add_first-clause-out
 returns-in_err-add_first-clause-out c =
@@ -49,7 +52,7 @@ returns-in_err-add_first-clause-out c =
     let members : AllByRecursion (IsMember key_of c.args.rows) (entry ∷ c.next.new.self) = subst (λ (es : List (Row × List (Row × ℕ))). AllByRecursion (IsMember key_of c.args.rows) es) more c.loop-members.invariant.1 in
     let out : IsErrOf c.from_residual-in_err-add_first.result EvalFault.Out → Unfit (Some (together c.loop-members.first made)) = search rules in
     λ e. left-unfit f (keys_in key_of c.args.rows) c.loop-members.first entry.0 1 (units c.next.new.self) (Some made) (ap (λ (r : Rows). Some (first_rows c.args.order.now c.args.bound c.args.ranked r)) (sym members.0.0))
-        (firsts-unfit c.loop-members.first made (out e)) before
+    (firsts-unfit c.loop-members.first made (out e)) before
 
 pub returns-clause-value : goal.returns-clause-value
 returns-clause-value c =

@@ -14,9 +14,10 @@ use Rattle.rel_answer.proofs.rows.filter_rows.Goals as goal
 
 pub loop-row-init : goal.loop-row-init
 loop-row-init c =
-    let gives = c.into_iter-row-iterator.ensures.into_iter_gives.0 in
-    (left-start (tested (holds (eval (expr_view c.args.cond.now)))) c.args.rows c.new-kept.result c.into_iter-row-iterator.result c.new-kept.ensures (ap (λ (r : List (Row × ℕ)). bag_of_counts {R = row_cmp} r) gives ∙ c.into_counts-row-items.ensures.same),
-        subst (λ (r : List (Row × ℕ)). AreCounted r) (sym gives) c.into_counts-row-items.ensures.counted.counted)
+    let gives = c.into_iter-row-iterator.ensures.into_iter_gives.0 in (
+      left-start (tested (holds (eval (expr_view c.args.cond.now)))) c.args.rows c.new-kept.result c.into_iter-row-iterator.result c.new-kept.ensures (ap (λ (r : List (Row × ℕ)). bag_of_counts {R = row_cmp} r) gives ∙ c.into_counts-row-items.ensures.same),
+      subst (λ (r : List (Row × ℕ)). AreCounted r) (sym gives) c.into_counts-row-items.ensures.counted.counted,
+    )
 
 pub returns-in_err-passes-clause-out : goal.returns-in_err-passes-clause-out
 returns-in_err-passes-clause-out c =

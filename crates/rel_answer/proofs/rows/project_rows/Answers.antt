@@ -15,9 +15,10 @@ use Rattle.rel_answer.proofs.rows.project_rows.Goals as goal
 
 pub loop-row-init : goal.loop-row-init
 loop-row-init c =
-    let gives = c.into_iter-row-iterator.ensures.into_iter_gives.0 in
-    (left-start (projected (map eval (exprs_view c.args.items.now))) c.args.rows c.new-made.result c.into_iter-row-iterator.result c.new-made.ensures (ap (λ (r : List (Row × ℕ)). bag_of_counts {R = row_cmp} r) gives ∙ c.into_counts-row-items.ensures.same),
-        subst (λ (r : List (Row × ℕ)). AreCounted r) (sym gives) c.into_counts-row-items.ensures.counted.counted)
+    let gives = c.into_iter-row-iterator.ensures.into_iter_gives.0 in (
+      left-start (projected (map eval (exprs_view c.args.items.now))) c.args.rows c.new-made.result c.into_iter-row-iterator.result c.new-made.ensures (ap (λ (r : List (Row × ℕ)). bag_of_counts {R = row_cmp} r) gives ∙ c.into_counts-row-items.ensures.same),
+      subst (λ (r : List (Row × ℕ)). AreCounted r) (sym gives) c.into_counts-row-items.ensures.counted.counted,
+    )
 
 pub returns-in_err-values-clause-out : goal.returns-in_err-values-clause-out
 returns-in_err-values-clause-out c =

@@ -13,7 +13,7 @@ returns-in_err-eval-clause-out c =
     let more : drop c.loop-item.item-index items ≡ c.item-item.result ∷ drop (c.loop-item.item-index + 1) items = drop_more items c.loop-item.item-index c.item-item.result c.loop-item-test.true c.item-item.is in
     let out : IsErrOf c.from_residual-in_err-eval.result EvalFault.Out → eval (expr_view c.item-item.result) c.args.row.now ≡ None = search rules in
     λ e. sym c.loop-item.invariant ∙ ap (λ xs. row_from xs c.args.row.now c.loop-item.values) more
-        ∙ row_from-out c.item-item.result (drop (c.loop-item.item-index + 1) items) c.args.row.now c.loop-item.values (out e)
+    ∙ row_from-out c.item-item.result (drop (c.loop-item.item-index + 1) items) c.args.row.now c.loop-item.values (out e)
 
 pub loop-item-init : goal.loop-item-init
 loop-item-init c =
