@@ -1,7 +1,8 @@
-//! The batch answer of a query of the algebra, by a plain program over rows with their counts.
+//! The clauses of queries answered by a plain program over rows with their counts: joins, groups and partitions by key, through
+//! ordered maps, and rank by one sort a partition.
 //!
-//! Promised: each clause's function answers what the clause of `rel_clauses` makes, or `Out` only where that is out of range
-//! or has 2^64 copies of a row or more. It stands on the clauses and on expressions.
+//! Promised: each clause's function answers what the clause of `rel_clauses` makes, and `Out` only where that is out of range or
+//! has 2^64 copies of a row or more. The walk over a tree of the algebra, which would make of them its batch answer, isn't here.
 #![tactic(auto)]
 
 mod groups;
