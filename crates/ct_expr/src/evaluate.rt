@@ -1,6 +1,7 @@
 //! The value of an expression at a row.
 ghost use Rattle.std.specs.Prelude.{◌≡◌, Some, None, IfOk, IsErrOf, Option, option_map};
 ghost use Rattle.ct_expr.specs.Eval as e;
+ghost use Rattle.ct_expr.specs.Operands.{of_one, of_two};
 ghost use Rattle.ct_expr.specs.Found.{held, meaning, with_else};
 ghost use Rattle.ct_value.specs.declared.value.Value.{Value as Cell};
 ghost use Rattle.ct_expr.specs.Expr.{exprs as expr_list, whens as when_list, optional_expr};
@@ -57,21 +58,25 @@ fn found<'a>(alloc: Global, expr: &'a Expr, row: &'a [Value]) -> Result<Meaning<
     match expr {
         Expr::Column { col, .. } => Ok(Some(cell(row, *col))),
         Expr::Literal { value, .. } => Ok(Some(Found::Lent(value))),
-        Expr::Neg(value) => Ok(minus(ty_of(value), found(alloc, value, row)?)),
-        Expr::Arith { op, left, right } => {
+        Expr::Neg(value)
+        | Expr::Not(value)
+        | Expr::IsNull(value)
+        | Expr::Cast { value, .. }
+        | Expr::CharLength(value) => of_one(alloc, expr, found(alloc, value, row)?),
+        Expr::Arith { left, right, .. }
+        | Expr::Compare { left, right, .. }
+        | Expr::NullIf { left, right }
+        | Expr::Concat { left, right }
+        | Expr::Like {
+            value: left,
+            pattern: right,
+        } => {
             let left_value = found(alloc, left, row)?;
             let right_value = found(alloc, right, row)?;
-            Ok(arithmetic(*op, ty_of(left), ty_of(right), left_value, right_value))
-        }
-        Expr::Compare { op, left, right } => {
-            let left_value = found(alloc, left, row)?;
-            let right_value = found(alloc, right, row)?;
-            Ok(comparison(*op, ty_of(left), ty_of(right), left_value, right_value))
+            of_two(alloc, expr, left_value, right_value)
         }
         Expr::And(exprs) => conjunction(alloc, exprs, row),
         Expr::Or(exprs) => disjunction(alloc, exprs, row),
-        Expr::Not(value) => Ok(negation(found(alloc, value, row)?)),
-        Expr::IsNull(value) => Ok(null_test(found(alloc, value, row)?)),
         Expr::InList { value, items } => match found(alloc, value, row)? {
             None => Ok(None),
             Some(found) => in_list(alloc, ty_of(value), found.as_value(), items, row),
@@ -81,23 +86,48 @@ fn found<'a>(alloc: Global, expr: &'a Expr, row: &'a [Value]) -> Result<Meaning<
             Choice::Otherwise => otherwise_of(alloc, otherwise, row),
         },
         Expr::Coalesce(exprs) => first_known(alloc, exprs, row),
+    }
+}
+
+// A form of one operand, at the operand's meaning. The forms stand apart from `found`, which pays at each call for the size of
+// its locals.
+#[tactic(auto, unfolding(crate::specs::View::expr_view, crate::specs::View::when_view))]
+fn of_one<'a>(alloc: Global, expr: &'a Expr, value: Meaning<'a>) -> Result<Meaning<'a>, Memory>
+    ensures { IfOk result (λ m. meaning m ≡ of_one (expr_view expr.now) (meaning value.entry)) }
+{
+    match expr {
+        Expr::Neg(operand) => Ok(minus(ty_of(operand), value)),
+        Expr::Not(_) => Ok(negation(value)),
+        Expr::IsNull(_) => Ok(null_test(value)),
+        Expr::Cast { value: operand, ty } => conversion(alloc, ty_of(operand), *ty, value),
+        Expr::CharLength(_) => Ok(char_length(value)),
+        _ => Ok(None),
+    }
+}
+
+// A form of two operands, at their meanings.
+#[tactic(auto, unfolding(crate::specs::View::expr_view, crate::specs::View::when_view))]
+fn of_two<'a>(
+    alloc: Global,
+    expr: &'a Expr,
+    left_value: Meaning<'a>,
+    right_value: Meaning<'a>,
+) -> Result<Meaning<'a>, Memory>
+    ensures { IfOk result (λ m. meaning m ≡ of_two (expr_view expr.now) (meaning left_value.entry) (meaning right_value.entry)) }
+{
+    match expr {
+        Expr::Arith { op, left, right } => {
+            Ok(arithmetic(*op, ty_of(left), ty_of(right), left_value, right_value))
+        }
+        Expr::Compare { op, left, right } => {
+            Ok(comparison(*op, ty_of(left), ty_of(right), left_value, right_value))
+        }
         Expr::NullIf { left, right } => {
-            let left_value = found(alloc, left, row)?;
-            let right_value = found(alloc, right, row)?;
             Ok(null_if(ty_of(left), ty_of(right), left_value, right_value))
         }
-        Expr::Cast { value, ty } => conversion(alloc, ty_of(value), *ty, found(alloc, value, row)?),
-        Expr::Concat { left, right } => {
-            let left = found(alloc, left, row)?;
-            let right = found(alloc, right, row)?;
-            concatenation(alloc, left, right)
-        }
-        Expr::CharLength(value) => Ok(char_length(found(alloc, value, row)?)),
-        Expr::Like { value, pattern } => {
-            let value = found(alloc, value, row)?;
-            let pattern = found(alloc, pattern, row)?;
-            likeness(alloc, value, pattern)
-        }
+        Expr::Concat { .. } => concatenation(alloc, left_value, right_value),
+        Expr::Like { .. } => likeness(alloc, left_value, right_value),
+        _ => Ok(None),
     }
 }
 

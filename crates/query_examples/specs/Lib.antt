@@ -1,0 +1,7 @@
+pub mod Answered
+pub mod Bound
+pub mod Checks
+pub mod Inserts
+pub mod Refused
+pub mod Tables
+pub mod Values

@@ -1,0 +1,17 @@
+pub mod Bags
+pub mod Bound
+pub mod Calls
+pub mod Clauses
+pub mod GroupRight
+pub mod GroupSelects
+pub mod Grouped
+pub mod InGroups
+pub mod Inserts
+pub mod Lists
+pub mod Names
+pub mod Nodes
+pub mod Options
+pub mod Queries
+pub mod Selects
+pub mod Sources
+pub mod Types

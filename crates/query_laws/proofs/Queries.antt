@@ -1,0 +1,249 @@
+-- What a query is bound to has the query's answer: one induction over the tree, a clause a step.
+use Rattle.std.proofs.Common.{◌≡◌, ℕ, zero, suc, ◌+◌, Bool, true, false, ◌&&◌, ◌||◌, List, [], ◌∷◌, map, length, Option, Some, None, cond, Ok, IfOk, refl, sym, ap, ◌∙◌, subst, option_map, slice_get, unwrap_or, arith}
+use Rattle.std.specs.Str.{bytes_eq}
+use Rattle.ct_value.specs.Bag.{none}
+use Rattle.ct_value.specs.Order.{row_total, row_exact}
+use Rattle.ct_value.specs.declared.codes.ScriptCode.TheVariants.{TypeMismatch, Unsupported}
+use Rattle.ct_value.specs.declared.ty.ColTy.{ColTy}
+use Rattle.ct_change.specs.Changelog.{Rows}
+use Rattle.ct_expr.specs.Types.{both_of}
+use Rattle.ct_catalog.specs.declared.table.TableDef.{TableDef}
+use Rattle.rel_clauses.specs.Clauses.{Fits}
+use Rattle.rel_clauses.specs.Sums.{plus, together, Each}
+use Rattle.rel_clauses.specs.laws.Bags.{plus-assoc, plus-none-right, plus_parts, each-together, each-none}
+use Rattle.rel_clauses.specs.laws.Fits.{fits-length}
+use Rattle.rel_algebra.specs.Answer.{Table, answer, answers, types_in, AreTyped}
+use Rattle.rel_algebra.specs.Rel.{Rel, Rels, no_rels, rel_and}
+use Rattle.rel_algebra.specs.Rel as r
+use Rattle.rel_algebra.specs.Types.{columns_of, common_from, common_columns, common_column}
+use Rattle.sql_syntax.specs.Tree.{Text}
+use Rattle.sql_syntax.specs.Tree as t
+use Rattle.query_answer.specs.Answer.{TableRows, Reach, Entry, types, entries, listed_trees, is_grouped, union, union_scope, retyped, find_table, table_scope}
+use Rattle.query_answer.specs.Answer as a
+use Rattle.query_answer.specs.Names.{Scope}
+use Rattle.binding.specs.Checked.{Checked, ◌>>=◌, or_code}
+use Rattle.binding.specs.Queries.{Relation, query_bound, selects_bound, select_bound, source_bound, find_source, union_of, united, is_plain}
+use Rattle.binding.specs.Queries as b
+use Rattle.query_laws.specs.Statement.{tables_of, table_of, all_have_full_unions, any_has_idle_project}
+use Rattle.query_laws.proofs.Bags.{each_map}
+use Rattle.query_laws.proofs.Clauses.{Fine}
+use Rattle.query_laws.proofs.GroupRight.{grouped_right}
+use Rattle.query_laws.proofs.Lists.{slice_map}
+use Rattle.query_laws.proofs.Options.{bind, weaker, tested_else, map_map, both_parts, some_is}
+use Rattle.query_laws.proofs.Selects.{reach, FineAt, Selected, where_right, plain_right, once_right}
+
+-- ---- FROM
+
+-- a table found among the declared ones, and among those with rows
+abbrev IsFound : List TableRows → ℕ → Option (ℕ × TableDef) → Option TableRows → Type 0
+IsFound xs n None None = Unit {0}
+IsFound xs n None (Some y) = ⊥
+IsFound xs n (Some f) None = ⊥
+IsFound xs n (Some f) (Some y) = (m : ℕ) × (f.0 ≡ n + m) × (f.1 ≡ y.table) × (slice_get xs m ≡ Some y)
+
+later : (x : TableRows) (xs : List TableRows) (n : ℕ) (o : Option (ℕ × TableDef)) (p : Option TableRows) → IsFound xs (suc n) o p → IsFound (x ∷ xs) n o p
+later x xs n None None h = tt
+later x xs n None (Some y) h = absurd h
+later x xs n (Some f) None h = absurd h
+later x xs n (Some f) (Some y) h = (suc h.0, (let q : f.0 ≡ suc n + h.0 = h.1 in omega arith), h.2, h.3)
+
+found_at : (n : ℕ) (xs : List TableRows) (name : Text) → IsFound xs n (find_source n (map (λ x. x.table) xs) name) (find_table xs name)
+found_at n [] name = tt
+found_at n (x ∷ xs) name = which n x xs (bytes_eq name x.table.name) (find_source (suc n) (map (λ x. x.table) xs) name) (find_table xs name) (found_at (suc n) xs name)
+  where
+    which : (n : ℕ) (x : TableRows) (xs : List TableRows) (t : Bool) (o : Option (ℕ × TableDef)) (p : Option TableRows) → IsFound xs (suc n) o p → IsFound (x ∷ xs) n (cond t (Some (n, x.table)) o) (cond t (Some x) p)
+    which n x xs true o p h = (0, (let e : n ≡ n + 0 = omega arith in e), refl, refl)
+    which n x xs false o p h = later x xs n o p h
+
+module _ (tables : List TableRows) (fit : AreTyped (tables_of tables)) where
+  abbrev T : List Table
+  T = tables_of tables
+
+  abbrev R : Relation → Reach
+  R = reach T
+
+  -- what is bound has the answer
+  abbrev pub Right : Relation → Reach → Type 0
+  Right x w = (R x ≡ w) × FineAt T x
+
+  rows_there : (m : ℕ) (y : TableRows) → slice_get tables m ≡ Some y → answer T (r.Scan m) ≡ Some y.rows
+  rows_there m y e = ap (λ o. Some (unwrap_or o none)) (slice_map (λ z. z.rows) T m ∙ ap (option_map (λ z. z.rows)) (slice_map table_of tables m ∙ ap (option_map table_of) e))
+
+  columns_there : (m : ℕ) (y : TableRows) → slice_get tables m ≡ Some y → columns_of (types_in T) (r.Scan m) ≡ Some (map (λ c. c.ty) y.table.cols)
+  columns_there m y e = slice_map (λ z. z.columns) T m ∙ ap (option_map (λ z. z.columns)) (slice_map table_of tables m ∙ ap (option_map table_of) e)
+
+  typed_there : (xs : List TableRows) (m : ℕ) (y : TableRows) → AreTyped (tables_of xs) → slice_get xs m ≡ Some y → Each (Fits (map (λ c. c.ty) y.table.cols)) y.rows
+  typed_there [] m y h e = absurd (cc)
+  typed_there (x ∷ xs) zero y h e = let i : x ≡ y = cc in subst (λ z. Each (Fits (map (λ c. c.ty) z.table.cols)) z.rows) i h.0
+  typed_there (x ∷ xs) (suc m) y h e = typed_there xs m y h.1 e
+
+  scope_types : (alias : Option Text) (table : TableDef) → types (table_scope alias table) ≡ map (λ c. c.ty) table.cols
+  scope_types alias table = map_map (λ c. c.ty) (λ c. a.under (Some (unwrap_or alias table.name)) (Some c.name) c.ty) table.cols
+
+  read_right : (alias : Option Text) (o : Option (ℕ × TableDef)) (p : Option TableRows) → IsFound tables 0 o p → IfOk (b.read alias o) (λ x. Right x (a.read alias p))
+  read_right alias None p h = tt
+  read_right alias (Some f) None h = absurd h
+  read_right alias (Some f) (Some y) h =
+      let at : h.0 ≡ f.0 = (let q : f.0 ≡ 0 + h.0 = h.1 in omega arith) in
+      let there : slice_get tables f.0 ≡ Some y = subst (λ m. slice_get tables m ≡ Some y) at h.3 in
+      let cols : types (table_scope alias f.1) ≡ map (λ c. c.ty) y.table.cols = scope_types alias f.1 ∙ ap (λ d. map (λ c. c.ty) d.cols) h.2 in (
+        λ i. record { scope = table_scope alias (h.2 i); rows = rows_there f.0 y there i },
+        subst (λ cs. Fine T (r.Scan f.0) cs) (sym cols) (record {
+          typed = columns_there f.0 y there;
+          wide = λ rows q. let e : y.rows ≡ rows = some_is y.rows rows (sym (rows_there f.0 y there) ∙ q) in
+              subst (λ (c : Rows). Each (λ row. length row ≡ length (map (λ c. c.ty) y.table.cols)) c) e
+              (each_map (Fits (map (λ c. c.ty) y.table.cols)) (λ row. length row ≡ length (map (λ c. c.ty) y.table.cols)) (λ row p. fits-length (map (λ c. c.ty) y.table.cols) row p) y.rows (typed_there tables f.0 y fit there));
+          unions = refl;
+          projects = refl;
+        }),
+      )
+
+  renamed_right : (alias : Option Text) (x : Relation) (w : Reach) → Right x w → Right (b.renamed alias x) (a.renamed alias w)
+  renamed_right alias x w h = (
+    ap (a.renamed alias) h.0,
+    subst (λ cs. Fine T x.rel cs) (sym (map_map (λ c. c.ty) (λ c. a.under alias c.name c.ty) x.scope)) h.1,
+  )
+
+  -- ---- a select
+
+  selected_right : (d : Bool) (es : List Entry) (groups : t.Trees) (having : t.OptionalTree) (x : Relation) → FineAt T x → IfOk (b.selected d es (listed_trees groups) having x) (λ y. Right y (a.selected d es (listed_trees groups) having (R x)))
+  selected_right d [] groups having x f = tt
+  selected_right d (e ∷ es) groups having x f = go (is_grouped (e ∷ es) (listed_trees groups) having)
+    where
+      last : (o : Checked Relation) (w : Reach) → IfOk o (λ y. Selected T (e ∷ es) y w) → IfOk (o >>= λ y. Ok (b.once d y)) (λ y. Right y (a.once d w))
+      last o w h = bind o _ (λ y. Selected T (e ∷ es) y w) _ h (λ y p. let q = once_right T d y (length es) p.1 p.2 in (q.0 ∙ ap (a.once d) p.0, q.1))
+
+      go : (t : Bool) → IfOk (cond t (b.grouped_select (e ∷ es) (listed_trees groups) having x) (b.plain_select (e ∷ es) x) >>= λ y. Ok (b.once d y))
+          (λ y. Right y (a.once d (cond t (a.grouped_select (e ∷ es) (listed_trees groups) having (R x)) (a.plain_select (e ∷ es) (R x)))))
+      go true = last (b.grouped_select (e ∷ es) (listed_trees groups) having x) (a.grouped_select (e ∷ es) (listed_trees groups) having (R x)) (grouped_right T (e ∷ es) (listed_trees groups) having x f)
+      go false = last (b.plain_select (e ∷ es) x) (a.plain_select (e ∷ es) (R x)) (plain_right T (e ∷ es) x f)
+
+  -- ---- UNION ALL
+
+  -- the selects behind the first, of these columns: the algebra of each, and the columns that are common to all
+  pub record Unions (scope : Scope) (rest : t.Selects) (rels : Rels) (last : Scope) : Type 0 where
+    pub told : (w : Reach) → w.scope ≡ scope → a.answers tables w rest ≡ record { scope = last; rows = plus w.rows (answers T rels) }
+    pub typed : common_from (types_in T) (Some (types scope)) rels ≡ Some (types last)
+    pub width : length (types last) ≡ length (types scope)
+    pub wide : (rows : Rows) → answers T rels ≡ Some rows → Each (λ row. length row ≡ length (types scope)) rows
+    pub unions : all_have_full_unions rels ≡ true
+    pub projects : any_has_idle_project (types_in T) rels ≡ false
+
+  no_more : (scope : Scope) → Unions scope t.no_selects no_rels scope
+  no_more scope = record {
+    told = λ w q i. record { scope = q i; rows = sym (plus-none-right row_total row_exact w.rows) i };
+    typed = refl;
+    width = refl;
+    wide = λ rows q. let e : none ≡ rows = some_is none rows q in subst (λ (c : Rows). Each (λ row. length row ≡ length (types scope)) c) e (each-none row_total row_exact (λ row. length row ≡ length (types scope)));
+    unions = refl;
+    projects = refl;
+  }
+
+  common_length : (cs ds es : List ColTy) → common_columns cs ds ≡ Some es → (length es ≡ length cs) × (length es ≡ length ds)
+  common_length [] [] es q = let e : [] ≡ es = some_is [] es q in (ap length (sym e), ap length (sym e))
+  common_length [] (d ∷ ds) es q = absurd (cc)
+  common_length (c ∷ cs) [] es q = absurd (cc)
+  common_length (c ∷ cs) (d ∷ ds) es q =
+      let p = both_parts (λ common rest. Some (common ∷ rest)) (common_column c d) (common_columns cs ds) es q in
+      let h = common_length cs ds p.1 p.3 in
+      let e : p.0 ∷ p.1 ≡ es = some_is (p.0 ∷ p.1) es p.4 in
+      (ap length (sym e) ∙ ap suc h.0, ap length (sym e) ∙ ap suc h.1)
+
+  retyped_types : (scope : Scope) (cs : List ColTy) → length cs ≡ length (types scope) → types (retyped scope cs) ≡ cs
+  retyped_types [] [] l = refl
+  retyped_types [] (c ∷ cs) l = absurd (omega arith)
+  retyped_types (s ∷ scope) [] l = absurd (omega arith)
+  retyped_types (s ∷ scope) (c ∷ cs) l = ap (λ ds. c ∷ ds) (retyped_types scope cs (omega arith))
+
+  -- one more select, and the others
+  one_more : (scope : Scope) (x : t.Select) (xs : t.Selects) (c : Relation) (cs : List ColTy) (rels : Rels) (last : Scope) → Right c (a.answer_select tables x) → common_columns (types scope) (types c.scope) ≡ Some cs
+      → Unions (retyped scope cs) xs rels last → Unions scope (t.select_and x xs) (rel_and c.rel rels) last
+  one_more scope x xs c cs rels last h q u =
+      let l = common_length (types scope) (types c.scope) cs q in
+      let same : types (retyped scope cs) ≡ cs = retyped_types scope cs l.0 in
+      let width' : length (types (retyped scope cs)) ≡ length (types scope) = ap length same ∙ l.0 in
+      record {
+        told = λ w e.
+            u.told (union w (a.answer_select tables x))
+            ((λ i. retyped (e i) (unwrap_or (common_columns (types (e i)) (types (sym h.0 i).scope)) [])) ∙ ap (λ o. retyped scope (unwrap_or o [])) q)
+            ∙ ap (λ o. record { scope = last; rows = o }) (plus-assoc row_total row_exact w.rows (a.answer_select tables x).rows (answers T rels) ∙ ap (λ z. plus w.rows (plus z (answers T rels))) (ap (λ z. z.rows) (sym h.0)));
+        typed = ap (λ o. common_from (types_in T) (both_of common_columns (Some (types scope)) o) rels) h.1.typed ∙ ap (λ o. common_from (types_in T) o rels) (q ∙ ap Some (sym same)) ∙ u.typed;
+        width = u.width ∙ width';
+        wide = λ rows e.
+            let p = plus_parts row_total row_exact (answer T c.rel) (answers T rels) rows e in
+            let first : Each (λ row. length row ≡ length (types scope)) p.0 = each_map (λ row. length row ≡ length (types c.scope)) (λ row. length row ≡ length (types scope)) (λ row k. k ∙ sym l.1 ∙ l.0) p.0 (h.1.wide p.0 p.2.0) in
+            let others : Each (λ row. length row ≡ length (types scope)) p.1 = each_map (λ row. length row ≡ length (types (retyped scope cs))) (λ row. length row ≡ length (types scope)) (λ row k. k ∙ width') p.1 (u.wide p.1 p.2.1) in
+            subst (λ (d : Rows). Each (λ row. length row ≡ length (types scope)) d) (sym p.2.2) (each-together row_total row_exact (λ row. length row ≡ length (types scope)) p.0 p.1 first others);
+        unions = λ i. h.1.unions i && u.unions i;
+        projects = λ i. h.1.projects i || u.projects i;
+      }
+
+  -- the first select with the others
+  all_united : (x : Relation) (xs : t.Selects) (rels : Rels) (last : Scope) (w : Reach) → Right x w → Unions x.scope xs rels last → Right (record { rel = union_of x.rel rels; scope = last }) (a.answers tables w xs)
+  all_united x xs rels last w h u = (reach_is rels refl ∙ sym (u.told w (ap (λ z. z.scope) (sym h.0)) ∙ ap (λ z. record { scope = last; rows = plus z (answers T rels) }) (ap (λ z. z.rows) (sym h.0))), fine rels refl)
+    where
+      reach_is : (ys : Rels) → rels ≡ ys → R (record { rel = union_of x.rel ys; scope = last }) ≡ record { scope = last; rows = plus (answer T x.rel) (answers T rels) }
+      reach_is no_rels e = ap (λ z. record { scope = last; rows = z }) (sym (plus-none-right row_total row_exact (answer T x.rel)) ∙ ap (λ z. plus (answer T x.rel) (answers T z)) (sym e))
+      reach_is (rel_and y ys) e = ap (λ z. record { scope = last; rows = plus (answer T x.rel) (answers T z) }) (sym e)
+
+      joined_wide : (rows : Rows) → plus (answer T x.rel) (answers T rels) ≡ Some rows → Each (λ row. length row ≡ length (types last)) rows
+      joined_wide rows q =
+          let p = plus_parts row_total row_exact (answer T x.rel) (answers T rels) rows q in
+          let both : Each (λ row. length row ≡ length (types x.scope)) (together p.0 p.1) = each-together row_total row_exact (λ row. length row ≡ length (types x.scope)) p.0 p.1 (h.1.wide p.0 p.2.0) (u.wide p.1 p.2.1) in
+          subst (λ (d : Rows). Each (λ row. length row ≡ length (types last)) d) (sym p.2.2) (each_map (λ row. length row ≡ length (types x.scope)) (λ row. length row ≡ length (types last)) (λ row k. k ∙ sym u.width) (together p.0 p.1) both)
+
+      fine : (ys : Rels) → rels ≡ ys → Fine T (union_of x.rel ys) (types last)
+      fine no_rels e = subst (λ cs. Fine T x.rel cs) (some_is (types x.scope) (types last) (ap (common_from (types_in T) (Some (types x.scope))) (sym e) ∙ u.typed)) h.1
+      fine (rel_and y ys) e = record {
+        typed = (λ i. common_from (types_in T) (h.1.typed i) (sym e i)) ∙ u.typed;
+        wide = λ rows q. joined_wide rows (ap (λ z. plus (answer T x.rel) (answers T z)) e ∙ q);
+        unions = (λ i. h.1.unions i && all_have_full_unions (sym e i)) ∙ u.unions;
+        projects = (λ i. h.1.projects i || any_has_idle_project (types_in T) (sym e i)) ∙ u.projects;
+      }
+
+  -- ---- the tree
+
+  abbrev D : List TableDef
+  D = map (λ x. x.table) tables
+
+  united_right : (scope other : Scope) → IfOk (united scope other) (λ both. (cs : List ColTy) × (common_columns (types scope) (types other) ≡ Some cs) × (retyped scope cs ≡ both))
+  united_right scope other = go (common_columns (types scope) (types other)) refl
+    where
+      go : (o : Option (List ColTy)) → common_columns (types scope) (types other) ≡ o → IfOk (or_code TypeMismatch (option_map (retyped scope) o)) (λ both. (cs : List ColTy) × (common_columns (types scope) (types other) ≡ Some cs) × (retyped scope cs ≡ both))
+      go None q = tt
+      go (Some cs) q = (cs, q, refl)
+
+  joins_right : (js : t.JoinItems) (x : Relation) (w : Reach) → Right x w → IfOk (b.joins_bound D js x) (λ y. Right y (a.from_joins tables js w))
+  joins_right t.no_joins x w h = h
+  joins_right (t.join_and j js) x w h = tt
+
+  mutual
+    pub query_right : (q : t.Query) → IfOk (query_bound (map (λ x. x.table) tables) q) (λ x. Right x (a.answer tables q))
+    query_right (t.query_of t.no_selects order limit) = tt
+    query_right (t.query_of (t.select_and x xs) order limit) =
+        bind (select_bound D x) _ (λ y. Right y (a.answer_select tables x)) _ (select_right x) (λ y h.
+        bind (selects_bound D y.scope xs) _ (λ others. Unions y.scope xs others.0 others.1) _ (selects_right xs y.scope) (λ others u.
+        tested_else (is_plain order limit) (Ok (record { rel = union_of y.rel others.0; scope = others.1 })) Unsupported (λ z. Right z (a.answers tables (a.answer_select tables x) xs)) (λ e. all_united y xs others.0 others.1 (a.answer_select tables x) h u)))
+
+    pub selects_right : (xs : t.Selects) (scope : Scope) → IfOk (selects_bound D scope xs) (λ others. Unions scope xs others.0 others.1)
+    selects_right t.no_selects scope = no_more scope
+    selects_right (t.select_and x xs) scope =
+        bind (select_bound D x) _ (λ c. Right c (a.answer_select tables x)) _ (select_right x) (λ c h.
+        bind (united scope c.scope) _ (λ both. (cs : List ColTy) × (common_columns (types scope) (types c.scope) ≡ Some cs) × (retyped scope cs ≡ both)) _ (united_right scope c.scope) (λ both p.
+        bind (selects_bound D both xs) _ (λ others. Unions both xs others.0 others.1) _ (selects_right xs both) (λ others u.
+        one_more scope x xs c p.0 others.0 others.1 h p.1 (subst (λ s. Unions s xs others.0 others.1) (sym p.2) u))))
+
+    pub select_right : (x : t.Select) → IfOk (select_bound D x) (λ y. Right y (a.answer_select tables x))
+    select_right (t.select_of distinct items from joins condition groups having) =
+        let source = a.answer_source tables from in
+        let joined = a.from_joins tables joins source in
+        bind (source_bound D from >>= b.joins_bound D joins >>= b.filtered condition) _ (λ x. Right x (a.filtered condition joined)) _
+        (bind (source_bound D from >>= b.joins_bound D joins) (b.filtered condition) (λ x. Right x joined) (λ x. Right x (a.filtered condition joined))
+        (bind (source_bound D from) (b.joins_bound D joins) (λ x. Right x source) (λ x. Right x joined) (source_right from) (λ x h. joins_right joins x source h))
+        (λ x h. weaker (b.filtered condition x) _ _ (where_right T condition x h.1) (λ y k. (k.0 ∙ ap (a.filtered condition) h.0, k.1))))
+        (λ x h. weaker (b.selected distinct (entries x.scope items) (listed_trees groups) having x) _ _ (selected_right distinct (entries x.scope items) groups having x h.1)
+        (λ y k. (k.0 ∙ ap (λ w. a.selected distinct (entries w.scope items) (listed_trees groups) having w) h.0, k.1)))
+
+    pub source_right : (from : t.Source) → IfOk (source_bound D from) (λ x. Right x (a.answer_source tables from))
+    source_right (t.Table name alias) = read_right alias (find_source 0 D name) (find_table tables name) (found_at 0 tables name)
+    source_right (t.FromQuery q alias) = bind (query_bound D q) _ (λ x. Right x (a.answer tables q)) _ (query_right q) (λ x h. renamed_right alias x (a.answer tables q) h)

@@ -1,0 +1,68 @@
+-- What the theorem speaks of: the tables of a query as the algebra sees them, and trees whose unions have two inputs or more.
+use Rattle.std.specs.Prelude.{Bool, true, false, ◌&&◌, ◌||◌, List, [], map, length}
+use Rattle.std.specs.Option.{unwrap_or}
+use Rattle.ct_value.specs.declared.ty.ColTy.{ColTy}
+use Rattle.ct_expr.specs.Expr.{Expr}
+use Rattle.rel_algebra.specs.Answer.{Table}
+use Rattle.rel_algebra.specs.Rel.{Rel, Rels, Scan, Filter, Project, Union, Group, Join, Semi, Rank, no_rels, rel_and}
+use Rattle.rel_algebra.specs.Types.{columns_of}
+use Rattle.ct_catalog.specs.declared.table.TableDef.{TableDef}
+use Rattle.ct_change.specs.Changelog.{Rows}
+use Rattle.query_answer.specs.Answer.{TableRows}
+use Rattle.binding.specs.Queries.{is_in_place}
+
+-- the types of a declared table's columns, and its rows
+abbrev pub table_of : TableRows → Table
+table_of x = record { columns = map (λ c. c.ty) x.table.cols; rows = x.rows }
+
+abbrev pub tables_of : List TableRows → List Table
+tables_of tables = map table_of tables
+
+abbrev pub has_two : Rels → Bool
+has_two no_rels = false
+has_two (rel_and x no_rels) = false
+has_two (rel_and x (rel_and y ys)) = true
+
+abbrev mutual
+  -- each Union has two inputs or more
+  pub has_full_unions : Rel → Bool
+  has_full_unions (Scan source) = true
+  has_full_unions (Filter input condition) = has_full_unions input
+  has_full_unions (Project input items) = has_full_unions input
+  has_full_unions (Union inputs) = has_two inputs && all_have_full_unions inputs
+  has_full_unions (Group input keys aggs) = has_full_unions input
+  has_full_unions (Join left right kind pairs rest) = has_full_unions left && has_full_unions right
+  has_full_unions (Semi left right anti pairs rest) = has_full_unions left && has_full_unions right
+  has_full_unions (Rank input partition order bound ranked) = has_full_unions input
+
+  pub all_have_full_unions : Rels → Bool
+  all_have_full_unions no_rels = true
+  all_have_full_unions (rel_and input inputs) = has_full_unions input && all_have_full_unions inputs
+
+-- a Project whose items are its input's columns in place
+abbrev pub is_idle : List (List ColTy) → Rel → List Expr → Bool
+is_idle types input items = is_in_place 0 (length (unwrap_or (columns_of types input) [])) items
+
+abbrev mutual
+  -- some Project is such
+  pub has_idle_project : List (List ColTy) → Rel → Bool
+  has_idle_project types (Scan source) = false
+  has_idle_project types (Filter input condition) = has_idle_project types input
+  has_idle_project types (Project input items) = is_idle types input items || has_idle_project types input
+  has_idle_project types (Union inputs) = any_has_idle_project types inputs
+  has_idle_project types (Group input keys aggs) = has_idle_project types input
+  has_idle_project types (Join left right kind pairs rest) = has_idle_project types left || has_idle_project types right
+  has_idle_project types (Semi left right anti pairs rest) = has_idle_project types left || has_idle_project types right
+  has_idle_project types (Rank input partition order bound ranked) = has_idle_project types input
+
+  pub any_has_idle_project : List (List ColTy) → Rels → Bool
+  any_has_idle_project types no_rels = false
+  any_has_idle_project types (rel_and input inputs) = has_idle_project types input || any_has_idle_project types inputs
+
+-- the declarations alone
+abbrev pub declared : List TableRows → List TableDef
+declared tables = map (λ x. x.table) tables
+
+-- a table with these rows
+abbrev pub filled : TableDef → Rows → TableRows
+filled table rows = record { table = table; rows = rows }

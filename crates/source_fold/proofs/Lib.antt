@@ -1,0 +1,5 @@
+pub mod Counts
+pub mod Keyed
+pub mod Nulls
+pub mod Takes
+pub mod Values
