@@ -1,12 +1,12 @@
 -- What a bag kept as counts has after one count is written.
-use Rattle.std.proofs.Common.{◌≡◌, ℕ, ◌+◌, ◌<◌, true, false, cond, Option, refl, ap, ◌∙◌, arith}
+use Rattle.std.proofs.Common.{◌≡◌, ℕ, ◌+◌, ◌*◌, ◌<◌, true, false, cond, Option, refl, sym, ap, ◌∙◌, arith}
 use Rattle.std.specs.Ordering.{eq_by_cmp}
 use Rattle.std.specs.Option.{unwrap_or}
 use Rattle.std.specs.BTreeMap.{BTreeMap, IsOrdered, get, keys}
 use Rattle.std.specs.Cmp.{eq_by_cmp_equiv, Equal-is}
 use Rattle.std.proofs.lemmas.Map.Keys.{IsDistinct-from_sorted}
 use Rattle.ct_value.specs.Order.{row_cmp, row_total, row_exact}
-use Rattle.ct_value.specs.Bag.{Bag, copies, add, remove, bag_of_counts, one_at, copies-bag_of_counts, copies-add, copies-remove, same_bag}
+use Rattle.ct_value.specs.Bag.{Bag, copies, add, add_many, remove, bag_of_counts, one_at, copies-bag_of_counts, copies-occurs, copies-add, total-add_many, copies-remove, same_bag}
 use Rattle.ct_value.specs.declared.row.Row.{Row}
 
 abbrev pub bag_in : BTreeMap Row ℕ → Bag row_cmp
@@ -17,6 +17,9 @@ count_at m row = unwrap_or (get row_cmp m row) 0
 
 pub copies_in : (m : BTreeMap Row ℕ) (row : Row) → IsOrdered row_cmp m → copies (bag_in m) row ≡ count_at m row
 copies_in m row h = copies-bag_of_counts row_total m.entries row (IsDistinct-from_sorted row_cmp (keys m) h)
+
+copies-many : (rows : Bag row_cmp) (row other : Row) (more : ℕ) → copies (add_many rows row more) other ≡ more * one_at row_cmp other row + copies rows other
+copies-many rows row other more = copies-occurs (add_many rows row more) other ∙ total-add_many row_total (one_at row_cmp other) rows row more ∙ ap (λ k. more * one_at row_cmp other row + k) (sym (copies-occurs rows other))
 
 -- what is written at x, seen from y
 module _ (m n : BTreeMap Row ℕ) (x : Row) (w : Option ℕ) (before : IsOrdered row_cmp m) (after : IsOrdered row_cmp n) (writes : (y : Row) → get row_cmp n y ≡ cond (eq_by_cmp row_cmp x y) w (get row_cmp m y)) where
@@ -36,6 +39,11 @@ module _ (m n : BTreeMap Row ℕ) (x : Row) (w : Option ℕ) (before : IsOrdered
   one_added h = same_bag row_total row_exact _ _ (λ y.
       let a = seen_from y (λ new old one. new ≡ one + old) (omega arith) (λ k. omega arith) in
       omega (arith, a, copies_in m y before, copies_in n y after, copies-add row_total (bag_in m) x y))
+
+  pub many_added : (more : ℕ) → unwrap_or w 0 ≡ count_at m x + more → bag_in n ≡ add_many (bag_in m) x more
+  many_added more h = same_bag row_total row_exact _ _ (λ y.
+      let a = seen_from y (λ new old one. new ≡ more * one + old) (omega arith) (λ k. omega arith) in
+      omega (arith, a, copies_in m y before, copies_in n y after, copies-many (bag_in m) x y more))
 
   pub one_removed : unwrap_or w 0 + 1 ≡ count_at m x → bag_in n ≡ remove (bag_in m) x
   one_removed h = same_bag row_total row_exact _ _ (λ y.

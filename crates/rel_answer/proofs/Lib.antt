@@ -1,0 +1,10 @@
+pub mod Sums
+pub mod Tallies
+pub mod Turns
+pub mod Indexes
+pub mod Pairs
+pub mod ByKey
+pub mod Cells
+pub mod Found
+pub mod Lists
+pub mod Ranking

@@ -1,0 +1,4 @@
+pub mod Indexes
+pub mod Matches
+pub mod Tallies
+pub mod Ranking
