@@ -1,5 +1,5 @@
 -- ON: the key pairs of a join, which are tested first, and the rest of its condition.
-use Rattle.std.specs.Prelude.{ℕ, ◌-◌, nat_lt, nat_le, Bool, true, false, cond, ◌&&◌, List, [], ◌∷◌, ◌++◌, map, Option, Some, None, is_some}
+use Rattle.std.specs.Prelude.{ℕ, ◌-◌, nat_lt, nat_le, Bool, cond, ◌&&◌, List, [], ◌∷◌, ◌++◌, map, Option, Some, None, is_some}
 use Rattle.ct_value.specs.declared.ty.ColTy.{ColTy}
 use Rattle.ct_value.specs.declared.value.CompareOp.TheVariants.{Eq}
 use Rattle.ct_expr.specs.Types.{common_ty}
@@ -12,8 +12,7 @@ use Rattle.sql_syntax.specs.declared.tree.JoinWord.TheVariants as w
 use Rattle.sql_syntax.specs.Tree.{Tree}
 use Rattle.sql_syntax.specs.Tree as t
 use Rattle.query_answer.specs.declared.scope.Found.{Found}
-use Rattle.query_answer.specs.declared.scope.Found.TheVariants.{Absent, At, Several}
-use Rattle.query_answer.specs.declared.scope.ScopeColumn.{ScopeColumn}
+use Rattle.query_answer.specs.declared.scope.Found.TheVariants.{Absent, At}
 use Rattle.query_answer.specs.Names.{Scope, Lookup}
 
 abbrev pub kind_of : JoinWord → JoinKind

@@ -1,27 +1,23 @@
 -- A join is bound to the Join whose answer is that of the clause.
-use Rattle.std.proofs.Common.{◌≡◌, ℕ, zero, suc, ◌+◌, ◌-◌, ◌<◌, ◌≤◌, Bool, true, false, ◌&&◌, ◌||◌, List, [], ◌∷◌, ◌++◌, map, length, replicate, Option, Some, None, cond, Ok, Err, IfOk, refl, sym, ap, ◌∙◌, subst, option_and_then, option_map, slice_get, is_some, unwrap_or, arith, length-append}
-use Rattle.std.proofs.Common.{ltb→lt, leb→le, nat_lt, nat_le, ltb-true, leb-true}
-use Rattle.std.specs.List.{list_all}
+use Rattle.std.proofs.Common.{◌≡◌, ℕ, zero, suc, ◌+◌, ◌-◌, ◌<◌, ◌≤◌, Bool, true, false, ◌&&◌, ◌||◌, List, [], ◌∷◌, ◌++◌, map, length, Option, Some, None, cond, IfOk, refl, sym, ap, ◌∙◌, subst, option_map, slice_get, is_some, unwrap_or, arith, length-append}
+use Rattle.std.proofs.Common.{nat_lt, nat_le, ltb-true, leb-true}
 use Rattle.ct_value.specs.declared.codes.ScriptCode.TheVariants.{AmbiguousColumn}
-use Rattle.ct_value.specs.declared.row.Row.{Row}
 use Rattle.ct_value.specs.declared.ty.ColTy.{ColTy}
 use Rattle.ct_value.specs.declared.ty.Ty.{Ty}
-use Rattle.ct_value.specs.declared.value.CompareOp.{CompareOp}
-use Rattle.ct_value.specs.declared.value.CompareOp.TheVariants.{Eq, Ne, Lt, Le, Gt, Ge}
+use Rattle.ct_value.specs.declared.value.CompareOp.TheVariants.{Eq}
 use Rattle.ct_change.specs.Changelog.{Rows}
 use Rattle.ct_expr.specs.Expr.{Expr}
 use Rattle.ct_expr.specs.Eval.{eval}
 use Rattle.ct_expr.specs.Types.{both_of, common_ty}
 use Rattle.rel_clauses.specs.declared.join.JoinKind.{JoinKind}
 use Rattle.rel_clauses.specs.declared.join.Pair.{Pair}
-use Rattle.rel_clauses.specs.Clauses.{Meaning, holds}
 use Rattle.rel_clauses.specs.Joins.{Matching, agree, matching, nulls, nullable_if, join_rows, join_columns, keeps_left, keeps_right}
 use Rattle.rel_clauses.specs.Sums.{Each}
 use Rattle.rel_clauses.specs.laws.Joins.{each-join_rows}
-use Rattle.rel_algebra.specs.Answer.{Table, answer, types_in, columns_in}
+use Rattle.rel_algebra.specs.Answer.{Table, answer, columns_in}
 use Rattle.rel_algebra.specs.Rel.{Rel}
 use Rattle.rel_algebra.specs.Rel as r
-use Rattle.rel_algebra.specs.Types.{columns_of, columns_if, match_fits, pairs_fit, pair_fits, common_column, is_condition_if, is_condition}
+use Rattle.rel_algebra.specs.Types.{columns_if, match_fits, pairs_fit, pair_fits, common_column, is_condition_if}
 use Rattle.sql_syntax.specs.Tree.{Tree}
 use Rattle.sql_syntax.specs.Tree as t
 use Rattle.query_answer.specs.declared.scope.Found.{Found}
@@ -29,17 +25,15 @@ use Rattle.query_answer.specs.declared.scope.Found.TheVariants.{Absent, At, Seve
 use Rattle.query_answer.specs.Answer.{Reach, over, conjuncts, rest_meaning, types}
 use Rattle.query_answer.specs.Answer as a
 use Rattle.query_answer.specs.Joins.{plain_column, pair_at, or_pair, pair_found, pair_of, with_pair, pairs_of, rest_of, nullable_scope, join_scope}
-use Rattle.query_answer.specs.Names.{Scope, Lookup, find}
-use Rattle.query_answer.specs.Table.{Typed, conjunction}
-use Rattle.binding.specs.Checked.{Checked, ◌>>=◌}
+use Rattle.query_answer.specs.Names.{Scope, find}
+use Rattle.binding.specs.Checked.{◌>>=◌}
 use Rattle.binding.specs.Expressions.{each_bound, conditions, conjuncts_bound}
-use Rattle.binding.specs.Nodes.{Bound}
 use Rattle.binding.specs.Queries.{Relation, all_of, rest_bound, on_bound, share_source}
 use Rattle.binding.specs.Queries as b
 use Rattle.query_laws.proofs.Clauses.{Fine}
 use Rattle.query_laws.proofs.Lists.{map_length, slice_before, slice_past, both_true}
 use Rattle.query_laws.proofs.Names.{Stands, found_stands, AllAre, AreTruths, each_means, conditions_are, all_of_holds, all_of_boolean}
-use Rattle.query_laws.proofs.Options.{bind, then, tested, map_map, map_append, cond_true, cond_some}
+use Rattle.query_laws.proofs.Options.{bind, then, tested, map_append}
 use Rattle.query_laws.proofs.Selects.{reach, FineAt}
 
 -- ---- key pairs are columns of both sides with a common type
