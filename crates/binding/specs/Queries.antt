@@ -1,20 +1,23 @@
 -- Binding of a query: the first refusal of the walk, or the algebra with the columns in reach.
 use Rattle.std.specs.Prelude.{ℕ, suc, ◌+◌, ◌==◌, nat_lt, Bool, true, false, cond, ◌&&◌, List, [], ◌∷◌, ◌++◌, flat_map, length, slice_get, Option, Some, None, option_map, Ok, Err}
+use Rattle.std.specs.List.{list_any}
 use Rattle.std.specs.Str.{bytes_eq}
-use Rattle.ct_value.specs.declared.codes.ScriptCode.TheVariants.{UnknownTable, UnknownColumn, TypeMismatch, Unsupported, NotGrouped, TooManyColumns}
+use Rattle.ct_value.specs.declared.codes.ScriptCode.TheVariants.{UnknownTable, UnknownColumn, AmbiguousColumn, TypeMismatch, Unsupported, NotGrouped, TooManyColumns}
 use Rattle.ct_expr.specs.Expr.{Expr}
 use Rattle.ct_expr.specs.Expr as e
 use Rattle.ct_catalog.specs.declared.table.TableDef.{TableDef}
 use Rattle.rel_clauses.specs.declared.agg.Agg.{Agg}
+use Rattle.rel_clauses.specs.declared.join.JoinKind.{JoinKind}
 use Rattle.rel_algebra.specs.Rel.{Rel, Rels, no_rels, rel_and}
 use Rattle.rel_algebra.specs.Rel as r
 use Rattle.rel_algebra.specs.Types.{common_columns, is_boolean}
 use Rattle.sql_syntax.specs.Tree.{Tree, Text}
 use Rattle.sql_syntax.specs.Tree as t
 use Rattle.query_answer.specs.Calls.{Call}
-use Rattle.query_answer.specs.Names.{Scope}
+use Rattle.query_answer.specs.Joins.{kind_of, pairs_of, rest_of, join_scope}
+use Rattle.query_answer.specs.Names.{Scope, find, is_called}
 use Rattle.query_answer.specs.Shapes.{column_shape}
-use Rattle.query_answer.specs.Answer.{under, table_scope, renamed_scope, Listed, Placed, Written, NoSource, Entry, entries, listed_calls, select_calls, is_grouped, listed_trees, types, retyped}
+use Rattle.query_answer.specs.Answer.{conjuncts, under, table_scope, renamed_scope, Listed, Placed, Written, NoSource, Entry, entries, listed_calls, select_calls, is_grouped, listed_trees, types, retyped}
 use Rattle.binding.specs.Checked.{Checked, ◌>>=◌, or_code, refused_if}
 use Rattle.binding.specs.Nodes.{Bound, expr_list, operands}
 use Rattle.binding.specs.Expressions.{Leaf, bound, bound_over, each_bound, conditions, conjuncts_bound, column}
@@ -51,6 +54,34 @@ abbrev pub filtered : t.OptionalTree → Relation → Checked Relation
 filtered t.no_tree x = Ok x
 filtered (t.some_tree condition) x =
     conjuncts_bound x.scope condition >>= conditions >>= λ xs. Ok (record { rel = r.Filter x.rel (all_of xs); scope = x.scope })
+
+-- ---- joins
+
+abbrev pub has_source : Scope → Option Text → Bool
+has_source scope None = false
+has_source scope (Some source) = list_any (λ c. is_called source c.source) scope
+
+-- two sources have one name
+abbrev pub share_source : Scope → Scope → Bool
+share_source left right = list_any (λ c. has_source left c.source) right
+
+-- the conditions that aren't key pairs, as one
+abbrev pub rest_bound : Scope → List Tree → Checked (Option Expr)
+rest_bound scope [] = Ok None
+rest_bound scope (x ∷ xs) = each_bound scope (x ∷ xs) >>= conditions >>= λ ys. Ok (Some (all_of ys))
+
+-- the condition of ON is refused as a whole, and what is accepted is split
+abbrev pub on_bound : JoinKind → Relation → Relation → Tree → Checked Relation
+on_bound kind x y on =
+    let both = x.scope ++ y.scope in
+    let width = length x.scope in
+    let cs = conjuncts on in
+    conjuncts_bound both on >>= conditions >>= λ all.
+    rest_bound both (rest_of width (find both) cs) >>= λ rest.
+    Ok (record { rel = r.Join x.rel y.rel kind (pairs_of width (find both) cs) rest; scope = join_scope kind x.scope y.scope })
+
+abbrev pub joined : JoinKind → Relation → Relation → Tree → Checked Relation
+joined kind x y on = refused_if (share_source x.scope y.scope) AmbiguousColumn (on_bound kind x y on)
 
 -- ---- the select list
 
@@ -173,11 +204,6 @@ is_plain t.no_sorts None = true
 is_plain _ _ = false
 
 module _ (sources : List TableDef) where
-  -- joins aren't built yet
-  abbrev pub joins_bound : t.JoinItems → Relation → Checked Relation
-  joins_bound t.no_joins x = Ok x
-  joins_bound (t.join_and j js) x = Err Unsupported
-
   abbrev mutual
     pub query_bound : t.Query → Checked Relation
     query_bound (t.query_of t.no_selects order limit) = Err Unsupported
@@ -199,3 +225,8 @@ module _ (sources : List TableDef) where
     pub source_bound : t.Source → Checked Relation
     source_bound (t.Table name alias) = read alias (find_source 0 sources name)
     source_bound (t.FromQuery q alias) = query_bound q >>= λ x. Ok (renamed alias x)
+
+    -- sources and their ON from the left
+    pub joins_bound : t.JoinItems → Relation → Checked Relation
+    joins_bound t.no_joins x = Ok x
+    joins_bound (t.join_and (t.join_of word source on) js) x = source_bound source >>= λ y. joined (kind_of word) x y on >>= joins_bound js

@@ -7,9 +7,11 @@ use Rattle.ct_value.specs.Bag.{none}
 use Rattle.ct_value.specs.declared.ty.ColTy.{ColTy}
 use Rattle.ct_value.specs.declared.ty.Ty.TheVariants.{Bool as Truths}
 use Rattle.ct_change.specs.Changelog.{Rows}
-use Rattle.ct_expr.specs.Types.{col}
+use Rattle.ct_expr.specs.Types.{col, both_of}
 use Rattle.ct_catalog.specs.declared.table.TableDef.{TableDef}
 use Rattle.rel_clauses.specs.Clauses.{Meaning, filter_rows, project_rows}
+use Rattle.rel_clauses.specs.declared.join.JoinKind.{JoinKind}
+use Rattle.rel_clauses.specs.Joins.{matching, join_rows}
 use Rattle.rel_clauses.specs.Sums.{distinct, plus}
 use Rattle.rel_algebra.specs.Types.{common_columns}
 use Rattle.sql_syntax.specs.Tree.{Tree, Text}
@@ -19,6 +21,7 @@ use Rattle.query_answer.specs.declared.scope.Found.{Found}
 use Rattle.query_answer.specs.declared.scope.ScopeColumn.{ScopeColumn}
 use Rattle.query_answer.specs.Calls.{Call, calls, call_at, arguments, filters}
 use Rattle.query_answer.specs.Groups.{grouped_rows, called, key_at, meanings}
+use Rattle.query_answer.specs.Joins.{kind_of, pairs_of, rest_of, join_scope}
 use Rattle.query_answer.specs.Names.{Scope, find, named, column_at, is_called}
 use Rattle.query_answer.specs.Shapes.{shape, place_of, column_shape}
 use Rattle.query_answer.specs.Stands.{Leaf, stands, or_else}
@@ -86,6 +89,25 @@ where_rows scope (t.some_tree x) rows = filter_rows (conjunction (map (over scop
 
 abbrev pub filtered : t.OptionalTree → Reach → Reach
 filtered condition r = record { scope = r.scope; rows = option_and_then (where_rows r.scope condition) r.rows }
+
+-- ---- joins
+
+-- the condition on the pairs of rows that agree
+abbrev pub rest_meaning : Scope → List Tree → Option Meaning
+rest_meaning scope [] = None
+rest_meaning scope (x ∷ xs) = Some (conjunction (map (over scope) (x ∷ xs))).value
+
+-- the next source of FROM, joined by the conjuncts of its ON: each pair of rows is tested for its key pairs first, and only on those
+-- that agree is the rest evaluated
+abbrev pub joined : JoinKind → Reach → Reach → Tree → Reach
+joined kind left right on =
+    let both = left.scope ++ right.scope in
+    let width = length left.scope in
+    let cs = conjuncts on in
+    record {
+      scope = join_scope kind left.scope right.scope;
+      rows = both_of (join_rows kind width (length right.scope) (matching (pairs_of width (find both) cs) (rest_meaning both (rest_of width (find both) cs)))) left.rows right.rows;
+    }
 
 -- ---- the select list
 
@@ -257,11 +279,6 @@ union a b = record { scope = union_scope a.scope b.scope; rows = plus a.rows b.r
 -- ---- the tree
 
 module _ (tables : List TableRows) where
-  -- joins aren't told yet
-  abbrev pub from_joins : t.JoinItems → Reach → Reach
-  from_joins t.no_joins r = r
-  from_joins (t.join_and j js) r = no_reach
-
   abbrev mutual
     -- the answer of a query: its columns with their names, and its rows
     pub answer : t.Query → Reach
@@ -274,9 +291,14 @@ module _ (tables : List TableRows) where
 
     pub answer_select : t.Select → Reach
     answer_select (t.select_of distinct items from joins condition groups having) =
-        let r = filtered condition (from_joins joins (answer_source from)) in
+        let r = filtered condition (from_joins (answer_source from) joins) in
         selected distinct (entries r.scope items) (listed_trees groups) having r
 
     pub answer_source : t.Source → Reach
     answer_source (t.Table name alias) = read alias (find_table tables name)
     answer_source (t.FromQuery q alias) = renamed alias (answer q)
+
+    -- sources are joined from the left
+    pub from_joins : Reach → t.JoinItems → Reach
+    from_joins r t.no_joins = r
+    from_joins r (t.join_and (t.join_of word source on) js) = from_joins (joined (kind_of word) r (answer_source source) on) js

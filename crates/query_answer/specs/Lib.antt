@@ -2,6 +2,7 @@ pub mod Answer
 pub mod Calls
 pub mod Functions
 pub mod Groups
+pub mod Joins
 pub mod Literals
 pub mod Names
 pub mod Shapes

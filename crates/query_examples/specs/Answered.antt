@@ -75,6 +75,14 @@ answered =
     over_both (codes "SELECT COUNT(b + 2147483647) FILTER (WHERE FALSE) FROM t") None ∷
     over_both (codes "SELECT CASE WHEN TRUE THEN 1 ELSE SUM(2147483647) END FROM t") None ∷
     over_both (codes "SELECT SUM(2147483647) FROM t GROUP BY b HAVING COUNT(*) = 1") None ∷
+    -- joins: NULL equals nothing, and what has no match is padded
+    over_both (codes "SELECT t.a, t.b, x FROM t JOIN u ON t.a = u.a") (Some ((n 1 ∷ n 10 ∷ w (codes "x") ∷ []) ∷ (n 1 ∷ n 20 ∷ w (codes "x") ∷ []) ∷ [])) ∷
+    over_both (codes "SELECT b, x FROM t LEFT JOIN u ON t.a = u.a AND b > 10") (Some ((n 10 ∷ Null ∷ []) ∷ (n 20 ∷ w (codes "x") ∷ []) ∷ (n 30 ∷ Null ∷ []) ∷ (n 40 ∷ Null ∷ []) ∷ (n 40 ∷ Null ∷ []) ∷ [])) ∷
+    over_both (codes "SELECT b, x FROM t RIGHT JOIN u ON t.a = u.a") (Some ((Null ∷ w (codes "z") ∷ []) ∷ (n 10 ∷ w (codes "x") ∷ []) ∷ (n 20 ∷ w (codes "x") ∷ []) ∷ [])) ∷
+    over_both (codes "SELECT COUNT(*) FROM t FULL JOIN u ON t.a = u.a") (Some ((n 6 ∷ []) ∷ [])) ∷
+    -- the rest is evaluated only on rows that agree on the pairs
+    over_both (codes "SELECT x FROM t JOIN u ON t.a = u.a AND b + 2147483620 > 0") (Some ((w (codes "x") ∷ []) ∷ (w (codes "x") ∷ []) ∷ [])) ∷
+    over_both (codes "SELECT x FROM t JOIN u ON t.a > u.a AND b + 2147483620 > 0") None ∷
     -- DISTINCT and UNION ALL
     over_both (codes "SELECT DISTINCT a FROM t") (Some ((Null ∷ []) ∷ (n 1 ∷ []) ∷ (n 2 ∷ []) ∷ [])) ∷
     over_both (codes "SELECT a FROM u UNION ALL SELECT g FROM t WHERE a = 1 UNION ALL SELECT a FROM u") (Some ((n 1 ∷ []) ∷ (n 1 ∷ []) ∷ (n 1 ∷ []) ∷ (n 2 ∷ []) ∷ (n 3 ∷ []) ∷ (n 3 ∷ []) ∷ [])) ∷

@@ -6,11 +6,13 @@ use Rattle.ct_value.specs.declared.ty.Ty.TheVariants.{Bool as Truths, Int, BigIn
 use Rattle.ct_value.specs.declared.value.CompareOp.TheVariants.{Eq, Gt, Ge, Le}
 use Rattle.ct_value.specs.declared.value.Value.TheVariants.{Null, Bool as Truth, Num}
 use Rattle.ct_expr.specs.declared.expr.ArithOp.TheVariants.{Add, Sub}
-use Rattle.ct_expr.specs.Expr.{Expr, Column, Literal, Arith, Compare, And, Not, Case, exprs, whens, some_expr}
+use Rattle.ct_expr.specs.Expr.{Expr, Column, Literal, Arith, Compare, And, Or, Not, Case, exprs, whens, some_expr}
 use Rattle.rel_clauses.specs.declared.agg.Agg.{Agg}
 use Rattle.rel_clauses.specs.declared.agg.AggCall.{AggCall}
 use Rattle.rel_clauses.specs.declared.agg.AggCall.TheVariants.{CountAll, Count, CountDistinct, Sum, Max}
-use Rattle.rel_algebra.specs.Rel.{Rel, Scan, Filter, Project, Union, Group, rels}
+use Rattle.rel_clauses.specs.declared.join.JoinKind.TheVariants.{Inner, Left, Right}
+use Rattle.rel_clauses.specs.declared.join.Pair.{Pair}
+use Rattle.rel_algebra.specs.Rel.{Rel, Scan, Filter, Project, Union, Group, Join, rels}
 use Rattle.sql_syntax.specs.Tree.{Text}
 
 abbrev a : Expr
@@ -28,6 +30,9 @@ int n = Literal (Num (pos n)) Int
 abbrev agg : AggCall → Option ℕ → Option ℕ → Agg
 agg call arg filter = record { call = call; arg = arg; filter = filter }
 
+abbrev pair : ℕ → ℕ → Pair
+pair left right = record { left = left; right = right }
+
 abbrev pub bound : List (Text × Rel)
 bound =
     -- a Project of the input's columns in place is left out
@@ -37,6 +42,10 @@ bound =
     (codes "SELECT x, a FROM u", Project (Scan 1) (Column 1 Texts ∷ a ∷ [])) ∷
     (codes "SELECT * FROM (SELECT a, b FROM t)", Project (Scan 0) (a ∷ b ∷ [])) ∷
     (codes "SELECT b, a FROM (SELECT b AS a, a AS b FROM t)", Project (Project (Scan 0) (b ∷ a ∷ [])) (b ∷ a ∷ [])) ∷
+    -- key pairs of ON, columns of either side written first, and the rest
+    (codes "SELECT t.b, u.x FROM t JOIN u ON t.a = u.a", Project (Join (Scan 0) (Scan 1) Inner (pair 0 0 ∷ []) None) (b ∷ Column 7 Texts ∷ [])) ∷
+    (codes "SELECT y.x FROM t LEFT JOIN u AS y ON (y.a = (b)) AND f AND s = x AND b > 1", Project (Join (Scan 0) (Scan 1) Left (pair 1 0 ∷ pair 2 1 ∷ []) (Some (And (exprs (f ∷ Compare Gt b (int 1) ∷ []))))) (Column 7 Texts ∷ [])) ∷
+    (codes "SELECT u.* FROM u RIGHT JOIN t ON u.a = d OR f", Project (Join (Scan 1) (Scan 0) Right [] (Some (Or (exprs (Compare Eq a (Column 5 (Decimal 5 2)) ∷ Column 6 Truths ∷ []))))) (a ∷ Column 1 Texts ∷ [])) ∷
     -- WHERE is split at its ANDs; BETWEEN is one conjunct
     (codes "SELECT * FROM u WHERE (a = 1)", Filter (Scan 1) (Compare Eq a (int 1))) ∷
     (codes "SELECT * FROM t WHERE f AND (a = 1 AND NOT f)", Filter (Scan 0) (And (exprs (f ∷ Compare Eq a (int 1) ∷ Not f ∷ [])))) ∷
@@ -79,4 +88,7 @@ columns =
     (codes "SELECT a, SUM(b), SUM(a), SUM(d), MAX(b) FILTER (WHERE f) FROM t GROUP BY a", (named (codes "a"), may Int) ∷ (None, must Int) ∷ (None, may Int) ∷ (None, may (Decimal 38 2)) ∷ (None, may Int) ∷ []) ∷
     -- the names of the first select, and common types
     (codes "SELECT b AS n, x FROM (SELECT b, s AS x FROM t) UNION ALL SELECT g, x FROM (SELECT g, 'x' AS x FROM t)", (named (codes "n"), must BigInt) ∷ (named (codes "x"), may Texts) ∷ []) ∷
+    -- the side whose rows may be missing
+    (codes "SELECT t.b, u.x FROM t LEFT JOIN u ON t.a = u.a", (named (codes "b"), must Int) ∷ (named (codes "x"), may Texts) ∷ []) ∷
+    (codes "SELECT t.b, u.x FROM t FULL JOIN u ON t.a = u.a", (named (codes "b"), may Int) ∷ (named (codes "x"), may Texts) ∷ []) ∷
     (codes "SELECT b FROM t UNION ALL SELECT a FROM u", (named (codes "b"), may Int) ∷ []) ∷ []

@@ -1,7 +1,7 @@
 -- Queries that are refused, each with the first refusal of its walk, and queries beside them that are accepted.
 use Rattle.std.specs.Prelude.{ℕ, zero, suc, List, [], ◌∷◌, ◌++◌, codes}
 use Rattle.ct_value.specs.declared.codes.ScriptCode.{ScriptCode}
-use Rattle.ct_value.specs.declared.codes.ScriptCode.TheVariants.{UnknownColumn, TypeMismatch, NotGrouped, Nondeterministic, Unsupported, TooManyColumns}
+use Rattle.ct_value.specs.declared.codes.ScriptCode.TheVariants.{UnknownTable, UnknownColumn, TypeMismatch, NotGrouped, Nondeterministic, Unsupported, TooManyColumns}
 use Rattle.sql_syntax.specs.Tree.{Text}
 
 -- S3
@@ -41,6 +41,9 @@ unknown_columns =
 abbrev pub ambiguous : List Text
 ambiguous =
     codes "SELECT a FROM (SELECT a, b AS a FROM t)" ∷
+    codes "SELECT a FROM t JOIN u ON b = 1" ∷
+    codes "SELECT b FROM t JOIN u ON a = 1" ∷
+    codes "SELECT t.b FROM t JOIN u AS t ON RAND() = 1" ∷
     codes "SELECT x.a FROM (SELECT a, b a FROM t) AS x" ∷
     codes "SELECT COUNT(*) FROM (SELECT a, a FROM t) GROUP BY a" ∷ []
 
@@ -82,6 +85,8 @@ mismatched =
     -- conditions
     codes "SELECT a FROM t WHERE a" ∷
     codes "SELECT a FROM t WHERE f AND a" ∷
+    codes "SELECT b FROM t JOIN u ON b" ∷
+    codes "SELECT b FROM t JOIN u ON t.a = x" ∷
     codes "SELECT a FROM t GROUP BY a HAVING a" ∷
     -- aggregates
     codes "SELECT SUM(*) FROM t" ∷
@@ -169,6 +174,9 @@ walks =
     (codes "SELECT CASE WHEN a THEN 1 ELSE nosuch END FROM t", UnknownColumn) ∷
     -- sources, WHERE, GROUP BY, HAVING, select list
     (codes "SELECT RAND() FROM (SELECT nosuch FROM t)", UnknownColumn) ∷
+    (codes "SELECT RAND() FROM t JOIN nosuch ON nosuch = 1", UnknownTable) ∷
+    (codes "SELECT RAND() FROM t JOIN u ON nosuch = 1 JOIN nosuch ON TRUE", UnknownColumn) ∷
+    (codes "SELECT RAND() FROM t JOIN u ON COUNT(*) = 1 WHERE nosuch = 1", NotGrouped) ∷
     (codes "SELECT RAND() FROM t WHERE nosuch = 1", UnknownColumn) ∷
     (codes "SELECT RAND() FROM t GROUP BY nosuch", UnknownColumn) ∷
     (codes "SELECT RAND() FROM t WHERE COUNT(*) = 1 GROUP BY nosuch", NotGrouped) ∷

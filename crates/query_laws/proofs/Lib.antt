@@ -7,6 +7,7 @@ pub mod GroupSelects
 pub mod Grouped
 pub mod InGroups
 pub mod Inserts
+pub mod Joins
 pub mod Lists
 pub mod Names
 pub mod Nodes

@@ -36,7 +36,7 @@ use Rattle.query_laws.proofs.Types.{same_itself, all_truths_are}
 -- ---- look-up
 
 -- a name found stands at its place
-abbrev Stands : ℕ → Scope → Found → Type 0
+abbrev pub Stands : ℕ → Scope → Found → Type 0
 Stands n scope Absent = Unit {0}
 Stands n scope (At m ty) = (i : ℕ) × (m ≡ n + i) × (slice_get (types scope) i ≡ Some ty)
 Stands n scope Several = Unit {0}
@@ -55,7 +55,7 @@ which : (n : ℕ) (c : ScopeColumn) (scope : Scope) (b : Bool) (f : Found) → S
 which n c scope true f h = one_more n c scope f
 which n c scope false f h = later n c scope f h
 
-found_stands : (n : ℕ) (scope : Scope) (of : Option t.Text) (name : t.Text) → Stands n scope (find_from n scope of name)
+pub found_stands : (n : ℕ) (scope : Scope) (of : Option t.Text) (name : t.Text) → Stands n scope (find_from n scope of name)
 found_stands n [] of name = tt
 found_stands n (c ∷ scope) of name = which n c scope (is_named of name c) (find_from (suc n) scope of name) (found_stands (suc n) scope of name)
 

@@ -20,6 +20,7 @@ use Rattle.sql_syntax.specs.Tree.{Text}
 use Rattle.sql_syntax.specs.Tree as t
 use Rattle.query_answer.specs.Answer.{TableRows, Reach, Entry, types, entries, listed_trees, is_grouped, union, union_scope, retyped, find_table, table_scope}
 use Rattle.query_answer.specs.Answer as a
+use Rattle.query_answer.specs.Joins.{kind_of}
 use Rattle.query_answer.specs.Names.{Scope}
 use Rattle.binding.specs.Checked.{Checked, ◌>>=◌, or_code}
 use Rattle.binding.specs.Queries.{Relation, query_bound, selects_bound, select_bound, source_bound, find_source, union_of, united, is_plain}
@@ -28,6 +29,7 @@ use Rattle.query_laws.specs.Statement.{tables_of, table_of, all_have_full_unions
 use Rattle.query_laws.proofs.Bags.{each_map}
 use Rattle.query_laws.proofs.Clauses.{Fine}
 use Rattle.query_laws.proofs.GroupRight.{grouped_right}
+use Rattle.query_laws.proofs.Joins.{joined_right}
 use Rattle.query_laws.proofs.Lists.{slice_map}
 use Rattle.query_laws.proofs.Options.{bind, weaker, tested_else, map_map, both_parts, some_is}
 use Rattle.query_laws.proofs.Selects.{reach, FineAt, Selected, where_right, plain_right, once_right}
@@ -213,10 +215,6 @@ module _ (tables : List TableRows) (fit : AreTyped (tables_of tables)) where
       go None q = tt
       go (Some cs) q = (cs, q, refl)
 
-  joins_right : (js : t.JoinItems) (x : Relation) (w : Reach) → Right x w → IfOk (b.joins_bound D js x) (λ y. Right y (a.from_joins tables js w))
-  joins_right t.no_joins x w h = h
-  joins_right (t.join_and j js) x w h = tt
-
   mutual
     pub query_right : (q : t.Query) → IfOk (query_bound (map (λ x. x.table) tables) q) (λ x. Right x (a.answer tables q))
     query_right (t.query_of t.no_selects order limit) = tt
@@ -236,7 +234,7 @@ module _ (tables : List TableRows) (fit : AreTyped (tables_of tables)) where
     pub select_right : (x : t.Select) → IfOk (select_bound D x) (λ y. Right y (a.answer_select tables x))
     select_right (t.select_of distinct items from joins condition groups having) =
         let source = a.answer_source tables from in
-        let joined = a.from_joins tables joins source in
+        let joined = a.from_joins tables source joins in
         bind (source_bound D from >>= b.joins_bound D joins >>= b.filtered condition) _ (λ x. Right x (a.filtered condition joined)) _
         (bind (source_bound D from >>= b.joins_bound D joins) (b.filtered condition) (λ x. Right x joined) (λ x. Right x (a.filtered condition joined))
         (bind (source_bound D from) (b.joins_bound D joins) (λ x. Right x source) (λ x. Right x joined) (source_right from) (λ x h. joins_right joins x source h))
@@ -247,3 +245,12 @@ module _ (tables : List TableRows) (fit : AreTyped (tables_of tables)) where
     pub source_right : (from : t.Source) → IfOk (source_bound D from) (λ x. Right x (a.answer_source tables from))
     source_right (t.Table name alias) = read_right alias (find_source 0 D name) (find_table tables name) (found_at 0 tables name)
     source_right (t.FromQuery q alias) = bind (query_bound D q) _ (λ x. Right x (a.answer tables q)) _ (query_right q) (λ x h. renamed_right alias x (a.answer tables q) h)
+
+    pub joins_right : (js : t.JoinItems) (x : Relation) (w : Reach) → Right x w → IfOk (b.joins_bound D js x) (λ y. Right y (a.from_joins tables w js))
+    joins_right t.no_joins x w h = h
+    joins_right (t.join_and (t.join_of word source on) js) x w h =
+        let other = a.answer_source tables source in
+        bind (source_bound D source) _ (λ y. Right y other) _ (source_right source) (λ y k.
+        bind (b.joined (kind_of word) x y on) (b.joins_bound D js) (λ z. Right z (a.joined (kind_of word) w other on)) (λ z. Right z (a.from_joins tables (a.joined (kind_of word) w other on) js))
+        (weaker (b.joined (kind_of word) x y on) _ _ (joined_right T (kind_of word) x y on h.1 k.1) (λ z l. (l.0 ∙ (λ i. a.joined (kind_of word) (h.0 i) (k.0 i) on), l.1)))
+        (λ z l. joins_right js z (a.joined (kind_of word) w other on) l))
