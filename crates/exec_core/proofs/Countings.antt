@@ -9,8 +9,9 @@ use Rattle.op_rules.specs.Faults.{IfRange}
 use Rattle.op_rules.specs.declared.operator.OpFault.{OpFault}
 use Rattle.op_rules.specs.declared.operator.OpFault.TheVariants.{Range, Memory}
 use Rattle.op_rules.specs.History.{Arrival, at_port, joined}
-use Rattle.op_rules.specs.Rule.{Rule, group}
-use Rattle.op_rules.specs.Rules.{Answer, appended, emits, emitted_after, ArriveAfter}
+use Rattle.count_rules.specs.Rule.{group}
+use Rattle.op_rules.specs.Rules.{Answer, appended, Rule, along}
+use Rattle.count_rules.specs.Rules.{ArriveAfter}
 use Rattle.exec_core.specs.Pieces.{piece_of, pieces_of, at_port-pieces_of, history-push}
 
 pub length-history : (done : List Change) → length (joined (pieces_of done)) ≡ length done
@@ -39,16 +40,16 @@ appended-more xs ys (Ok zs) = ap Ok (sym (append_assoc xs ys zs))
 appended-more xs ys (Err row) = refl
 
 -- what was emitted so far, and what comes
-pub emitted_more : (rule : Rule) (done rest sent emitted : List Change) (change : Change) → emits rule (joined (pieces_of done)) (piece_of change) ≡ Ok sent
-    → appended (Ok emitted) (emitted_after rule (joined (pieces_of done)) (pieces_of (change ∷ rest))) ≡ appended (Ok (emitted ++ sent)) (emitted_after rule (joined (pieces_of (done ++ change ∷ []))) (pieces_of rest))
+pub emitted_more : (rule : Rule) (done rest sent emitted : List Change) (change : Change) → rule.emits (joined (pieces_of done)) (piece_of change) ≡ Ok sent
+    → appended (Ok emitted) (along rule.emits (joined (pieces_of done)) (pieces_of (change ∷ rest))) ≡ appended (Ok (emitted ++ sent)) (along rule.emits (joined (pieces_of (done ++ change ∷ []))) (pieces_of rest))
 emitted_more rule done rest sent emitted change is =
-    ap (λ (a : Answer). appended (Ok emitted) (appended a (emitted_after rule (joined (pieces_of done) ++ piece_of change) (pieces_of rest)))) is
-    ∙ appended-more emitted sent (emitted_after rule (joined (pieces_of done) ++ piece_of change) (pieces_of rest))
-    ∙ ap (λ (l : List Arrival). appended (Ok (emitted ++ sent)) (emitted_after rule l (pieces_of rest))) (sym (history-push done change))
+    ap (λ (a : Answer). appended (Ok emitted) (appended a (along rule.emits (joined (pieces_of done) ++ piece_of change) (pieces_of rest)))) is
+    ∙ appended-more emitted sent (along rule.emits (joined (pieces_of done) ++ piece_of change) (pieces_of rest))
+    ∙ ap (λ (l : List Arrival). appended (Ok (emitted ++ sent)) (along rule.emits l (pieces_of rest))) (sym (history-push done change))
 
-pub emitted_out : (rule : Rule) (done rest emitted : List Change) (change : Change) (row : Row) → emits rule (joined (pieces_of done)) (piece_of change) ≡ Err row
-    → appended (Ok emitted) (emitted_after rule (joined (pieces_of done)) (pieces_of (change ∷ rest))) ≡ Err row
-emitted_out rule done rest emitted change row is = ap (λ (a : Answer). appended (Ok emitted) (appended a (emitted_after rule (joined (pieces_of done) ++ piece_of change) (pieces_of rest)))) is
+pub emitted_out : (rule : Rule) (done rest emitted : List Change) (change : Change) (row : Row) → rule.emits (joined (pieces_of done)) (piece_of change) ≡ Err row
+    → appended (Ok emitted) (along rule.emits (joined (pieces_of done)) (pieces_of (change ∷ rest))) ≡ Err row
+emitted_out rule done rest emitted change row is = ap (λ (a : Answer). appended (Ok emitted) (appended a (along rule.emits (joined (pieces_of done) ++ piece_of change) (pieces_of rest)))) is
 
 pub appended-nothing : (answer : Answer) → appended (Ok []) answer ≡ answer
 appended-nothing (Ok changes) = refl

@@ -4,7 +4,7 @@ use Rattle.ct_change.specs.declared.kind.KindSet.{KindSet}
 use Rattle.ct_change.specs.declared.change.Change.{Change}
 use Rattle.ct_change.specs.Changelog.{retract, fold, IsValid, AreOf}
 use Rattle.rel_algebra.specs.Groups.{grouped_counts}
-use Rattle.op_rules.specs.Rule.{group, output_kinds}
+use Rattle.count_rules.specs.Rule.{group, output_kinds}
 
 -- what was emitted for the changes that were sent, which are of these kinds
 pub record Counted (keys : ℕ) (kinds : KindSet) (sent printed : List Change) : Type 0 where

@@ -9,8 +9,9 @@ use Rattle.ct_value.specs.declared.codes.OrderCode.TheVariants.{NoSuchPlace, Too
 use Rattle.ct_change.specs.declared.change.Change.{Change}
 use Rattle.ct_change.specs.Changelog.{Mode, fold}
 use Rattle.op_rules.specs.History.{Arrival, arrival, joined}
-use Rattle.op_rules.specs.Rule.{Rule}
-use Rattle.op_rules.specs.Rules.{Answer, emits, opening}
+use Rattle.count_rules.specs.Rule.{CountRule}
+use Rattle.op_rules.specs.Rules.{Answer}
+use Rattle.count_rules.specs.Rules.{emits, opening}
 use Rattle.job_text.specs.Lines.{refusal}
 use Rattle.job_text.specs.declared.printed.PrintItem.{PrintItem}
 use Rattle.job_text.specs.declared.printed.PrintItem.TheVariants.{Change as Printed}
@@ -20,7 +21,7 @@ use Rattle.job_text.specs.declared.printed.PrintItem.TheVariants.{Change as Prin
 -- what a node does: it scans the source and sends these columns of each change, or it emits by a rule
 pub data Op : Type 0 where
   scan : List ℕ → Op
-  run : Rule → Op
+  run : CountRule → Op
 
 -- a node, with the numbers of the nodes that feed its ports
 pub record Node : Type 0 where

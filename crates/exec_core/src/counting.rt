@@ -3,14 +3,15 @@ ghost use Rattle.std.specs.List.{AllByRecursion};
 ghost use Rattle.ct_change.specs.Changelog.{retract, IsValid};
 ghost use Rattle.op_rules.specs.Faults.{IfRange};
 ghost use Rattle.rel_algebra.specs.Groups.{count_all};
-ghost use Rattle.op_rules.specs.Rule.{group};
-ghost use Rattle.op_rules.specs.Rules.{emitted_after, ArriveAfter};
+ghost use Rattle.count_rules.specs.Rule.{group};
+ghost use Rattle.op_rules.specs.Rules.{ArriveAfter, along};
+ghost use Rattle.count_rules.specs.Rules.{emitted_after};
 ghost use Rattle.op_rules.specs.History.{joined};
 ghost use Rattle.exec_core.specs.Pieces.{pieces_of};
 
 use ct_change::{Changes, Retract, Steps};
 use ct_value::Memory;
-use op_group::Group;
+use op_count::Group;
 use op_rules::{OpFault, Operator};
 use rel_algebra::{Agg, AggCall, Aggs};
 use std::alloc::Global;
@@ -63,8 +64,8 @@ fn emit_all<P: Operator, L: Ledger>(
     requires new { P.stands_for operator.old [] }
     requires ready { ArriveAfter (P.rule operator.old) [] (joined (pieces_of changes)) }
     requires few { length changes + 1 < 2 ^ 32 }
-    ensures ok { IfOk result (λ sent. emitted_after (P.rule operator.old) [] (pieces_of changes) ≡ Ok sent) }
-    ensures range { IfRange result (λ row. emitted_after (P.rule operator.old) [] (pieces_of changes) ≡ Err row) }
+    ensures ok { IfOk result (λ sent. along (P.rule operator.old).emits [] (pieces_of changes) ≡ Ok sent) }
+    ensures range { IfRange result (λ row. along (P.rule operator.old).emits [] (pieces_of changes) ≡ Err row) }
 {
     let mut emitted = Changes::new(alloc);
     for change in changes.into_vec() {

@@ -2,7 +2,7 @@
 //! what a group emits for them.
 //!
 //! Promised: changes are taken as the machine takes them, up to the first that is refused, which leaves what was kept as it was;
-//! and what a group emits over them is what its rule says (`specs/Machine`, `specs/Counted`). It stands on the rules and on `op_group`.
+//! and what a group emits over them is what its rule says (`specs/Machine`, `specs/Counted`). It stands on the rules and on `op_count`.
 #![tactic(auto)]
 
 mod counting;

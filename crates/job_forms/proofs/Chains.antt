@@ -3,8 +3,9 @@ use Rattle.std.proofs.Common.{◌≡◌, ℕ, List, [], ◌∷◌, ◌++◌, map
 use Rattle.ct_change.specs.declared.change.Change.{Change}
 use Rattle.ct_change.specs.Changelog.{Mode, fold}
 use Rattle.op_rules.specs.History.{Arrival, joined}
-use Rattle.op_rules.specs.Rule.{Rule, sink}
-use Rattle.op_rules.specs.Rules.{Answer, appended, emits, emitted_after, opening}
+use Rattle.count_rules.specs.Rule.{CountRule, sink}
+use Rattle.op_rules.specs.Rules.{Answer, appended}
+use Rattle.count_rules.specs.Rules.{emits, emitted_after, opening}
 use Rattle.job_text.specs.Lines.{refusal}
 use Rattle.exec_core.specs.Intake.{AllTaken}
 use Rattle.exec_core.specs.Machine.{scan, run, Plan, State, Event, take, move, Stop, out_of_range, Ran, scanned, scan_from, take_unless, put_between, consumed, print, send, answered, take_front, step, run_events, opened, deliver, drain_edges, drain}
@@ -180,7 +181,7 @@ grouped2 v changes sent rest = record v { flight1 = rest; pieces2 = v.pieces2 ++
 abbrev pub printed3 : View → List Change → List Change → View
 printed3 v changes rest = record v { flight2 = rest; pieces3 = v.pieces3 ++ pieces_of changes; sent3 = v.sent3 ++ changes; printed = v.printed ++ map Printed changes }
 
-module _ (mode : Mode) (cols : List ℕ) (rule : Rule) (output : Mode) (silent : opening rule 0 ≡ []) where
+module _ (mode : Mode) (cols : List ℕ) (rule : CountRule) (output : Mode) (silent : opening rule 0 ≡ []) where
   abbrev pub grouped : Plan
   grouped = record { source = mode; nodes = node (scan cols) [] ∷ node (run rule) (1 ∷ []) ∷ node (run (sink output)) (2 ∷ []) ∷ [] }
 

@@ -6,7 +6,7 @@ use Rattle.ct_value.specs.declared.codes.ChangeCode.{ChangeCode}
 use Rattle.ct_change.specs.declared.change.Change.{Change}
 use Rattle.ct_change.specs.Changelog.{Mode, retract, fold, IsValid, AreOf, has, kinds_of}
 use Rattle.ct_change.specs.laws.Meanings.{means_fold, means_rows}
-use Rattle.op_rules.specs.Rule.{output_kinds}
+use Rattle.count_rules.specs.Rule.{output_kinds}
 use Rattle.op_rules.specs.Rules.{Answer}
 use Rattle.op_rules.specs.laws.Histories.{all-each, ok-same}
 use Rattle.job_ending.specs.declared.ending.Ending.TheVariants as e

@@ -3,8 +3,9 @@ use Rattle.std.specs.Prelude.{◌≡◌, ◌<◌, ◌+◌, ◌^◌, ℕ, Bool, t
 use Rattle.std.specs.List.{AllByRecursion}
 use Rattle.ct_change.specs.declared.change.Change.{Change}
 use Rattle.ct_change.specs.Changelog.{retract, IsValid}
-use Rattle.op_rules.specs.Rule.{group}
-use Rattle.op_rules.specs.Rules.{Answer, emitted_after}
+use Rattle.count_rules.specs.Rule.{group}
+use Rattle.op_rules.specs.Rules.{Answer}
+use Rattle.count_rules.specs.Rules.{emitted_after}
 use Rattle.job_ending.specs.declared.ending.Ending.TheVariants.{Done, Range}
 use Rattle.job_text.specs.declared.printed.PrintItem.TheVariants.{Change as Printed, Quiet}
 use Rattle.job_forms.specs.declared.accepted.Accepted.{Accepted}

@@ -4,7 +4,7 @@ use Rattle.std.specs.Prelude.{◌≡◌, ℕ, ◌+◌, List, [], ◌∷◌, ◌+
 use Rattle.ct_change.specs.declared.kind.KindSet.{KindSet}
 use Rattle.ct_change.specs.declared.change.Change.{Change}
 use Rattle.ct_change.specs.Changelog.{Mode, retract, Rows, fold, IsValid, AreOf, kinds_of}
-use Rattle.op_rules.specs.Rule.{output_kinds}
+use Rattle.count_rules.specs.Rule.{output_kinds}
 use Rattle.job_text.specs.declared.printed.PrintItem.{PrintItem}
 use Rattle.job_text.specs.declared.printed.PrintItem.TheVariants.{Change as Printed, Quiet}
 use Rattle.job_forms.specs.declared.accepted.Accepted.{Accepted}

@@ -1,7 +1,7 @@
 -- The plan of a script of the first forms: a scan of the columns that are named, a group where they are counted, the sink.
 use Rattle.std.specs.Prelude.{ℕ, Bool, true, false, List, [], ◌∷◌, length, map, position, unwrap_or}
 use Rattle.ct_change.specs.Changelog.{retract}
-use Rattle.op_rules.specs.Rule.{Rule, group, sink}
+use Rattle.count_rules.specs.Rule.{CountRule, group, sink}
 use Rattle.ct_catalog.specs.declared.table.ColDef.{ColDef}
 use Rattle.job_forms.specs.declared.accepted.Accepted.{Accepted}
 use Rattle.job_forms.specs.Forms.{has_name}
@@ -20,7 +20,7 @@ abbrev pub columns_read : Accepted → List ℕ
 columns_read script = places_of script.source.cols script.names
 
 -- the rows are counted by all the columns that are read
-abbrev pub count_rule : Accepted → Rule
+abbrev pub count_rule : Accepted → CountRule
 count_rule script = group (length script.names) retract retract
 
 abbrev pub node : Op → List ℕ → Node

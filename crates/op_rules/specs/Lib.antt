@@ -1,10 +1,8 @@
 pub mod Edges
-pub mod Facts
 pub mod Faults
 pub mod History
 pub mod Partials
-pub mod Rule
-pub mod RuleTasks
+pub mod Ports
 pub mod Rules
 pub mod Tasks
 pub mod laws

@@ -1,12 +1,9 @@
--- What each rule emits: a function of the ports' rows before and after what comes, or the row that is out of range.
-use Rattle.std.specs.Prelude.{◌≡◌, ℕ, ◌≤◌, ◌<◌, cond, List, [], ◌∷◌, ◌++◌, length, map, take, Result, Ok, Err}
+-- A rule says what an operator emits: a function of what it took before and of what comes.
+use Rattle.std.specs.Prelude.{◌≡◌, ℕ, ◌<◌, Bool, true, List, [], ◌∷◌, ◌++◌, Result, Ok, Err}
 use Rattle.ct_value.specs.declared.row.Row.{Row}
 use Rattle.ct_change.specs.declared.change.Change.{Change}
 use Rattle.ct_change.specs.Changelog.{Mode, Rows, fold, MayCome, HasKey}
-use Rattle.ct_change.specs.Emission.{emission}
-use Rattle.rel_algebra.specs.Groups.{first_seen, group_size, result_row, is_countable}
 use Rattle.op_rules.specs.History.{Arrival, at_port, joined}
-use Rattle.op_rules.specs.Rule.{Rule, group, sink, port_count, input_mode, columns_needed}
 
 -- changes, or the row that is out of range
 abbrev pub Answer : Type 0
@@ -18,49 +15,38 @@ appended (Ok changes) (Ok others) = Ok (changes ++ others)
 appended (Ok changes) (Err row) = Err row
 appended (Err row) answer = Err row
 
--- the answers for these rows, in order
-abbrev pub answers : (Row → Answer) → List Row → Answer
-answers answer [] = Ok []
-answers answer (row ∷ rows) = appended (answer row) (answers answer rows)
+pub record Rule : Type 0 where
+  -- how many ports it has, and the mode in which the changes of each are read
+  pub ports : ℕ
+  pub mode : ℕ → Mode
+  -- whether a change has the columns of a port
+  pub fits : ℕ → Change → Bool
+  -- what a subtask emits when the job opens
+  pub opening : ℕ → List Change
+  -- what is emitted for a piece, which comes after what was taken before
+  pub emits : List Arrival → List Arrival → Answer
+  -- how many counted steps an arrival may cost, after what was taken before
+  pub work : List Arrival → Arrival → ℕ
 
 -- the rows that stand at a port after these arrivals
 abbrev pub rows_at : Rule → ℕ → List Arrival → Rows
-rows_at rule port arrivals = fold (input_mode rule port) (at_port port arrivals)
-
--- the groups of these changes, in first-seen order
-abbrev pub groups_of : ℕ → List Change → List Row
-groups_of keys changes = first_seen (map (λ change. take keys change.row) changes)
-
--- a group's result before is replaced by its result after; a count that is no BIGINT is out of range
-abbrev pub group_emits : ℕ → Mode → Rows → Rows → Row → Answer
-group_emits keys output old new key = cond (is_countable (group_size keys new key)) (Ok (emission output (result_row keys old key) (result_row keys new key))) (Err key)
-
--- what is emitted for a piece, which comes after what was taken before: by a group its groups' changes of results,
--- by a sink the changes themselves
-abbrev pub emits : Rule → List Arrival → List Arrival → Answer
-emits (group keys input output) before piece = answers (group_emits keys output (fold input (at_port 0 before)) (fold input (at_port 0 (before ++ piece)))) (groups_of keys (at_port 0 piece))
-emits (sink mode) before piece = Ok (at_port 0 piece)
-
--- what a subtask emits when the job opens
-abbrev pub opening : Rule → ℕ → List Change
-opening (group keys input output) subtask = []
-opening (sink mode) subtask = []
+rows_at rule port arrivals = fold (rule.mode port) (at_port port arrivals)
 
 -- all that is emitted for the pieces, after what was taken before
-abbrev pub emitted_after : Rule → List Arrival → List (List Arrival) → Answer
-emitted_after rule before [] = Ok []
-emitted_after rule before (piece ∷ pieces) = appended (emits rule before piece) (emitted_after rule (before ++ piece) pieces)
+abbrev pub along : (List Arrival → List Arrival → Answer) → List Arrival → List (List Arrival) → Answer
+along emits before [] = Ok []
+along emits before (piece ∷ pieces) = appended (emits before piece) (along emits (before ++ piece) pieces)
 
 -- all that a subtask emits: what it opens with, then what it emits for each piece after those before it
 abbrev pub emitted : Rule → ℕ → List (List Arrival) → Answer
-emitted rule subtask pieces = appended (Ok (opening rule subtask)) (emitted_after rule [] pieces)
+emitted rule subtask pieces = appended (Ok (rule.opening subtask)) (along rule.emits [] pieces)
 
--- a change may come to a port after what came there: the port is there, the change is valid, its row has the columns
+-- a change may come to a port after what came there: the port is there, the change is valid, and has the columns
 pub record MayArrive (rule : Rule) (before : List Arrival) (a : Arrival) : Type 0 where
-  pub port : a.port < port_count rule
-  pub change : MayCome (input_mode rule a.port) (rows_at rule a.port before) a.change
-  pub wide : columns_needed rule a.port ≤ length a.change.row
-  pub key : HasKey (input_mode rule a.port) a.change.row
+  pub port : a.port < rule.ports
+  pub change : MayCome (rule.mode a.port) (rows_at rule a.port before) a.change
+  pub fits : rule.fits a.port a.change ≡ true
+  pub key : HasKey (rule.mode a.port) a.change.row
 
 -- each change may come after those before it
 abbrev pub ArriveAfter : Rule → List Arrival → List Arrival → Type 0

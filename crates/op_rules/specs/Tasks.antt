@@ -7,7 +7,7 @@ use Rattle.ct_value.specs.declared.row.Row.{Row}
 use Rattle.ct_change.specs.declared.change.Change.{Change}
 use Rattle.ct_change.specs.Changelog.{Rows, AreOf}
 use Rattle.op_rules.specs.History.{Arrival, at_port, joined}
-use Rattle.op_rules.specs.Rules.{Answer, appended}
+use Rattle.op_rules.specs.Rules.{Answer, appended, along}
 use Rattle.op_rules.specs.Edges.{Meaning, ReadsAs, Exchange, forward, hash, Edge, belongs_by, IsRouted, IsUnique, IsApart, HoldsOver, IsSeen, AreApartBy}
 
 -- the sum of f over the numbers below n
@@ -27,11 +27,6 @@ pub record Task : Type 0 where
   -- the batch answer of a subtask, and of the node, from the rows of the ports; none where it is out of range
   pub part : ℕ → (ℕ → Rows) → Option Rows
   pub batch : (ℕ → Rows) → Option Rows
-
--- all that is emitted for the pieces, after what was folded before
-abbrev pub along : (List Arrival → List Arrival → Answer) → List Arrival → List (List Arrival) → Answer
-along emits before [] = Ok []
-along emits before (piece ∷ pieces) = appended (emits before piece) (along emits (before ++ piece) pieces)
 
 -- all that a subtask emits: what it opens with, then what it emits for each piece after those before it
 abbrev pub emitted_by : Task → ℕ → List (List Arrival) → Answer

@@ -1,10 +1,4 @@
-pub mod FirstColumns
-pub mod GroupFacts
 pub mod Histories
 pub mod LastRows
-pub mod RuleTasks
-pub mod SentResults
-pub mod SinkFacts
-pub mod Sizes
+pub mod Ready
 pub mod Totals
-pub mod Turns

@@ -5,7 +5,7 @@ ghost use Rattle.op_rules.specs.Rules.{MayArrive};
 use crate::rows::row;
 use ct_change::{Change, Changes, Kind, Retract, Steps};
 use ct_value::Memory;
-use op_group::Group;
+use op_count::Group;
 use op_rules::{OpFault, Operator};
 use rel_algebra::{Agg, AggCall, Aggs};
 use std::alloc::Global;

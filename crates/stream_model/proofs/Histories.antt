@@ -6,10 +6,10 @@ use Rattle.std.proofs.lemmas.List.{append_assoc, append-nil}
 use Rattle.ct_change.specs.declared.change.Change.{Change}
 use Rattle.ct_change.specs.Changelog.{fold}
 use Rattle.op_rules.specs.History.{Arrival, arrival, at_port, from_port, joined}
-use Rattle.op_rules.specs.Rules.{Answer, appended}
+use Rattle.op_rules.specs.Rules.{Answer, appended, along}
 use Rattle.stream_model.specs.declared.events.PrintItem.{PrintItem}
 use Rattle.stream_model.specs.declared.events.PrintItem.TheVariants.{Change as Printed, Quiet}
-use Rattle.op_rules.specs.Tasks.{Task, along, emitted_by}
+use Rattle.op_rules.specs.Tasks.{Task, emitted_by}
 use Rattle.stream_model.specs.Tables.{Table, refusal, AllTaken}
 use Rattle.stream_model.specs.Runs.{changes_in}
 

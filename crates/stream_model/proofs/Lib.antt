@@ -1,5 +1,4 @@
 pub mod Bags
-pub mod Counted
 pub mod Counts
 pub mod Drain
 pub mod Exchange
@@ -9,4 +8,3 @@ pub mod Scans
 pub mod Steps
 pub mod Sums
 pub mod Theorem
-pub mod Worked

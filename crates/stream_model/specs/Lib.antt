@@ -1,4 +1,3 @@
-pub mod Counted
 pub mod Drain
 pub mod Machine
 pub mod Network
@@ -6,4 +5,3 @@ pub mod Runs
 pub mod Scans
 pub mod Tables
 pub mod Theorem
-pub mod Worked

@@ -1,9 +1,7 @@
 //! What is known of the machine. These functions have nothing to do: their contracts are the laws.
-ghost use Rattle.stream_model.specs.Counted.{CountsMeetPremises};
 ghost use Rattle.stream_model.specs.Drain.{RunsAreSafe, RunsDrain};
 ghost use Rattle.stream_model.specs.Scans.{ScansStand};
 ghost use Rattle.stream_model.specs.Theorem.{Composes, PrintedFolds};
-ghost use Rattle.stream_model.specs.Worked.{RunsAsWorked};
 
 /// In every state of every run over a plan whose nodes meet their facts, each edge's changes are valid and of its kinds,
 /// each subtask may rely on what it takes, and at every quiet moment what each node sent, and what was printed, is the
@@ -23,11 +21,6 @@ pub fn scans_stand()
     ensures { ScansStand }
 {}
 
-/// A grouped count, in any number of subtasks and by any routing, meets all that the theorem asks of a plan.
-pub fn counts_meet_premises()
-    ensures { CountsMeetPremises }
-{}
-
 /// In every such state, and in all to which it leads, the front of each channel may be consumed, and no subtask consumed
 /// more changes than were sent, nor were more sent than the limit.
 pub fn runs_are_safe()
@@ -38,10 +31,4 @@ pub fn runs_are_safe()
 /// memory.
 pub fn runs_drain()
     ensures { RunsDrain }
-{}
-
-/// The machine prints what was worked by hand: a join in two subtasks, in which a new row overtakes the retraction of the
-/// old one or doesn't, a refused removal, bundles that are flushed by a drain or before it, and each refusal of an order.
-pub fn runs_as_worked()
-    ensures { RunsAsWorked }
 {}

@@ -6,7 +6,4 @@ mod events;
 mod laws;
 
 pub use events::{Event, PrintItem, PrintList, StepFault, Stopped};
-pub use laws::{
-    counts_meet_premises, plans_compose, printed_folds_to_answer, runs_are_safe, runs_as_worked,
-    runs_drain, scans_stand,
-};
+pub use laws::{plans_compose, printed_folds_to_answer, runs_are_safe, runs_drain, scans_stand};

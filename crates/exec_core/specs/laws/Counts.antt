@@ -9,11 +9,12 @@ use Rattle.ct_change.specs.Changelog.{retract, Rows, fold, IsValid, Means, AreOf
 use Rattle.ct_change.specs.laws.Meanings.{means_fold, fold_means, prefixes_mean, valid_where_prefixes_mean}
 use Rattle.rel_algebra.specs.Groups.{grouped_counts}
 use Rattle.op_rules.specs.History.{Arrival, at_port, joined}
-use Rattle.op_rules.specs.Rule.{Rule, group, output_kinds}
-use Rattle.op_rules.specs.Rules.{Answer, appended, emitted_after}
-use Rattle.op_rules.specs.Facts.{Port, FitsPort, Ready, Emitted}
-use Rattle.op_rules.specs.laws.GroupFacts as facts
-use Rattle.op_rules.specs.laws.Histories.{ready_settled}
+use Rattle.count_rules.specs.Rule.{CountRule, group, output_kinds}
+use Rattle.op_rules.specs.Rules.{Answer, appended}
+use Rattle.count_rules.specs.Rules.{emitted_after}
+use Rattle.count_rules.specs.Facts.{Port, FitsPort, Ready, Emitted}
+use Rattle.count_rules.specs.laws.GroupFacts as facts
+use Rattle.count_rules.specs.laws.Histories.{ready_settled}
 use Rattle.exec_core.specs.Counted.{Counted}
 use Rattle.exec_core.specs.Pieces.{pieces_of, at_port-pieces_of}
 
@@ -40,7 +41,7 @@ any_kind UA = refl
 any_kind D = refl
 
 module _ (keys : ℕ) (kinds : KindSet) (sent : List Change) (valid : IsValid retract sent) (are : AreOf kinds sent) (wide : AllByRecursion (λ change. length change.row ≡ keys) sent) where
-  abbrev rule : Rule
+  abbrev rule : CountRule
   rule = group keys retract retract
 
   abbrev ports : ℕ → Port

@@ -10,8 +10,9 @@ use Rattle.ct_change.specs.Emission.{difference, emission, weight_of}
 use Rattle.ct_change.specs.laws.Folds.{fold-push, total-apply}
 use Rattle.rel_algebra.specs.Groups.{group_size, in_group, is_countable, result_row}
 use Rattle.op_rules.specs.History.{Arrival, at_port, joined}
-use Rattle.op_rules.specs.Rule.{group}
-use Rattle.op_rules.specs.Rules.{Answer, appended, emits, emitted_after, group_emits}
+use Rattle.count_rules.specs.Rule.{group}
+use Rattle.op_rules.specs.Rules.{Answer, appended}
+use Rattle.count_rules.specs.Rules.{emits, emitted_after, group_emits}
 use Rattle.exec_core.specs.Pieces.{piece_of, pieces_of, at_port-pieces_of, history-push}
 
 -- ---- answers

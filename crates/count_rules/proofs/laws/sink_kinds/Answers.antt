@@ -1,0 +1,5 @@
+use Rattle.count_rules.specs.laws.SinkFacts as facts
+use Rattle.count_rules.proofs.laws.sink_kinds.Goals as goal
+
+pub returns : goal.returns
+returns c = λ mode ports sound fits. facts.kinds_stay mode ports

@@ -1,0 +1,5 @@
+pub mod Facts
+pub mod Rule
+pub mod RuleTasks
+pub mod Rules
+pub mod laws
