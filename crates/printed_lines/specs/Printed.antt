@@ -1,0 +1,63 @@
+-- What is printed: the one line of a change, of a row of an answer, and of a quiet moment.
+use Rattle.std.specs.Prelude.{◌≡◌, ℕ, List, [], ◌∷◌, ◌++◌, pred, length, take, codes}
+use Rattle.std.specs.Fmt.{decimal}
+use Rattle.csv.specs.Writing as csv
+use Rattle.ct_value.specs.declared.ty.Ty.{Ty}
+use Rattle.ct_value.specs.declared.value.Value.{Value}
+use Rattle.ct_field.specs.Fields.{field_text}
+use Rattle.ct_change.specs.declared.kind.Kind.{Kind}
+use Rattle.ct_change.specs.declared.kind.Kind.TheVariants.{I, UB, UA, D}
+use Rattle.stream_model.specs.declared.events.PrintItem.{PrintItem}
+use Rattle.stream_model.specs.declared.events.PrintItem.TheVariants.{Change, Quiet}
+
+-- the line of a record: a field is quoted where it holds a comma, a quote or the end of a line, and LF is behind the last
+abbrev pub record_line : List (List ℕ) → List ℕ
+record_line fields = csv.row_text csv.default_writer fields
+
+-- the texts of values, each of the type beside it
+abbrev pub field_texts : List Ty → List Value → List (List ℕ)
+field_texts [] values = []
+field_texts (ty ∷ tys) [] = []
+field_texts (ty ∷ tys) (value ∷ values) = field_text ty value ∷ field_texts tys values
+
+abbrev pub kind_text : Kind → List ℕ
+kind_text I = codes "+I"
+kind_text UB = codes "-U"
+kind_text UA = codes "+U"
+kind_text D = codes "-D"
+
+-- the line of a row with columns of these types
+abbrev pub row_line : List Ty → List Value → List ℕ
+row_line tys row = record_line (field_texts tys row)
+
+-- all but the last byte
+abbrev pub but_last : List ℕ → List ℕ
+but_last bytes = take (pred (length bytes)) bytes
+
+-- a row as a record without the end of its line; the empty row is nothing
+abbrev pub row_text : List Ty → List Value → List ℕ
+row_text tys [] = []
+row_text tys (value ∷ values) = but_last (row_line tys (value ∷ values))
+
+abbrev pub quiet_line : ℕ → List ℕ
+quiet_line taken = codes "=," ++ (decimal taken ++ codes "\n")
+
+-- the row of a change has so many values
+abbrev pub IsWide : ℕ → PrintItem → Type 0
+IsWide width (Change change) = length change.row ≡ width
+IsWide width (Quiet taken) = Unit {0}
+
+-- the line of an item, whose change has columns of these types
+abbrev pub item_line : List Ty → PrintItem → List ℕ
+item_line tys (Change change) = record_line (kind_text change.kind ∷ field_texts tys change.row)
+item_line tys (Quiet taken) = quiet_line taken
+
+-- the lines of items
+abbrev pub item_lines : List Ty → List PrintItem → List ℕ
+item_lines tys [] = []
+item_lines tys (item ∷ items) = item_line tys item ++ item_lines tys items
+
+-- the lines of rows
+abbrev pub row_lines : List Ty → List (List Value) → List ℕ
+row_lines tys [] = []
+row_lines tys (row ∷ rows) = row_line tys row ++ row_lines tys rows
