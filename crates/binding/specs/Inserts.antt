@@ -1,0 +1,76 @@
+-- Binding of an INSERT: its query over the catalogue's tables other than the sink, and the sink's columns.
+use Rattle.std.specs.Prelude.{ℕ, suc, ◌==◌, nat_le, Bool, true, false, cond, not, ◌&&◌, ◌||◌, List, [], ◌∷◌, ◌++◌, map, filter, length, Option, Some, None, Result, Ok, Err}
+use Rattle.std.specs.List.{find}
+use Rattle.std.specs.Str.{bytes_eq}
+use Rattle.ct_value.specs.declared.codes.ScriptCode.TheVariants.{UnknownTable, SinkShape}
+use Rattle.ct_value.specs.declared.ty.ColTy.{ColTy}
+use Rattle.ct_value.specs.declared.ty.Ty.{Ty}
+use Rattle.ct_value.specs.declared.ty.Ty.TheVariants.{Bool as Truths, Int, BigInt, Decimal, Text as Texts}
+use Rattle.ct_expr.specs.Types.{same_ty}
+use Rattle.ct_catalog.specs.declared.table.ColDef.{ColDef}
+use Rattle.ct_catalog.specs.declared.table.TableDef.{TableDef}
+use Rattle.rel_algebra.specs.Rel.{Rel, Rels, Scan, Filter, Project, Union, Group, Join, Semi, Rank, no_rels, rel_and}
+use Rattle.sql_syntax.specs.Tree.{Query, Text}
+use Rattle.query_answer.specs.Answer.{types}
+use Rattle.binding.specs.Checked.{Checked, ◌>>=◌, or_code, refused_if}
+use Rattle.binding.specs.Queries.{Relation, query_bound}
+
+abbrev pub is_table : Text → TableDef → Bool
+is_table name table = bytes_eq name table.name
+
+-- the tables that a query may read
+abbrev pub sources_for : List TableDef → Text → List TableDef
+sources_for tables sink = filter (λ table. not (is_table sink table)) tables
+
+abbrev mutual
+  -- whether a table is read
+  pub scans : ℕ → Rel → Bool
+  scans n (Scan source) = n == source
+  scans n (Filter input condition) = scans n input
+  scans n (Project input items) = scans n input
+  scans n (Union inputs) = any_scans n inputs
+  scans n (Group input keys aggs) = scans n input
+  scans n (Join left right kind pairs rest) = scans n left || scans n right
+  scans n (Semi left right anti pairs rest) = scans n left || scans n right
+  scans n (Rank input partition order bound ranked) = scans n input
+
+  pub any_scans : ℕ → Rels → Bool
+  any_scans n no_rels = false
+  any_scans n (rel_and input inputs) = scans n input || any_scans n inputs
+
+-- INT into BIGINT, and a decimal into one of the same scale and no smaller precision
+abbrev pub widens : Ty → Ty → Bool
+widens Int BigInt = true
+widens (Decimal p s) (Decimal q u) = nat_le p q && (s == u)
+widens _ _ = false
+
+-- a column's values may go into a column of the sink
+abbrev pub goes_into : ColTy → ColTy → Bool
+goes_into column sink = same_ty column.ty sink.ty || widens column.ty sink.ty
+
+-- column by column, equally many
+abbrev pub go_into : List ColTy → List ColTy → Bool
+go_into [] [] = true
+go_into [] (sink ∷ sinks) = false
+go_into (column ∷ columns) [] = false
+go_into (column ∷ columns) (sink ∷ sinks) = goes_into column sink && go_into columns sinks
+
+abbrev pub column_types : TableDef → List ColTy
+column_types table = map (λ c. c.ty) table.cols
+
+-- what an INSERT is bound to: the query over its sources, and the sink
+pub record Inserted : Type 0 where
+  pub query : Relation
+  pub sources : List TableDef
+  pub sink : TableDef
+
+-- while the query is bound the sink stands behind the sources; last it is refused that the query reads it
+abbrev pub into_sink : List TableDef → Query → TableDef → Checked Inserted
+into_sink sources query sink =
+    query_bound (sources ++ sink ∷ []) query >>= λ x.
+    refused_if (scans (length sources) x.rel || not (go_into (types x.scope) (column_types sink))) SinkShape
+    (Ok (record { query = x; sources = sources; sink = sink }))
+
+-- the INSERT into a table, over the tables of the catalogue
+abbrev pub insert_bound : List TableDef → Text → Query → Checked Inserted
+insert_bound tables name query = or_code UnknownTable (find (is_table name) tables) >>= into_sink (sources_for tables name) query

@@ -1,0 +1,7 @@
+pub mod Checked
+pub mod Expressions
+pub mod InGroups
+pub mod Inserts
+pub mod Nodes
+pub mod Queries
+pub mod Unbuilt

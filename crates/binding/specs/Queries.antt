@@ -1,0 +1,202 @@
+-- Binding of a query: the first refusal of the walk, or the algebra with the columns in reach.
+use Rattle.std.specs.Prelude.{ℕ, suc, ◌+◌, ◌==◌, nat_lt, Bool, true, false, cond, ◌&&◌, List, [], ◌∷◌, ◌++◌, map, flat_map, length, slice_get, Option, Some, None, option_map, Result, Ok, Err}
+use Rattle.std.specs.Str.{bytes_eq}
+use Rattle.ct_value.specs.declared.codes.ScriptCode.TheVariants.{UnknownTable, UnknownColumn, TypeMismatch, Unsupported, NotGrouped, TooManyColumns}
+use Rattle.ct_value.specs.declared.ty.ColTy.{ColTy}
+use Rattle.ct_expr.specs.Expr.{Expr}
+use Rattle.ct_expr.specs.Expr as e
+use Rattle.ct_catalog.specs.declared.table.TableDef.{TableDef}
+use Rattle.rel_clauses.specs.declared.agg.Agg.{Agg}
+use Rattle.rel_algebra.specs.Rel.{Rel, Rels, no_rels, rel_and}
+use Rattle.rel_algebra.specs.Rel as r
+use Rattle.rel_algebra.specs.Types.{common_columns, is_boolean}
+use Rattle.sql_syntax.specs.Tree.{Tree, Text}
+use Rattle.sql_syntax.specs.Tree as t
+use Rattle.query_answer.specs.Calls.{Call, calls}
+use Rattle.query_answer.specs.Names.{Scope, find}
+use Rattle.query_answer.specs.Shapes.{column_shape}
+use Rattle.query_answer.specs.Answer.{under, table_scope, renamed_scope, Listed, Placed, Written, NoSource, Entry, entries, listed_calls, select_calls, is_grouped, listed_trees, types, retyped}
+use Rattle.binding.specs.Checked.{Checked, ◌>>=◌, or_code, refused_if}
+use Rattle.binding.specs.Nodes.{Bound, expr_list, operands}
+use Rattle.binding.specs.Expressions.{Leaf, bound, bound_over, each_bound, conditions, conjuncts_bound, column}
+use Rattle.binding.specs.InGroups.{in_group, key_for, has_no_keys, calls_bound, bound_arguments, bound_filters}
+
+-- the algebra, and the columns in reach over its rows
+pub record Relation : Type 0 where
+  pub rel : Rel
+  pub scope : Scope
+
+-- ---- FROM
+
+-- a table with its number, counted from n
+abbrev pub find_source : ℕ → List TableDef → Text → Option (ℕ × TableDef)
+find_source n [] name = None
+find_source n (x ∷ xs) name = cond (bytes_eq name x.name) (Some (n, x)) (find_source (suc n) xs name)
+
+abbrev pub read : Option Text → Option (ℕ × TableDef) → Checked Relation
+read alias None = Err UnknownTable
+read alias (Some found) = Ok (record { rel = r.Scan found.0; scope = table_scope alias found.1 })
+
+abbrev pub renamed : Option Text → Relation → Relation
+renamed alias x = record { rel = x.rel; scope = renamed_scope alias x.scope }
+
+-- ---- WHERE
+
+-- one condition is itself, several are their And
+abbrev pub all_of : List Bound → Expr
+all_of [] = e.And e.no_exprs
+all_of (x ∷ []) = x.expr
+all_of (x ∷ y ∷ xs) = e.And (operands (x ∷ y ∷ xs))
+
+abbrev pub filtered : t.OptionalTree → Relation → Checked Relation
+filtered t.no_tree x = Ok x
+filtered (t.some_tree condition) x =
+    conjuncts_bound x.scope condition >>= conditions >>= λ xs. Ok (record { rel = r.Filter x.rel (all_of xs); scope = x.scope })
+
+-- ---- the select list
+
+-- each item is the column at its place, and there are as many as the input has columns
+abbrev pub is_column : ℕ → Expr → Bool
+is_column n (e.Column m ty) = n == m
+is_column n _ = false
+
+abbrev pub is_in_place : ℕ → ℕ → List Bound → Bool
+is_in_place n width [] = n == width
+is_in_place n width (x ∷ xs) = is_column n x.expr && is_in_place (suc n) width xs
+
+-- a Project whose items are the input's columns in place is left out
+abbrev pub projected : ℕ → List Bound → Rel → Rel
+projected width xs input = cond (is_in_place 0 width xs) input (r.Project input (expr_list xs))
+
+abbrev pub headed : List Entry → List Bound → Scope
+headed [] xs = []
+headed (e ∷ es) [] = []
+headed (e ∷ es) (x ∷ xs) = under None e.name x.column ∷ headed es xs
+
+-- what is listed, the n-th aggregate call being next
+abbrev pub Lister : Type 0
+Lister = ℕ → Listed → Checked Bound
+
+abbrev pub in_turn : Lister → ℕ → List Entry → Checked (List Bound)
+in_turn list n [] = Ok []
+in_turn list n (e ∷ es) = list n e.listed >>= λ x. in_turn list (n + length (listed_calls e.listed)) es >>= λ xs. Ok (x ∷ xs)
+
+-- at most 64 columns
+abbrev pub few : List Bound → Checked (List Bound)
+few xs = refused_if (nat_lt 64 (length xs)) TooManyColumns (Ok xs)
+
+abbrev pub list_bound : Lister → List Entry → Checked (List Bound)
+list_bound list es = in_turn list 0 es >>= few
+
+abbrev pub plain_listed : Scope → Lister
+plain_listed scope n (Placed m) = or_code UnknownColumn (option_map (λ c. column m c.ty) (slice_get scope m))
+plain_listed scope n (Written x) = bound_over scope x
+plain_listed scope n NoSource = Err UnknownColumn
+
+abbrev pub plain_select : List Entry → Relation → Checked Relation
+plain_select es x =
+    list_bound (plain_listed x.scope) es >>= λ xs. Ok (record { rel = projected (length x.scope) xs x.rel; scope = headed es xs })
+
+-- ---- GROUP BY and HAVING
+
+abbrev pub group_listed : Scope → List Tree → List Bound → Lister
+group_listed scope groups keys n (Placed m) = or_code NotGrouped (key_for scope groups keys (column_shape m))
+group_listed scope groups keys n (Written x) = bound (in_group scope groups keys) n x
+group_listed scope groups keys n NoSource = Err UnknownColumn
+
+abbrev pub condition : Bound → Checked Bound
+condition x = cond (is_boolean (Some x.column)) (Ok x) (Err TypeMismatch)
+
+abbrev pub having_bound : Leaf → ℕ → t.OptionalTree → Checked (Option Bound)
+having_bound leaf n t.no_tree = Ok None
+having_bound leaf n (t.some_tree x) = bound leaf n x >>= condition >>= λ a. Ok (Some a)
+
+abbrev pub filter_if : Option Bound → Rel → Rel
+filter_if None input = input
+filter_if (Some x) input = r.Filter input x.expr
+
+-- the column at n, where there is something
+abbrev pub place_if : ℕ → Option Tree → Option ℕ
+place_if n None = None
+place_if n (Some x) = Some n
+
+abbrev pub next : ℕ → Option Tree → ℕ
+next n None = n
+next n (Some x) = suc n
+
+-- the aggregates of calls, whose arguments are the columns from m on and whose FILTER conditions are those from n on
+abbrev pub aggs_from : ℕ → ℕ → List Call → List Agg
+aggs_from m n [] = []
+aggs_from m n (c ∷ cs) = record { call = c.call; arg = place_if m c.arg; filter = place_if n c.filter } ∷ aggs_from (next m c.arg) (next n c.filter) cs
+
+-- the GROUP BY expressions, then each argument, then each FILTER condition; grouped
+abbrev pub group_rel : ℕ → List Bound → List Bound → List Bound → List Call → Rel → Rel
+group_rel width keys args conditions cs input =
+    r.Group (projected width (keys ++ (args ++ conditions)) input) (length keys) (aggs_from (length keys) (length keys + length args) cs)
+
+-- the walk comes to HAVING before the items, whose calls are numbered first
+abbrev pub grouped_select : List Entry → List Tree → t.OptionalTree → Relation → Checked Relation
+grouped_select es groups having x =
+    let cs = select_calls es having in
+    each_bound x.scope groups >>= λ keys.
+    having_bound (in_group x.scope groups keys) (length (flat_map (λ e. listed_calls e.listed) es)) having >>= λ h.
+    list_bound (group_listed x.scope groups keys) es >>= λ xs.
+    calls_bound x.scope (has_no_keys keys) cs >>= λ ys.
+    Ok (record {
+      rel = projected (length keys + length cs) xs (filter_if h (group_rel (length x.scope) keys (bound_arguments ys) (bound_filters ys) cs x.rel));
+      scope = headed es xs;
+    })
+
+-- ---- a select, and UNION ALL
+
+-- DISTINCT is a Group of all columns
+abbrev pub once : Bool → Relation → Relation
+once true x = record { rel = r.Group x.rel (length x.scope) []; scope = x.scope }
+once false x = x
+
+-- no text has a select that lists nothing
+abbrev pub selected : Bool → List Entry → List Tree → t.OptionalTree → Relation → Checked Relation
+selected distinct [] groups having x = Err Unsupported
+selected distinct (e ∷ es) groups having x =
+    cond (is_grouped (e ∷ es) groups having) (grouped_select (e ∷ es) groups having x) (plain_select (e ∷ es) x) >>= λ y. Ok (once distinct y)
+
+-- the columns of both; the names are those of the first
+abbrev pub united : Scope → Scope → Checked Scope
+united a b = or_code TypeMismatch (option_map (retyped a) (common_columns (types a) (types b)))
+
+abbrev pub union_of : Rel → Rels → Rel
+union_of x no_rels = x
+union_of x (rel_and y ys) = r.Union (rel_and x (rel_and y ys))
+
+-- ORDER BY and LIMIT on a query
+abbrev pub is_plain : t.SortList → Option Text → Bool
+is_plain t.no_sorts None = true
+is_plain _ _ = false
+
+module _ (sources : List TableDef) where
+  -- joins aren't built yet
+  abbrev pub joins_bound : t.JoinItems → Relation → Checked Relation
+  joins_bound t.no_joins x = Ok x
+  joins_bound (t.join_and j js) x = Err Unsupported
+
+  abbrev mutual
+    pub query_bound : t.Query → Checked Relation
+    query_bound (t.query_of t.no_selects order limit) = Err Unsupported
+    query_bound (t.query_of (t.select_and x xs) order limit) =
+        select_bound x >>= λ a. selects_bound a.scope xs >>= λ others.
+        cond (is_plain order limit) (Ok (record { rel = union_of a.rel others.0; scope = others.1 })) (Err Unsupported)
+
+    -- the selects behind the first, with the columns that are common to all
+    pub selects_bound : Scope → t.Selects → Checked (Rels × Scope)
+    selects_bound scope t.no_selects = Ok (no_rels, scope)
+    selects_bound scope (t.select_and x xs) =
+        select_bound x >>= λ a. united scope a.scope >>= λ both. selects_bound both xs >>= λ others. Ok (rel_and a.rel others.0, others.1)
+
+    pub select_bound : t.Select → Checked Relation
+    select_bound (t.select_of distinct items from joins condition groups having) =
+        source_bound from >>= joins_bound joins >>= filtered condition >>= λ x.
+        selected distinct (entries x.scope items) (listed_trees groups) having x
+
+    pub source_bound : t.Source → Checked Relation
+    source_bound (t.Table name alias) = read alias (find_source 0 sources name)
+    source_bound (t.FromQuery q alias) = query_bound q >>= λ x. Ok (renamed alias x)

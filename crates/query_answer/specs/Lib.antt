@@ -1,0 +1,9 @@
+pub mod Answer
+pub mod Calls
+pub mod Functions
+pub mod Groups
+pub mod Literals
+pub mod Names
+pub mod Shapes
+pub mod Stands
+pub mod Table

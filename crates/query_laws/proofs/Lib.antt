@@ -1,0 +1,13 @@
+pub mod Bags
+pub mod Bound
+pub mod Calls
+pub mod Clauses
+pub mod GroupSelects
+pub mod Grouped
+pub mod InGroups
+pub mod Lists
+pub mod Names
+pub mod Nodes
+pub mod Options
+pub mod Selects
+pub mod Types
