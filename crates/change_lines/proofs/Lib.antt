@@ -1,0 +1,3 @@
+pub mod Reading
+pub mod Readers
+pub mod Values

@@ -1,0 +1,4 @@
+pub mod Counts
+pub mod Keyed
+pub mod Nulls
+pub mod Takes
