@@ -1,0 +1,98 @@
+ghost use Rattle.std.specs.Prelude.{◌≡◌, [], ◌∷◌, false, map, IfOk, IsErrOf, Some, None, Ok, Err};
+ghost use Rattle.ct_expr.specs.Eval as e;
+ghost use Rattle.ct_expr.specs.View.{exprs_view};
+ghost use Rattle.rel_clauses.specs.Clauses.{row_of};
+ghost use Rattle.op_rules.specs.Faults.{IfRange};
+ghost use Rattle.row_rules.specs.Project.{with_row};
+
+use crate::change::alone;
+use ct_change::{Change, Changes, Steps};
+use ct_expr::{EvalFault, Exprs, eval};
+use ct_value::{Cols, Memory, Row, Values};
+use op_rules::{OpFault, Operator};
+use std::alloc::Global;
+use std::sync::ledger::Ledger;
+
+/// The operator that makes a row of the values of its items at each row (Flink documentation, "SELECT clause"). It keeps no rows.
+#[derive(Drop)]
+pub struct ProjectOp {
+    alloc: Global,
+    items: Exprs,
+    after: Option<Cols>,
+    broken: bool,
+}
+
+impl ProjectOp {
+    ghost use Rattle.row_rules.specs.Project.{project_rule};
+
+    /// The project of these items, over an edge that is after-only by the key `after`, or over one that isn't after-only. It
+    /// takes no memory.
+    pub fn new(alloc: Global, items: Exprs, after: Option<Cols>) -> ProjectOp
+        ensures rule { ⟦<ProjectOp as Operator>⟧.rule result ≡ project_rule (record { items = exprs_view items; after = after }) }
+        ensures stands { ⟦<ProjectOp as Operator>⟧.stands_for result [] }
+        ensures whole { ⟦<ProjectOp as Operator>⟧.broken result ≡ false }
+    {
+        ProjectOp {
+            alloc,
+            items,
+            after,
+            broken: false,
+        }
+    }
+}
+
+impl Operator for ProjectOp {
+    ghost use Rattle.row_rules.specs.Project.{project_rule};
+
+    ghost rule = { λ s. project_rule (record { items = exprs_view s.items; after = s.after }) };
+
+    ghost broken = { λ s. s.broken };
+
+    ghost stands_for = { λ s before. Unit {0} };
+
+    fn opening(&mut self, _subtask: u32) -> Result<Changes, Memory> {
+        Ok(Changes::new(self.alloc))
+    }
+
+    #[tactic(auto, using(crate::proofs::Answers::answer_alone))]
+    fn consume<L: Ledger>(
+        &mut self,
+        _port: u32,
+        change: Change,
+        _steps: &mut Steps<L>,
+    ) -> Result<Changes, OpFault> {
+        self.broken = true;
+        let sent = projected(self.alloc, &self.items, change)?;
+        self.broken = false;
+        Ok(sent)
+    }
+
+    fn is_broken(&self) -> bool {
+        self.broken
+    }
+}
+
+// The change with the items' row.
+fn projected(alloc: Global, items: &Exprs, change: Change) -> Result<Changes, OpFault>
+    ensures ok { IfOk result (λ sent. with_row change (row_of (map e.eval (exprs_view items.now)) change.row) ≡ Ok sent) }
+    ensures range { IfRange result (λ row. with_row change (row_of (map e.eval (exprs_view items.now)) change.row) ≡ Err row) }
+{
+    match values_of(alloc, items, &change.row) {
+        Ok(row) => Ok(alone(alloc, Change::new(change.kind, row))?),
+        Err(EvalFault::Out) => Err(OpFault::Range(change.row)),
+        Err(EvalFault::Memory) => Err(OpFault::Memory),
+    }
+}
+
+// The values of the items at a row.
+#[tactic(auto, using(crate::proofs::Values::row_begins, crate::proofs::Values::row_goes_on, crate::proofs::Values::row_ends, crate::proofs::Values::row_out))]
+fn values_of(alloc: Global, items: &Exprs, row: &Row) -> Result<Row, EvalFault>
+    ensures value { IfOk result (λ made. row_of (map e.eval (exprs_view items.now)) row.now ≡ Some made) }
+    ensures out { IsErrOf result EvalFault.Out → row_of (map e.eval (exprs_view items.now)) row.now ≡ None }
+{
+    let mut values = Values::with_capacity(alloc, items.len())?;
+    for item in items.as_slice() {
+        values.push(eval(alloc, item, row)?)?;
+    }
+    Ok(Row::from_values(values))
+}

@@ -1,0 +1,11 @@
+pub mod Weights
+pub mod Moved
+pub mod RowFacts
+pub mod RowReads
+pub mod Filters
+pub mod Projects
+pub mod Sinks
+pub mod Unions
+pub mod Answers
+pub mod Normalizing
+pub mod Normalizes
