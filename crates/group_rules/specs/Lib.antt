@@ -1,0 +1,3 @@
+pub mod Fits
+pub mod Grouping
+pub mod laws
