@@ -154,13 +154,13 @@ concat_of v w = Some Null
 abbrev pub concatenation : Option Value → Option Value → Option Value
 concatenation v w = both_of concat_of v w
 
--- the number of characters
-abbrev pub char_length_of : Value → Value
-char_length_of (Text t) = Num (pos (length (chars t)))
-char_length_of v = Null
+-- the number of characters, which is an INT
+abbrev pub char_length_of : Value → Option Value
+char_length_of (Text t) = ranged Int (pos (length (chars t)))
+char_length_of v = Some Null
 
 abbrev pub char_length : Option Value → Option Value
-char_length v = option_map char_length_of v
+char_length v = option_and_then char_length_of v
 
 -- what is left of a list behind each of its fronts
 abbrev pub rests : {A : Type 0} → List A → List (List A)

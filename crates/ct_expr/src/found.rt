@@ -70,7 +70,7 @@ pub(crate) fn minus<'a>(ty: Ty, value: Meaning<'a>) -> Meaning<'a>
 pub(crate) fn char_length<'a>(value: Meaning<'a>) -> Meaning<'a>
     ensures { meaning result ≡ char_length (meaning value.entry) }
 {
-    Some(Found::Made(char_length_of(value?.as_value())))
+    Some(Found::Made(char_length_of(value?.as_value())?))
 }
 
 pub(crate) fn arithmetic<'a>(

@@ -7,6 +7,7 @@
 #![tactic(auto)]
 
 mod cast;
+mod dup;
 mod evaluate;
 mod expr;
 mod found;
@@ -14,6 +15,7 @@ mod like;
 mod types;
 mod values;
 
+pub use dup::dup_exprs;
 pub use evaluate::{EvalFault, eval};
 pub use expr::{ArithOp, Expr, Exprs, When, Whens};
 pub use types::type_of;

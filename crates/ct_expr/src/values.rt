@@ -238,13 +238,13 @@ fn joined(alloc: Global, left: &Text, right: &Text) -> Result<Option<Value>, Mem
     Ok(Some(Value::Text(Text::concat(alloc, left, right)?)))
 }
 
-// The number of characters.
-pub(crate) fn char_length_of(value: &Value) -> Value
+// The number of characters, which is an INT.
+pub(crate) fn char_length_of(value: &Value) -> Option<Value>
     ensures { result ≡ char_length_of value.now }
 {
     match value {
-        Value::Text(text) => Value::Num(char_count(text.as_str()) as i128),
-        _ => Value::Null,
+        Value::Text(text) => ranged(Ty::Int, char_count(text.as_str()) as i128),
+        _ => Some(Value::Null),
     }
 }
 

@@ -7,6 +7,7 @@ use ct_value::{
 };
 use std::alloc::Global;
 use std::cmp::Ordering;
+use std::collections::HashMap;
 
 // A value as the tables of these tests write it.
 #[derive(Clone, Copy)]
@@ -426,6 +427,30 @@ fn rows_are_ordered_value_by_value(rt: HostRuntime) {
     for (i, cells) in ASCENDING.iter().enumerate() {
         assert!(rt; are_cells_at(rt.alloc(), i, cells));
     }
+}
+
+fn places(alloc: Global) -> Result<HashMap<Row, usize>, Memory> {
+    let mut places = HashMap::new(alloc);
+    for (i, cells) in ASCENDING.iter().enumerate() {
+        places.insert(row(alloc, cells)?, i)?;
+    }
+    Ok(places)
+}
+
+// Whether each row is found at its own place.
+fn are_keys(alloc: Global) -> Result<bool, Memory> {
+    let places = places(alloc)?;
+    for (i, cells) in ASCENDING.iter().enumerate() {
+        if places.get(&row(alloc, cells)?).copied() != Some(i) {
+            return Ok(false);
+        }
+    }
+    Ok(true)
+}
+
+#[test]
+fn rows_are_keys(rt: HostRuntime) {
+    assert!(rt; matches!(are_keys(rt.alloc()), Ok(true)));
 }
 
 const SCRIPT_CODES: [(ScriptCode, &str); 24] = [

@@ -1,5 +1,6 @@
 pub mod Bag
 pub mod Codes
+pub mod Hashed
 pub mod Maps
 pub mod Order
 pub mod Rows

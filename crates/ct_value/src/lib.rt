@@ -2,8 +2,8 @@
 //! the codes of refusals.
 //!
 //! Promised: each type is seen by contracts as the list or value that it holds, and each call answers what it says of that
-//! list; the order of rows is total and tells all rows apart (`specs/Order`); a bag is known by its copies (`specs/Bag`). It
-//! stands on std alone.
+//! list; the order of rows is total and tells all rows apart (`specs/Order`), and equal rows are fed alike to a hasher
+//! (`specs/Hashed`); a bag is known by its copies (`specs/Bag`). It stands on std alone.
 #![tactic(auto)]
 
 mod bytes;
@@ -21,7 +21,7 @@ pub use codes::{ChangeCode, OrderCode, ScriptCode};
 pub use dup::Dup;
 pub use list::List;
 pub use memory::Memory;
-pub use row::{Cols, Row, Values};
+pub use row::{Cols, Numbers, Row, Values};
 pub use text::{Text, TextFault};
 pub use ty::{ColTy, ColTys, Ty};
 pub use value::{CompareOp, Value};

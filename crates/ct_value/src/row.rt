@@ -6,10 +6,14 @@ ghost use Rattle.std.proofs.Common.{refl};
 use crate::{List, Memory, Value};
 use std::alloc::Global;
 use std::cmp::Ordering;
+use std::hash::{Hash, Hasher};
 use std::marker::Model;
 
 /// Column positions, counted from 0.
 pub type Cols = List<u32>;
+
+/// Numbers in a list, such as those of a plan's nodes.
+pub type Numbers = List<u32>;
 
 /// The values of a row, column by column.
 pub type Values = List<Value>;
@@ -172,5 +176,17 @@ impl Ord for Row {
 
     fn cmp(&self, other: &Row) -> Ordering {
         self.compare(other)
+    }
+}
+
+impl Hash for Row {
+    ghost use Rattle.ct_value.specs.Hashed.{row_input, row_fed};
+
+    ghost hash_input = { row_input };
+
+    ghost respects_eq = { row_fed };
+
+    fn hash<H: Hasher>(&self, state: &mut H) {
+        self.values.as_slice().hash(state);
     }
 }

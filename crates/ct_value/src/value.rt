@@ -5,6 +5,7 @@ ghost use Rattle.std.proofs.Common.{refl};
 
 use crate::{Memory, Text};
 use std::cmp::Ordering;
+use std::hash::{Hash, Hasher};
 
 /// A value of a column. A number is unscaled: 12.50 of a type with two decimals is 1250.
 #[derive(Debug, Drop)]
@@ -101,6 +102,23 @@ impl Ord for Value {
             (Value::Num(number), Value::Num(other_number)) => number.cmp(other_number),
             (Value::Text(text), Value::Text(other_text)) => text.cmp(other_text),
             _ => self.rank().cmp(&other.rank()),
+        }
+    }
+}
+
+impl Hash for Value {
+    ghost use Rattle.ct_value.specs.Hashed.{value_input, value_fed};
+
+    ghost hash_input = { value_input };
+
+    ghost respects_eq = { value_fed };
+
+    fn hash<H: Hasher>(&self, state: &mut H) {
+        state.write_u8(self.rank());
+        match self {
+            Value::Null | Value::Bool(_) => {}
+            Value::Num(number) => number.hash(state),
+            Value::Text(text) => text.as_str().hash(state),
         }
     }
 }

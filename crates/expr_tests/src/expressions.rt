@@ -1,5 +1,5 @@
 // An expression over a row.
-use ct_expr::{Expr, Exprs, eval, type_of};
+use ct_expr::{Expr, Exprs, When, Whens, eval, type_of};
 use ct_value::{ColTy, ColTys, CompareOp, Memory, Row, Ty, Value, Values};
 use std::alloc::Global;
 
@@ -7,17 +7,24 @@ fn column(alloc: Global, col: u32) -> Result<Box<Expr>, Memory> {
     Ok(Box::new(alloc, Expr::Column { col, ty: Ty::Int })?)
 }
 
-fn compare(alloc: Global, op: CompareOp, left: u32, right: u32) -> Result<Expr, Memory> {
-    let left = column(alloc, left)?;
-    let right = column(alloc, right)?;
-    Ok(Expr::Compare { op, left, right })
+fn number(alloc: Global, number: i128) -> Result<Box<Expr>, Memory> {
+    let value = Value::Num(number);
+    Ok(Box::new(alloc, Expr::Literal { value, ty: Ty::Int })?)
 }
 
-// The first two columns are equal, and the third is above the first.
+// The first two columns are equal, and the third is above ten.
 fn condition(alloc: Global) -> Result<Expr, Memory> {
     let mut both = Exprs::with_capacity(alloc, 2)?;
-    both.push(compare(alloc, CompareOp::Eq, 0, 1)?)?;
-    both.push(compare(alloc, CompareOp::Gt, 2, 0)?)?;
+    both.push(Expr::Compare {
+        op: CompareOp::Eq,
+        left: column(alloc, 0)?,
+        right: column(alloc, 1)?,
+    })?;
+    both.push(Expr::Compare {
+        op: CompareOp::Gt,
+        left: column(alloc, 2)?,
+        right: number(alloc, 10)?,
+    })?;
     Ok(Expr::And(both))
 }
 
@@ -65,4 +72,25 @@ fn is_evaluated(alloc: Global) -> Result<bool, Memory> {
 #[test]
 fn expressions_are_evaluated(rt: HostRuntime) {
     assert!(rt; matches!(is_evaluated(rt.alloc()), Ok(true)));
+}
+
+// The condition in a branch of a CASE, and in its ELSE.
+fn choice(alloc: Global) -> Result<Expr, Memory> {
+    let mut whens = Whens::with_capacity(alloc, 1)?;
+    whens.push(When {
+        cond: Expr::Not(Box::new(alloc, condition(alloc)?)?),
+        result: condition(alloc)?,
+    })?;
+    let otherwise = Some(Box::new(alloc, condition(alloc)?)?);
+    Ok(Expr::Case { whens, otherwise })
+}
+
+fn is_duplicated(alloc: Global) -> Result<bool, Memory> {
+    let copy = choice(alloc)?.dup()?;
+    Ok(is_true(alloc, &copy)? && has_type(alloc, &copy)?)
+}
+
+#[test]
+fn expressions_are_duplicated(rt: HostRuntime) {
+    assert!(rt; matches!(is_duplicated(rt.alloc()), Ok(true)));
 }

@@ -9,5 +9,5 @@ mod node;
 mod plan;
 
 pub use edge::{Edge, Edges, Exchange, Update};
-pub use node::{KeyInfo, Keys, Node, Nodes, Numbers, Op, PairLists};
+pub use node::{KeyInfo, Keys, Node, Nodes, Op, PairLists};
 pub use plan::{Plan, Rule};

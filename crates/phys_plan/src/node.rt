@@ -1,9 +1,6 @@
 use ct_expr::{Expr, Exprs};
-use ct_value::{Cols, List};
+use ct_value::{Cols, List, Numbers};
 use rel_clauses::{Aggs, JoinKind, Pairs, Sorts};
-
-/// Numbers of nodes.
-pub type Numbers = List<u32>;
 
 /// Sets of columns.
 pub type Keys = List<Cols>;
