@@ -6,9 +6,11 @@
 
 mod change;
 mod filter;
+mod normalize;
 mod project;
 mod union;
 
 pub use filter::FilterOp;
+pub use normalize::NormalizeOp;
 pub use project::ProjectOp;
 pub use union::UnionOp;
