@@ -1,5 +1,5 @@
 -- The values of a record, column by column.
-use Rattle.std.proofs.Common.{◌≡◌, ◌≤◌, ◌<◌, ◌+◌, ◌∙◌, ℕ, zero, suc, List, [], ◌∷◌, ◌++◌, length, drop, get_or, Option, Some, None, refl, sym, ap, arith, append_assoc}
+use Rattle.std.proofs.Common.{◌≡◌, ◌<◌, ◌+◌, ◌∙◌, ℕ, zero, suc, List, [], ◌∷◌, ◌++◌, length, drop, get_or, Some, None, refl, sym, ap, arith, append_assoc}
 use Rattle.std.proofs.lemmas.List.{append-nil, drop_all, drop_more}
 use Rattle.std.specs.Prelude.{Result, Ok, Err}
 use Rattle.csv.specs.Records.{field_at}
@@ -7,7 +7,7 @@ use Rattle.ct_value.specs.declared.value.Value.{Value}
 use Rattle.ct_value.specs.declared.codes.ChangeCode.{ChangeCode}
 use Rattle.ct_value.specs.declared.codes.ChangeCode.TheVariants.{BadField}
 use Rattle.ct_catalog.specs.declared.table.ColDef.{ColDef}
-use Rattle.change_lines.specs.Lines.{Field, Record, spelled, value_before, values_from}
+use Rattle.change_lines.specs.Lines.{Record, spelled, value_before, values_from}
 
 -- csv's own look-up of a field is the list's
 pub field_at_index : (fields : Record) (i : ℕ) → i < length fields → field_at fields i ≡ Some (get_or fields i [])

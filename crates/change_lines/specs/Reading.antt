@@ -1,5 +1,5 @@
 -- What a reader of change lines has left.
-use Rattle.std.specs.Prelude.{◌≡◌, ◌+◌, ◌==◌, ◌<◌, ◌∷◌, ℕ, Bool, true, false, List, [], length, Option, Some, IsSome, unwrap_or, if◌then◌else◌}
+use Rattle.std.specs.Prelude.{◌≡◌, ◌+◌, ◌==◌, ◌∷◌, ℕ, true, false, List, [], length, Option, Some, IsSome, unwrap_or, if◌then◌else◌}
 use Rattle.std.specs.Io.Cursor.{cursor_remaining}
 use Rattle.std.specs.declared.io.impls.Cursor.{Cursor}
 use Rattle.csv.specs.Machine.{ends_at_end}

@@ -1,32 +1,16 @@
 // Change files of one source.
+use crate::tables::words;
 use change_lines::{ChangeLines, Line, LineFault};
-use ct_catalog::{ColDef, ColDefs, Sources, TableDef};
+use ct_catalog::Sources;
 use ct_change::{Declared, Kind};
-use ct_value::{Bytes, ChangeCode, ColTy, Memory, Text, Ty, Value};
+use ct_value::{Bytes, ChangeCode, Memory, Value};
 use std::alloc::Global;
 use std::test::Fail;
 
-fn column(alloc: Global, name: &str, ty: Ty) -> Result<ColDef, Memory> {
-    let name = Text::from_str(alloc, name)?;
-    let nullable = true;
-    Ok(ColDef {
-        name,
-        ty: ColTy { ty, nullable },
-    })
-}
-
 // The source `t` of words with numbers, in append mode.
 fn sources(alloc: Global) -> Result<Sources, Memory> {
-    let mut cols = ColDefs::new(alloc);
-    cols.push(column(alloc, "word", Ty::Text)?)?;
-    cols.push(column(alloc, "n", Ty::BigInt)?)?;
     let mut sources = Sources::new(alloc);
-    sources.push(TableDef {
-        name: Text::from_str(alloc, "t")?,
-        cols,
-        key: None,
-        mode: Declared::Append,
-    })?;
+    sources.push(words(alloc, Declared::Append, false)?)?;
     Ok(sources)
 }
 
@@ -68,15 +52,17 @@ fn is_end(line: Result<Option<Line>, LineFault>) -> bool {
 fn reads_each_line(alloc: Global) -> Result<bool, Memory> {
     let sources = sources(alloc)?;
     let mut lines = lines_of(alloc, b"t,+I,a,1\r\n\nt,+X,a,1\nu,+I\nt,+I,\"b,\",-2")?;
-    Ok(lines.left() == 4
-        && adds(lines.next_line(&sources), b"a", 1)
-        && is_refused(lines.next_line(&sources), ChangeCode::BadKind)
-        && lines.left() == 2
-        && is_refused(lines.next_line(&sources), ChangeCode::UnknownTable)
-        && adds(lines.next_line(&sources), b"b,", -2)
-        && is_end(lines.next_line(&sources))
-        && is_end(lines.next_line(&sources))
-        && lines.left() == 0)
+    Ok(
+        lines.left() == 4
+            && adds(lines.next_line(&sources), b"a", 1)
+            && is_refused(lines.next_line(&sources), ChangeCode::BadKind)
+            && lines.left() == 2
+            && is_refused(lines.next_line(&sources), ChangeCode::UnknownTable)
+            && adds(lines.next_line(&sources), b"b,", -2)
+            && is_end(lines.next_line(&sources))
+            && is_end(lines.next_line(&sources))
+            && lines.left() == 0,
+    )
 }
 
 // A line that adds a word of so many letters, with the number 1.
@@ -97,9 +83,11 @@ fn reads_longest_field(alloc: Global) -> Result<bool, Memory> {
     let mut lines = lines_of(alloc, text.as_slice())?;
     let longest = Bytes::from_slice(alloc, &text.as_slice()[..text.len().min(65_541)])?;
     let word = &longest.as_slice()[longest.len().min(5)..];
-    Ok(adds(lines.next_line(&sources), word, 1)
-        && is_refused(lines.next_line(&sources), ChangeCode::BadField(1))
-        && is_end(lines.next_line(&sources)))
+    Ok(
+        adds(lines.next_line(&sources), word, 1)
+            && is_refused(lines.next_line(&sources), ChangeCode::BadField(1))
+            && is_end(lines.next_line(&sources)),
+    )
 }
 
 #[test]

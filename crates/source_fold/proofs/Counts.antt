@@ -1,11 +1,11 @@
 -- How many copies of a row stand.
-use Rattle.std.proofs.Common.{◌≡◌, ℕ, ◌+◌, ◌≤◌, Bool, true, false, cond, List, [], ◌∷◌, length, refl, sym, ap, ◌∙◌, arith}
+use Rattle.std.proofs.Common.{◌≡◌, ℕ, ◌+◌, ◌≤◌, true, false, cond, List, [], ◌∷◌, length, ap, ◌∙◌, arith}
 use Rattle.std.specs.Ordering.{eq_by_cmp}
-use Rattle.ct_value.specs.Bag.{items, copies, none, add, remove, total, weigh, one_at, drop_one, items-remove, copies-add, copies-none, copies-occurs}
+use Rattle.ct_value.specs.Bag.{items, copies, none, add, remove, weigh, one_at, drop_one, items-remove, copies-add, copies-none, copies-occurs}
 use Rattle.ct_value.specs.Order.{row_cmp, row_total}
 use Rattle.ct_value.specs.declared.row.Row.{Row}
 use Rattle.ct_change.specs.declared.change.Change.{Change}
-use Rattle.ct_change.specs.Changelog.{Mode, append, retract, Rows, adds, apply, fold, fold_from}
+use Rattle.ct_change.specs.Changelog.{append, retract, Rows, adds, apply, fold, fold_from}
 
 -- what weighs no more row by row weighs no more
 pub weigh-more : (f g : Row → ℕ) → ((row : Row) → f row ≤ g row) → (rows : List Row) → weigh f rows ≤ weigh g rows

@@ -2,3 +2,4 @@ pub mod Counts
 pub mod Keyed
 pub mod Nulls
 pub mod Takes
+pub mod Values

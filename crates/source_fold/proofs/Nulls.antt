@@ -1,9 +1,10 @@
 -- NULL in columns that may not hold it, column by column.
-use Rattle.std.proofs.Common.{◌≡◌, ◌<◌, ◌+◌, ◌∙◌, ℕ, zero, suc, Bool, true, false, cond, List, [], ◌∷◌, length, map, drop, get_or, Option, Some, None, refl, sym, ap, arith}
+use Rattle.std.proofs.Common.{◌≡◌, ◌<◌, ◌+◌, ◌∙◌, ℕ, zero, suc, true, false, cond, List, [], ◌∷◌, length, map, drop, get_or, Option, Some, None, refl, sym, ap, arith}
 use Rattle.std.proofs.lemmas.List.{drop_all, drop_more}
 use Rattle.std.specs.Prelude.{slice_get}
-use Rattle.ct_value.specs.declared.ty.ColTy.{ColTy}
 use Rattle.ct_value.specs.declared.row.Row.{Row}
+use Rattle.ct_value.specs.declared.value.Value.{Value}
+use Rattle.ct_value.specs.declared.value.Value.TheVariants.{Null}
 use Rattle.ct_value.specs.declared.codes.ChangeCode.{ChangeCode}
 use Rattle.ct_value.specs.declared.codes.ChangeCode.TheVariants.{NullNotAllowed}
 use Rattle.ct_field.specs.Typed.{is_null, cell}
@@ -46,3 +47,14 @@ pub null_past : (row : Row) (i : ℕ) → slice_get row i ≡ None → is_null (
 null_past [] i e = refl
 null_past (v ∷ vs) zero e = cc e
 null_past (v ∷ vs) (suc i) e = null_past vs i e
+
+-- the value of a column, and NULL past the end
+pub cell_there : (row : Row) (i : ℕ) (value : Value) → slice_get row i ≡ Some value → value ≡ cell i row
+cell_there [] i value e = cc e
+cell_there (v ∷ vs) zero value e = cc e
+cell_there (v ∷ vs) (suc i) value e = cell_there vs i value e
+
+pub cell_past : (row : Row) (i : ℕ) → slice_get row i ≡ None → Null ≡ cell i row
+cell_past [] i e = refl
+cell_past (v ∷ vs) zero e = cc e
+cell_past (v ∷ vs) (suc i) e = cell_past vs i e

@@ -1,16 +1,15 @@
 -- What a table refuses by the rows that stand, by what is kept of them.
-use Rattle.std.proofs.Common.{◌≡◌, ℕ, ◌≤◌, Bool, true, false, cond, List, [], ◌∷◌, length, Option, Some, None, ◌⊎◌, inl, inr, ◌≢◌, ◌+◌, ◌<◌, ◌^◌, ◌++◌, refl, sym, subst, ap, arith, ◌∙◌}
+use Rattle.std.proofs.Common.{◌≡◌, ℕ, ◌≤◌, true, List, [], ◌∷◌, length, Option, Some, None, ◌⊎◌, inl, inr, ◌≢◌, ◌+◌, ◌<◌, ◌^◌, ◌++◌, refl, sym, subst, ap, arith, ◌∙◌}
 use Rattle.std.specs.Prelude.{unwrap_or}
 use Rattle.std.specs.FinMap as map
 use Rattle.ct_value.specs.Bag.{copies}
 use Rattle.ct_value.specs.Rows.{project}
 use Rattle.ct_value.specs.declared.codes.ChangeCode.{ChangeCode}
-use Rattle.ct_value.specs.declared.codes.ChangeCode.TheVariants.{RowAbsent}
 use Rattle.ct_value.specs.declared.row.Row.{Row}
 use Rattle.ct_change.specs.declared.kind.Declared.{Declared}
 use Rattle.ct_change.specs.declared.kind.Declared.TheVariants.{Append, Retract, Upsert}
 use Rattle.ct_change.specs.declared.change.Change.{Change}
-use Rattle.ct_change.specs.Changelog.{Rows, append, retract, upsert, adds, admits, apply, fold, mode_of}
+use Rattle.ct_change.specs.Changelog.{Rows, append, retract, admits, apply, fold, mode_of}
 use Rattle.ct_change.specs.LastRows.{AreLast, Lasts}
 use Rattle.ct_change.specs.laws.Folds.{append_only, fold-push}
 use Rattle.ct_change.specs.laws.Lasts.{last-after}

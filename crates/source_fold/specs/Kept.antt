@@ -1,5 +1,5 @@
 -- What a source keeps, and for which changes it stands.
-use Rattle.std.specs.Prelude.{◌≡◌, ℕ, ◌<◌, ◌+◌, ◌^◌, Bool, false, cond, List, [], length, Option, Some, None, unwrap_or, All}
+use Rattle.std.specs.Prelude.{◌≡◌, ℕ, ◌<◌, ◌+◌, ◌^◌, Bool, false, cond, List, [], Option, Some, None, unwrap_or}
 use Rattle.std.specs.FinMap as finite
 use Rattle.ct_value.specs.Bag.{copies}
 use Rattle.ct_value.specs.declared.codes.ChangeCode.{ChangeCode}
@@ -58,9 +58,11 @@ IsKept table Nothing rows = NeedsNothing table.mode table.key
 IsKept table (Standing bag) rows = HasNoKey table.mode table.key × (bag ≡ rows)
 IsKept table (Keyed lasts) rows = HasKey table.mode table.key × AreLast (key_of table) lasts rows
 
--- the row has the columns of the table's key
-abbrev pub HasKeyColumns : TableDef → Row → Type 0
-HasKeyColumns table row = All (λ column. column < length row) (key_of table)
+-- the rows that stand are known
+abbrev pub IsWhole : Kept → Type 0
+IsWhole Nothing = ⊥
+IsWhole (Standing bag) = Unit {0}
+IsWhole (Keyed lasts) = Unit {0}
 
 -- one more copy of each row can be counted
 abbrev pub HasRoom : Kept → Type 0

@@ -3,7 +3,7 @@ ghost use Rattle.ct_value.specs.declared.codes.ChangeCode.{ChangeCode};
 ghost use Rattle.ct_change.specs.declared.change.Change.{Change};
 ghost use Rattle.ct_catalog.specs.declared.table.TableDef.{TableDef};
 ghost use Rattle.source_fold.specs.Folding.{ChecksStand};
-ghost use Rattle.source_fold.specs.Kept.{HasKeyColumns, refusal_after};
+ghost use Rattle.source_fold.specs.Kept.{refusal_after};
 ghost use Rattle.source_fold.specs.declared.refusals.SourceFault.TheVariants.{Refused};
 
 use crate::kept::{Kept, kept_for_refusals, take};
@@ -33,10 +33,10 @@ impl SourceChecks {
         })
     }
 
-    /// Takes a change, whose row has the columns of the table's key, unless it is refused after the changes taken before: by
-    /// KindNotDeclared, NullNotAllowed, RowAbsent or KeyPresent, the first of them that holds. After an error all is as before.
+    /// Takes a change, unless it is refused after the changes taken before: by KindNotDeclared, NullNotAllowed, RowAbsent or
+    /// KeyPresent, the first of them that holds. After an error all is as before.
     pub fn check(&mut self, change: &Change) -> Result<(), SourceFault>
-        requires { (table : TableDef) × (changes : List Change) × ChecksStand table self.old changes × (length changes + 1 < 2 ^ 64) × HasKeyColumns table change.now.row }
+        requires { (table : TableDef) × (changes : List Change) × ChecksStand table self.old changes × (length changes + 1 < 2 ^ 64) }
         ensures ok { OnOk result ((table : TableDef) (changes : List Change) → ChecksStand table self.old changes → (refusal_after table changes change.now ≡ None) × ChecksStand table self.new (changes ++ change.now ∷ [])) }
         ensures refused { (code : ChangeCode) → IsErrOf result (Refused code) → (table : TableDef) (changes : List Change) → ChecksStand table self.old changes → refusal_after table changes change.now ≡ Some code }
         ensures err { OnErr result (self.new ≡ self.old) }

@@ -4,18 +4,19 @@ ghost use Rattle.ct_value.specs.Bag.{copies, none};
 ghost use Rattle.ct_value.specs.Rows.{project};
 ghost use Rattle.ct_value.specs.declared.codes.ChangeCode.{ChangeCode};
 ghost use Rattle.ct_value.specs.declared.row.Row.{Row};
+ghost use Rattle.ct_field.specs.Typed.{cell};
 ghost use Rattle.ct_change.specs.Changelog.{Rows, adds, admits, apply, fold, retract};
 ghost use Rattle.ct_change.specs.declared.change.Change.{Change};
 ghost use Rattle.stream_model.specs.Tables.{refusal, row_refusal};
 ghost use Rattle.plan_network.specs.Plans.{table_mode};
-ghost use Rattle.source_fold.specs.Kept.{HasKeyColumns, HasRoom, IsKept, is_row, key_of, keyed_after, keyed_refusal, rows_refusal, taker_of};
+ghost use Rattle.source_fold.specs.Kept.{HasRoom, IsKept, IsWhole, is_row, key_of, keyed_after, keyed_refusal, rows_refusal, taker_of};
 ghost use Rattle.source_fold.specs.declared.refusals.SourceFault.TheVariants.{Refused};
 
 use crate::keyed_rows::KeyedRows;
 use crate::refusals::{SourceFault, check_nulls};
 use ct_catalog::TableDef;
 use ct_change::{Bag, Change, Declared};
-use ct_value::{ChangeCode, Memory, Row};
+use ct_value::{ChangeCode, Cols, Memory, Row, Value, Values};
 use std::alloc::Global;
 
 /// What is kept of the rows of a source.
@@ -40,14 +41,29 @@ pub(crate) fn kept_for_refusals(alloc: Global, table: &TableDef) -> Kept
     }
 }
 
+// What has to be kept of a table so that its rows are known, where no row stands.
+#[tactic(auto, using(ct_change::specs::laws::Lasts::last_none))]
+pub(crate) fn kept_for_rows(alloc: Global, table: &TableDef) -> Kept
+    ensures kept { IsKept table.now result none }
+    ensures whole { IsWhole result }
+{
+    match (table.mode, &table.key) {
+        (Declared::Append, None) => Kept::Rows(Bag::new(alloc)),
+        (Declared::Append, Some(_)) => Kept::Keyed(KeyedRows::new(alloc)),
+        (Declared::Retract, None) => Kept::Rows(Bag::new(alloc)),
+        (Declared::Retract, Some(_)) => Kept::Keyed(KeyedRows::new(alloc)),
+        (Declared::Upsert, _) => Kept::Keyed(KeyedRows::new(alloc)),
+    }
+}
+
 // Takes a change, unless it is refused by its kind, its values or the rows that stand.
 #[tactic(auto, using(crate::proofs::Takes::room_left, crate::proofs::Takes::by_rows))]
 pub(crate) fn take(table: &TableDef, kept: &mut Kept, change: &Change) -> Result<(), SourceFault>
-    requires key { HasKeyColumns table.now change.now.row }
-    requires taken { (changes : List Change) × IsKept table.now kept.old (fold (table_mode table.now) changes) × (length changes + 1 < 2 ^ 64) }
+    requires { (changes : List Change) × IsKept table.now kept.old (fold (table_mode table.now) changes) × (length changes + 1 < 2 ^ 64) }
     ensures ok { OnOk result ((rows : Rows) → IsKept table.now kept.old rows → (refusal (taker_of table.now) rows change.now ≡ None) × IsKept table.now kept.new (apply (table_mode table.now) rows change.now)) }
     ensures refused { (code : ChangeCode) → IsErrOf result (Refused code) → (rows : Rows) → IsKept table.now kept.old rows → refusal (taker_of table.now) rows change.now ≡ Some code }
     ensures err { OnErr result (kept.new ≡ kept.old) }
+    ensures whole { IsWhole kept.old → IsWhole kept.new }
 {
     if !table.mode.admits(change.kind) {
         return Err(SourceFault::Refused(ChangeCode::KindNotDeclared));
@@ -57,17 +73,13 @@ pub(crate) fn take(table: &TableDef, kept: &mut Kept, change: &Change) -> Result
 }
 
 // Takes a change that the table takes by its kind.
-fn take_kept(
-    table: &TableDef,
-    kept: &mut Kept,
-    change: &Change,
-) -> Result<(), SourceFault>
+fn take_kept(table: &TableDef, kept: &mut Kept, change: &Change) -> Result<(), SourceFault>
     requires admitted { admits (table_mode table.now) change.now.kind ≡ true }
-    requires key { HasKeyColumns table.now change.now.row }
     requires room { HasRoom kept.old }
     ensures ok { OnOk result ((rows : Rows) → IsKept table.now kept.old rows → (rows_refusal table.now rows change.now ≡ None) × IsKept table.now kept.new (apply (table_mode table.now) rows change.now)) }
     ensures refused { (code : ChangeCode) → IsErrOf result (Refused code) → (rows : Rows) → IsKept table.now kept.old rows → rows_refusal table.now rows change.now ≡ Some code }
     ensures err { OnErr result (kept.new ≡ kept.old) }
+    ensures whole { IsWhole kept.old → IsWhole kept.new }
 {
     match kept {
         Kept::Nothing => Ok(()),
@@ -95,12 +107,7 @@ fn take_row(rows: &mut Bag, change: &Change) -> Result<(), SourceFault>
 }
 
 // Takes a change of a table with a key.
-fn take_keyed(
-    table: &TableDef,
-    rows: &mut KeyedRows,
-    change: &Change,
-) -> Result<(), SourceFault>
-    requires { HasKeyColumns table.now change.now.row }
+fn take_keyed(table: &TableDef, rows: &mut KeyedRows, change: &Change) -> Result<(), SourceFault>
     ensures ok { OnOk result (rows.new ≡ keyed_after rows.old (project (key_of table.now) change.now.row) change.now) }
     ensures taken { OnOk result (table.now.mode ≡ Declared.Upsert ⊎ (keyed_refusal (map.get rows.old (project (key_of table.now) change.now.row)) change.now ≡ None)) }
     ensures refused { (code : ChangeCode) → IsErrOf result (Refused code) → (table.now.mode ≢ Declared.Upsert) × (keyed_refusal (map.get rows.old (project (key_of table.now) change.now.row)) change.now ≡ Some code) }
@@ -116,12 +123,33 @@ fn take_keyed(
 
 // The values of a row in the table's key.
 fn key_row(table: &TableDef, row: &Row) -> Result<Row, Memory>
-    requires { HasKeyColumns table.now row.now }
     ensures { IfOk result (λ key. key ≡ project (key_of table.now) row.now) }
 {
     match &table.key {
-        Some(cols) => row.project(cols),
+        Some(cols) => project(cols, row),
         None => row.prefix(0),
+    }
+}
+
+// The values of a row in these columns, and NULL in one past its end.
+fn project(cols: &Cols, row: &Row) -> Result<Row, Memory>
+    ensures { IfOk result (λ key. key ≡ project cols.now row.now) }
+{
+    let mut values: Values = cols.beside();
+    for col in cols.as_slice() {
+        values.push(cell(row, *col)?)?;
+    }
+    Ok(Row::from_values(values))
+}
+
+// The value of a column, and NULL past the end.
+#[tactic(auto, using(crate::proofs::Nulls::cell_there, crate::proofs::Nulls::cell_past))]
+fn cell(row: &Row, column: u32) -> Result<Value, Memory>
+    ensures { IfOk result (λ value. value ≡ cell column row.now) }
+{
+    match row.get(column as usize) {
+        Some(value) => value.dup(),
+        None => Ok(Value::Null),
     }
 }
 

@@ -1,6 +1,13 @@
-ghost use Rattle.std.specs.Prelude.{◌≡◌, OnOk, OnErr, option_copied};
+ghost use Rattle.std.specs.Prelude.{◌≡◌, ℕ, List, IfOk, OnOk, OnErr, option_copied};
+ghost use Rattle.std.specs.BTreeMap.{IsOrdered, values};
 ghost use Rattle.std.specs.FinMap as map;
+ghost use Rattle.ct_value.specs.Bag.{copies, occurs};
+ghost use Rattle.ct_value.specs.Order.{row_cmp};
+ghost use Rattle.ct_value.specs.declared.row.Row.{Row as Line};
+ghost use Rattle.ct_change.specs.Changelog.{Rows};
+ghost use Rattle.ct_change.specs.LastRows.{AreLast};
 
+use ct_change::Bag;
 use ct_value::{Memory, Row};
 use std::alloc::Global;
 use std::collections::BTreeMap;
@@ -56,4 +63,24 @@ impl KeyedRows {
     {
         self.rows.get(key)
     }
+
+    // The bag of the rows.
+    pub(crate) fn into_bag(self, alloc: Global) -> Result<Bag, Memory>
+        ensures { IfOk result (λ bag. (columns : List ℕ) (rows : Rows) → AreLast columns self rows → bag ≡ rows) }
+    {
+        let KeyedRows { rows } = self;
+        bag_of(alloc, rows)
+    }
+}
+
+// The bag of the values of a map.
+fn bag_of(alloc: Global, rows: BTreeMap<Row, Row>) -> Result<Bag, Memory>
+    ensures bag { IfOk result (λ bag. (row : Line) → copies bag row ≡ occurs row_cmp row (values rows)) }
+    ensures ordered { OnOk result (IsOrdered row_cmp rows) }
+{
+    let mut bag = Bag::new(alloc);
+    for (_, row) in rows {
+        bag.add(row)?;
+    }
+    Ok(bag)
 }

@@ -1,5 +1,5 @@
 -- That the change of a line is one of its table.
-use Rattle.std.proofs.Common.{◌≡◌, ◌+◌, ◌∙◌, ℕ, suc, Bool, true, false, ◌&&◌, ◌==◌, List, [], ◌∷◌, length, Option, Some, None, refl, sym, ap, arith}
+use Rattle.std.proofs.Common.{◌≡◌, ◌+◌, ◌∙◌, ℕ, Bool, true, false, ◌&&◌, ◌==◌, List, [], ◌∷◌, length, Option, Some, None, refl, ap, arith}
 use Rattle.std.proofs.lemmas.Bool.{eqb-true}
 use Rattle.std.specs.Prelude.{ℤ, cond, slice_get, Result, Ok, Err, option_map, option_and_then, if◌then◌else◌}
 use Rattle.ct_value.specs.declared.ty.Ty.{Ty}
@@ -8,7 +8,7 @@ use Rattle.ct_value.specs.declared.value.Value.{Value}
 use Rattle.ct_value.specs.declared.value.Value.TheVariants.{Null, Bool as Truth, Num, Text}
 use Rattle.ct_value.specs.declared.codes.ChangeCode.{ChangeCode}
 use Rattle.ct_value.specs.declared.codes.ChangeCode.TheVariants.{FieldCount, KindNotDeclared}
-use Rattle.ct_field.specs.Fields.{field_value, value_spelled, number_of_type, number_spelled, scale_of, truth_spelled, text_spelled}
+use Rattle.ct_field.specs.Fields.{field_value, value_spelled, number_spelled, scale_of, truth_spelled, text_spelled}
 use Rattle.ct_field.specs.Numbers.{in_range, is_type}
 use Rattle.ct_field.specs.Typed.{value_fits}
 use Rattle.ct_change.specs.declared.kind.Kind.{Kind}
@@ -18,7 +18,7 @@ use Rattle.ct_catalog.specs.declared.table.ColDef.{ColDef}
 use Rattle.ct_catalog.specs.declared.table.TableDef.{TableDef}
 use Rattle.change_lines.specs.declared.line.Line.{Line}
 use Rattle.change_lines.specs.Fitting.{IsOfTable, LinesFit, values_fit}
-use Rattle.change_lines.specs.Lines.{Field, Record, change_at, change_of, change_of_kind, change_of_row, kind_of, line_at, line_of, line_of_change, source_named, spelled, table_mode, value_before, values_from}
+use Rattle.change_lines.specs.Lines.{Field, change_at, change_of, change_of_kind, change_of_row, kind_of, line_at, line_of_change, source_named, spelled, table_mode, value_before, values_from}
 
 -- a condition with something under it held
 held : {A : Type 0} (b : Bool) (o : Option A) (x : A) → cond b o None ≡ Some x → o ≡ Some x
@@ -137,6 +137,7 @@ at-fits sources kind fields line (Some place) e = by (slice_get sources place) r
         let same_place : line.table ≡ place = cc h in
         let same_change : change ≡ line.change = cc h in
         (table, ap (slice_get sources) same_place ∙ g, change-fits table kind fields line.change (q ∙ ap Ok same_change))
+
     by : (o : Option TableDef) → slice_get sources place ≡ o → line_of_change place (change_at o kind fields) ≡ Ok line
         → (t : TableDef) × (slice_get sources line.table ≡ Some t) × IsOfTable t line.change
     by None g h = cc h

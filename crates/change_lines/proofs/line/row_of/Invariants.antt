@@ -1,4 +1,4 @@
-use Rattle.std.proofs.Common.{◌≡◌, ◌≤◌, drop, length}
+use Rattle.std.proofs.Common.{◌≡◌, drop}
 use Rattle.csv.specs.Records.{fields_of}
 use Rattle.change_lines.specs.Lines.{values_from}
 use Rattle.change_lines.proofs.Values.{behind, left_from}

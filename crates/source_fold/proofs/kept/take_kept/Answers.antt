@@ -1,10 +1,4 @@
-use Rattle.std.proofs.Common.{◌≡◌, ◌∙◌, ◌⊎◌, Some, None, Option, Result, Ok, Err, OnOk, subst, sym, refl}
-use Rattle.std.specs.FinMap as map
-use Rattle.ct_value.specs.Rows.{project}
-use Rattle.ct_change.specs.Changelog.{Rows, apply}
-use Rattle.ct_change.specs.LastRows.{AreLast}
-use Rattle.plan_network.specs.Plans.{table_mode}
-use Rattle.source_fold.specs.Kept.{key_of}
+use Rattle.std.proofs.Common.{◌∙◌, Result, Ok, Err, OnOk}
 use Rattle.source_fold.proofs.Takes.{keyed-refused, keyed-takes}
 use Rattle.source_fold.proofs.kept.take_kept.Goals as goal
 
@@ -17,9 +11,9 @@ returns-in-Keyed-clause-ok c =
     let table = c.args.table.now in
     let change = c.args.change.now in
     both c.take_keyed.result c.take_keyed.ensures.ok c.take_keyed.ensures.taken (λ same taken. λ rows stands.
-        let kept = rw c.in-Keyed.is at stands in
-        let takes = keyed-takes table.mode table.key kept.0 _ rows kept.1 change c.requires.admitted taken in
-        (takes.0, (kept.0, rw same takes.1)))
+    let kept = rw c.in-Keyed.is at stands in
+    let takes = keyed-takes table.mode table.key kept.0 _ rows kept.1 change c.requires.admitted taken in
+    (takes.0, (kept.0, rw same takes.1)))
 
 pub returns-in-Keyed-clause-refused : goal.returns-in-Keyed-clause-refused
 returns-in-Keyed-clause-refused c = λ code is rows stands.

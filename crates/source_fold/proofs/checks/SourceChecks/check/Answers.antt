@@ -1,7 +1,6 @@
-use Rattle.std.proofs.Common.{◌≡◌, ◌∙◌, Some, Result, Ok, Err, OnOk, ap}
+use Rattle.std.proofs.Common.{Result, Ok, Err, OnOk}
 use Rattle.ct_change.specs.Changelog.{fold}
 use Rattle.plan_network.specs.Plans.{table_mode}
-use Rattle.source_fold.specs.Kept.{refusal_after}
 use Rattle.source_fold.proofs.Takes.{took}
 use Rattle.source_fold.proofs.checks.SourceChecks.check.Goals as goal
 

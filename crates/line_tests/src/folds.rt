@@ -1,0 +1,118 @@
+// Changes of one source, taken one after another.
+ghost use Rattle.std.specs.Prelude.{◌≡◌, IfOk};
+ghost use Rattle.ct_change.specs.Changelog.{fold};
+ghost use Rattle.plan_network.specs.Plans.{table_mode};
+
+use crate::tables::words;
+use ct_catalog::TableDef;
+use ct_change::{Bag, Change, Changes, Declared, Kind};
+use ct_value::{ChangeCode, Memory, Row, Text, Value, Values};
+use source_fold::{SourceChecks, SourceFault, SourceFold};
+use std::alloc::Global;
+use std::test::Fail;
+
+// The bag of these changes, if none is refused.
+fn folded(alloc: Global, table: &TableDef, changes: &[Change]) -> Result<Bag, SourceFault>
+    ensures { IfOk result (λ bag. bag ≡ fold (table_mode table.now) changes.now) }
+{
+    let mut folded = SourceFold::new(alloc, table)?;
+    for change in changes {
+        folded.check(change)?;
+    }
+    Ok(folded.into_bag()?)
+}
+
+// Takes these changes, up to the first that is refused.
+fn checked(alloc: Global, table: &TableDef, changes: &[Change]) -> Result<(), SourceFault> {
+    let mut checks = SourceChecks::new(alloc, table)?;
+    for change in changes {
+        checks.check(change)?;
+    }
+    Ok(())
+}
+
+fn row(alloc: Global, word: &str, number: i128) -> Result<Row, Memory> {
+    let mut values = Values::new(alloc);
+    values.push(Value::Text(Text::from_str(alloc, word)?))?;
+    values.push(Value::Num(number))?;
+    Ok(Row::from_values(values))
+}
+
+// `a` comes with 1, `b` with 2, and `a` goes or comes again with 3, by the last change's kind.
+fn changes(alloc: Global, last: Kind, number: i128) -> Result<Changes, Memory> {
+    let mut changes = Changes::new(alloc);
+    changes.push(Change::new(Kind::I, row(alloc, "a", 1)?))?;
+    changes.push(Change::new(Kind::I, row(alloc, "b", 2)?))?;
+    changes.push(Change::new(last, row(alloc, "a", number)?))?;
+    Ok(changes)
+}
+
+fn is_refused(taken: Result<(), SourceFault>, code: ChangeCode) -> bool {
+    match taken {
+        Ok(()) => false,
+        Err(fault) => fault == SourceFault::Refused(code),
+    }
+}
+
+// Whether the changes, of which the last has this kind and number, are taken and leave so many rows of `a` with 1.
+fn leaves(
+    alloc: Global,
+    mode: Declared,
+    has_key: bool,
+    last: Kind,
+    number: i128,
+    left: u64,
+) -> Result<bool, SourceFault> {
+    let table = words(alloc, mode, has_key)?;
+    let changes = changes(alloc, last, number)?;
+    checked(alloc, &table, changes.as_slice())?;
+    let bag = folded(alloc, &table, changes.as_slice())?;
+    Ok(bag.count(&row(alloc, "a", 1)?) == left && bag.count(&row(alloc, "b", 2)?) == 1)
+}
+
+// Whether the last of the changes is refused by this code.
+fn refuses(
+    alloc: Global,
+    mode: Declared,
+    has_key: bool,
+    last: Kind,
+    number: i128,
+    code: ChangeCode,
+) -> Result<bool, Memory> {
+    let table = words(alloc, mode, has_key)?;
+    let changes = changes(alloc, last, number)?;
+    Ok(is_refused(checked(alloc, &table, changes.as_slice()), code))
+}
+
+#[test]
+fn changes_leave_rows(rt: HostRuntime) {
+    for (mode, has_key, last, number, left) in [
+        (Declared::Append, false, Kind::I, 1, 2),
+        (Declared::Retract, false, Kind::D, 1, 0),
+        (Declared::Retract, true, Kind::UB, 1, 0),
+        (Declared::Upsert, true, Kind::UA, 3, 0),
+        (Declared::Upsert, true, Kind::D, 3, 0),
+    ] {
+        let left = leaves(rt.alloc(), mode, has_key, last, number, left);
+        assert!(rt; matches!(left, Ok(true)));
+    }
+}
+
+#[test]
+fn changes_are_refused(rt: HostRuntime) {
+    for (mode, has_key, last, number, code) in [
+        (
+            Declared::Append,
+            false,
+            Kind::D,
+            1,
+            ChangeCode::KindNotDeclared,
+        ),
+        (Declared::Retract, false, Kind::D, 3, ChangeCode::RowAbsent),
+        (Declared::Retract, true, Kind::UB, 3, ChangeCode::RowAbsent),
+        (Declared::Append, true, Kind::I, 3, ChangeCode::KeyPresent),
+    ] {
+        let refused = refuses(rt.alloc(), mode, has_key, last, number, code);
+        assert!(rt; matches!(refused, Ok(true)));
+    }
+}

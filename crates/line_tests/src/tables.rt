@@ -1,0 +1,33 @@
+// Tables of words with numbers.
+use ct_catalog::{ColDef, ColDefs, TableDef};
+use ct_change::Declared;
+use ct_value::{ColTy, Cols, Memory, Text, Ty};
+use std::alloc::Global;
+
+fn column(alloc: Global, name: &str, ty: Ty, nullable: bool) -> Result<ColDef, Memory> {
+    let name = Text::from_str(alloc, name)?;
+    Ok(ColDef {
+        name,
+        ty: ColTy { ty, nullable },
+    })
+}
+
+/// The table `t` of words with numbers, with the word as its key or without a key.
+pub fn words(alloc: Global, mode: Declared, has_key: bool) -> Result<TableDef, Memory> {
+    let mut cols = ColDefs::new(alloc);
+    cols.push(column(alloc, "word", Ty::Text, !has_key)?)?;
+    cols.push(column(alloc, "n", Ty::BigInt, true)?)?;
+    let mut key = None;
+    if has_key {
+        let mut first = Cols::new(alloc);
+        first.push(0)?;
+        key = Some(first);
+    }
+    let name = Text::from_str(alloc, "t")?;
+    Ok(TableDef {
+        name,
+        cols,
+        key,
+        mode,
+    })
+}
