@@ -77,6 +77,16 @@ grouping_of keys aggs around = record { keys = keys; aggs = aggs; columns = arou
 abbrev pub sink_of : Around → Sink
 sink_of around = record { declared = around.declared; after = after_key around.input }
 
+-- the rule of an operator; so far no plan that runs has one of the others
+abbrev pub rule_by : Op → Around → Rule
+rule_by (op.Filter cond) around = filter_rule (filter_of (expr_view cond))
+rule_by (op.Project items) around = project_rule (project_of (map expr_view items) around)
+rule_by op.Union around = union_rule (union_of around)
+rule_by (op.Normalize key) around = normalize_rule (normalize_of key around)
+rule_by (op.Group keys aggs) around = group_rule (grouping_of keys aggs around)
+rule_by op.Sink around = sink_rule (sink_of around)
+rule_by _ around = union_rule (union_of around)
+
 -- what a node does, by its operator
 abbrev pub doing_by : Op → Around → Doing
 doing_by (op.Filter cond) around = alike (filter_rule (filter_of (expr_view cond))) around.columns (λ rows. filter_answer (expr_view cond) (rows 0))
