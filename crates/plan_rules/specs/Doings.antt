@@ -1,0 +1,125 @@
+-- What each node of a plan does, by the rule of its operator.
+use Rattle.std.specs.Prelude.{ℕ, List, [], ◌∷◌, length, take, map, Option, Some, None, Ok}
+use Rattle.ct_value.specs.declared.ty.ColTy.{ColTy}
+use Rattle.ct_change.specs.Changelog.{Mode, retract, upsert, Rows}
+use Rattle.ct_change.specs.declared.kind.Declared.{Declared}
+use Rattle.ct_expr.specs.Expr.{Expr}
+use Rattle.ct_expr.specs.View.{expr_view}
+use Rattle.rel_clauses.specs.declared.agg.Agg.{Agg}
+use Rattle.rel_algebra.specs.Batch.{filter_answer, project_answer}
+use Rattle.op_rules.specs.Rules.{Rule}
+use Rattle.row_rules.specs.Filter.{Filter, filter_rule}
+use Rattle.row_rules.specs.Project.{Project, project_rule}
+use Rattle.row_rules.specs.Union.{Union, union_rule, union_answer}
+use Rattle.row_rules.specs.Normalize.{Normalize, normalize_rule}
+use Rattle.row_rules.specs.Sink.{Sink, sink_rule}
+use Rattle.group_rules.specs.Grouping.{Grouping, group_rule}
+use Rattle.group_rules.specs.Fits.{part, batch}
+use Rattle.phys_plan.specs.declared.edge.Edge.{Edge as PlanEdge}
+use Rattle.phys_plan.specs.declared.edge.Update.{Update}
+use Rattle.phys_plan.specs.declared.edge.Update.TheVariants.{Absent, After, Both}
+use Rattle.phys_plan.specs.declared.node.Op.{Op}
+use Rattle.phys_plan.specs.declared.node.Op.TheVariants as op
+use Rattle.phys_plan.specs.declared.node.Node.{Node}
+use Rattle.phys_plan.specs.declared.plan.Plan.{Plan}
+use Rattle.stream_model.specs.Network.{Network}
+use Rattle.plan_network.specs.Plans.{Doing, numbered, network_of}
+use Rattle.plan_rules.specs.Columns.{columns_at}
+
+-- the key of an after-only edge
+abbrev pub after_key : Update → Option (List ℕ)
+after_key Absent = None
+after_key (After columns) = Some columns
+after_key Both = None
+
+-- the mode in which the changes of an edge are written
+abbrev pub mode_told : Update → Mode
+mode_told Absent = retract
+mode_told (After columns) = upsert columns
+mode_told Both = retract
+
+-- what is around a node: how many subtasks there are, how its first input tells updates and how it does itself, the columns of
+-- its first input, and how many inputs it has
+pub record Around : Type 0 where
+  pub input : Update
+  pub own : Update
+  pub columns : List ColTy
+  pub inputs : ℕ
+  pub declared : Declared
+
+-- what a node does that runs by a rule: the types are those of the row at which it is out of range
+abbrev pub ruled : Rule → List ColTy → (ℕ → (ℕ → Rows) → Option Rows) → ((ℕ → Rows) → Option Rows) → Doing
+ruled rule types part batch = record { opening = rule.opening; emits = rule.emits; range_types = types; part = part; batch = batch }
+
+-- the same where each subtask's answer is that of its own rows
+abbrev pub alike : Rule → List ColTy → ((ℕ → Rows) → Option Rows) → Doing
+alike rule types batch = ruled rule types (λ subtask rows. batch rows) batch
+
+-- nothing; so far no plan that runs has such a node
+abbrev pub idle : Doing
+idle = record { opening = λ subtask. []; emits = λ before piece. Ok []; range_types = []; part = λ subtask rows. None; batch = λ rows. None }
+
+abbrev pub filter_of : Expr → Filter
+filter_of cond = record { condition = cond }
+
+abbrev pub project_of : List Expr → Around → Project
+project_of items around = record { items = items; after = after_key around.input }
+
+abbrev pub union_of : Around → Union
+union_of around = record { inputs = around.inputs }
+
+abbrev pub normalize_of : List ℕ → Around → Normalize
+normalize_of key around = record { key = key; output = mode_told around.own }
+
+abbrev pub grouping_of : ℕ → List Agg → Around → Grouping
+grouping_of keys aggs around = record { keys = keys; aggs = aggs; columns = around.columns; input = mode_told around.input; output = mode_told around.own }
+
+abbrev pub sink_of : Around → Sink
+sink_of around = record { declared = around.declared; after = after_key around.input }
+
+-- the rule of an operator; so far no plan that runs has one of the others
+abbrev pub rule_by : Op → Around → Rule
+rule_by (op.Filter cond) around = filter_rule (filter_of (expr_view cond))
+rule_by (op.Project items) around = project_rule (project_of (map expr_view items) around)
+rule_by op.Union around = union_rule (union_of around)
+rule_by (op.Normalize key) around = normalize_rule (normalize_of key around)
+rule_by (op.Group keys aggs) around = group_rule (grouping_of keys aggs around)
+rule_by op.Sink around = sink_rule (sink_of around)
+rule_by _ around = union_rule (union_of around)
+
+-- what a node does, by its operator
+abbrev pub doing_by : Op → Around → Doing
+doing_by (op.Filter cond) around = alike (filter_rule (filter_of (expr_view cond))) around.columns (λ rows. filter_answer (expr_view cond) (rows 0))
+doing_by (op.Project items) around = alike (project_rule (project_of (map expr_view items) around)) around.columns (λ rows. project_answer (map expr_view items) (rows 0))
+doing_by op.Union around = alike (union_rule (union_of around)) around.columns (union_answer (union_of around))
+doing_by (op.Normalize key) around = alike (normalize_rule (normalize_of key around)) around.columns (λ rows. Some (rows 0))
+doing_by (op.Group keys aggs) around = ruled (group_rule (grouping_of keys aggs around)) (take keys around.columns) (part (grouping_of keys aggs around)) (batch (grouping_of keys aggs around))
+doing_by op.Sink around = alike (sink_rule (sink_of around)) around.columns (λ rows. Some (rows 0))
+doing_by _ around = idle
+
+-- ---- in a plan
+
+abbrev pub update_in : Option PlanEdge → Update
+update_in None = Both
+update_in (Some edge) = edge.update
+
+abbrev pub first_input : List ℕ → ℕ
+first_input [] = 0
+first_input (input ∷ inputs) = input
+
+abbrev pub around_of : Plan → ℕ → List ℕ → Around
+around_of plan v inputs = record {
+  input = update_in (numbered plan.edges (first_input inputs));
+  own = update_in (numbered plan.edges v);
+  columns = columns_at plan.sources plan.nodes (first_input inputs);
+  inputs = length inputs;
+  declared = plan.sink.mode;
+}
+
+abbrev pub doing_in : Plan → ℕ → Option Node → Doing
+doing_in plan v None = idle
+doing_in plan v (Some node) = doing_by node.op (around_of plan v node.inputs)
+
+-- the plan as the network on which the machine runs
+abbrev pub network : Plan → Network
+network plan = network_of (columns_at plan.sources plan.nodes) (λ v. doing_in plan v (numbered plan.nodes v)) plan
