@@ -1,0 +1,5 @@
+pub mod Behind
+pub mod Finds
+pub mod Projects
+pub mod Stars
+pub mod Unites

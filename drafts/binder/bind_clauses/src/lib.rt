@@ -1,0 +1,17 @@
+//! Clauses of a select are bound: FROM a table, WHERE, what a select list lists, a Project, DISTINCT and the columns of UNION ALL.
+//!
+//! Promised: each call answers what the definition of `binding` says of the clause, or its refusal. It stands on bound
+//! expressions, and knows neither groups nor whole queries.
+#![tactic(auto)]
+
+mod entries;
+mod from;
+mod lists;
+mod relation;
+mod selects;
+
+pub use entries::{Entries, Entry, Listed, entries_of};
+pub use from::{filtered, read, renamed};
+pub use lists::{few, finished, projected};
+pub use relation::Relation;
+pub use selects::{once, united};

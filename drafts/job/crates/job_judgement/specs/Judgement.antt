@@ -1,0 +1,36 @@
+-- What a script is judged to be: the query of its INSERT over the script's tables, or the first reason to refuse it.
+use Rattle.std.specs.Prelude.{ℕ, List, [], ◌∷◌, cond, Ok, Err}
+use Rattle.ct_value.specs.declared.codes.ScriptCode.TheVariants.{NotOneInsert, Unsupported}
+use Rattle.sql_syntax.specs.Tree as t
+use Rattle.ct_catalog.specs.Catalogue.{Catalogue}
+use Rattle.judge.specs.Judgement.{Asked, Insert, Judged, asked_of, refused, then}
+use Rattle.binding.specs.Checked.{Checked}
+use Rattle.binding.specs.Inserts.{Inserted, insert_bound}
+use Rattle.binding.specs.Unbuilt.{is_unbuilt}
+
+-- what is judged: the query of the INSERT as it is written, and what it is bound to
+pub record Accepted : Type 0 where
+  pub query : t.Query
+  pub inserted : Inserted
+
+abbrev pub at_statement : ℕ → t.Query → Checked Inserted → Judged Accepted
+at_statement number query (Ok inserted) = Ok (record { query = query; inserted = inserted })
+at_statement number query (Err code) = refused code number
+
+-- a query of a form that isn't built is refused before it is bound
+abbrev pub bound_insert : Catalogue → ℕ → t.Statement → Judged Accepted
+bound_insert c number (t.Insert table query) = cond (is_unbuilt query) (refused Unsupported number) (at_statement number query (insert_bound c.tables table query))
+bound_insert c number (t.Create name elements options) = refused NotOneInsert number
+bound_insert c number (t.Set key value) = refused NotOneInsert number
+
+abbrev pub first_bound : Catalogue → List Insert → Judged Accepted
+first_bound c [] = refused NotOneInsert 1
+first_bound c (insert ∷ others) = bound_insert c insert.number insert.statement
+
+-- the step behind the text and the catalogue
+abbrev pub accepted_of : Asked → Judged Accepted
+accepted_of asked = first_bound asked.catalogue asked.inserts
+
+-- what a text is judged to be, step by step
+abbrev pub judgement : List ℕ → Judged Accepted
+judgement text = then accepted_of (asked_of text)
