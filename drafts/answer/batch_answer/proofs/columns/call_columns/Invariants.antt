@@ -1,6 +1,0 @@
-use Rattle.rel_clauses.specs.Aggregates.{agg_types}
-use Rattle.batch_answer.proofs.Gathered.{Gathered, calls_from}
-use Rattle.batch_answer.proofs.columns.call_columns.Given as goal
-
-abbrev pub invariant-loop-agg : goal.invariant-loop-agg
-invariant-loop-agg l = Gathered (agg_types l.columns l.global l.aggs) (calls_from l.columns l.global l.agg-items l.agg-index) l.made

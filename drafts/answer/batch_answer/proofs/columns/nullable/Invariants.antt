@@ -1,7 +1,0 @@
-use Rattle.std.proofs.Common.{◌≡◌, take, map}
-use Rattle.std.specs.Prelude.{true}
-use Rattle.rel_clauses.specs.Joins.{nullable_if}
-use Rattle.batch_answer.proofs.columns.nullable.Given as goal
-
-abbrev pub invariant-loop-column : goal.invariant-loop-column
-invariant-loop-column l = l.made ≡ map (nullable_if true) (take l.column-index l.column-items)

@@ -1,2 +1,0 @@
-mod Accepted
-mod Matched

@@ -1,3 +1,0 @@
-pub mod Judgement
-pub mod Halts
-pub mod Views
