@@ -1,5 +1,5 @@
 -- How many calls were found.
-use Rattle.std.proofs.Common.{◌≡◌, ℕ, suc, List, [], ◌∷◌, ◌++◌, map, length, refl, sym, ap, ◌∙◌}
+use Rattle.std.proofs.Common.{◌≡◌, suc, List, [], ◌∷◌, ◌++◌, map, length, refl, sym, ap, ◌∙◌}
 use Rattle.query_answer.specs.Calls.{Call}
 use Rattle.bind_names.specs.declared.calls.CallRef.{CallRef}
 use Rattle.bind_names.specs.Calls.{call_view}

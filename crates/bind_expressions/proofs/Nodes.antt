@@ -1,9 +1,9 @@
 -- A whole node: what its leaf answers, or else what its operands decide.
-use Rattle.std.proofs.Common.{◌≡◌, ℕ, Option, Some, None, Ok, Err, refl, ap, ◌∙◌}
+use Rattle.std.proofs.Common.{◌≡◌, ℕ, Some, None, Ok, Err, refl, ap, ◌∙◌}
 use Rattle.ct_value.specs.declared.codes.ScriptCode.{ScriptCode}
 use Rattle.sql_syntax.specs.Tree.{Tree}
 use Rattle.sql_syntax.specs.Tree as t
-use Rattle.binding.specs.Checked.{Checked, ◌>>=◌}
+use Rattle.binding.specs.Checked.{◌>>=◌}
 use Rattle.binding.specs.Nodes.{Bound}
 use Rattle.binding.specs.Expressions.{Leaf, bound, or_else}
 use Rattle.bind_expressions.specs.Walk.{node}

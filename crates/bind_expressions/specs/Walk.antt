@@ -1,5 +1,5 @@
 -- A node whose operands decide what it is bound to: what the walk does behind the leaf.
-use Rattle.std.specs.Prelude.{ℕ, ◌+◌, cond, List, [], ◌∷◌, length, Option, Some, None, Result, Ok, Err}
+use Rattle.std.specs.Prelude.{ℕ, ◌+◌, cond, List, [], ◌∷◌, length, Ok, Err}
 use Rattle.ct_value.specs.declared.codes.ScriptCode.TheVariants.{UnknownColumn, TypeMismatch, Unsupported}
 use Rattle.ct_value.specs.declared.ty.Ty.TheVariants.{Bool as Truths, Text as Texts}
 use Rattle.ct_value.specs.declared.value.Value.TheVariants.{Bool as Truth, Text as Words}

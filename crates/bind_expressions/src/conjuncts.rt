@@ -4,12 +4,14 @@ ghost use Rattle.std.specs.Prelude.{◌≡◌, Ok, Err, IfOk, IsErrOf};
 ghost use Rattle.ct_value.specs.declared.codes.ScriptCode.{ScriptCode};
 ghost use Rattle.sql_syntax.specs.Tree.{trees as tree_list};
 ghost use Rattle.sql_syntax.specs.View.{view, trees_view};
-ghost use Rattle.binding.specs.Expressions.{all_conjuncts_bound, bound_over, conditions, conjuncts_bound, each_bound};
+ghost use Rattle.binding.specs.Expressions.{all_conjuncts_bound, bound, bound_over, conditions, conjuncts_bound, each_bound};
 ghost use Rattle.bind_nodes.specs.Views.{bound_view, bounds_view};
+ghost use Rattle.bind_expressions.specs.Reach.{group_leaf};
 ghost use Rattle.bind_expressions.specs.Walk.{only_conjunct};
 
 use crate::reach::Reach;
 use crate::walk::bind;
+use bind_columns::Group;
 use bind_names::BindFault;
 use bind_nodes::{Bound, Bounds, columns_are_truths};
 use ct_value::ScriptCode;
@@ -23,8 +25,23 @@ pub fn bind_over(alloc: Global, scope: &Scope, tree: &Tree) -> Result<Bound, Bin
     ensures ok { IfOk result (λ x. bound_over scope.now (view tree.now) ≡ Ok (bound_view x)) }
     ensures refused { (code : ScriptCode) → IsErrOf result (f.Refused code) → bound_over scope.now (view tree.now) ≡ Err code }
 {
-    let reach = Reach { scope };
+    let reach = Reach::Rows(scope);
     bind(alloc, &reach, 0, tree)
+}
+
+/// What a tree in a group is bound to. Aggregate calls are counted from `number`.
+#[tactic(auto, unfolding(crate::specs::Reach::leaf_of))]
+pub fn bind_in_group(
+    alloc: Global,
+    group: &Group<'_>,
+    number: u32,
+    tree: &Tree,
+) -> Result<Bound, BindFault>
+    ensures ok { IfOk result (λ x. bound (group_leaf group.now) number (view tree.now) ≡ Ok (bound_view x)) }
+    ensures refused { (code : ScriptCode) → IsErrOf result (f.Refused code) → bound (group_leaf group.now) number (view tree.now) ≡ Err code }
+{
+    let reach = Reach::Groups(group);
+    bind(alloc, &reach, number, tree)
 }
 
 /// Trees over the columns in reach, one after the other.

@@ -1,24 +1,28 @@
-//! What stands for whole nodes.
+//! What whole nodes are bound to.
 ghost use Rattle.bind_names.specs.declared.fault.BindFault.TheVariants as f;
-ghost use Rattle.std.specs.Prelude.{◌≡◌, ℕ, Ok, Err, option_map, IfOk, IsErrOf};
+ghost use Rattle.std.specs.Prelude.{◌≡◌, ◌+◌, ℕ, None, Ok, Err, length, option_map, IfOk, IsErrOf};
 ghost use Rattle.ct_value.specs.declared.codes.ScriptCode.{ScriptCode};
-ghost use Rattle.sql_syntax.specs.View.{view};
+ghost use Rattle.sql_syntax.specs.Tree as t;
+ghost use Rattle.sql_syntax.specs.View.{view, args_view};
 ghost use Rattle.query_answer.specs.Names as q;
-ghost use Rattle.binding.specs.Expressions.{found_column, may_change};
-ghost use Rattle.bind_nodes.specs.Views.{bound_view};
-ghost use Rattle.bind_expressions.specs.Reach.{leaf_of};
+ghost use Rattle.binding.specs.Expressions.{found_column, may_change, names};
+ghost use Rattle.binding.specs.InGroups as g;
+ghost use Rattle.bind_nodes.specs.Views.{bound_view, bounds_view};
 
+use bind_columns::{Group, call_column, has_no_keys, plus};
 use bind_names::{BindFault, find, function_of, is_changing};
-use bind_nodes::{Bound, found_column};
-use ct_value::Text;
+use bind_nodes::{Bound, Bounds, found_column};
+use ct_value::{ScriptCode, Text};
 use query_answer::Scope;
-use sql_syntax::Tree;
+use rel_clauses::AggCall;
+use sql_syntax::{Args, Tree};
 use std::alloc::Global;
 
-/// The columns in reach.
+/// What whole nodes are bound to: the columns in reach, or in a grouped select the columns of a group's row.
 #[derive(Clone, Copy)]
-pub struct Reach<'a> {
-    pub scope: &'a Scope,
+pub enum Reach<'a> {
+    Rows(&'a Scope),
+    Groups(&'a Group<'a>),
 }
 
 // Whether a name that finds no column may be that of a function whose answer changes.
@@ -46,21 +50,49 @@ pub(crate) fn name_bound(
     found_column(alloc, may_change(of, name, quoted), found)
 }
 
-/// What a whole node is bound to; `None` where its operands decide.
-#[tactic(auto, unfolding(sql_syntax::specs::View::view, crate::specs::Reach::leaf_of))]
-pub(crate) fn whole(
-    alloc: Global,
-    reach: &Reach<'_>,
-    number: u32,
-    tree: &Tree,
-) -> Result<Option<Bound>, BindFault>
-    ensures ok { IfOk result (λ o. leaf_of reach.now number (view tree.now) ≡ Ok (option_map bound_view o)) }
-    ensures refused { (code : ScriptCode) → IsErrOf result (f.Refused code) → leaf_of reach.now number (view tree.now) ≡ Err code }
+// What a whole node over the columns in reach is bound to; `None` where its operands decide.
+#[tactic(auto, unfolding(sql_syntax::specs::View::view))]
+pub(crate) fn named(alloc: Global, scope: &Scope, tree: &Tree) -> Result<Option<Bound>, BindFault>
+    ensures ok { IfOk result (λ o. (n : ℕ) → names scope.now n (view tree.now) ≡ Ok (option_map bound_view o)) }
+    ensures refused { (code : ScriptCode) → IsErrOf result (f.Refused code) → (n : ℕ) → names scope.now n (view tree.now) ≡ Err code }
 {
     match tree {
         Tree::Name { of, name, quoted } => {
-            Ok(Some(name_bound(alloc, reach.scope, of, name, *quoted)?))
+            Ok(Some(name_bound(alloc, scope, of, name, *quoted)?))
         }
         _ => Ok(None),
     }
+}
+
+// A name that is no GROUP BY expression: it isn't grouped, if it is a column at all.
+pub(crate) fn ungrouped(
+    alloc: Global,
+    scope: &Scope,
+    of: &Option<Text>,
+    name: &Text,
+    quoted: bool,
+) -> Result<Option<Bound>, BindFault>
+    ensures ok { IfOk result (λ o. ⊥) }
+    ensures refused { (code : ScriptCode) → IsErrOf result (f.Refused code) → g.or_refused scope.now (t.Name of.now name.now quoted) None ≡ Err code }
+{
+    name_bound(alloc, scope, of, name, quoted)?;
+    Err(BindFault::Refused(ScriptCode::NotGrouped))
+}
+
+// The column of an aggregate call, so many calls being before it.
+pub(crate) fn numbered(
+    alloc: Global,
+    keys: &Bounds,
+    number: u32,
+    call: AggCall,
+    args: &Args,
+    operands: &Bounds,
+    filter: &Option<Bound>,
+) -> Result<Bound, BindFault>
+    ensures ok { IfOk result (λ x. g.call_column (g.has_no_keys (bounds_view keys.now)) (length (bounds_view keys.now) + number) call (args_view args.now) (bounds_view operands.now) (option_map bound_view filter.now) ≡ Ok (bound_view x)) }
+    ensures refused { (code : ScriptCode) → IsErrOf result (f.Refused code) → g.call_column (g.has_no_keys (bounds_view keys.now)) (length (bounds_view keys.now) + number) call (args_view args.now) (bounds_view operands.now) (option_map bound_view filter.now) ≡ Err code }
+{
+    let place = plus(number, keys.len())?;
+    let global = has_no_keys(keys);
+    call_column(alloc, global, place, call, args, operands, filter)
 }

@@ -12,13 +12,14 @@ ghost use Rattle.binding.specs.Nodes as n;
 ghost use Rattle.binding.specs.Expressions as e;
 ghost use Rattle.binding.specs.Expressions.{bound, all_bound, args_bound, optional_bound, otherwise_bound, product_bound, sum_bound, unless_null, whens_bound};
 ghost use Rattle.bind_nodes.specs.Views.{bound_view, bounds_view, branches_view, form_view};
-ghost use Rattle.bind_expressions.specs.Reach.{leaf_of};
+ghost use Rattle.bind_expressions.specs.Reach.{leaf_of, group_leaf};
 ghost use Rattle.bind_expressions.specs.Walk.{node};
 
-use crate::reach::{Reach, whole};
+use crate::reach::{Reach, named, numbered, ungrouped};
+use bind_columns::{Group, is_distinct, key_of, plus};
 use bind_names::{
-    BindFault, CallRefs, function_of, is_null, is_short, number_of, push_args, push_calls,
-    push_whens,
+    BindFault, CallRefs, aggregate_of, function_of, is_null, is_short, number_of, push_args,
+    push_calls, push_whens,
 };
 use bind_nodes::{
     Bound, Bounds, Branch, Branches, CallForm, added, between, call, case, cast_to, compare,
@@ -30,9 +31,9 @@ use ct_value::{Memory, ScriptCode, Text, Ty, Value};
 use sql_syntax::{Args, Over, ProductTails, SumTails, Tree, TreeWhens, Trees};
 use std::alloc::Global;
 
-// The number of the call behind those of a tree.
+/// The number of the aggregate call behind those of a tree, whose first one would be the `number`-th.
 #[tactic(auto, using(crate::proofs::Counts::seen))]
-fn after(alloc: Global, number: u32, tree: &Tree) -> Result<u32, Memory>
+pub fn after(alloc: Global, number: u32, tree: &Tree) -> Result<u32, Memory>
     ensures { IfOk result (λ next. next ≡ number + length (calls (view tree.now))) }
 {
     let mut found = CallRefs::new(alloc);
@@ -58,16 +59,6 @@ fn after_whens(alloc: Global, number: u32, whens: &TreeWhens) -> Result<u32, Mem
     plus(number, found.len())
 }
 
-// No more calls than a number of 32 bits tells fit into memory.
-fn plus(number: u32, count: usize) -> Result<u32, Memory>
-    ensures { IfOk result (λ sum. sum ≡ number + count) }
-{
-    match u32::try_from(count) {
-        Ok(count) => number.checked_add(count).ok_or(Memory),
-        Err(_) => Err(Memory),
-    }
-}
-
 /// What a tree is bound to, or the first refusal. Aggregate calls are counted from `number`.
 #[cycle(bind)]
 #[tactic(auto, using(crate::proofs::Nodes::led, crate::proofs::Nodes::led_err, crate::proofs::Nodes::of_node))]
@@ -78,6 +69,61 @@ pub fn bind(alloc: Global, reach: &Reach<'_>, number: u32, tree: &Tree) -> Resul
     match whole(alloc, reach, number, tree)? {
         Some(bound) => Ok(bound),
         None => bind_node(alloc, reach, number, tree),
+    }
+}
+
+// What a whole node is bound to; `None` where its operands decide.
+#[cycle(bind)]
+#[tactic(auto, unfolding(crate::specs::Reach::leaf_of))]
+fn whole(
+    alloc: Global,
+    reach: &Reach<'_>,
+    number: u32,
+    tree: &Tree,
+) -> Result<Option<Bound>, BindFault>
+    ensures ok { IfOk result (λ o. leaf_of reach.now number (view tree.now) ≡ Ok (option_map bound_view o)) }
+    ensures refused { (code : ScriptCode) → IsErrOf result (f.Refused code) → leaf_of reach.now number (view tree.now) ≡ Err code }
+{
+    match reach {
+        Reach::Rows(scope) => named(alloc, scope, tree),
+        Reach::Groups(group) => in_group(alloc, group, number, tree),
+    }
+}
+
+// What a whole node is bound to in a group: a call of an aggregate is a column behind the keys, and any other node is the first
+// GROUP BY expression that it equals.
+#[cycle(bind)]
+#[tactic(auto, unfolding(sql_syntax::specs::View::view, crate::specs::Reach::leaf_of))]
+fn in_group(
+    alloc: Global,
+    group: &Group<'_>,
+    number: u32,
+    tree: &Tree,
+) -> Result<Option<Bound>, BindFault>
+    ensures ok { IfOk result (λ o. group_leaf group.now number (view tree.now) ≡ Ok (option_map bound_view o)) }
+    ensures refused { (code : ScriptCode) → IsErrOf result (f.Refused code) → group_leaf group.now number (view tree.now) ≡ Err code }
+{
+    match tree {
+        Tree::Call {
+            name,
+            args,
+            filter,
+            over,
+        } => match aggregate_of(function_of(name), over) {
+            None => key_of(alloc, group, tree),
+            Some(call) => {
+                let rows = Reach::Rows(group.scope);
+                let operands = bind_args(alloc, &rows, 0, args)?;
+                let filter = bind_optional(alloc, &rows, 0, filter)?;
+                let column = numbered(alloc, &group.keys, number, call, args, &operands, &filter)?;
+                Ok(Some(column))
+            }
+        },
+        Tree::Name { of, name, quoted } => match key_of(alloc, group, tree)? {
+            Some(key) => Ok(Some(key)),
+            None => ungrouped(alloc, group.scope, of, name, *quoted),
+        },
+        _ => key_of(alloc, group, tree),
     }
 }
 
@@ -231,17 +277,6 @@ fn call_form(args: &Args, filter: &Option<Box<Tree>>, over: &Option<Over>) -> Ca
         distinct: is_distinct(args),
         filter: filter.is_some(),
         over: over.is_some(),
-    }
-}
-
-/// Whether DISTINCT stands before the arguments of a call.
-#[tactic(auto, unfolding(sql_syntax::specs::View::args_view))]
-fn is_distinct(args: &Args) -> bool
-    ensures { result ≡ e.is_distinct (args_view args.now) }
-{
-    match args {
-        Args::Empty | Args::Star => false,
-        Args::List { distinct, .. } => *distinct,
     }
 }
 

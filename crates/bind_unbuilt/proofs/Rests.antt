@@ -8,7 +8,7 @@ use Rattle.sql_syntax.specs.declared.tree.TreeWhen.{TreeWhen}
 use Rattle.sql_syntax.specs.Tree as t
 use Rattle.sql_syntax.specs.View.{view, product_tails_view, sorts_view, sum_tails_view, whens_view}
 use Rattle.sql_syntax.specs.laws.Views.{product_tail, sort, sum_tail, tree_when}
-use Rattle.binding.specs.Unbuilt.{waits, product_waits, sorts_wait, sum_waits, whens_wait}
+use Rattle.bind_unbuilt.specs.Unbuilt.{waits, product_waits, sorts_wait, sum_waits, whens_wait}
 
 abbrev pub sums_from : Bool → List SumTail → Bool
 sums_from within xs = sum_waits within (t.sum_tails (sum_tails_view xs))

@@ -1,13 +1,13 @@
 ghost use Rattle.std.specs.Prelude.{◌≡◌, option_map};
 ghost use Rattle.sql_syntax.specs.Tree.{optional_over, optional_tree, items as item_list, joins as join_list, selects as select_list, sort_list, trees as tree_list, sum_tails, product_tails, tree_whens};
-ghost use Rattle.sql_syntax.specs.View.{view, trees_view, args_view, item_view, items_view, joins_view, over_view, query_view, select_view, selects_view, sorts_view, source_view, sum_tails_view, product_tails_view, whens_view};
-ghost use Rattle.binding.specs.Unbuilt as u;
+ghost use Rattle.sql_syntax.specs.View.{view, trees_view, args_view, item_view, items_view, join_view, joins_view, over_view, query_view, select_view, selects_view, sorts_view, source_view, sum_tails_view, product_tails_view, whens_view};
+ghost use Rattle.bind_unbuilt.specs.Unbuilt as u;
 
 use bind_names::function_of;
 use query_answer::Function;
 use sql_syntax::{
-    Args, Item, Items, JoinItems, Over, ProductTails, Query, Select, Selects, SortList, Source,
-    SumTails, Tree, TreeWhens, Trees,
+    Args, Item, Items, JoinItem, JoinItems, Over, ProductTails, Query, Select, Selects, SortList,
+    Source, SumTails, Tree, TreeWhens, Trees,
 };
 
 fn is_row_number(function: Function) -> bool
@@ -16,7 +16,7 @@ fn is_row_number(function: Function) -> bool
     matches!(function, Function::RowNumber)
 }
 
-/// Whether a query has a form that isn't built yet: a join, a subquery in a WHERE, or a call of ROW_NUMBER, at any depth.
+/// Whether a query has a form that isn't built yet: a subquery in a WHERE, or a call of ROW_NUMBER, at any depth.
 #[cycle(waits)]
 #[tactic(auto, using(sql_syntax::specs::laws::Views::query))]
 pub fn is_unbuilt(query: &Query) -> bool
@@ -44,16 +44,30 @@ fn select_waits(select: &Select) -> bool
 {
     any_item_waits(&select.items)
         || source_waits(&select.from)
-        || has_join(&select.joins)
+        || any_join_waits(&select.joins)
         || condition_waits(true, &select.cond)
         || any_waits(false, &select.groups)
         || condition_waits(false, &select.having)
 }
 
-fn has_join(joins: &JoinItems) -> bool
+#[cycle(waits)]
+fn any_join_waits(joins: &JoinItems) -> bool
     ensures { result ≡ u.joins_wait (join_list (joins_view joins.now)) }
 {
-    !joins.is_empty()
+    for join in joins.as_slice() {
+        if join_waits(join) {
+            return true;
+        }
+    }
+    false
+}
+
+#[cycle(waits)]
+#[tactic(auto, using(sql_syntax::specs::laws::Views::join_item))]
+fn join_waits(join: &JoinItem) -> bool
+    ensures { result ≡ u.join_waits (join_view join.now) }
+{
+    source_waits(&join.source) || waits(false, &join.on)
 }
 
 #[cycle(waits)]

@@ -1,6 +1,7 @@
-ghost use Rattle.std.specs.Prelude.{◌≡◌, ◌≢◌, [], ℕ, List, Some, None, option_map, IfOk, IsErrOf};
+ghost use Rattle.std.specs.Prelude.{◌≡◌, ◌≢◌, [], ℕ, List, Option, Some, None, codes, option_map, IfOk, IsErrOf};
 ghost use Rattle.clap.specs.Words.{fault_of, first_value, found_of};
-ghost use Rattle.command_line.specs.Words.{files_of, is_run, names_of, the_app, value_of};
+ghost use Rattle.command_line.specs.Words.{IsWhole, asked_for, batch_of, names_of, number_in, request_of, run_of, the_app, value_of};
+ghost use Rattle.command_line.specs.Requests.{names_view, request_view};
 
 use crate::command::command;
 use clap::ArgMatches;
@@ -8,14 +9,26 @@ use clap::error::ErrorKind;
 use ct_value::{Memory, Text};
 use std::alloc::Global;
 
-/// The names of the two files that a run reads.
+/// The names of a script and of a change file.
 #[derive(Drop)]
 pub struct FileNames {
     pub script: Text,
     pub changes: Text,
 }
 
-/// Why no files are named.
+/// What the words ask for.
+#[derive(Drop)]
+pub enum Request {
+    /// The changelog of the sink.
+    Run(FileNames),
+    /// The answer over the first so many changes, or over all.
+    Batch {
+        names: FileNames,
+        first: Option<u64>,
+    },
+}
+
+/// Why nothing is asked for.
 #[derive(Clone, Copy, Debug, PartialEq, Eq)]
 pub enum WordsFault {
     /// The words are a wrong use of the command.
@@ -38,6 +51,7 @@ impl From<Memory> for WordsFault {
 fn matches_of<'a>(alloc: Global, words: &'a [Text]) -> Result<ArgMatches<'a>, WordsFault>
     ensures fits { IfOk result (λ m. fault_of the_app words.entry.now ≡ []) }
     ensures values { IfOk result (λ m. (name : List ℕ) → first_value (found_of m) name ≡ value_of words.entry.now name) }
+    ensures whole { IfOk result (λ m. (text : List ℕ) → first_value (found_of m) (codes "first") ≡ Some text → IsWhole text) }
     ensures usage { IsErrOf result WordsFault.Usage → fault_of the_app words.entry.now ≢ [] }
 {
     let Ok(command) = command(alloc) else {
@@ -55,15 +69,13 @@ fn matches_of<'a>(alloc: Global, words: &'a [Text]) -> Result<ArgMatches<'a>, Wo
     }
 }
 
-// Whether `--do` asks for a run, as it does where it isn't given. The command could test that itself, by a list of values,
-// but clauses see such a list with its address, so no definition of the command could say which it is.
-fn is_run(what: Option<&str>) -> bool
-    ensures { result ≡ is_run (option_map (λ s. s.now) what.entry) }
+// The number that an option has.
+fn number_of(matches: &ArgMatches<'_>, name: &str) -> Option<u64>
+    requires { (text : List ℕ) → first_value (found_of matches.now) name.now ≡ Some text → IsWhole text }
+    ensures { result ≡ option_map number_in (first_value (found_of matches.now) name.now) }
 {
-    match what {
-        Some(word) => word == "run",
-        None => true,
-    }
+    let text = matches.get_str(name)?;
+    text.parse::<u64>().ok()
 }
 
 // The names of both files, where both options are given.
@@ -72,8 +84,7 @@ fn names_of(
     script: Option<&str>,
     changes: Option<&str>,
 ) -> Result<FileNames, WordsFault>
-    ensures ok { IfOk result (λ names. names_of (option_map (λ s. s.now) script.entry) (option_map (λ s. s.now) changes.entry)
-        ≡ Some (record { script = names.script; changes = names.changes })) }
+    ensures ok { IfOk result (λ names. names_of (option_map (λ s. s.now) script.entry) (option_map (λ s. s.now) changes.entry) ≡ Some (names_view names)) }
     ensures usage { IsErrOf result WordsFault.Usage → names_of (option_map (λ s. s.now) script.entry) (option_map (λ s. s.now) changes.entry) ≡ None }
 {
     match (script, changes) {
@@ -85,15 +96,47 @@ fn names_of(
     }
 }
 
-/// The names of the files that a run by these words reads.
-#[tactic(auto, unfolding(crate::specs::Words::files_of))]
-pub fn files_of(alloc: Global, words: &[Text]) -> Result<FileNames, WordsFault>
-    ensures ok { IfOk result (λ names. files_of words.now ≡ Some (record { script = names.script; changes = names.changes })) }
-    ensures usage { IsErrOf result WordsFault.Usage → files_of words.now ≡ None }
+// A run, which takes no number of changes.
+fn run_of(names: FileNames, first: Option<u64>) -> Result<Request, WordsFault>
+    ensures ok { IfOk result (λ request. (text : Option (List ℕ)) → first ≡ option_map number_in text → run_of (Some (names_view names)) text ≡ Some (request_view request)) }
+    ensures usage { IsErrOf result WordsFault.Usage → (text : Option (List ℕ)) → first ≡ option_map number_in text → run_of (Some (names_view names)) text ≡ None }
+{
+    match first {
+        None => Ok(Request::Run(names)),
+        Some(_) => Err(WordsFault::Usage),
+    }
+}
+
+// What is asked for by the value of `--do`: a run where it isn't given. The command could test that itself, by a list of
+// values, but clauses see such a list with its address, so no definition of the command could say which it is.
+fn asked_for(
+    what: Option<&str>,
+    names: FileNames,
+    first: Option<u64>,
+) -> Result<Request, WordsFault>
+    ensures ok { IfOk result (λ request. (text : Option (List ℕ)) → first ≡ option_map number_in text → asked_for (option_map (λ s. s.now) what.entry) (Some (names_view names)) text ≡ Some (request_view request)) }
+    ensures usage { IsErrOf result WordsFault.Usage → (text : Option (List ℕ)) → first ≡ option_map number_in text → asked_for (option_map (λ s. s.now) what.entry) (Some (names_view names)) text ≡ None }
+{
+    let Some(word) = what else {
+        return run_of(names, first);
+    };
+    if word == "run" {
+        return run_of(names, first);
+    }
+    if word == "batch" {
+        return Ok(Request::Batch { names, first });
+    }
+    Err(WordsFault::Usage)
+}
+
+/// What these words ask for. `Usage` comes exactly where the command finds a fault in them, or an option that is needed is
+/// missing, or one is given that isn't wanted.
+#[tactic(auto, unfolding(crate::specs::Words::request_of))]
+pub fn request_of(alloc: Global, words: &[Text]) -> Result<Request, WordsFault>
+    ensures ok { IfOk result (λ request. request_of words.now ≡ Some (request_view request)) }
+    ensures usage { IsErrOf result WordsFault.Usage → request_of words.now ≡ None }
 {
     let matches = matches_of(alloc, words)?;
-    if !is_run(matches.get_str("do")) {
-        return Err(WordsFault::Usage);
-    }
-    names_of(alloc, matches.get_str("script"), matches.get_str("changes"))
+    let names = names_of(alloc, matches.get_str("script"), matches.get_str("changes"))?;
+    asked_for(matches.get_str("do"), names, number_of(&matches, "first"))
 }

@@ -13,11 +13,16 @@ use stream::Stream;
 use words::{WordFault, words_of};
 
 fn main(rt: HostRuntime) -> ExitCode {
+    let alloc = rt.alloc();
+    let (Ok(mut out), Ok(mut err)) = (
+        Stream::new(alloc, rt.stdout()),
+        Stream::new(alloc, rt.stderr()),
+    ) else {
+        return ExitCode::from(status(&Ending::Memory));
+    };
     let mut shelf = FileShelf::new(&rt);
-    let mut out = Stream::new(rt.stdout());
-    let mut err = Stream::new(rt.stderr());
-    let ending = match words_of(&rt) {
-        Ok(words) => run_job(rt.alloc(), words.as_slice(), &mut shelf, &mut out, &mut err),
+    let mut ending = match words_of(&rt) {
+        Ok(words) => run_job(alloc, words.as_slice(), &mut shelf, &mut out, &mut err),
         Err(WordFault::NotText) => {
             let _ = err.put(b"usage\n");
             Ending::Usage
@@ -27,5 +32,11 @@ fn main(rt: HostRuntime) -> ExitCode {
             Ending::Memory
         }
     };
+    // What is gathered is written at the end; where that fails, a job that ended well hasn't.
+    if out.finish().is_err() && matches!(ending, Ending::Done) {
+        let _ = err.put(b"write fault\n");
+        ending = Ending::WriteFault;
+    }
+    let _ = err.finish();
     ExitCode::from(status(&ending))
 }

@@ -1,6 +1,8 @@
 -- The ending that is told is the run's, or want of memory for its line.
 use Rattle.std.proofs.Common.{◌≡◌, ◌⊎◌, inl, inr, ℕ, Option, Some, sym, ◌∙◌, subst}
 use Rattle.ct_value.specs.declared.row.Row.{Row}
+use Rattle.ct_value.specs.declared.ty.ColTy.{ColTy}
+use Rattle.std.specs.Prelude.{List}
 use Rattle.ct_io.specs.Holdings.{Holdings}
 use Rattle.job_ending.specs.declared.ending.Ending.{Ending}
 use Rattle.job_ending.specs.declared.ending.Ending.TheVariants as e
@@ -12,9 +14,9 @@ pub done_before : (result ending : Ending) → (result ≡ ending) ⊎ (result �
 done_before result ending (inl same) done = sym same ∙ done
 done_before result ending (inr memory) done = absurd (cc (memory, done))
 
-pub range_before : (result ending : Ending) (node subtask : ℕ) (row : Row) → (result ≡ ending) ⊎ (result ≡ e.Memory) → result ≡ e.Range node subtask row → ending ≡ e.Range node subtask row
-range_before result ending node subtask row (inl same) out = sym same ∙ out
-range_before result ending node subtask row (inr memory) out = absurd (cc (memory, out))
+pub range_before : (result ending : Ending) (node subtask : ℕ) (row : Row) (columns : List ColTy) → (result ≡ ending) ⊎ (result ≡ e.Memory) → result ≡ e.Range node subtask row columns → ending ≡ e.Range node subtask row columns
+range_before result ending node subtask row columns (inl same) out = sym same ∙ out
+range_before result ending node subtask row columns (inr memory) out = absurd (cc (memory, out))
 
 -- where nothing faults, the ending is the outcome's or want of memory
 pub completes_told : (told : Option Holdings) (of : Holdings → Outcome) (read write : Type 0) (result ending : Ending) → (result ≡ ending) ⊎ (result ≡ e.Memory) → IsCaused told of read write ending

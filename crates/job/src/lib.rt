@@ -2,9 +2,10 @@
 //! (`job_run`), of written bytes and faults (`ct_io`), and of endings (`job_ending`).
 #![tactic(auto)]
 
-ghost use Rattle.std.specs.Prelude.{◌≡◌, ◌⊎◌, ℕ, Some, None, false};
+ghost use Rattle.std.specs.Prelude.{◌≡◌, ◌⊎◌, ℕ, List, Some, None, false};
 ghost use Rattle.ct_value.specs.declared.row.Row.{Row};
-ghost use Rattle.command_line.specs.Words.{files_of};
+ghost use Rattle.ct_value.specs.declared.ty.ColTy.{ColTy};
+ghost use Rattle.command_line.specs.Words.{request_of};
 ghost use Rattle.ct_io.specs.Counts.{Rose};
 ghost use Rattle.ct_io.specs.Holdings.{Holdings};
 ghost use Rattle.ct_io.specs.Written.{Appends, AppendsPart};
@@ -21,10 +22,11 @@ pub use job_ending::{Ending, LimitName, status};
 use job_run::run;
 use std::alloc::Global;
 
-/// Runs the job that the words name: it loads the script and the change file from the shelf, in this order, writes the
-/// changelog of the sink on `out`, each line by itself, and where it doesn't end well one line on `err`.
+/// Does the job that the words name: it loads the script and the change file from the shelf, in this order, writes the changelog of the
+/// sink on `out`, or the rows of the batch answer, each line by itself, and where it doesn't end well one line on `err`.
 ///
-/// The words are `--script NAME --changes NAME`, in any order; `--do run` may stand there too.
+/// The words are `--script NAME --changes NAME`, in any order; `--do run` may stand there too, or `--do batch` and, where only the
+/// first so many changes count, `--first COUNT`.
 pub fn run_job<F: Shelf, K: Sink, E: Sink>(
     alloc: Global,
     words: &[Text],
@@ -34,8 +36,8 @@ pub fn run_job<F: Shelf, K: Sink, E: Sink>(
 ) -> Ending
     // The ending is the outcome's, where it doesn't come from outside.
     ensures cause { IsCaused (F.holdings shelf.old) (outcome words.now) (Rose (F.faults shelf.old) (F.faults shelf.new)) (Rose (K.faults out.old) (K.faults out.new)) result }
-    ensures usage { result ≡ Ending.Usage → files_of words.now ≡ None }
-    ensures wrong_use { files_of words.now ≡ None → (result ≡ Ending.Usage) ⊎ (result ≡ Ending.Memory) }
+    ensures usage { result ≡ Ending.Usage → request_of words.now ≡ None }
+    ensures wrong_use { request_of words.now ≡ None → (result ≡ Ending.Usage) ⊎ (result ≡ Ending.Memory) }
 
     // Where neither the shelf nor `out` faults, the ending is the outcome's, or want of memory.
     ensures complete { (Rose (F.faults shelf.old) (F.faults shelf.new) → ⊥) → (Rose (K.faults out.old) (K.faults out.new) → ⊥) → (h : Holdings) → F.holdings shelf.old ≡ Some h → (result ≡ (outcome words.now h).ending) ⊎ (result ≡ Ending.Memory) }
@@ -47,11 +49,11 @@ pub fn run_job<F: Shelf, K: Sink, E: Sink>(
     ensures part { (h : Holdings) → F.holdings shelf.old ≡ Some h → AppendsPart (K.written out.old) (K.written out.new) (outcome words.now h).bytes }
     ensures whole { is_free result ≡ false → (h : Holdings) → F.holdings shelf.old ≡ Some h → Appends (K.written out.old) (K.written out.new) (outcome words.now h).bytes }
 
-    // A run that ends well has printed the answer.
+    // A run that ends well has printed the answer, and a batch answer that ends well is the query's.
     ensures headline { result ≡ Ending.Done → (h : Holdings) → F.holdings shelf.old ≡ Some h → IsHeadline words.now h (outcome words.now h).bytes }
 
-    // A script without arithmetic never leaves a type's range.
-    ensures range { (h : Holdings) → F.holdings shelf.old ≡ Some h → HasNoArithmetic words.now h → (node subtask : ℕ) (row : Row) → result ≡ Ending.Range node subtask row → ⊥ }
+    // A run of a script without arithmetic never leaves a type's range.
+    ensures range { (h : Holdings) → F.holdings shelf.old ≡ Some h → HasNoArithmetic words.now h → (node subtask : ℕ) (row : Row) (columns : List ColTy) → result ≡ Ending.Range node subtask row columns → ⊥ }
 
     // The ending's line is on `err`.
     ensures reported { (Rose (E.faults err.old) (E.faults err.new) → ⊥) → Appends (E.written err.old) (E.written err.new) (ending_line result) }

@@ -1,14 +1,17 @@
 -- The line that an ending writes.
-use Rattle.std.specs.Prelude.{ℕ, List, [], ◌++◌, codes, Option, Some, None}
+use Rattle.std.specs.Prelude.{◌≡◌, ℕ, IsTrue, List, [], ◌++◌, map, length, codes, Option, Some, None}
+use Rattle.std.specs.List.{AllByRecursion}
 use Rattle.std.specs.Fmt.{decimal}
 use Rattle.ct_value.specs.Codes.{script_code_text, change_code_text, order_code_text}
+use Rattle.ct_value.specs.declared.ty.ColTy.{ColTy}
 use Rattle.ct_value.specs.declared.value.Value.{Value}
 use Rattle.ct_value.specs.declared.codes.ScriptCode.{ScriptCode}
 use Rattle.ct_value.specs.declared.codes.ChangeCode.{ChangeCode}
 use Rattle.ct_value.specs.declared.codes.ChangeCode.TheVariants.{BadField, NullNotAllowed}
 use Rattle.ct_value.specs.declared.codes.OrderCode.{OrderCode}
 use Rattle.ct_value.specs.declared.codes.OrderCode.TheVariants.{TooFew}
-use Rattle.job_text.specs.Printed.{record_text}
+use Rattle.ct_field.specs.Numbers.{is_type}
+use Rattle.printed_lines.specs.Printed.{row_text}
 use Rattle.job_ending.specs.declared.ending.Ending.{Ending}
 use Rattle.job_ending.specs.declared.ending.Ending.TheVariants.{Done, Usage, Script, Change, Order, Range, Limit, ReadFault, WriteFault, Memory}
 use Rattle.job_ending.specs.declared.ending.LimitName.{LimitName}
@@ -43,8 +46,8 @@ abbrev pub order_line : OrderCode → ℕ → List ℕ
 order_line code line = codes "order " ++ (order_code_text code ++ (codes " line " ++ (decimal line ++ flight_text (in_flight_of code))))
 
 -- the row stands as a record, and as nothing where it has no values
-abbrev pub range_line : ℕ → ℕ → List Value → List ℕ
-range_line node subtask row = codes "range node " ++ (decimal node ++ (codes " subtask " ++ (decimal subtask ++ codes " row "))) ++ record_text row ++ codes "\n"
+abbrev pub range_line : ℕ → ℕ → List Value → List ColTy → List ℕ
+range_line node subtask row columns = codes "range node " ++ (decimal node ++ (codes " subtask " ++ (decimal subtask ++ codes " row "))) ++ row_text (map (λ c. c.ty) columns) row ++ codes "\n"
 
 abbrev pub limit_text : LimitName → List ℕ
 limit_text ScriptLimit = codes "limit script\n"
@@ -58,8 +61,19 @@ ending_line Usage = codes "usage\n"
 ending_line (Script code statement) = script_line code statement
 ending_line (Change code line) = change_line code line
 ending_line (Order code line) = order_line code line
-ending_line (Range node subtask row) = range_line node subtask row
+ending_line (Range node subtask row columns) = range_line node subtask row columns
 ending_line (Limit name) = limit_text name
 ending_line ReadFault = codes "read fault\n"
 ending_line WriteFault = codes "write fault\n"
 ending_line Memory = codes "out of memory\n"
+
+-- ---- what can be printed
+
+-- each column has a type that exists
+abbrev pub AreTypes : List ColTy → Type 0
+AreTypes columns = AllByRecursion (λ c. IsTrue (is_type c.ty)) columns
+
+-- the row of a range ending has a value for each of its columns, whose types exist
+abbrev pub IsPrintable : Ending → Type 0
+IsPrintable (Range node subtask row columns) = (length row ≡ length columns) × AreTypes columns
+IsPrintable ending = Unit {0}

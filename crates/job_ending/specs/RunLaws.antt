@@ -26,7 +26,7 @@ module _ (told : Option Holdings) (of : Holdings → Outcome) (read write : Type
   cause_of_halt ReadFault (inr at) = inr (at.0, at.1, ending_is at.2)
   cause_of_halt (Script c n) halts = λ h is. ending_is (halts h is)
   cause_of_halt (Change c n) halts = λ h is. ending_is (halts h is)
-  cause_of_halt (Range n m r) halts = λ h is. ending_is (halts h is)
+  cause_of_halt (Range n m r tys) halts = λ h is. ending_is (halts h is)
   cause_of_halt (Limit l) halts = λ h is. ending_is (halts h is)
 
   no_bytes : (halt : Halt) → HaltsAs told of read halt → is_free (ending_of_halt halt) ≡ false → (h : Holdings) → told ≡ Some h → (of h).bytes ≡ []
@@ -35,7 +35,7 @@ module _ (told : Option Holdings) (of : Holdings → Outcome) (read write : Type
   no_bytes ReadFault halts free = absurd (cc (free))
   no_bytes (Script c n) halts free = λ h is. ap (λ (o : Outcome). o.bytes) (halts h is)
   no_bytes (Change c n) halts free = λ h is. ap (λ (o : Outcome). o.bytes) (halts h is)
-  no_bytes (Range n m r) halts free = λ h is. ap (λ (o : Outcome). o.bytes) (halts h is)
+  no_bytes (Range n m r tys) halts free = λ h is. ap (λ (o : Outcome). o.bytes) (halts h is)
   no_bytes (Limit l) halts free = λ h is. ap (λ (o : Outcome). o.bytes) (halts h is)
 
   -- nothing was written
@@ -57,7 +57,7 @@ module _ (told : Option Holdings) (of : Holdings → Outcome) (read write : Type
   cause_moved of' read' (e.Script c n) same more cause = λ h is. ending_is (same h is) ∙ cause h is
   cause_moved of' read' (e.Change c n) same more cause = λ h is. ending_is (same h is) ∙ cause h is
   cause_moved of' read' (e.Order c n) same more cause = λ h is. ending_is (same h is) ∙ cause h is
-  cause_moved of' read' (e.Range n m r) same more cause = λ h is. ending_is (same h is) ∙ cause h is
+  cause_moved of' read' (e.Range n m r tys) same more cause = λ h is. ending_is (same h is) ∙ cause h is
   cause_moved of' read' (e.Limit l) same more cause = λ h is. ending_is (same h is) ∙ cause h is
 
   here_moved : (of' : Holdings → Outcome) (read' : Type 0) (old new : Option (List ℕ)) (ending : Ending) → ((h : Holdings) → told ≡ Some h → of' h ≡ of h) → (read → read') → Runs told of read write old new ending → Runs told of' read' write old new ending
@@ -79,7 +79,7 @@ cause_there told of read write there (Err WriteFault) same cause = cause
 cause_there told of read write there (Err ReadFault) same cause = absurd cause
 cause_there told of read write there (Err (Script c n)) same cause = λ h is. ending_is (same h is) ∙ cause
 cause_there told of read write there (Err (Change c n)) same cause = λ h is. ending_is (same h is) ∙ cause
-cause_there told of read write there (Err (Range n m r)) same cause = λ h is. ending_is (same h is) ∙ cause
+cause_there told of read write there (Err (Range n m r tys)) same cause = λ h is. ending_is (same h is) ∙ cause
 cause_there told of read write there (Err (Limit l)) same cause = λ h is. ending_is (same h is) ∙ cause
 
 pub runs_there : {T : Type 0} (told : Option Holdings) (of : Holdings → Outcome) (read write : Type 0) (old new : Option (List ℕ)) (there : Outcome) (result : Result T Halt) → ((h : Holdings) → told ≡ Some h → of h ≡ there) → RunsThere there write old new result → Runs told of read write old new (ending_of result)
@@ -104,7 +104,7 @@ halted_there there write o WriteFault is = absurd is
 halted_there there write o ReadFault is = absurd is
 halted_there there write o (Script c n) is = record { cause = ending_is is; part = part_none o there.bytes; whole = λ free. subst (λ (x : Outcome). Appends o o x.bytes) (sym is) (appends_nothing o) }
 halted_there there write o (Change c n) is = record { cause = ending_is is; part = part_none o there.bytes; whole = λ free. subst (λ (x : Outcome). Appends o o x.bytes) (sym is) (appends_nothing o) }
-halted_there there write o (Range n m r) is = record { cause = ending_is is; part = part_none o there.bytes; whole = λ free. subst (λ (x : Outcome). Appends o o x.bytes) (sym is) (appends_nothing o) }
+halted_there there write o (Range n m r tys) is = record { cause = ending_is is; part = part_none o there.bytes; whole = λ free. subst (λ (x : Outcome). Appends o o x.bytes) (sym is) (appends_nothing o) }
 halted_there there write o (Limit l) is = record { cause = ending_is is; part = part_none o there.bytes; whole = λ free. subst (λ (x : Outcome). Appends o o x.bytes) (sym is) (appends_nothing o) }
 
 -- the same by another outcome that agrees with this one
@@ -130,5 +130,5 @@ completes told of read write e.Usage cause no_read no_write h is = inl (sym (cau
 completes told of read write (e.Script c n) cause no_read no_write h is = inl (sym (cause h is))
 completes told of read write (e.Change c n) cause no_read no_write h is = inl (sym (cause h is))
 completes told of read write (e.Order c n) cause no_read no_write h is = inl (sym (cause h is))
-completes told of read write (e.Range n m r) cause no_read no_write h is = inl (sym (cause h is))
+completes told of read write (e.Range n m r tys) cause no_read no_write h is = inl (sym (cause h is))
 completes told of read write (e.Limit l) cause no_read no_write h is = inl (sym (cause h is))

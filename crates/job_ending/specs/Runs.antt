@@ -11,7 +11,7 @@ use Rattle.job_ending.specs.Outcome.{Outcome, ends}
 abbrev pub ending_of_halt : Halt → Ending
 ending_of_halt (Script code statement) = e.Script code statement
 ending_of_halt (Change code line) = e.Change code line
-ending_of_halt (Range node subtask row) = e.Range node subtask row
+ending_of_halt (Range node subtask row tys) = e.Range node subtask row tys
 ending_of_halt (Limit name) = e.Limit name
 ending_of_halt ReadFault = e.ReadFault
 ending_of_halt WriteFault = e.WriteFault

@@ -1,10 +1,10 @@
-ghost use Rattle.std.specs.Prelude.{◌≡◌, IfOk};
-ghost use Rattle.job_ending.specs.Endings.{ending_line, script_line, change_line, column_of_code, order_line, in_flight_of, range_line, limit_text};
+ghost use Rattle.std.specs.Prelude.{◌≡◌, map, length, IfOk};
+ghost use Rattle.job_ending.specs.Endings.{AreTypes, IsPrintable, ending_line, script_line, change_line, column_of_code, order_line, in_flight_of, range_line, limit_text};
 ghost use Rattle.job_ending.specs.Status.{status_of};
 
-use ct_value::{Bytes, ChangeCode, Memory, OrderCode, Row, ScriptCode};
-use job_text::push_record;
-use std::alloc::Global;
+use ct_value::{Bytes, ChangeCode, ColTy, ColTys, Memory, OrderCode, Row, ScriptCode, Ty};
+use printed_lines::row_text;
+use std::alloc::{AllocError, Global};
 
 /// How a run ends.
 #[derive(Debug, Drop)]
@@ -14,13 +14,27 @@ pub enum Ending {
     /// The words of the command line are a wrong use.
     Usage,
     /// The script is refused at a statement, counted from 1.
-    Script { code: ScriptCode, statement: u32 },
+    Script {
+        code: ScriptCode,
+        statement: u32,
+    },
     /// A change line is refused; lines are counted from 1.
-    Change { code: ChangeCode, line: u32 },
+    Change {
+        code: ChangeCode,
+        line: u32,
+    },
     /// An order line is refused; lines are counted from 1.
-    Order { code: OrderCode, line: u32 },
-    /// A value left the range of its type, at this row of a node's subtask.
-    Range { node: u32, subtask: u32, row: Row },
+    Order {
+        code: OrderCode,
+        line: u32,
+    },
+    /// A value left the range of its type, at this row of a node's subtask, whose columns have these types.
+    Range {
+        node: u32,
+        subtask: u32,
+        row: Row,
+        tys: ColTys,
+    },
     /// A file or the changes of a job are more than their limit.
     Limit(LimitName),
     /// A file couldn't be read.
@@ -60,6 +74,7 @@ pub fn status(ending: &Ending) -> u8
 
 /// The line that an ending writes; `Done` writes nothing.
 pub fn ending_line(alloc: Global, ending: &Ending) -> Result<Bytes, Memory>
+    requires printable { IsPrintable ending.now }
     ensures { IfOk result (λ line. line ≡ ending_line ending.now) }
 {
     match ending {
@@ -68,7 +83,12 @@ pub fn ending_line(alloc: Global, ending: &Ending) -> Result<Bytes, Memory>
         Ending::Script { code, statement } => script_line(alloc, code, *statement),
         Ending::Change { code, line } => change_line(alloc, code, *line),
         Ending::Order { code, line } => order_line(alloc, code, *line),
-        Ending::Range { node, subtask, row } => range_line(alloc, *node, *subtask, row),
+        Ending::Range {
+            node,
+            subtask,
+            row,
+            tys,
+        } => range_line(alloc, *node, *subtask, row, tys.as_slice()),
         Ending::Limit(name) => Bytes::from_slice(alloc, limit_text(*name).as_bytes()),
         Ending::ReadFault => Bytes::from_slice(alloc, b"read fault\n"),
         Ending::WriteFault => Bytes::from_slice(alloc, b"write fault\n"),
@@ -134,14 +154,31 @@ fn in_flight_of(code: &OrderCode) -> Option<u32>
     }
 }
 
-fn range_line(alloc: Global, node: u32, subtask: u32, row: &Row) -> Result<Bytes, Memory>
-    ensures { IfOk result (λ text. text ≡ range_line node subtask row.now) }
+#[tactic(auto, using(crate::proofs::Types::tys_exist))]
+fn range_line(
+    alloc: Global,
+    node: u32,
+    subtask: u32,
+    row: &Row,
+    tys: &[ColTy],
+) -> Result<Bytes, Memory>
+    requires wide { length row.now ≡ length tys.now }
+    requires types { AreTypes tys.now }
+    ensures { IfOk result (λ text. text ≡ range_line node subtask row.now tys.now) }
 {
     let place = format!(in alloc; "range node {node} subtask {subtask} row ")?;
     let mut line = Bytes::from_slice(alloc, place.as_bytes())?;
-    push_record(alloc, &mut line, row)?;
+    let tys = tys_of(alloc, tys)?;
+    let text = row_text(alloc, row, tys.as_slice())?;
+    line.extend(text.as_slice())?;
     line.extend(b"\n")?;
     Ok(line)
+}
+
+fn tys_of(alloc: Global, columns: &[ColTy]) -> Result<Vec<Ty>, AllocError>
+    ensures { IfOk result (λ tys. tys.items ≡ map (λ c. c.ty) columns.now) }
+{
+    columns.iter().map(|column| column.ty).collect(alloc)
 }
 
 fn limit_text(name: LimitName) -> &'static str

@@ -2,14 +2,25 @@ ghost use Rattle.std.specs.Prelude.{◌≡◌};
 ghost use Rattle.job_ending.specs.Runs.{ending_of};
 
 use crate::ending::{Ending, LimitName};
-use ct_value::{ChangeCode, Row, ScriptCode};
+use ct_value::{ChangeCode, ColTys, Row, ScriptCode};
 
 /// Why a run halts before its end.
 #[derive(Debug, Drop)]
 pub enum Halt {
-    Script { code: ScriptCode, statement: u32 },
-    Change { code: ChangeCode, line: u32 },
-    Range { node: u32, subtask: u32, row: Row },
+    Script {
+        code: ScriptCode,
+        statement: u32,
+    },
+    Change {
+        code: ChangeCode,
+        line: u32,
+    },
+    Range {
+        node: u32,
+        subtask: u32,
+        row: Row,
+        tys: ColTys,
+    },
     Limit(LimitName),
     ReadFault,
     WriteFault,
@@ -24,7 +35,19 @@ pub fn ending_of(ran: Result<(), Halt>) -> Ending
         Ok(()) => Ending::Done,
         Err(Halt::Script { code, statement }) => Ending::Script { code, statement },
         Err(Halt::Change { code, line }) => Ending::Change { code, line },
-        Err(Halt::Range { node, subtask, row }) => Ending::Range { node, subtask, row },
+        Err(
+            Halt::Range {
+                node,
+                subtask,
+                row,
+                tys,
+            },
+        ) => Ending::Range {
+            node,
+            subtask,
+            row,
+            tys,
+        },
         Err(Halt::Limit(name)) => Ending::Limit(name),
         Err(Halt::ReadFault) => Ending::ReadFault,
         Err(Halt::WriteFault) => Ending::WriteFault,

@@ -24,7 +24,7 @@ emitted_by script sent = emitted_where script.counted script sent
 -- the changes are printed, and behind them the quiet line; a count that is out of range prints nothing
 abbrev pub outcome_of_answer : ℕ → Answer → Outcome
 outcome_of_answer taken (Ok changes) = record { ending = Done; bytes = text_of (map Printed changes ++ Quiet taken ∷ []) }
-outcome_of_answer taken (Err row) = record { ending = Range 2 0 row; bytes = [] }
+outcome_of_answer taken (Err row) = record { ending = Range 2 0 row []; bytes = [] }
 
 -- what a scan sent: a valid changelog of rows with the columns that are read, of fewer than 2 ^ 32 changes
 pub record IsSent (script : Accepted) (sent : List Change) : Type 0 where

@@ -23,7 +23,7 @@ whole_run plan changes = run_events plan (opened plan) (takes changes ++ drain p
 abbrev pub ending_of_stop : Stop → Ending
 ending_of_stop (refused code) = Change code 0
 ending_of_stop (misplaced code) = Order code 0
-ending_of_stop (out_of_range node subtask row) = Range node subtask row
+ending_of_stop (out_of_range node subtask row) = Range node subtask row []
 
 -- a run that wasn't stopped ends well, behind the line of the quiet moment
 abbrev pub outcome_of_run : Ran → Outcome

@@ -8,6 +8,7 @@ ghost use Rattle.job_forms.specs.Drains.{IsSent, emitted_by, outcome_of_answer};
 use crate::{Accepted, Sent};
 use ct_change::Changes;
 use ct_io::Sink;
+use ct_value::ColTys;
 use exec_core::count_changes;
 use job_ending::Halt;
 use job_text::{PrintFault, print_all};
@@ -28,6 +29,7 @@ pub fn drain<K: Sink>(alloc: Global, script: &Accepted, sent: Sent, out: &mut K)
                 node: 2,
                 subtask: 0,
                 row,
+                tys: ColTys::new(alloc),
             });
         }
         Err(OpFault::Memory) => return Err(Halt::Memory),

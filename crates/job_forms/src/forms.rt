@@ -51,8 +51,8 @@ pub fn form_of(
     }
 }
 
-// What an INSERT into a table asks for.
-fn insert_form(
+/// What an INSERT into a table asks for; `Unbuilt` exactly where it is of no form that can be run.
+pub fn insert_form(
     alloc: Global,
     catalog: &Catalog,
     table: &Text,

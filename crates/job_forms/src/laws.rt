@@ -2,6 +2,7 @@
 ghost use Rattle.std.specs.Prelude.{◌≡◌, ◌≤◌, ℕ, List, length, Some};
 ghost use Rattle.std.specs.List.{AllByRecursion};
 ghost use Rattle.ct_value.specs.declared.row.Row.{Row};
+ghost use Rattle.ct_value.specs.declared.ty.ColTy.{ColTy};
 ghost use Rattle.sql_syntax.specs.Tree.{Statement};
 ghost use Rattle.ct_catalog.specs.Catalogue.{Catalogue};
 ghost use Rattle.job_ending.specs.declared.ending.Ending.TheVariants.{Done, Range};
@@ -25,5 +26,5 @@ pub fn run_prints_the_answer()
 
 /// A run over a change file within its limit never leaves a type's range.
 pub fn run_stays_in_range()
-    ensures { (script : Accepted) → IsLawful script → (node subtask : ℕ) (row : Row) (bytes : List ℕ) → length bytes ≤ 67108864 → (with_changes script bytes).ending ≡ Range node subtask row → ⊥ }
+    ensures { (script : Accepted) → IsLawful script → (node subtask : ℕ) (row : Row) (columns : List ColTy) (bytes : List ℕ) → length bytes ≤ 67108864 → (with_changes script bytes).ending ≡ Range node subtask row columns → ⊥ }
 {}

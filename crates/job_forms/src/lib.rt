@@ -12,6 +12,6 @@ mod takes;
 
 pub use accepted::Accepted;
 pub use drains::drain;
-pub use forms::{FormFault, form_of};
+pub use forms::{FormFault, form_of, insert_form};
 pub use laws::{form_is_lawful, run_prints_the_answer, run_stays_in_range};
 pub use takes::{Sent, take_changes};

@@ -1,47 +1,116 @@
--- A run never leaves a type's range.
-use Rattle.std.proofs.Common.{◌≡◌, ℕ, ◌≤◌, Bool, true, false, cond, nat_le, List, length, Option, Some, None, Ok, Err, refl, subst}
-use Rattle.std.proofs.lemmas.Bool.{leb-true}
+-- A run of a script without arithmetic never leaves a type's range.
+use Rattle.std.specs.Prelude.{◌↔◌}
+use Rattle.std.proofs.Common.{◌≡◌, ℕ, ◌+◌, cond, Bool, true, false, ◌||◌, List, [], ◌∷◌, Option, Some, None, Result, Ok, Err, refl, sym, ap, subst, ◌∙◌, arith}
+use Rattle.ct_value.specs.declared.codes.ScriptCode.{ScriptCode}
+use Rattle.ct_value.specs.declared.codes.ScriptCode.TheVariants.{Unsupported}
 use Rattle.ct_value.specs.declared.row.Row.{Row}
-use Rattle.command_line.specs.Words.{FileNames, files_of}
-use Rattle.ct_io.specs.Holdings.{Holdings, Loaded, Missing, Long, Whole, found, held, loaded, within}
-use Rattle.judge.specs.Judgement.{Judged}
+use Rattle.ct_value.specs.declared.ty.ColTy.{ColTy}
+use Rattle.command_line.specs.Words.{FileNames, Request}
+use Rattle.ct_io.specs.Holdings.{Holdings, Loaded, Missing, Long, Whole, loaded}
+use Rattle.sql_syntax.specs.Tree as t
+use Rattle.sql_rules.specs.ReadsScripts as s
+use Rattle.sql_rules.specs.Scripts.{IsScript}
+use Rattle.ct_catalog.specs.Catalogue.{Catalogue, applied, empty}
+use Rattle.judge.specs.Judgement.{Asked, Insert, Judged, asked_after, asked_by, asked_from, asked_of, declared_then, refused, then}
+use Rattle.binding.specs.Checked.{Checked}
+use Rattle.binding.specs.Inserts.{Inserted, insert_bound}
+use Rattle.bind_unbuilt.specs.Unbuilt.{is_unbuilt}
+use Rattle.arithmetic.specs.Arithmetic.{in_query, in_statement, in_statements}
+use Rattle.phys_plan.specs.declared.plan.Plan.{Plan}
 use Rattle.job_ending.specs.declared.ending.Ending.TheVariants as e
 use Rattle.job_ending.specs.declared.ending.LimitName.TheVariants.{Script as ScriptLimit, Changes as ChangesLimit}
-use Rattle.job_forms.specs.declared.accepted.Accepted.{Accepted}
-use Rattle.job_forms.specs.Lawful.{IsLawful}
-use Rattle.job_forms.specs.Run.{with_changes}
-use Rattle.job_run.specs.Judgement.{judgement}
-use Rattle.job_run.specs.Outcome.{after_load, with_judgement, with_script_text, with_files, outcome}
+use Rattle.job_judgement.specs.Judged.{IsBound, IsJudged}
+use Rattle.job_judgement.specs.Judgement.{Accepted, accepted_of, at_statement, bound_insert, first_bound, judgement}
+use Rattle.job_stream.specs.Stream.{most_sent, sink_types, streamed}
+use Rattle.plan_rules.specs.Doings.{network}
+use Rattle.stream_run.specs.Run.{whole_run}
+use Rattle.tame_queries.specs.Statement.{InsertsAreTame}
+use Rattle.tame_runs.specs.Runs.{RunsStayInRange}
+use Rattle.job_plan.specs.Laws.{RunnableScriptsCanRun}
+use Rattle.job_plan.specs.Runnable.{runnable}
+use Rattle.job_run.specs.Complete.{HasNoArithmetic}
+use Rattle.job_run.specs.Outcome.{after_judgement, after_load, changes_limit, outcome, over_changes, run_script, script_limit, with_request}
+use Rattle.job_run.proofs.Printable.{stopped_so}
 
-within_short : (limit : ℕ) (held_ bytes : List ℕ) (b : Bool) → nat_le (length held_) limit ≡ b → cond b (Whole held_) Long ≡ Whole bytes → length bytes ≤ limit
-within_short limit held_ bytes false is e = absurd (cc)
-within_short limit held_ bytes true is e = let same : held_ ≡ bytes = cc in subst (λ (l : List ℕ). length l ≤ limit) same (leb-true (length held_) limit is)
+or_parts : (a b : Bool) → (a || b) ≡ false → (a ≡ false) × (b ≡ false)
+or_parts true b e = absurd (cc (e))
+or_parts false b e = (refl, e)
 
-found_short : (limit : ℕ) (o : Option (List ℕ)) (bytes : List ℕ) → found limit o ≡ Whole bytes → length bytes ≤ limit
-found_short limit None bytes e = absurd (cc)
-found_short limit (Some held_) bytes e = within_short limit held_ bytes _ refl e
+-- ---- the query of an accepted script is one of its statements
 
-module _ (accepted_lawful : (text : List ℕ) (script : Accepted) → judgement text ≡ Ok script → IsLawful script)
-    (stays : (script : Accepted) → IsLawful script → (node subtask : ℕ) (row : Row) (bytes : List ℕ) → length bytes ≤ 67108864 → (with_changes script bytes).ending ≡ e.Range node subtask row → ⊥)
-    (h : Holdings) (node subtask : ℕ) (row : Row) where
-  module _ (names : FileNames) where
-    changes_stay : (script : Accepted) → IsLawful script → (l : Loaded) → loaded h names.changes 67108864 ≡ l → (after_load ChangesLimit (with_changes script) l).ending ≡ e.Range node subtask row → ⊥
-    changes_stay script lawful Missing is out = absurd (cc)
-    changes_stay script lawful Long is out = absurd (cc)
-    changes_stay script lawful (Whole changes) is out = stays script lawful node subtask row changes (found_short 67108864 (held h names.changes) changes is) out
+abbrev Free : List Insert → Type 0
+Free [] = Unit {0}
+Free (insert ∷ inserts) = (in_statement insert.statement ≡ false) × Free inserts
 
-    script_stays : (text : List ℕ) (j : Judged Accepted) → judgement text ≡ j → (with_judgement h names.changes j).ending ≡ e.Range node subtask row → ⊥
-    script_stays text (Err refusal) is out = absurd (cc)
-    script_stays text (Ok script) is out = changes_stay script (accepted_lawful text script is) _ refl out
+free_then : (others : Catalogue → Judged Asked) (number : ℕ) (o : Result Catalogue ScriptCode) (asked : Asked) → ((c : Catalogue) → others c ≡ Ok asked → Free asked.inserts) → declared_then others number o ≡ Ok asked → Free asked.inserts
+free_then others number (Ok c) asked later e = later c e
+free_then others number (Err code) asked later e = absurd (cc (e))
 
-    files_stay : (l : Loaded) → (after_load ScriptLimit (with_script_text h names.changes) l).ending ≡ e.Range node subtask row → ⊥
-    files_stay Missing out = absurd (cc)
-    files_stay Long out = absurd (cc)
-    files_stay (Whole text) out = script_stays text _ refl out
+free_from : (c : Catalogue) (number : ℕ) (xs : List t.Statement) (asked : Asked) → in_statements xs ≡ false → asked_from c number xs ≡ Ok asked → Free asked.inserts
+free_from c number [] asked none e = absurd (cc (e))
+free_from c number (t.Insert table query ∷ []) asked none e =
+    let same : asked_by c number (t.Insert table query) ≡ asked = cc (e) in
+    subst (λ (a : Asked). Free a.inserts) same ((or_parts (in_query query) false none).0, tt)
+free_from c number (t.Insert table query ∷ x ∷ xs) asked none e = absurd (cc (e))
+free_from c number (t.Create name elements options ∷ xs) asked none e =
+    free_then (λ more. asked_from more (number + 1) xs) number (applied c (t.Create name elements options)) asked (λ more is. free_from more (number + 1) xs asked none is) e
+free_from c number (t.Set key value ∷ xs) asked none e =
+    free_then (λ more. asked_from more (number + 1) xs) number (applied c (t.Set key value)) asked (λ more is. free_from more (number + 1) xs asked none is) e
 
-  words_stay : (o : Option FileNames) → (with_files h o).ending ≡ e.Range node subtask row → ⊥
-  words_stay None out = absurd (cc)
-  words_stay (Some names) out = files_stay names _ out
+free_bound : (c : Catalogue) (number : ℕ) (query : t.Query) (o : Checked Inserted) (script : Accepted) → in_query query ≡ false → at_statement c number query o ≡ Ok script → in_query script.query ≡ false
+free_bound c number query (Ok inserted) script none e =
+    let same : record { statement = number; catalogue = c; query = query; inserted = inserted } ≡ script = cc (e) in
+    sym (ap (λ (x : Accepted). in_query x.query) same) ∙ none
+free_bound c number query (Err code) script none e = absurd (cc (e))
 
-  pub stays_in_range : (words : List (List ℕ)) → (outcome words h).ending ≡ e.Range node subtask row → ⊥
-  stays_in_range words out = words_stay (files_of words) out
+free_built : (b : Bool) (c : Catalogue) (number : ℕ) (query : t.Query) (o : Checked Inserted) (script : Accepted) → in_query query ≡ false → cond b (refused Unsupported number) (at_statement c number query o) ≡ Ok script → in_query script.query ≡ false
+free_built true c number query o script none e = absurd (cc (e))
+free_built false c number query o script none e = free_bound c number query o script none e
+
+free_insert : (c : Catalogue) (number : ℕ) (statement : t.Statement) (script : Accepted) → in_statement statement ≡ false → bound_insert c number statement ≡ Ok script → in_query script.query ≡ false
+free_insert c number (t.Insert table query) script none e = free_built (is_unbuilt query) c number query (insert_bound c.tables table query) script none e
+free_insert c number (t.Create name elements options) script none e = absurd (cc (e))
+free_insert c number (t.Set key value) script none e = absurd (cc (e))
+
+free_first : (c : Catalogue) (inserts : List Insert) (script : Accepted) → Free inserts → first_bound c inserts ≡ Ok script → in_query script.query ≡ false
+free_first c [] script free e = absurd (cc (e))
+free_first c (insert ∷ others) script free e = free_insert c insert.number insert.statement script free.0 e
+
+free_asked : (r : Judged Asked) (script : Accepted) → ((asked : Asked) → r ≡ Ok asked → Free asked.inserts) → then accepted_of r ≡ Ok script → in_query script.query ≡ false
+free_asked (Ok asked) script free e = free_first asked.catalogue asked.inserts script (free asked refl) e
+free_asked (Err refusal) script free e = absurd (cc (e))
+
+free_query : (text : List ℕ) (statements : List t.Statement) (script : Accepted) → s.read_text text ≡ s.answered statements → in_statements statements ≡ false → judgement text ≡ Ok script → in_query script.query ≡ false
+free_query text statements script read none e =
+    free_asked (asked_of text) script (λ asked is. free_from empty 1 statements asked none (sym (ap asked_after read) ∙ is)) e
+
+-- ---- the run
+
+module _ (bound : (script : Accepted) → IsJudged script → IsBound script) (tame : InsertsAreTame) (can : RunnableScriptsCanRun) (stays : RunsStayInRange) (h : Holdings) (node subtask : ℕ) (row : Row) (columns : List ColTy) (names : FileNames)
+    (script_text : List ℕ) (statements : List t.Statement) (read : s.read_text script_text ≡ s.answered statements) (none : in_statements statements ≡ false) where
+  changes_stay : (script : Accepted) → judgement script_text ≡ Ok script → (plan : Plan) → runnable script ≡ Ok plan → (l : Loaded) → (after_load ChangesLimit (streamed plan) l).ending ≡ e.Range node subtask row columns → ⊥
+  changes_stay script judged plan runs Missing out = absurd (cc (out))
+  changes_stay script judged plan runs Long out = absurd (cc (out))
+  changes_stay script judged plan runs (Whole changes) out =
+      let is : IsJudged script = record { text = script_text; judged = judged } in
+      let b = bound script is in
+      let calculates_nothing = tame script.catalogue.tables b.table script.query script.inserted b.bound (free_query script_text statements script read none judged) in
+      let ran = stopped_so (sink_types plan.sink) (whole_run (network plan) most_sent plan.sources changes) node subtask row columns out in
+      stays plan script.inserted.query.rel (can script is plan runs).plan_of calculates_nothing most_sent (omega arith) changes node subtask row columns ran.0 ran.1
+
+  plan_stays : (script : Accepted) → judgement script_text ≡ Ok script → (j : Judged Plan) → runnable script ≡ j → (after_judgement (λ plan. over_changes h names.changes (streamed plan)) j).ending ≡ e.Range node subtask row columns → ⊥
+  plan_stays script judged (Err refusal) is out = absurd (cc (out))
+  plan_stays script judged (Ok plan) is out = changes_stay script judged plan is (loaded h names.changes changes_limit) out
+
+  script_stays : (j : Judged Accepted) → judgement script_text ≡ j → (after_judgement (run_script h names.changes) j).ending ≡ e.Range node subtask row columns → ⊥
+  script_stays (Err refusal) is out = absurd (cc (out))
+  script_stays (Ok script) is out = plan_stays script is (runnable script) refl out
+
+  file_stays : (l : Loaded) → l ≡ Whole script_text → (after_load ScriptLimit (λ text. after_judgement (run_script h names.changes) (judgement text)) l).ending ≡ e.Range node subtask row columns → ⊥
+  file_stays l is out = script_stays (judgement script_text) refl (sym (ap (λ (x : Loaded). (after_load ScriptLimit (λ text. after_judgement (run_script h names.changes) (judgement text)) x).ending) is) ∙ out)
+
+pub stays_in_range : ((script : Accepted) → IsJudged script → IsBound script) → InsertsAreTame → RunnableScriptsCanRun → RunsStayInRange → ((text : List ℕ) (x : t.Script) → (s.read_text text ≡ s.answered x.statements) ↔ IsScript text x)
+    → (h : Holdings) (node subtask : ℕ) (row : Row) (columns : List ColTy) (words : List (List ℕ)) → HasNoArithmetic words h → (outcome words h).ending ≡ e.Range node subtask row columns → ⊥
+stays_in_range bound tame can stays reads h node subtask row columns words free out =
+    file_stays bound tame can stays h node subtask row columns free.names free.script_text free.script.statements ((reads free.script_text free.script).1 free.spelled) free.none
+    (loaded h free.names.script script_limit) free.script_held (sym (ap (λ (o : Option Request). (with_request h o).ending) free.named) ∙ out)

@@ -1,4 +1,6 @@
+pub mod Alike
+pub mod Asked
 pub mod Headline
 pub mod InRange
-pub mod Lawful
 pub mod Loads
+pub mod Printable

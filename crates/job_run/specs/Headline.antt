@@ -1,24 +1,53 @@
--- What a run that ends well has printed: on the words, its files are held, its script is accepted, its lines are read, and
--- then the headline holds of the script, the lines and the bytes.
-use Rattle.std.specs.Prelude.{◌≡◌, ℕ, List, Some, Ok}
-use Rattle.command_line.specs.Words.{FileNames, files_of}
-use Rattle.ct_io.specs.Holdings.{Holdings, Whole, loaded}
-use Rattle.job_text.specs.Lines.{plain_text, lines_of}
-use Rattle.job_forms.specs.declared.accepted.Accepted.{Accepted}
-use Rattle.job_forms.specs.Headline.{Headline}
-use Rattle.job_run.specs.Judgement.{judgement}
-use Rattle.job_run.specs.Outcome.{script_limit, changes_limit}
+-- What a job that ends well has written. A run: before each quiet line numbered n, a changelog that folds to the query's answer on its tree
+-- over the tables that the first n lines leave, while every edge carried only the kinds of its mode. A batch answer: the rows of the query's
+-- answer on its tree, over the tables that the first lines leave, in order, each copy by itself.
+use Rattle.std.specs.Prelude.{◌≡◌, ℕ, List, Option, Some, None, Ok}
+use Rattle.command_line.specs.Words.{FileNames, Request, run, batch, request_of}
+use Rattle.ct_io.specs.Holdings.{Holdings}
+use Rattle.ct_value.specs.Bag.{items}
+use Rattle.ct_change.specs.Changelog.{Rows}
+use Rattle.source_lines.specs.Taken.{Taken, rows_of, taken_of}
+use Rattle.change_lines.specs.Lines.{records_of}
+use Rattle.phys_plan.specs.declared.plan.Plan.{Plan}
+use Rattle.stream_model.specs.Machine.{State}
+use Rattle.plan_rules.specs.Doings.{network}
+use Rattle.stream_run.specs.Headline.{Headline}
+use Rattle.stream_run.specs.Run.{ended, whole_run}
+use Rattle.printed_lines.specs.Printed.{item_lines, row_lines}
+use Rattle.job_judgement.specs.Judgement.{Accepted}
+use Rattle.job_batch.specs.Agree.{query_answer}
+use Rattle.job_batch.specs.Batch.{sink_types}
+use Rattle.job_plan.specs.Runnable.{runnable}
+use Rattle.job_stream.specs.Stream.{most_sent}
+use Rattle.job_run.specs.Held.{AreHeld}
 
--- the same of a run on these words and holdings: its files are held, its script is accepted, its lines are read
-pub record IsHeadline (words : List (List ℕ)) (holdings : Holdings) (bytes : List ℕ) : Type 0 where
-  pub names : FileNames
-  pub script_text : List ℕ
+pub record HasRun (names : FileNames) (holdings : Holdings) (bytes : List ℕ) : Type 0 where
+  pub script : Accepted
+  pub plan : Plan
+  pub changes : List ℕ
+  pub state : State
+  pub held : AreHeld names holdings script changes
+  pub runs : runnable script ≡ Ok plan
+  -- the machine's run of the plan over the lines goes to its end, and what it printed is written
+  pub ends : whole_run (network plan) most_sent plan.sources changes ≡ ended state
+  pub reads : bytes ≡ item_lines (sink_types script) state.printed
+  pub headline : Headline (network plan) script.inserted.sources (query_answer script) (records_of changes) state state.printed
+
+pub record HasAnswered (names : FileNames) (first : Option ℕ) (holdings : Holdings) (bytes : List ℕ) : Type 0 where
   pub script : Accepted
   pub changes : List ℕ
-  pub text : List ℕ
-  pub named : files_of words ≡ Some names
-  pub script_held : loaded holdings names.script script_limit ≡ Whole script_text
-  pub accepted : judgement script_text ≡ Ok script
-  pub changes_held : loaded holdings names.changes changes_limit ≡ Whole changes
-  pub plain : plain_text changes ≡ Some text
-  pub headline : Headline script (lines_of text) bytes
+  pub taken : Taken
+  pub rows : Rows
+  pub held : AreHeld names holdings script changes
+  pub lines_taken : taken_of script.inserted.sources first changes ≡ Ok taken
+  pub answers : query_answer script (rows_of script.inserted.sources taken) ≡ Some rows
+  pub reads : bytes ≡ row_lines (sink_types script) (items rows)
+
+abbrev pub IsHeadlineOf : Option Request → Holdings → List ℕ → Type 0
+IsHeadlineOf None holdings bytes = ⊥
+IsHeadlineOf (Some (run names)) holdings bytes = HasRun names holdings bytes
+IsHeadlineOf (Some (batch names first)) holdings bytes = HasAnswered names first holdings bytes
+
+-- what a job on these words and holdings that ends well has written
+abbrev pub IsHeadline : List (List ℕ) → Holdings → List ℕ → Type 0
+IsHeadline words holdings bytes = IsHeadlineOf (request_of words) holdings bytes

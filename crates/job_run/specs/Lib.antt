@@ -1,5 +1,4 @@
-pub mod Arithmetic
 pub mod Complete
 pub mod Headline
-pub mod Judgement
+pub mod Held
 pub mod Outcome

@@ -1,15 +1,16 @@
--- What a run answers and writes, composed of the script's judgement and the run over its change file.
+-- What a job answers and writes, composed of the script's judgement and the run of its plan, or the batch answer, over its change file.
 use Rattle.std.specs.Prelude.{ℕ, List, Option, Some, None, Ok, Err}
-use Rattle.command_line.specs.Words.{FileNames, files_of}
+use Rattle.command_line.specs.Words.{Request, run, batch, request_of}
 use Rattle.ct_io.specs.Holdings.{Holdings, Loaded, Missing, Long, Whole, loaded}
 use Rattle.judge.specs.Judgement.{Judged}
 use Rattle.job_ending.specs.declared.ending.Ending.TheVariants.{Usage, Script, Limit, ReadFault}
 use Rattle.job_ending.specs.declared.ending.LimitName.{LimitName}
 use Rattle.job_ending.specs.declared.ending.LimitName.TheVariants.{Script as ScriptLimit, Changes as ChangesLimit}
 use Rattle.job_ending.specs.Outcome.{Outcome, ends}
-use Rattle.job_forms.specs.declared.accepted.Accepted.{Accepted}
-use Rattle.job_forms.specs.Run.{with_changes}
-use Rattle.job_run.specs.Judgement.{judgement}
+use Rattle.job_judgement.specs.Judgement.{Accepted, judgement}
+use Rattle.job_batch.specs.Batch.{with_changes as batch_changes}
+use Rattle.job_plan.specs.Runnable.{runnable}
+use Rattle.job_stream.specs.Stream.{streamed}
 
 -- the largest script and change file, in bytes
 abbrev pub script_limit : ℕ
@@ -23,18 +24,31 @@ after_load over next Missing = ends ReadFault
 after_load over next Long = ends (Limit over)
 after_load over next (Whole bytes) = next bytes
 
--- the change file is loaded where the script can be run
-abbrev pub with_judgement : Holdings → List ℕ → Judged Accepted → Outcome
-with_judgement holdings changes (Err refusal) = ends (Script refusal.code refusal.statement)
-with_judgement holdings changes (Ok script) = after_load ChangesLimit (with_changes script) (loaded holdings changes changes_limit)
+abbrev pub after_judgement : {A : Type 0} → (A → Outcome) → Judged A → Outcome
+after_judgement next (Err refusal) = ends (Script refusal.code refusal.statement)
+after_judgement next (Ok script) = next script
 
-abbrev pub with_script_text : Holdings → List ℕ → List ℕ → Outcome
-with_script_text holdings changes text = with_judgement holdings changes (judgement text)
+-- the script of a name is loaded and judged
+abbrev pub with_script : Holdings → List ℕ → (Accepted → Outcome) → Outcome
+with_script holdings name next = after_load ScriptLimit (λ text. after_judgement next (judgement text)) (loaded holdings name script_limit)
 
-abbrev pub with_files : Holdings → Option FileNames → Outcome
-with_files holdings None = ends Usage
-with_files holdings (Some names) = after_load ScriptLimit (with_script_text holdings names.changes) (loaded holdings names.script script_limit)
+-- the change file of a name is loaded
+abbrev pub over_changes : Holdings → List ℕ → (List ℕ → Outcome) → Outcome
+over_changes holdings name next = after_load ChangesLimit next (loaded holdings name changes_limit)
 
--- what a run on these words and holdings answers and writes
+-- the changelog that a run of the script's plan prints, where the script can be run
+abbrev pub run_script : Holdings → List ℕ → Accepted → Outcome
+run_script holdings changes script = after_judgement (λ plan. over_changes holdings changes (streamed plan)) (runnable script)
+
+-- the batch answer
+abbrev pub batch_script : Holdings → List ℕ → Option ℕ → Accepted → Outcome
+batch_script holdings changes first script = over_changes holdings changes (batch_changes script first)
+
+abbrev pub with_request : Holdings → Option Request → Outcome
+with_request holdings None = ends Usage
+with_request holdings (Some (run names)) = with_script holdings names.script (run_script holdings names.changes)
+with_request holdings (Some (batch names first)) = with_script holdings names.script (batch_script holdings names.changes first)
+
+-- what a job on these words and holdings answers and writes
 abbrev pub outcome : List (List ℕ) → Holdings → Outcome
-outcome words holdings = with_files holdings (files_of words)
+outcome words holdings = with_request holdings (request_of words)

@@ -1,12 +1,11 @@
-//! One run, from its words to its last printed line: it loads and judges the script, loads the change file, and hands both
-//! on. Its definitions say what a run on words and files answers and writes (`specs/Outcome`), what a script is judged
-//! to be (`specs/Judgement`), and what a run that ends well has printed (`specs/Headline`).
+//! One job, from its words to its last written line: it loads and judges the script, loads the change file, and hands both on to the run
+//! of the script's plan or to the batch answer. Its definitions say what a job on words and files answers and writes (`specs/Outcome`),
+//! what a job that ends well has written (`specs/Headline`), and what it needs for that (`specs/Complete`).
 #![tactic(auto)]
 
-mod judged;
-mod laws;
+mod batches;
+mod changelogs;
 mod load;
-mod runs;
+mod requests;
 
-pub use laws::accepted_is_lawful;
-pub use runs::run;
+pub use requests::run;

@@ -1,6 +1,6 @@
 // Runs of many lines, which end within the time of a test.
 use crate::files::{files, usual_words};
-use crate::scripts::{COUNT_RETRACT, SELECT_RETRACT};
+use crate::scripts::{COUNT_RETRACT, SELECT_RETRACT, SELECT_UPSERT};
 use ct_io::{Files, SureShelf, SureSink};
 use ct_value::{Bytes, Memory, Text};
 use job::{run_job, status};
@@ -60,6 +60,36 @@ fn ends_over_many(alloc: Global, script: &str) -> bool {
 #[test]
 fn many_lines_are_selected(rt: HostRuntime) {
     assert!(rt; ends_over_many(rt.alloc(), SELECT_RETRACT));
+}
+
+// So many lines of an upsert table, each with a key of its own.
+fn upsert_lines(alloc: Global, count: u32) -> Result<Bytes, Memory> {
+    let mut lines = Bytes::new(alloc);
+    for i in 1..=count {
+        let line = format!(in alloc; "c,+I,{i},Rome\n")?;
+        lines.extend(line.as_bytes())?;
+    }
+    Ok(lines)
+}
+
+fn upsert_files(alloc: Global) -> Result<Files, Memory> {
+    let script = Bytes::from_slice(alloc, SELECT_UPSERT.as_bytes())?;
+    files(alloc, script, upsert_lines(alloc, 300000)?)
+}
+
+fn ends_over_keys(alloc: Global) -> bool {
+    let Ok(words) = usual_words(alloc) else {
+        return false;
+    };
+    match upsert_files(alloc) {
+        Ok(files) => ends_well(alloc, words.as_slice(), files),
+        Err(_) => false,
+    }
+}
+
+#[test]
+fn many_keys_are_normalized(rt: HostRuntime) {
+    assert!(rt; ends_over_keys(rt.alloc()));
 }
 
 #[test]

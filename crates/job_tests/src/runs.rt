@@ -1,9 +1,11 @@
 // Worked runs: what is written, the line of the ending, and the status.
 use crate::files::{calls, files, files_of, filled, texts, usual_words};
 use crate::scripts::{
-    ANY_SPELLING, BAD_TOKEN_LATER, BEHIND_INSERT, COUNT_APPEND, COUNT_RETRACT, COUNT_SECOND,
-    INTO_APPEND, MINI_BATCHES, MORE_TABLES, NO_INSERT, ONE_HOUR, OPEN_END, SELECT_APPEND,
-    SELECT_RETRACT, SELECT_TWO, THIRTY_TWO_DEEP, TOO_DEEP, WITH_CONDITION,
+    ANY_SPELLING, BAD_TOKEN_LATER, BATCHES_WITHOUT_GROUP, BEHIND_INSERT, COUNT_ALL, COUNT_APPEND,
+    COUNT_RETRACT, COUNT_SECOND, DISTINCT_OF_TWO, GROUP_IN_BATCHES, INTO_APPEND, MAX_BY_WORD,
+    MEAN_BY_WORD, MORE_TABLES, NO_INSERT, ONE_HOUR, OPEN_END, RIGHT_JOIN, SELECT_APPEND,
+    SELECT_NULLABLE, SELECT_RETRACT, SELECT_TWO, SELECT_UPSERT, SUM_BY_WORD, THIRTY_TWO_DEEP,
+    TOO_DEEP, WITH_CONDITION,
 };
 use ct_io::{Calls, Files, MemShelf, MemSink, SureShelf, SureSink};
 use ct_value::{Memory, Text};
@@ -56,7 +58,7 @@ fn usually_leaves(alloc: Global, files: Files, left: &Left) -> bool {
 // A script, a change file, and what the run over them leaves.
 type Run = (&'static str, &'static str, Left);
 
-const WORKED: [Run; 14] = [
+const WORKED: [Run; 27] = [
     (SELECT_APPEND, "", ("=,0\n", "", 0)),
     (
         SELECT_APPEND,
@@ -115,6 +117,100 @@ const WORKED: [Run; 14] = [
         ("+I,a,1\n-U,a,1\n+U,a,2\n=,2\n", "", 0),
     ),
     (MORE_TABLES, "t,+I,a\n", ("+I,a\n=,1\n", "", 0)),
+    (THIRTY_TWO_DEEP, "t,+I,a\n", ("+I,a\n=,1\n", "", 0)),
+    (
+        WITH_CONDITION,
+        "t,+I,b\nt,+I,ab\n",
+        ("+I,ab\n=,2\n", "", 0),
+    ),
+    (BATCHES_WITHOUT_GROUP, "t,+I,a\n", ("+I,a\n=,1\n", "", 0)),
+    (
+        SELECT_NULLABLE,
+        "t,+I,\"a,b\"\r\nt,+I,\\N\nt,+I,\\\\N\nt,+I,\n",
+        ("+I,\"a,b\"\n+I,\\N\n+I,\\\\N\n+I,\n=,4\n", "", 0),
+    ),
+    (
+        MAX_BY_WORD,
+        "t,+I,a,9\nt,+I,a,3\n",
+        ("+I,a,9\n=,2\n", "", 0),
+    ),
+    (
+        SUM_BY_WORD,
+        "t,+I,a,9223372036854775807\nt,+I,a,1\n",
+        ("", "range node 2 subtask 0 row a\n", 5),
+    ),
+    (
+        SUM_BY_WORD,
+        "t,+I,a,9223372036854775807\nt,+I,a,-1\n",
+        (
+            "+I,a,9223372036854775807\n-U,a,9223372036854775807\n+U,a,9223372036854775806\n=,2\n",
+            "",
+            0,
+        ),
+    ),
+    (
+        MEAN_BY_WORD,
+        "t,+I,a,-7\nt,+I,a,2\n",
+        ("+I,a,-7\n-U,a,-7\n+U,a,-2\n=,2\n", "", 0),
+    ),
+    (COUNT_ALL, "", ("+I,0\n=,0\n", "", 0)),
+    (
+        SELECT_UPSERT,
+        "c,-D,1,Rome\nc,+I,1,Rome\nc,+I,1,Oslo\nc,+U,1,Oslo\n",
+        ("+I,1,Rome\n-U,1,Rome\n+U,1,Oslo\n=,4\n", "", 0),
+    ),
+    (
+        SELECT_UPSERT,
+        "c,+I,1,Rome\nc,+I,\\N,Rome\n",
+        ("", "change C6 NullNotAllowed line 2 column 1\n", 3),
+    ),
+    (
+        DISTINCT_OF_TWO,
+        "t,+I,a\nu,+I,a\nt,-D,a\n",
+        ("+I,a\n-D,a\n+I,a\n=,3\n", "", 0),
+    ),
+    (
+        RIGHT_JOIN,
+        "",
+        ("", "script S18 Unsupported statement 4\n", 2),
+    ),
+];
+
+// Words behind those of a run, a script, a change file, and what the answer over them leaves.
+type Answer = (&'static [&'static str], &'static str, &'static str, Left);
+
+const ANSWERS: [Answer; 6] = [
+    (&[], COUNT_APPEND, "t,+I,a\nt,+I,a\n", ("a,2\n", "", 0)),
+    (
+        &["--first", "1"],
+        COUNT_APPEND,
+        "t,+I,a\nt,+I,a\n",
+        ("a,1\n", "", 0),
+    ),
+    (
+        &["--first", "0"],
+        COUNT_APPEND,
+        "t,+I,a\nt,+I,a\n",
+        ("", "", 0),
+    ),
+    (
+        &[],
+        SUM_BY_WORD,
+        "t,+I,a,9223372036854775807\nt,+I,a,1\n",
+        ("", "range node 0 subtask 0 row \n", 5),
+    ),
+    (
+        &[],
+        INTO_APPEND,
+        "t,+I,b\nt,+I,a\nt,+I,b\n",
+        ("a\nb\nb\n", "", 0),
+    ),
+    (
+        &[],
+        RIGHT_JOIN,
+        "orders,+I,7,1\norders,+I,8,\\N\ncustomers,+I,1,Rome\ncustomers,+I,\\N,Oslo\n",
+        ("\\N,Oslo\n7,Rome\n", "", 0),
+    ),
 ];
 
 fn shelf_leaves(alloc: Global, shelf: &mut MemShelf, puts: Calls, left: &Left) -> bool {
@@ -145,6 +241,35 @@ fn leaves_surely(alloc: Global, run: &Run) -> bool {
     }
 }
 
+// The words of an answer: those of a run with `--do batch`, and others behind them.
+fn answer_words(alloc: Global, others: &[&str]) -> Result<Vec<Text>, Memory> {
+    let mut words = texts(
+        alloc,
+        &["--script", "s", "--changes", "c", "--do", "batch"],
+    )?;
+    for word in others {
+        words.push(Text::from_str(alloc, word)?)?;
+    }
+    Ok(words)
+}
+
+fn answers(alloc: Global, answer: &Answer) -> bool {
+    let Ok(words) = answer_words(alloc, answer.0) else {
+        return false;
+    };
+    match files_of(alloc, answer.1, answer.2) {
+        Ok(files) => surely_leaves(alloc, words.as_slice(), files, &answer.3),
+        Err(_) => false,
+    }
+}
+
+#[test]
+fn worked_answers_are_what_is_wanted(rt: HostRuntime) {
+    for answer in &ANSWERS {
+        assert!(rt; answers(rt.alloc(), answer), "{} over {}", answer.1, answer.2);
+    }
+}
+
 #[test]
 fn worked_runs_leave_what_is_wanted(rt: HostRuntime) {
     for run in &WORKED {
@@ -158,10 +283,9 @@ fn worked_runs_leave_what_is_wanted(rt: HostRuntime) {
 }
 
 // Scripts that are refused, and the line on `err`.
-const REFUSED_SCRIPTS: [(&str, &str); 12] = [
+const REFUSED_SCRIPTS: [(&str, &str); 10] = [
     ("", "script S19 NotOneInsert statement 1\n"),
     (TOO_DEEP, "script S20 TooDeep statement 3\n"),
-    (THIRTY_TWO_DEEP, "script S18 Unsupported statement 3\n"),
     (ONE_HOUR, "script S10 StateTtl statement 1\n"),
     (OPEN_END, "script S2 Syntax statement 3\n"),
     (BEHIND_INSERT, "script S19 NotOneInsert statement 4\n"),
@@ -171,24 +295,24 @@ const REFUSED_SCRIPTS: [(&str, &str); 12] = [
         "CREATE TABLE t (a INT, a INT);",
         "script S6 DuplicateName statement 1\n",
     ),
-    (WITH_CONDITION, "script S18 Unsupported statement 3\n"),
-    (MINI_BATCHES, "script S18 Unsupported statement 4\n"),
+    (GROUP_IN_BATCHES, "script S18 Unsupported statement 4\n"),
     (INTO_APPEND, "script S18 Unsupported statement 3\n"),
 ];
 
 // Change files of an append table `t` with one column that are refused, and the line on `err`.
-const REFUSED: [(&str, &str); 11] = [
-    ("t,+I,\"a\"\n", "change C1 FieldCount line 0\n"),
-    ("t,+I,a\nt,+I,a\\b\n", "change C1 FieldCount line 0\n"),
-    ("t,+I,a\r\n", "change C1 FieldCount line 0\n"),
-    ("t,+I,\t\n", "change C1 FieldCount line 0\n"),
-    ("t,+I,\u{e9}\n", "change C1 FieldCount line 0\n"),
-    ("u,+I,a\n", "change C1 FieldCount line 1\n"),
+const REFUSED: [(&str, &str); 9] = [
     ("\nt,+I,a\n\nt,+I\n", "change C1 FieldCount line 2\n"),
     ("t,+I,a,b\n", "change C1 FieldCount line 1\n"),
-    ("t,+X,a\n", "change C1 FieldCount line 1\n"),
-    ("t,+I,a\nt,-D,a\n", "change C1 FieldCount line 2\n"),
-    ("t,+U,a\n", "change C1 FieldCount line 1\n"),
+    ("u,+I,a\n", "change C2 UnknownTable line 1\n"),
+    ("out_t,+I,a\n", "change C2 UnknownTable line 1\n"),
+    ("t,+X,a\n", "change C3 BadKind line 1\n"),
+    ("t,+I,a\nt,-D,a\n", "change C4 KindNotDeclared line 2\n"),
+    ("t,+U,a\n", "change C4 KindNotDeclared line 1\n"),
+    ("t,+I,\\x\n", "change C5 BadField line 1 column 1\n"),
+    (
+        "t,+I,\\N\n",
+        "change C6 NullNotAllowed line 1 column 1\n",
+    ),
 ];
 
 fn is_refused_script(alloc: Global, script: &'static str, line: &'static str) -> bool {

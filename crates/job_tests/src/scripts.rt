@@ -49,7 +49,7 @@ pub const MORE_TABLES: &str = "SET 'pipeline.name' = 'words'; SET 'table.exec.st
     CREATE TABLE out_t (word STRING) WITH ('changelog' = 'append', 'changelog' = 'retract');\
     INSERT INTO out_t SELECT word FROM t;";
 
-/// Thirty-two parentheses round the word that is selected, which are read and not run yet.
+/// Thirty-two parentheses round the word that is selected, as many as may be open.
 pub const THIRTY_TWO_DEEP: &str =
     "CREATE TABLE t (word STRING NOT NULL) WITH ('changelog' = 'append');\
     CREATE TABLE out_t (word STRING) WITH ('changelog' = 'retract');\
@@ -84,17 +84,65 @@ pub const NO_INSERT: &str = "CREATE TABLE t (word STRING); SET 'pipeline.name' =
 pub const BAD_TOKEN_LATER: &str =
     "CREATE TABLE t (a INT, a INT); INSERT INTO out_t SELECT 1a FROM t;";
 
-/// A table of which nothing is selected yet, with a condition.
+/// A condition that is TRUE for one word.
 pub const WITH_CONDITION: &str =
     "CREATE TABLE t (word STRING NOT NULL) WITH ('changelog' = 'append');\
     CREATE TABLE out_t (word STRING) WITH ('changelog' = 'retract');\
-    INSERT INTO out_t SELECT word FROM t WHERE TRUE;";
+    INSERT INTO out_t SELECT word FROM t WHERE word LIKE 'a%';";
 
-/// Mini-batches, which aren't run yet.
-pub const MINI_BATCHES: &str = "SET 'table.exec.mini-batch.enabled' = 'TRUE';\
+/// Mini-batches of a group, which aren't run yet.
+pub const GROUP_IN_BATCHES: &str = "SET 'table.exec.mini-batch.enabled' = 'TRUE';\
+    CREATE TABLE t (word STRING NOT NULL) WITH ('changelog' = 'append');\
+    CREATE TABLE out_t (word STRING, n BIGINT) WITH ('changelog' = 'retract');\
+    INSERT INTO out_t SELECT word, COUNT(*) FROM t GROUP BY word;";
+
+/// Mini-batches without a group.
+pub const BATCHES_WITHOUT_GROUP: &str = "SET 'table.exec.mini-batch.enabled' = 'TRUE';\
     CREATE TABLE t (word STRING NOT NULL) WITH ('changelog' = 'append');\
     CREATE TABLE out_t (word STRING) WITH ('changelog' = 'retract');\
     INSERT INTO out_t SELECT word FROM t;";
+
+/// A column in which NULL may stand.
+pub const SELECT_NULLABLE: &str = "CREATE TABLE t (word STRING);\
+    CREATE TABLE out_t (word STRING) WITH ('changelog' = 'retract');\
+    INSERT INTO out_t SELECT word FROM t;";
+
+/// The greatest number of each word.
+pub const MAX_BY_WORD: &str = "CREATE TABLE t (word STRING NOT NULL, v BIGINT NOT NULL);\
+    CREATE TABLE out_t (word STRING, n BIGINT) WITH ('changelog' = 'retract');\
+    INSERT INTO out_t SELECT word, MAX(v) FROM t GROUP BY word;";
+
+/// The sum of the numbers of each word.
+pub const SUM_BY_WORD: &str = "CREATE TABLE t (word STRING NOT NULL, v BIGINT NOT NULL);\
+    CREATE TABLE out_t (word STRING, n BIGINT) WITH ('changelog' = 'retract');\
+    INSERT INTO out_t SELECT word, SUM(v) FROM t GROUP BY word;";
+
+/// The mean of the numbers of each word.
+pub const MEAN_BY_WORD: &str = "CREATE TABLE t (word STRING NOT NULL, v BIGINT NOT NULL);\
+    CREATE TABLE out_t (word STRING, n BIGINT) WITH ('changelog' = 'retract');\
+    INSERT INTO out_t SELECT word, AVG(v) FROM t GROUP BY word;";
+
+/// The number of all rows.
+pub const COUNT_ALL: &str = "CREATE TABLE t (word STRING NOT NULL) WITH ('changelog' = 'append');\
+    CREATE TABLE out_t (n BIGINT) WITH ('changelog' = 'retract');\
+    INSERT INTO out_t SELECT COUNT(*) FROM t;";
+
+/// The rows of an upsert table.
+pub const SELECT_UPSERT: &str = "CREATE TABLE c (id INT PRIMARY KEY NOT ENFORCED, city STRING) WITH ('changelog' = 'upsert');\
+    CREATE TABLE out_t (id INT, city STRING) WITH ('changelog' = 'retract');\
+    INSERT INTO out_t SELECT id, city FROM c;";
+
+/// Words of two tables, each once, in four subtasks.
+pub const DISTINCT_OF_TWO: &str = "CREATE TABLE t (word STRING) WITH ('changelog' = 'retract');\
+    CREATE TABLE u (word STRING); CREATE TABLE out_t (word STRING) WITH ('changelog' = 'retract');\
+    SET 'table.exec.resource.default-parallelism' = '4';\
+    INSERT INTO out_t SELECT DISTINCT word FROM (SELECT word FROM t UNION ALL SELECT word FROM u);";
+
+/// The customers of orders, and of customers without one.
+pub const RIGHT_JOIN: &str = "CREATE TABLE orders (id INT, cust INT) WITH ('changelog' = 'retract');\
+    CREATE TABLE customers (cid INT, city STRING);\
+    CREATE TABLE out_t (id INT, city STRING) WITH ('changelog' = 'retract');\
+    INSERT INTO out_t SELECT o.id, c.city FROM orders AS o RIGHT JOIN customers AS c ON o.cust = c.cid;";
 
 /// A sink of another mode, which isn't run yet.
 pub const INTO_APPEND: &str = "CREATE TABLE t (word STRING NOT NULL);\

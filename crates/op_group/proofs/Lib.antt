@@ -1,3 +1,6 @@
 pub mod Cells
-pub mod Shifts
+pub mod Turns
 pub mod Members
+pub mod Openings
+pub mod Shifts
+pub mod Taken

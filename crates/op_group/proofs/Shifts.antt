@@ -26,7 +26,7 @@ use Rattle.op_group.specs.Kept.{picked, shifted, HasValue, HasRow, type_among, S
 -- ---- the values of a call
 
 module _ (agg : Agg) where
-  values-none : values_of agg none ≡ none
+  pub values-none : values_of agg none ≡ none
   values-none = ap (mapped (argument agg.arg)) (restrict-none {R = row_cmp} row_total row_exact (passes agg.filter)) ∙ mapped-none {S = value_cmp} value_total value_exact row_cmp (argument agg.arg)
 
   values-add : (rows : Rows) (row : Row) → values_of agg (add rows row) ≡ shifted (values_of agg rows) None (picked agg (Some row))
@@ -289,7 +289,7 @@ as_many xs ys e = sym (calls-length xs) ∙ ap length e ∙ calls-length ys
 
 -- ---- no rows, and what is kept by its own calls
 
-no_rows : (rows : Rows) → row_count rows ≡ 0 → rows ≡ none
+pub no_rows : (rows : Rows) → row_count rows ≡ 0 → rows ≡ none
 no_rows rows e = same_bag row_total row_exact _ _ (λ row. nothing (copies rows row) (λ some.
     let one : 1 ≡ 0 = each-copies row_total row_exact (λ _. 1 ≡ 0) rows (nothing_weighs (λ _. 1) rows e) row some in absurd (omega arith)) ∙ sym (copies-none row_total row))
   where

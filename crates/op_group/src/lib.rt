@@ -1,14 +1,18 @@
-//! What an operator of grouped aggregates keeps of one group, and what a change makes of it.
+//! The operator of grouped aggregates.
 //!
-//! Promised: a `Kept` that stands for the rows of a group stands for them without a row that goes and with one that comes after
-//! `shift`; `take_turn` tells the group's row before and after, and is out of range exactly where a sum is after the change, or a
-//! call. It stands on the accumulators of `agg_fns` and speaks in the words of the rule of `group_rules`.
+//! Promised: `Group` is an `Operator` by the rule of groups of `group_rules`, for any mode of its input and of its output, with all
+//! aggregates, with and without key columns. It is proved once, from the contracts and laws of the modes of `ct_change`. Of each group
+//! that has rows it keeps a `Kept`, which stands for the group's rows; `take_turn` makes of it what a change does, and tells the
+//! group's row before and after. It stands on the accumulators of `agg_fns`.
 #![tactic(auto)]
 
 mod counter;
+mod group;
+mod groups;
 mod kept;
 mod turn;
 
 pub use counter::Counter;
+pub use group::Group;
 pub use kept::Kept;
 pub use turn::{Turn, take_turn};

@@ -1,9 +1,9 @@
 //! These functions have nothing to do: their contracts are the laws.
-ghost use Rattle.plan_laws.specs.Trees.{PlansAreWired, PlansMeetFacts, PortsTake, PlansAnswer};
+ghost use Rattle.plan_laws.specs.Trees.{PlansAreWired, PlansMeetFacts, NodesHaveColumns, PortsTake, PlansAnswer, PlansPrint, TablesAreMade};
 
 use group_rules::{groups_stand, groups_take};
 use plan_network::plans_are_wired as shaped_plans_are_wired;
-use stream_model::scans_stand;
+use stream_model::{printed_folds_to_answer, scans_stand};
 
 /// The plan of a well-typed tree is wired: each port is fed by one node that stands before it, and each node but the sink feeds
 /// one port.
@@ -14,6 +14,15 @@ pub fn plans_are_wired()
     groups_take();
     scans_stand();
     shaped_plans_are_wired();
+}
+
+/// Each of its nodes has columns.
+pub fn nodes_have_columns()
+    ensures { NodesHaveColumns }
+{
+    groups_stand();
+    groups_take();
+    scans_stand();
 }
 
 /// Each of its nodes meets its facts, in however many subtasks it runs, and each port takes what its edge carries.
@@ -34,3 +43,19 @@ pub fn plans_answer()
     groups_take();
     scans_stand();
 }
+
+/// In every run over the plan of a well-typed tree each prefix of what was printed is a valid changelog, and at every quiet moment
+/// it folds to the tree's answer over the rows that the changes taken leave of each table.
+pub fn plans_print_answers()
+    ensures { PlansPrint }
+{
+    plans_are_wired();
+    plans_meet_facts();
+    plans_answer();
+    printed_folds_to_answer();
+}
+
+/// What is asked of tables holds of all that CREATE TABLE declares, in whatever order.
+pub fn tables_are_made()
+    ensures { TablesAreMade }
+{}

@@ -1,1 +1,4 @@
+pub mod Laying
+pub mod Ports
 pub mod Stages
+pub mod Started

@@ -14,4 +14,4 @@ mod refusals;
 
 pub use checks::SourceChecks;
 pub use folds::SourceFold;
-pub use refusals::SourceFault;
+pub use refusals::{SourceFault, check_nulls};

@@ -10,8 +10,8 @@ pub returns-clause-complete : goal.returns-clause-complete
 returns-clause-complete g c = completes_told _ (outcome c.args.words.now) _ _ _ _ c.report.ensures.same c.run-ending.ensures.runs.cause
 
 pub returns-clause-range : goal.returns-clause-range
-returns-clause-range g c = λ h is none node subtask row out.
-    c.run-ending.ensures.range h is none node subtask row (range_before _ _ node subtask row c.report.ensures.same out)
+returns-clause-range g c = λ h is none node subtask row columns out.
+    c.run-ending.ensures.range h is none node subtask row columns (range_before _ _ node subtask row columns c.report.ensures.same out)
 
 pub returns-clause-ends_well : goal.returns-clause-ends_well
 returns-clause-ends_well g c = λ no_read no_write h is may.

@@ -1,7 +1,7 @@
 use Rattle.std.proofs.Common.{◌≡◌, drop}
 use Rattle.sql_syntax.specs.Tree as t
-use Rattle.sql_syntax.specs.View.{items_view, selects_view, trees_view}
-use Rattle.binding.specs.Unbuilt as u
+use Rattle.sql_syntax.specs.View.{items_view, joins_view, selects_view, trees_view}
+use Rattle.bind_unbuilt.specs.Unbuilt as u
 use Rattle.bind_unbuilt.proofs.Rests.{products_from, sorts_from, sums_from, whens_from}
 use Rattle.bind_unbuilt.proofs.waits.+waits.Given as goal
 
@@ -10,6 +10,9 @@ invariant-any_select_waits-loop-select l = u.selects_wait (t.selects (selects_vi
 
 abbrev pub invariant-any_item_waits-loop-item : goal.invariant-any_item_waits-loop-item
 invariant-any_item_waits-loop-item l = u.items_wait (t.items (items_view l.fn.items)) ≡ u.items_wait (t.items (items_view (drop l.item-index l.item-items)))
+
+abbrev pub invariant-any_join_waits-loop-join : goal.invariant-any_join_waits-loop-join
+invariant-any_join_waits-loop-join l = u.joins_wait (t.joins (joins_view l.fn.joins)) ≡ u.joins_wait (t.joins (joins_view (drop l.join-index l.join-items)))
 
 abbrev pub invariant-any_waits-loop-tree : goal.invariant-any_waits-loop-tree
 invariant-any_waits-loop-tree l = u.trees_wait l.within (t.trees (trees_view l.fn.trees)) ≡ u.trees_wait l.within (t.trees (trees_view (drop l.tree-index l.tree-items)))

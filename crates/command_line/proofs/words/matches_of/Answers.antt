@@ -2,6 +2,7 @@ use Rattle.std.proofs.Common.{◌∙◌, ap, sym, map}
 use Rattle.std.proofs.lemmas.List.{map-id}
 use Rattle.clap.specs.Words.{App, fault_of, is_simple_and_free}
 use Rattle.command_line.specs.Words.{the_app, value_of}
+use Rattle.command_line.proofs.Accepted.{first-whole}
 use Rattle.command_line.proofs.Matched.{app-is_free, value-found}
 use Rattle.command_line.proofs.words.matches_of.Goals as goal
 
@@ -15,3 +16,7 @@ pub returns-in-Ok-try_get_matches_from-clause-values : goal.returns-in-Ok-try_ge
 returns-in-Ok-try_get_matches_from-clause-values c name =
     value-found c.in-Ok.command c.in-Ok-try_get_matches_from.matches _ name c.in-Ok.ensures c.in-Ok-try_get_matches_from.ensures.matches
     ∙ ap (λ words. value_of words name) (map-id c.args.words.now)
+
+pub returns-in-Ok-try_get_matches_from-clause-whole : goal.returns-in-Ok-try_get_matches_from-clause-whole
+returns-in-Ok-try_get_matches_from-clause-whole c =
+    first-whole c.in-Ok.command c.in-Ok-try_get_matches_from.matches c.in-Ok.ensures c.in-Ok-try_get_matches_from.ensures.parsed

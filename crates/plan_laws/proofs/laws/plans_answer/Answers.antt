@@ -1,4 +1,4 @@
-use Rattle.plan_laws.proofs.Answers as answers
+use Rattle.plan_laws.specs.laws.Answers as answers
 use Rattle.plan_laws.proofs.laws.plans_answer.Goals as goal
 
 pub returns : goal.returns

@@ -1,4 +1,4 @@
-use Rattle.plan_laws.proofs.Wiring as wiring
+use Rattle.plan_laws.specs.laws.Wiring as wiring
 use Rattle.plan_laws.proofs.laws.plans_are_wired.Goals as goal
 
 pub returns : goal.returns

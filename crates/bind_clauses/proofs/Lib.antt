@@ -1,0 +1,8 @@
+pub mod Behind
+pub mod Finds
+pub mod Grouped
+pub mod Heads
+pub mod InTurn
+pub mod Projects
+pub mod Stars
+pub mod Unites

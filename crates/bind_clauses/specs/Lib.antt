@@ -1,0 +1,4 @@
+pub mod Conditions
+pub mod Lists
+pub mod Unions
+pub mod Views

@@ -1,0 +1,9 @@
+use query_answer::Scope;
+use rel_algebra::Rel;
+
+/// A tree of the algebra, with the columns in reach over its rows.
+#[derive(Drop)]
+pub struct Relation {
+    pub rel: Box<Rel>,
+    pub scope: Scope,
+}

@@ -1,0 +1,4 @@
+pub mod Behind
+pub mod Operands
+pub mod Rels
+pub mod Turns

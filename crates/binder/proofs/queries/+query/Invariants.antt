@@ -1,0 +1,12 @@
+use Rattle.std.proofs.Common.{◌≡◌, [], None, drop}
+use Rattle.rel_algebra.specs.View.{rels_view}
+use Rattle.bind_clauses.specs.Views.{relation_view}
+use Rattle.binder.proofs.Joins.{joins_left}
+use Rattle.binder.proofs.Unions.{rest_left}
+use Rattle.binder.proofs.queries.+query.Given as goal
+
+abbrev pub invariant-bind_union-loop-select : goal.invariant-bind_union-loop-select
+invariant-bind_union-loop-select l = rest_left l.sources [] None l.fn.selects ≡ rest_left l.sources (rels_view l.inputs) l.scope (drop l.select-index l.select-items)
+
+abbrev pub invariant-joined_all-loop-join : goal.invariant-joined_all-loop-join
+invariant-joined_all-loop-join l = joins_left l.sources (relation_view l.fn.first) l.fn.joins ≡ joins_left l.sources (relation_view l.all) (drop l.join-index l.join-items)

@@ -1,0 +1,12 @@
+//! Queries and INSERTs are bound to the algebra.
+//!
+//! Promised: `bind` answers what the definition of `binding` says of the INSERT, or its first refusal. It stands on bound clauses, groups and joins.
+#![tactic(auto)]
+
+mod inserts;
+mod queries;
+mod selected;
+mod sinks;
+
+pub use inserts::{Inserted, bind};
+pub use queries::bind_query;

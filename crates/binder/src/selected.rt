@@ -1,0 +1,55 @@
+//! The select list of a select.
+ghost use Rattle.bind_names.specs.declared.fault.BindFault.TheVariants as f;
+ghost use Rattle.std.specs.Prelude.{◌≡◌, Ok, Err, option_map, IfOk, IsErrOf};
+ghost use Rattle.ct_value.specs.declared.codes.ScriptCode.{ScriptCode};
+ghost use Rattle.sql_syntax.specs.Tree.{items as item_list, optional_tree, trees as tree_list};
+ghost use Rattle.sql_syntax.specs.View.{view, items_view, trees_view};
+ghost use Rattle.query_answer.specs.Answer.{entries, listed_trees};
+ghost use Rattle.binding.specs.Queries as q;
+ghost use Rattle.bind_clauses.specs.Views.{entries_view, relation_view};
+ghost use Rattle.binder.specs.Steps.{listed};
+
+use bind_clauses::{Entries, Relation, entries_of, is_grouped, once, plain_select};
+use bind_groups::grouped_select;
+use bind_names::BindFault;
+use ct_value::ScriptCode;
+use sql_syntax::{Items, Tree, Trees};
+use std::alloc::Global;
+
+// The items with GROUP BY, HAVING and DISTINCT, over the columns in reach.
+#[tactic(auto, using(crate::proofs::Selects::listed_all))]
+pub(crate) fn selected<'a>(
+    alloc: Global,
+    distinct: bool,
+    items: &'a Items,
+    groups: &Trees,
+    having: &'a Option<Tree>,
+    relation: Relation,
+) -> Result<Relation, BindFault>
+    ensures ok { IfOk result (λ x. q.selected distinct (entries relation.scope (item_list (items_view items.now))) (listed_trees (tree_list (trees_view groups.now))) (optional_tree (option_map view having.now)) (relation_view relation) ≡ Ok (relation_view x)) }
+    ensures refused { (code : ScriptCode) → IsErrOf result (f.Refused code) → q.selected distinct (entries relation.scope (item_list (items_view items.now))) (listed_trees (tree_list (trees_view groups.now))) (optional_tree (option_map view having.now)) (relation_view relation) ≡ Err code }
+{
+    let entries = entries_of(alloc, &relation.scope, items)?;
+    if entries.is_empty() {
+        return Err(BindFault::Refused(ScriptCode::Unsupported));
+    }
+    let all = listed(alloc, &entries, groups, having, relation)?;
+    Ok(once(alloc, distinct, all)?)
+}
+
+// The same before DISTINCT.
+fn listed<'a>(
+    alloc: Global,
+    entries: &Entries<'a>,
+    groups: &Trees,
+    having: &'a Option<Tree>,
+    relation: Relation,
+) -> Result<Relation, BindFault>
+    ensures ok { IfOk result (λ x. listed (entries_view entries.now) (trees_view groups.now) (optional_tree (option_map view having.now)) (relation_view relation) ≡ Ok (relation_view x)) }
+    ensures refused { (code : ScriptCode) → IsErrOf result (f.Refused code) → listed (entries_view entries.now) (trees_view groups.now) (optional_tree (option_map view having.now)) (relation_view relation) ≡ Err code }
+{
+    if is_grouped(alloc, entries, groups.as_slice(), having)? {
+        return grouped_select(alloc, entries, groups, having, relation);
+    }
+    plain_select(alloc, entries, relation)
+}

@@ -1,0 +1,14 @@
+//! Tests of the operator of groups: that memory suffices where there is enough of it, histories whose answers were worked out by
+//! hand, and many changes. What the calls answer is in their contracts.
+#![tactic(auto)]
+
+#[cfg(test)]
+mod feeding;
+#[cfg(test)]
+mod groups;
+#[cfg(test)]
+mod histories;
+#[cfg(test)]
+mod many;
+#[cfg(test)]
+mod modes;

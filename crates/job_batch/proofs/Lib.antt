@@ -1,0 +1,5 @@
+pub mod LinesOfRuns
+pub mod Tables
+pub mod Taken
+pub mod Over
+pub mod Widths

@@ -1,0 +1,5 @@
+use Rattle.ct_io.specs.Appending.{part_none}
+use Rattle.job_batch.proofs.lines.put_run.Goals as goal
+
+pub returns-in_err-line-clause-part : goal.returns-in_err-line-clause-part
+returns-in_err-line-clause-part g c = part_none _ _

@@ -1,0 +1,18 @@
+use Rattle.std.proofs.lemmas.Result.{err_from_is_err_and}
+use Rattle.job_judgement.specs.Views.{accepted_view}
+use Rattle.job_ending.specs.RunLaws.{halted_there, there_moved}
+use Rattle.job_batch.specs.Batch.{with_changes}
+use Rattle.job_batch.proofs.writing.batch.Goals as goal
+
+pub returns-in_err-rows-clause-runs : goal.returns-in_err-rows-clause-runs
+returns-in_err-rows-clause-runs g c =
+    let p = err_from_is_err_and c.from_residual.result c.from_residual.ensures.1 in
+    rw (p.1, p.2) (halted_there _ _ _ _ c.in_err-rows.ensures.halts)
+
+pub returns-in_err-rows-clause-printable : goal.returns-in_err-rows-clause-printable
+returns-in_err-rows-clause-printable g c =
+    let p = err_from_is_err_and c.from_residual.result c.from_residual.ensures.1 in
+    rw (p.1, p.2) c.in_err-rows.ensures.printable
+
+pub returns-clause-runs : goal.returns-clause-runs
+returns-clause-runs g c = there_moved (with_changes (accepted_view c.args.script.now) c.args.first c.args.bytes) c.in_ok-rows.ensures.ok c.write_rows.ensures.runs

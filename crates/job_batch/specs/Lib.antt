@@ -1,0 +1,3 @@
+pub mod Agree
+pub mod Batch
+pub mod Runs

@@ -1,0 +1,103 @@
+//! The rows of a batch answer.
+ghost use Rattle.std.specs.Prelude.{◌≡◌, ◌≤◌, [], length, map, IfOk, IfErr, IsErrOf};
+ghost use Rattle.binding.specs.Inserts.{column_types};
+ghost use Rattle.job_ending.specs.Endings.{IsPrintable};
+ghost use Rattle.job_ending.specs.Outcome.{ends};
+ghost use Rattle.job_ending.specs.Runs.{IsBefore, ending_of_halt};
+ghost use Rattle.job_ending.specs.declared.ending.Ending.TheVariants as Ending;
+ghost use Rattle.job_judgement.specs.Judged.{IsJudged};
+ghost use Rattle.job_judgement.specs.Views.{accepted_view};
+ghost use Rattle.source_laws.specs.Fitting.{RowsFit};
+ghost use Rattle.job_batch.specs.Batch.{done, over_tables, sink_types, with_changes, with_rows};
+ghost use Rattle.job_batch.specs.Runs.{AreWide};
+
+use batch_answer::{TypeLists, answer_of};
+use ct_catalog::TableDef;
+use ct_change::Bag;
+use ct_expr::EvalFault;
+use ct_value::{Bytes, ColTys, Memory, Row, Values};
+use job_ending::Halt;
+use job_judgement::{Accepted, accepted_is_bound};
+use query_laws::{bound_inserts_are_well_typed, inserts_keep_the_answer};
+use rel_laws::answers_fit;
+use source_laws::taken_rows_fit;
+use source_lines::{Bags, TakeFault, bags_of};
+use std::alloc::Global;
+
+/// The rows of the answer of an accepted script over the first lines of a change file, or over all.
+#[tactic(auto, using(crate::proofs::Taken::refused_line))]
+pub(crate) fn answer_rows(
+    alloc: Global,
+    script: &Accepted,
+    first: Option<u64>,
+    bytes: Bytes,
+) -> Result<Bag, Halt>
+    requires judged { IsJudged (accepted_view script.now) }
+    requires within { length bytes ≤ 67108864 }
+    ensures ok { IfOk result (λ rows. with_changes (accepted_view script.now) first bytes ≡ done (sink_types (accepted_view script.now)) rows) }
+    ensures wide { IfOk result (λ rows. AreWide (length (sink_types (accepted_view script.now))) rows) }
+    ensures halts { IfErr result (λ halt. IsBefore halt (with_changes (accepted_view script.now) first bytes)) }
+    ensures printable { IfErr result (λ halt. IsPrintable (ending_of_halt halt)) }
+{
+    taken_rows_fit();
+    match bags_of(alloc, bytes, &script.inserted.sources, first) {
+        Ok(tables) => answer_over(alloc, script, &tables),
+        Err(TakeFault::Refused { code, line }) => Err(Halt::Change { code, line }),
+        Err(TakeFault::Memory) => Err(Halt::Memory),
+    }
+}
+
+// The rows of the answer over the rows of the sources, or the halt where that is out of range.
+fn answer_over(alloc: Global, script: &Accepted, tables: &Bags) -> Result<Bag, Halt>
+    requires judged { IsJudged (accepted_view script.now) }
+    requires fit { RowsFit script.now.inserted.sources tables.now }
+    ensures ok { IfOk result (λ rows. over_tables (accepted_view script.now) (with_rows script.now.inserted.sources tables.now) ≡ done (sink_types (accepted_view script.now)) rows) }
+    ensures wide { IfOk result (λ rows. AreWide (length (sink_types (accepted_view script.now))) rows) }
+    ensures halts { IfErr result (λ halt. IsBefore halt (over_tables (accepted_view script.now) (with_rows script.now.inserted.sources tables.now))) }
+    ensures printable { IfErr result (λ halt. IsPrintable (ending_of_halt halt)) }
+{
+    match evaluated(alloc, script, tables) {
+        Ok(rows) => Ok(rows),
+        Err(EvalFault::Out) => Err(out_of_range(alloc)),
+        Err(EvalFault::Memory) => Err(Halt::Memory),
+    }
+}
+
+// The rows of the answer over the rows of the sources.
+fn evaluated(alloc: Global, script: &Accepted, tables: &Bags) -> Result<Bag, EvalFault>
+    requires judged { IsJudged (accepted_view script.now) }
+    requires fit { RowsFit script.now.inserted.sources tables.now }
+    ensures ok { IfOk result (λ rows. over_tables (accepted_view script.now) (with_rows script.now.inserted.sources tables.now) ≡ done (sink_types (accepted_view script.now)) rows) }
+    ensures wide { IfOk result (λ rows. AreWide (length (sink_types (accepted_view script.now))) rows) }
+    ensures out { IsErrOf result EvalFault.Out → over_tables (accepted_view script.now) (with_rows script.now.inserted.sources tables.now) ≡ ends (Ending.Range 0 0 [] []) }
+{
+    accepted_is_bound();
+    inserts_keep_the_answer();
+    bound_inserts_are_well_typed();
+    answers_fit();
+    let types = types_of(alloc, script.inserted.sources.as_slice())?;
+    answer_of(alloc, &script.inserted.query.rel, tables, &types)
+}
+
+// No node of a plan, no subtask and no row are at fault where a batch answer is out of range.
+fn out_of_range(alloc: Global) -> Halt
+    ensures { result ≡ Halt.Range 0 0 [] [] }
+{
+    Halt::Range {
+        node: 0,
+        subtask: 0,
+        row: Row::from_values(Values::new(alloc)),
+        tys: ColTys::new(alloc),
+    }
+}
+
+// The types of the columns of each source.
+fn types_of(alloc: Global, sources: &[TableDef]) -> Result<TypeLists, Memory>
+    ensures { IfOk result (λ types. types ≡ map column_types sources.now) }
+{
+    let mut types = TypeLists::new(alloc);
+    for table in sources {
+        types.push(table.types()?)?;
+    }
+    Ok(types)
+}

@@ -1,0 +1,14 @@
+//! The batch answer of a script over the first changes.
+//!
+//! Promised: `batch` ends as `specs/Batch` says, and writes the rows of the query's answer on its tree, over the tables that the first lines
+//! leave, in the order of rows, each copy by itself. It stands on the judgement of scripts, the lines taken and the answer of the
+//! algebra.
+#![tactic(auto)]
+
+mod answers;
+mod laws;
+mod lines;
+mod writing;
+
+pub use laws::accepted_queries_keep_their_answers;
+pub use writing::batch;

@@ -1,0 +1,4 @@
+pub mod Judgement
+pub mod Halts
+pub mod Views
+pub mod Judged

@@ -1,0 +1,71 @@
+-- Endings whose line can be written.
+use Rattle.std.proofs.Common.{◌≡◌, ℕ, suc, true, List, [], ◌∷◌, length, Result, Ok, Err, refl, ap}
+use Rattle.std.proofs.lemmas.Bool.{and_parts}
+use Rattle.ct_value.specs.declared.row.Row.{Row}
+use Rattle.ct_value.specs.declared.ty.ColTy.{ColTy}
+use Rattle.ct_value.specs.declared.ty.Ty.{Ty}
+use Rattle.ct_value.specs.declared.value.Value.{Value}
+use Rattle.ct_field.specs.Typed.{col_fits, row_fits}
+use Rattle.rel_algebra.specs.Rel.{Rel}
+use Rattle.phys_plan.specs.declared.plan.Plan.{Plan}
+use Rattle.stream_model.specs.declared.events.PrintItem.{PrintItem}
+use Rattle.stream_model.specs.declared.events.StepFault.{StepFault}
+use Rattle.stream_model.specs.declared.events.StepFault.TheVariants as fault
+use Rattle.plan_rules.specs.Doings.{network}
+use Rattle.stream_run.specs.Run.{Ran, ended, refused, stopped, whole_run}
+use Rattle.stopped_runs.specs.Stops.{RunsStopAtRows, StopsHaveTypes}
+use Rattle.judge.specs.Judgement.{Judged}
+use Rattle.job_ending.specs.declared.ending.Ending.TheVariants as e
+use Rattle.job_ending.specs.declared.halt.Halt.{Halt}
+use Rattle.job_ending.specs.declared.halt.Halt.TheVariants.{Script, Change, Range, Limit, ReadFault, WriteFault, Memory}
+use Rattle.job_ending.specs.Endings.{IsPrintable}
+use Rattle.job_ending.specs.Runs.{IsCausedThere, ending_of, ending_of_halt}
+use Rattle.job_judgement.specs.Halts.{IsHalt}
+use Rattle.job_stream.specs.Stream.{CanRun, most_sent, outcome_of, sink_types, streamed}
+
+-- a refusal by the judgement
+pub printable_halt : {A : Type 0} (halt : Halt) (judged : Judged A) → IsHalt halt judged → IsPrintable (ending_of_halt halt)
+printable_halt Memory judged is = tt
+printable_halt (Script code number) judged is = tt
+printable_halt (Change code line) judged is = absurd is
+printable_halt (Range node subtask row columns) judged is = absurd is
+printable_halt (Limit name) judged is = absurd is
+printable_halt ReadFault judged is = absurd is
+printable_halt WriteFault judged is = absurd is
+
+-- ---- a run
+
+fits_length : (columns : List ColTy) (row : List Value) → row_fits columns row ≡ true → length row ≡ length columns
+fits_length [] [] e = refl
+fits_length [] (v ∷ vs) e = absurd (cc (e))
+fits_length (col ∷ cols) [] e = absurd (cc (e))
+fits_length (col ∷ cols) (v ∷ vs) e = ap suc (fits_length cols vs (and_parts (col_fits col v) (row_fits cols vs) e).1)
+
+-- a run whose outcome is out of range has stopped so
+pub stopped_so : (tys : List Ty) (ran : Ran) (node subtask : ℕ) (row : Row) (types : List ColTy) → (outcome_of tys ran).ending ≡ e.Range node subtask row types → (printed : List PrintItem) × (ran ≡ stopped (fault.Range node subtask row types) printed)
+stopped_so tys (ended s) node subtask row types is = absurd (cc (is))
+stopped_so tys (refused line code) node subtask row types is = absurd (cc (is))
+stopped_so tys (stopped (fault.Change code) printed) node subtask row types is = absurd (cc (is))
+stopped_so tys (stopped (fault.Order code) printed) node subtask row types is = absurd (cc (is))
+stopped_so tys (stopped (fault.Range n s r c) printed) node subtask row types is =
+    let same : fault.Range n s r c ≡ fault.Range node subtask row types = cc (is) in (printed, ap (λ (cause : StepFault). stopped cause printed) same)
+stopped_so tys (stopped fault.Limit printed) node subtask row types is = absurd (cc (is))
+stopped_so tys (stopped fault.Memory printed) node subtask row types is = absurd (cc (is))
+
+module _ (at_rows : RunsStopAtRows) (have_types : StopsHaveTypes) (plan : Plan) (rel : Rel) (can : CanRun plan rel) (bytes : List ℕ) where
+  range_printable : (node subtask : ℕ) (row : Row) (types : List ColTy) → (streamed plan bytes).ending ≡ e.Range node subtask row types → IsPrintable (e.Range node subtask row types)
+  range_printable node subtask row types is =
+      let ran = stopped_so (sink_types plan.sink) (whole_run (network plan) most_sent plan.sources bytes) node subtask row types is in (
+        fits_length types row (at_rows plan rel can.plan_of most_sent bytes node subtask row types ran.0 ran.1),
+        have_types plan rel can.plan_of can.exist most_sent bytes node subtask row types ran.0 ran.1,
+      )
+
+  pub run_printable : {T : Type 0} (write : Type 0) (result : Result T Halt) → IsCausedThere (streamed plan bytes) write result → IsPrintable (ending_of result)
+  run_printable write (Ok x) cause = tt
+  run_printable write (Err Memory) cause = tt
+  run_printable write (Err WriteFault) cause = tt
+  run_printable write (Err ReadFault) cause = tt
+  run_printable write (Err (Script code number)) cause = tt
+  run_printable write (Err (Change code line)) cause = tt
+  run_printable write (Err (Range node subtask row types)) cause = range_printable node subtask row types cause
+  run_printable write (Err (Limit name)) cause = tt

@@ -1,9 +1,0 @@
-use Rattle.std.proofs.lemmas.Result.{err_from_is_err_and}
-use Rattle.job_forms.specs.Run.{with_changes}
-use Rattle.job_ending.specs.RunLaws.{runs_halted}
-use Rattle.job_run.proofs.runs.with_script.Goals as goal
-
-pub returns-in_err-bytes-clause-runs : goal.returns-in_err-bytes-clause-runs
-returns-in_err-bytes-clause-runs g c =
-    let p = err_from_is_err_and c.from_residual.result c.from_residual.ensures.1 in
-    rw (p.1, p.2) (runs_halted _ _ _ _ _ _ (c.in_err-bytes.ensures.halts (λ h. with_changes c.args.script.now)))

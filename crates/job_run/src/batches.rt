@@ -1,0 +1,50 @@
+//! The batch answer of a script.
+ghost use Rattle.std.specs.Prelude.{◌≡◌, ◌≤◌};
+ghost use Rattle.ct_io.specs.Counts.{Rose};
+ghost use Rattle.job_ending.specs.Endings.{IsPrintable};
+ghost use Rattle.job_ending.specs.Runs.{Runs, ending_of};
+ghost use Rattle.job_judgement.specs.Judged.{IsJudged};
+ghost use Rattle.job_judgement.specs.Views.{accepted_view};
+ghost use Rattle.job_run.specs.Outcome.{batch_script, with_script};
+
+use crate::load::{load, load_script};
+use crate::requests::CHANGES_LIMIT;
+use command_line::FileNames;
+use ct_io::{Shelf, Sink};
+use ct_value::Text;
+use job_batch::batch;
+use job_ending::{Halt, LimitName};
+use job_judgement::Accepted;
+use std::alloc::Global;
+
+/// Answers the query of the script of these names over the first lines of the change file, or over all.
+pub fn batch_names<F: Shelf, K: Sink>(
+    alloc: Global,
+    names: &FileNames,
+    first: Option<u64>,
+    shelf: &mut F,
+    out: &mut K,
+) -> Result<(), Halt>
+    ensures runs { Runs (F.holdings shelf.old) (λ h. with_script h names.now.script (batch_script h names.now.changes first)) (Rose (F.faults shelf.old) (F.faults shelf.new)) (Rose (K.faults out.old) (K.faults out.new)) (K.written out.old) (K.written out.new) (ending_of result) }
+    ensures printable { IsPrintable (ending_of result) }
+{
+    let script = load_script(alloc, shelf, &names.script)?;
+    batch_script(alloc, &script, &names.changes, first, shelf, out)
+}
+
+fn batch_script<F: Shelf, K: Sink>(
+    alloc: Global,
+    script: &Accepted,
+    changes: &Text,
+    first: Option<u64>,
+    shelf: &mut F,
+    out: &mut K,
+) -> Result<(), Halt>
+    requires judged { IsJudged (accepted_view script.now) }
+    ensures runs { Runs (F.holdings shelf.old) (λ h. batch_script h changes.now first (accepted_view script.now)) (Rose (F.faults shelf.old) (F.faults shelf.new)) (Rose (K.faults out.old) (K.faults out.new)) (K.written out.old) (K.written out.new) (ending_of result) }
+    ensures printable { IsPrintable (ending_of result) }
+    ensures later { F.faults shelf.old ≤ F.faults shelf.new }
+{
+    let bytes = load(alloc, shelf, changes, CHANGES_LIMIT, LimitName::Changes)?;
+    batch(alloc, script, first, bytes, out)
+}

@@ -1,0 +1,200 @@
+-- A run that finishes by an outcome.
+use Rattle.std.proofs.Common.{◌≡◌, ℕ, suc, ◌+◌, ◌<◌, ◌≤◌, ◌&&◌, cond, IsTrue, List, [], ◌∷◌, ◌++◌, length, map, Option, true, false, Bool, Result, Ok, Err, refl, sym, ap, subst, ◌∙◌, append_assoc, append-nil, arith}
+use Rattle.std.specs.Prelude.{nat_le}
+use Rattle.std.proofs.lemmas.Bool.{le-leb, leb-true}
+use Rattle.std.specs.List.{AllByRecursion}
+use Rattle.ct_io.specs.Written.{Appends, AppendsUpTo, AppendsPart}
+use Rattle.ct_io.specs.Appending.{appends_nothing, part_none}
+use Rattle.ct_value.specs.declared.codes.ChangeCode.{ChangeCode}
+use Rattle.ct_value.specs.declared.ty.Ty.{Ty}
+use Rattle.ct_value.specs.declared.ty.ColTy.{ColTy}
+use Rattle.ct_value.specs.declared.value.Value.{Value}
+use Rattle.ct_field.specs.Numbers.{is_type}
+use Rattle.ct_field.specs.Typed.{col_fits, row_fits}
+use Rattle.ct_catalog.specs.declared.table.ColDef.{ColDef}
+use Rattle.ct_catalog.specs.declared.table.TableDef.{TableDef}
+use Rattle.binding.specs.Inserts.{column_types, go_into, goes_into}
+use Rattle.change_lines.specs.Lines.{records_of}
+use Rattle.stream_model.specs.Network.{Network}
+use Rattle.stream_model.specs.Machine.{opened}
+use Rattle.stream_model.specs.Runs.{changes_in}
+use Rattle.stream_model.specs.declared.events.PrintItem.{PrintItem}
+use Rattle.stream_model.specs.declared.events.PrintItem.TheVariants.{Change as Printed, Quiet}
+use Rattle.stream_model.specs.declared.events.StepFault.{StepFault}
+use Rattle.stream_model.specs.declared.events.StepFault.TheVariants as fault
+use Rattle.stream_model.specs.Drain.{IsDrainFault}
+use Rattle.printed_lines.specs.Printed.{IsWide, item_lines}
+use Rattle.stream_run.specs.Run.{Ran, ended, refused, stopped, and_then, take_lines, drained, whole_run}
+use Rattle.stream_run.specs.laws.Ends.{IsStop, Begins, printed_by}
+use Rattle.session_runs.specs.Goes.{HasPrinted, run_of}
+use Rattle.job_ending.specs.declared.halt.Halt.{Halt}
+use Rattle.job_ending.specs.declared.halt.Halt.TheVariants as h
+use Rattle.job_ending.specs.Outcome.{Outcome}
+use Rattle.job_ending.specs.Runs.{ending_of, is_free, IsCausedThere, RunsThere, IsBefore}
+use Rattle.job_stream.specs.Stream.{CanRun, outcome_of, halt_of, sink_types}
+use Rattle.rel_algebra.specs.Rel.{Rel}
+use Rattle.phys_plan.specs.declared.plan.Plan.{Plan}
+use Rattle.plan_rules.specs.Columns.{columns_at}
+use Rattle.session_open.specs.Opening.{AreColumns}
+use Rattle.plan_opens.specs.Opening.{IsSmallPlan}
+use Rattle.job_stream.specs.Writing.{Finishes}
+use Rattle.job_stream.proofs.Items.{lines_both}
+
+-- a part of a first part
+pub part_more : (a b : Option (List ℕ)) (first whole rest : List ℕ) → AppendsPart a b first → whole ≡ first ++ rest → AppendsPart a b whole
+part_more a b first whole rest p is = record {
+  rest = p.rest ++ rest;
+  up_to = record {
+    part = p.up_to.part;
+    split = is ∙ ap (λ l. l ++ rest) p.up_to.split ∙ append_assoc p.up_to.part p.rest rest;
+    appends = p.up_to.appends;
+  };
+}
+
+caused : {T : Type 0} (there : Outcome) (write : Type 0) (ran : Result T Halt) → IsCausedThere there ⊥ ran → IsCausedThere there write ran
+caused there write (Ok x) e = e
+caused there write (Err h.Memory) e = e
+caused there write (Err h.WriteFault) e = absurd e
+caused there write (Err h.ReadFault) e = e
+caused there write (Err (h.Script code statement)) e = e
+caused there write (Err (h.Change code line)) e = e
+caused there write (Err (h.Range node subtask row tys)) e = e
+caused there write (Err (h.Limit name)) e = e
+
+-- all was put
+pub all_put : {T : Type 0} (tys : List Ty) (there : Outcome) (items : List PrintItem) (ran : Result T Halt) (write : Type 0) (a b : Option (List ℕ)) → Finishes tys there items ran → Appends a b (item_lines tys items) → RunsThere there write a b ran
+all_put tys there items ran write a b ends put = record {
+  cause = caused there write ran ends.cause;
+  part = record { rest = ends.rest; up_to = record { part = item_lines tys items; split = ends.begins; appends = put } };
+  whole = λ free. subst (Appends a b) (sym (ends.whole free)) put;
+}
+
+-- the output failed, or memory was wanting
+pub not_put : {T : Type 0} (tys : List Ty) (there : Outcome) (items : List PrintItem) (ran : Result T Halt) (write : Type 0) (a b : Option (List ℕ)) → Finishes tys there items ran → AppendsPart a b (item_lines tys items) → AppendsPart a b there.bytes
+not_put tys there items ran write a b ends put = part_more a b (item_lines tys items) there.bytes ends.rest put ends.begins
+
+-- ---- how the run ends
+
+bytes_are : (tys : List Ty) (ran : Ran) → (outcome_of tys ran).bytes ≡ item_lines tys (printed_by ran)
+bytes_are tys (ended s) = refl
+bytes_are tys (refused line code) = refl
+bytes_are tys (stopped cause printed) = refl
+
+pub printed_finishes : {T : Type 0} (tys : List Ty) (ran : Ran) (items : List PrintItem) (x : T) → HasPrinted ran items → let r : Result T Halt = Ok x in Finishes tys (outcome_of tys ran) items r
+printed_finishes tys ran items x has =
+    let bytes : (outcome_of tys ran).bytes ≡ item_lines tys items = ap (λ r. (outcome_of tys r).bytes) has.ends ∙ ap (item_lines tys) (sym has.printed) in
+    record {
+      cause = ap (λ r. (outcome_of tys r).ending) has.ends;
+      rest = [];
+      begins = bytes ∙ sym (append-nil (item_lines tys items));
+      whole = λ free. bytes;
+    }
+
+stopped_finishes : {T : Type 0} (tys : List Ty) (ran : Ran) (cause : StepFault) (printed : List PrintItem) (halt : Halt) → ran ≡ stopped cause printed → (let r : Result T Halt = Err halt in IsCausedThere (outcome_of tys ran) ⊥ r) → let r : Result T Halt = Err halt in Finishes tys (outcome_of tys ran) printed r
+stopped_finishes tys ran cause printed halt is caused =
+    let bytes : (outcome_of tys ran).bytes ≡ item_lines tys printed = ap (λ r. (outcome_of tys r).bytes) is in
+    record {
+      cause = caused;
+      rest = [];
+      begins = bytes ∙ sym (append-nil (item_lines tys printed));
+      whole = λ free. bytes;
+    }
+
+pub stop_finishes : {T : Type 0} (tys : List Ty) (ran : Ran) (cause : StepFault) (printed : List PrintItem) → IsDrainFault cause → IsStop cause printed ran → let r : Result T Halt = Err (halt_of cause) in Finishes tys (outcome_of tys ran) printed r
+stop_finishes tys ran (fault.Change code) printed drains stop = absurd drains
+stop_finishes tys ran (fault.Order code) printed drains stop = absurd drains
+stop_finishes tys ran (fault.Range node subtask row types) printed drains stop = stopped_finishes tys ran (fault.Range node subtask row types) printed (h.Range node subtask row types) stop (ap (λ r. (outcome_of tys r).ending) stop)
+stop_finishes tys ran fault.Limit printed drains stop = stopped_finishes tys ran fault.Limit printed (halt_of fault.Limit) stop (ap (λ r. (outcome_of tys r).ending) stop)
+stop_finishes tys ran fault.Memory printed drains stop =
+    record {
+      cause = tt;
+      rest = item_lines tys stop.0;
+      begins = bytes_are tys ran ∙ ap (item_lines tys) stop.1 ∙ lines_both tys printed stop.0;
+      whole = λ free. absurd (cc (free));
+    }
+
+-- a line is refused before anything is written
+pub refused_runs : {T : Type 0} (tys : List Ty) (ran : Ran) (line : ℕ) (code : ChangeCode) (write : Type 0) (o : Option (List ℕ)) → ran ≡ refused line code → let r : Result T Halt = Err (h.Change code line) in RunsThere (outcome_of tys ran) write o o r
+refused_runs tys ran line code write o is =
+    let bytes : (outcome_of tys ran).bytes ≡ [] = ap (λ r. (outcome_of tys r).bytes) is in
+    record {
+      cause = ap (λ r. (outcome_of tys r).ending) is;
+      part = part_none o (outcome_of tys ran).bytes;
+      whole = λ free. subst (Appends o o) (sym bytes) (appends_nothing o);
+    }
+
+-- want of memory before anything is written
+pub memory_runs : {T : Type 0} (there : Outcome) (write : Type 0) (o : Option (List ℕ)) → let r : Result T Halt = Err h.Memory in RunsThere there write o o r
+memory_runs there write o = record { cause = tt; part = part_none o there.bytes; whole = λ free. absurd (cc (free)) }
+
+-- ---- what was printed is as wide as the sink
+
+both_right : (a b : Bool) → (a && b) ≡ true → b ≡ true
+both_right true b e = e
+both_right false b e = absurd (cc (e))
+
+go_length : (columns sinks : List ColTy) → go_into columns sinks ≡ true → length columns ≡ length sinks
+go_length [] [] e = refl
+go_length [] (sink ∷ sinks) e = absurd (cc (e))
+go_length (column ∷ columns) [] e = absurd (cc (e))
+go_length (column ∷ columns) (sink ∷ sinks) e = ap suc (go_length columns sinks (both_right (goes_into column sink) (go_into columns sinks) e))
+
+fits_length : (columns : List ColTy) (row : List Value) → row_fits columns row ≡ true → length row ≡ length columns
+fits_length [] [] e = refl
+fits_length [] (v ∷ vs) e = absurd (cc (e))
+fits_length (col ∷ cols) [] e = absurd (cc (e))
+fits_length (col ∷ cols) (v ∷ vs) e = ap suc (fits_length cols vs (both_right (col_fits col v) (row_fits cols vs) e))
+
+items_wide : (columns : List ColTy) (width : ℕ) → length columns ≡ width → (items : List PrintItem) → AllByRecursion (λ change. row_fits columns change.row ≡ true) (changes_in items) → AllByRecursion (IsWide width) items
+items_wide columns width same [] h = tt
+items_wide columns width same (Printed change ∷ items) h = (fits_length columns change.row h.0 ∙ same, items_wide columns width same items h.1)
+items_wide columns width same (Quiet n ∷ items) h = (tt, items_wide columns width same items h)
+
+types_length : (cols : List ColDef) → length (map (λ c. c.ty) cols) ≡ length (map (λ c. c.ty.ty) cols)
+types_length [] = refl
+types_length (col ∷ cols) = ap suc (types_length cols)
+
+front_wide : (width : ℕ) (items rest : List PrintItem) → AllByRecursion (IsWide width) (items ++ rest) → AllByRecursion (IsWide width) items
+front_wide width [] rest h = tt
+front_wide width (item ∷ items) rest h = (h.0, front_wide width items rest h.1)
+
+pub ran_wide : (columns : List ColTy) (sink : TableDef) → go_into columns (column_types sink) ≡ true → (ran : Ran) → AllByRecursion (λ change. row_fits columns change.row ≡ true) (changes_in (printed_by ran)) → AllByRecursion (IsWide (length (sink_types sink))) (printed_by ran)
+ran_wide columns sink goes ran h = items_wide columns (length (sink_types sink)) (go_length columns (column_types sink) goes ∙ types_length sink.cols) (printed_by ran) h
+
+pub printed_wide : (width : ℕ) (ran : Ran) (items : List PrintItem) → HasPrinted ran items → AllByRecursion (IsWide width) (printed_by ran) → AllByRecursion (IsWide width) items
+printed_wide width ran items has h = subst (AllByRecursion (IsWide width)) (ap printed_by has.ends ∙ sym has.printed) h
+
+pub stopped_wide : (width : ℕ) (ran : Ran) (cause : StepFault) (printed : List PrintItem) → IsDrainFault cause → IsStop cause printed ran → AllByRecursion (IsWide width) (printed_by ran) → AllByRecursion (IsWide width) printed
+stopped_wide width ran (fault.Change code) printed drains stop h = absurd drains
+stopped_wide width ran (fault.Order code) printed drains stop h = absurd drains
+stopped_wide width ran (fault.Range node subtask row types) printed drains stop h = subst (AllByRecursion (IsWide width)) (ap printed_by stop) h
+stopped_wide width ran fault.Limit printed drains stop h = subst (AllByRecursion (IsWide width)) (ap printed_by stop) h
+stopped_wide width ran fault.Memory printed drains stop h = front_wide width printed stop.0 (subst (AllByRecursion (IsWide width)) stop.1 h)
+
+pub types_exist : (cols : List ColDef) → AllByRecursion (λ column. is_type column.ty ≡ true) (map (λ c. c.ty) cols) → AllByRecursion (λ ty. IsTrue (is_type ty)) (map (λ c. c.ty.ty) cols)
+types_exist [] h = tt
+types_exist (col ∷ cols) h = (h.0, types_exist cols h.1)
+
+-- ---- the opening
+
+-- the lines behind an opening within the limit
+pub whole_opened : (g : Network) (limit : ℕ) (sources : List TableDef) (bytes : List ℕ) → (opened g).sends ≤ limit → whole_run g limit sources bytes ≡ run_of g limit sources (records_of bytes)
+whole_opened g limit sources bytes within = ap (λ b. and_then (cond b (ended (opened g)) (stopped fault.Limit [])) (λ s. and_then (take_lines g limit sources 1 s (records_of bytes)) (drained g limit sources))) (le-leb (opened g).sends limit within)
+
+not_within : (n m : ℕ) (b : Bool) → nat_le n m ≡ b → m < n → b ≡ false
+not_within n m true e l = absurd (omega (arith, leb-true n m e, l))
+not_within n m false e l = refl
+
+pub whole_too_many : (g : Network) (limit : ℕ) (sources : List TableDef) (bytes : List ℕ) → limit < (opened g).sends → whole_run g limit sources bytes ≡ stopped fault.Limit []
+whole_too_many g limit sources bytes many = ap (λ b. and_then (cond b (ended (opened g)) (stopped fault.Limit [])) (λ s. and_then (take_lines g limit sources 1 s (records_of bytes)) (drained g limit sources))) (not_within (opened g).sends limit (nat_le (opened g).sends limit) refl many)
+
+pub small : (plan : Plan) (rel : Rel) (columns : List (List ColTy)) → CanRun plan rel → AreColumns columns (columns_at plan.sources plan.nodes) → length columns ≡ length plan.nodes + 1 → IsSmallPlan plan rel columns
+small plan rel columns can are many = record { plan_of = can.plan_of; exist = can.exist; few = can.few; narrow = can.narrow; columns_are = are; columns_many = many }
+
+-- the output failed
+pub failed_put : {T : Type 0} (tys : List Ty) (there : Outcome) (items : List PrintItem) (ran : Result T Halt) (write : Type 0) (a b : Option (List ℕ)) → Finishes tys there items ran → write → AppendsPart a b (item_lines tys items) → let r : Result T Halt = Err h.WriteFault in RunsThere there write a b r
+failed_put tys there items ran write a b ends failed part = record { cause = failed; part = not_put tys there items ran write a b ends part; whole = λ free. absurd (cc (free)) }
+
+-- memory was wanting
+pub memory_put : {T : Type 0} (tys : List Ty) (there : Outcome) (items : List PrintItem) (ran : Result T Halt) (write : Type 0) (a b : Option (List ℕ)) → Finishes tys there items ran → AppendsPart a b (item_lines tys items) → let r : Result T Halt = Err h.Memory in RunsThere there write a b r
+memory_put tys there items ran write a b ends part = record { cause = tt; part = not_put tys there items ran write a b ends part; whole = λ free. absurd (cc (free)) }

@@ -1,0 +1,26 @@
+-- Lines of items, one after the other.
+use Rattle.std.proofs.Common.{◌≡◌, ℕ, List, [], ◌∷◌, ◌++◌, length, Option, refl, sym, ap, subst, ◌∙◌, append_assoc}
+use Rattle.std.specs.List.{AllByRecursion}
+use Rattle.ct_io.specs.Written.{Appends, AppendsUpTo, AppendsPart}
+use Rattle.ct_value.specs.declared.ty.Ty.{Ty}
+use Rattle.line_output.specs.Pieces.{part_in_piece, up_to_piece, whole_at_end}
+use Rattle.stream_model.specs.declared.events.PrintItem.{PrintItem}
+use Rattle.printed_lines.specs.Printed.{IsWide, item_line, item_lines}
+
+module _ (tys : List Ty) (a b c : Option (List ℕ)) (whole : List ℕ) (old left : List PrintItem) (item : PrintItem) (is : old ≡ item ∷ left) (so_far : AppendsUpTo a b whole (item_lines tys old)) where
+  pub item_more : Appends b c (item_line tys item) → AppendsUpTo a c whole (item_lines tys left)
+  item_more more = up_to_piece a b c whole (item_lines tys old) (item_line tys item) (item_lines tys left) so_far (ap (item_lines tys) is) more
+
+  pub item_part : AppendsPart b c (item_line tys item) → AppendsPart a c whole
+  item_part more = part_in_piece a b c whole (item_lines tys old) (item_line tys item) (item_lines tys left) so_far (ap (item_lines tys) is) more
+
+pub items_end : (tys : List Ty) (a b : Option (List ℕ)) (whole : List ℕ) (left : List PrintItem) → left ≡ [] → AppendsUpTo a b whole (item_lines tys left) → Appends a b whole
+items_end tys a b whole left is so_far = whole_at_end a b whole (item_lines tys left) so_far (ap (item_lines tys) is)
+
+pub item_wide : (width : ℕ) (old left : List PrintItem) (item : PrintItem) → old ≡ item ∷ left → AllByRecursion (IsWide width) old → IsWide width item × AllByRecursion (IsWide width) left
+item_wide width old left item is wide = subst (AllByRecursion (IsWide width)) is wide
+
+-- lines of more items
+pub lines_both : (tys : List Ty) (xs ys : List PrintItem) → item_lines tys (xs ++ ys) ≡ item_lines tys xs ++ item_lines tys ys
+lines_both tys [] ys = refl
+lines_both tys (x ∷ xs) ys = ap (λ l. item_line tys x ++ l) (lines_both tys xs ys) ∙ sym (append_assoc (item_line tys x) (item_lines tys xs) (item_lines tys ys))

@@ -1,0 +1,63 @@
+-- What a run over a plan and a change file answers and writes: it is composed of the machine's run.
+use Rattle.std.specs.Prelude.{◌≡◌, ℕ, ◌<◌, true, List, map, length}
+use Rattle.std.specs.List.{AllByRecursion}
+use Rattle.ct_value.specs.declared.ty.Ty.{Ty}
+use Rattle.ct_catalog.specs.declared.table.TableDef.{TableDef}
+use Rattle.binding.specs.Inserts.{column_types, go_into}
+use Rattle.rel_algebra.specs.Rel.{Rel}
+use Rattle.phys_plan.specs.declared.plan.Plan.{Plan}
+use Rattle.plan_rules.specs.Doings.{network}
+use Rattle.plan_laws.specs.Trees.{IsPlanOfTyped, types_of}
+use Rattle.type_laws.specs.Exist.{Exist}
+use Rattle.stream_model.specs.declared.events.StepFault.{StepFault}
+use Rattle.stream_model.specs.declared.events.StepFault.TheVariants as fault
+use Rattle.printed_lines.specs.Printed.{item_lines}
+use Rattle.stream_run.specs.Run.{Ran, ended, refused, stopped, whole_run}
+use Rattle.job_ending.specs.declared.ending.Ending.{Ending}
+use Rattle.job_ending.specs.declared.ending.Ending.TheVariants.{Done, Change, Order, Range, Limit, Memory}
+use Rattle.job_ending.specs.declared.ending.LimitName.TheVariants.{Sent}
+use Rattle.job_ending.specs.declared.halt.Halt.{Halt}
+use Rattle.job_ending.specs.declared.halt.Halt.TheVariants as h
+use Rattle.job_ending.specs.Outcome.{Outcome, ends}
+
+-- so many changes are sent at most
+abbrev pub most_sent : ℕ
+most_sent = 4294967295
+
+abbrev pub ending_of_stop : StepFault → Ending
+ending_of_stop (fault.Change code) = Change code 0
+ending_of_stop (fault.Order code) = Order code 0
+ending_of_stop (fault.Range node subtask row types) = Range node subtask row types
+ending_of_stop fault.Limit = Limit Sent
+ending_of_stop fault.Memory = Memory
+
+-- why a run halts where its drain stops; it stops by no refusal
+abbrev pub halt_of : StepFault → Halt
+halt_of (fault.Change code) = h.Memory
+halt_of (fault.Order code) = h.Memory
+halt_of (fault.Range node subtask row types) = h.Range node subtask row types
+halt_of fault.Limit = h.Limit Sent
+halt_of fault.Memory = h.Memory
+
+-- what was printed is written, each item as a line by the types of the sink's columns; a line is refused before anything is printed
+abbrev pub outcome_of : List Ty → Ran → Outcome
+outcome_of tys (ended s) = record { ending = Done; bytes = item_lines tys s.printed }
+outcome_of tys (refused line code) = ends (Change code line)
+outcome_of tys (stopped cause printed) = record { ending = ending_of_stop cause; bytes = item_lines tys printed }
+
+-- the types of the sink's columns
+abbrev pub sink_types : TableDef → List Ty
+sink_types sink = map (λ c. c.ty.ty) sink.cols
+
+-- what a run over a plan makes of a change file
+abbrev pub streamed : Plan → List ℕ → Outcome
+streamed plan bytes = outcome_of (sink_types plan.sink) (whole_run (network plan) most_sent plan.sources bytes)
+
+-- a plan that can be run: of a tree whose columns go into the sink's, over columns whose types exist, with few nodes in few subtasks
+pub record CanRun (plan : Plan) (rel : Rel) : Type 0 where
+  pub plan_of : IsPlanOfTyped plan rel
+  pub exist : AllByRecursion Exist (types_of plan.sources)
+  pub sink_exists : Exist (column_types plan.sink)
+  pub goes : go_into plan_of.columns (column_types plan.sink) ≡ true
+  pub few : length plan.nodes < 999
+  pub narrow : plan.parallelism < 17

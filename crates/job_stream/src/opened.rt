@@ -1,0 +1,54 @@
+//! The run of an opened job.
+ghost use Rattle.std.specs.Prelude.{◌≡◌, ◌<◌, ◌≤◌, length, IfOk, IfErr};
+ghost use Rattle.rel_algebra.specs.Rel.{Rel};
+ghost use Rattle.plan_rules.specs.Doings.{network};
+ghost use Rattle.stream_run.specs.Run.{whole_run};
+ghost use Rattle.session_runs.specs.Faults.{IsRan};
+ghost use Rattle.session_runs.specs.Goes.{HasPrinted};
+ghost use Rattle.job_stream.specs.Stream.{CanRun, most_sent};
+
+use change_lines::ChangeLines;
+use ct_change::Steps;
+use ct_value::Bytes;
+use phys_plan::Plan;
+use plan_columns::columns_of;
+use plan_opens::plans_open;
+use session_nodes::AnyOperator;
+use session_open::{OpenFault, open_job};
+use session_runs::{RunFault, run_lines};
+use session_sources::TableCheck;
+use std::alloc::Global;
+use std::sync::ledger::{Blank, Ledger};
+use stream_model::{PrintList, StepFault, Stopped};
+
+const MOST_SENT: u32 = 4294967295;
+
+/// What a job of the plan has printed, once it has taken the lines of a change file and was drained. Nobody reads how many steps that
+/// takes.
+pub(crate) fn printed_of<L: Ledger>(
+    alloc: Global,
+    plan: &Plan,
+    bytes: Bytes,
+    blank: Blank,
+) -> Result<PrintList, RunFault>
+    requires name { blank.name ≡ L.name }
+    requires parts { blank.parts ≡ L.parts }
+    requires some { 0 < L.parts }
+    requires can { (rel : Rel) × CanRun plan.now rel }
+    requires within { length bytes ≤ 67108864 }
+    ensures ok { IfOk result (λ items. HasPrinted (whole_run (network plan.now) most_sent plan.now.sources bytes) items) }
+    ensures refused { IfErr result (λ fault. IsRan fault (whole_run (network plan.now) most_sent plan.now.sources bytes)) }
+{
+    plans_open();
+    let columns = columns_of(alloc, plan)?;
+    let lines = ChangeLines::new(alloc, bytes)?;
+    let mut steps = Steps::<L>::new(blank);
+    match open_job::<AnyOperator, TableCheck>(alloc, plan, &columns, MOST_SENT) {
+        Ok(session) => run_lines(session, lines, &plan.sources, &mut steps),
+        Err(OpenFault::Limit) => Err(RunFault::Stopped(Stopped {
+            cause: StepFault::Limit,
+            printed: PrintList::new(alloc),
+        })),
+        Err(OpenFault::Memory) => Err(RunFault::Memory),
+    }
+}

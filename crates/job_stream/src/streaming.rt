@@ -1,0 +1,73 @@
+//! The run, to its ending.
+ghost use Rattle.std.specs.Prelude.{◌≡◌, ◌≤◌, length, map, IfOk};
+ghost use Rattle.ct_io.specs.Counts.{Rose};
+ghost use Rattle.rel_algebra.specs.Rel.{Rel};
+ghost use Rattle.stream_model.specs.Drain.{IsDrainFault};
+ghost use Rattle.job_ending.specs.Runs.{RunsThere};
+ghost use Rattle.job_stream.specs.Stream.{CanRun, halt_of, streamed};
+
+use crate::finishing::finish;
+use crate::opened::printed_of;
+use ct_catalog::ColDef;
+use ct_io::Sink;
+use ct_value::{Bytes, Ty};
+use job_ending::{Halt, LimitName};
+use phys_plan::Plan;
+use session_runs::RunFault;
+use std::alloc::{AllocError, Global};
+use std::marker::Brand;
+use std::sync::ledger::Blank;
+use stream_model::StepFault;
+use stream_run::runs_print_rows;
+
+/// Runs a plan over a change file of at most 67,108,864 bytes: all lines are taken, the job is drained, and what it printed is written on
+/// `out`, each item as a line by the types of the sink's columns.
+pub fn stream<K: Sink>(alloc: Global, plan: &Plan, bytes: Bytes, out: &mut K) -> Result<(), Halt>
+    requires can { (rel : Rel) × CanRun plan.now rel }
+    requires within { length bytes ≤ 67108864 }
+    ensures { RunsThere (streamed plan.now bytes) (Rose (K.faults out.old) (K.faults out.new)) (K.written out.old) (K.written out.new) result }
+{
+    runs_print_rows();
+    let Ok(tys) = tys_of(alloc, plan.sink.cols.as_slice()) else {
+        return Err(Halt::Memory);
+    };
+    match printed_of::<Brand>(alloc, plan, bytes, Blank::new(1)) {
+        Ok(items) => finish(alloc, items, tys.as_slice(), Ok(()), out),
+        Err(RunFault::Refused { code, line }) => Err(Halt::Change { code, line }),
+        Err(RunFault::Stopped(stopped)) => {
+            let halt = halt_of(stopped.cause);
+            finish(alloc, stopped.printed, tys.as_slice(), Err(halt), out)
+        }
+        Err(RunFault::Memory) => Err(Halt::Memory),
+    }
+}
+
+// Why a run halts where its drain stops.
+fn halt_of(cause: StepFault) -> Halt
+    requires { IsDrainFault cause }
+    ensures { result ≡ halt_of cause }
+{
+    match cause {
+        StepFault::Range {
+            node,
+            subtask,
+            row,
+            tys,
+        } => Halt::Range {
+            node,
+            subtask,
+            row,
+            tys,
+        },
+        StepFault::Limit => Halt::Limit(LimitName::Sent),
+        StepFault::Memory => Halt::Memory,
+        StepFault::Change(_) | StepFault::Order(_) => unreachable!(),
+    }
+}
+
+// The types of columns.
+fn tys_of(alloc: Global, columns: &[ColDef]) -> Result<Vec<Ty>, AllocError>
+    ensures { IfOk result (λ tys. tys.items ≡ map (λ c. c.ty.ty) columns.now) }
+{
+    columns.iter().map(|column| column.ty.ty).collect(alloc)
+}

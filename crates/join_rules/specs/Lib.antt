@@ -1,0 +1,4 @@
+pub mod Fits
+pub mod Joining
+pub mod Joins
+pub mod laws

@@ -1,0 +1,60 @@
+-- What is kept of all groups after one of them is taken out and put back.
+use Rattle.std.proofs.Common.{◌≡◌, ◌==◌, Bool, true, false, cond, Option, Some, None, refl, sym, ap, subst, ◌∙◌}
+use Rattle.std.specs.BTreeMap.{BTreeMap, IsOrdered, get}
+use Rattle.std.proofs.lemmas.Bool.{eqb-true}
+use Rattle.ct_value.specs.Bag.{none}
+use Rattle.ct_value.specs.Order.{row_cmp}
+use Rattle.ct_value.specs.declared.row.Row.{Row}
+use Rattle.ct_change.specs.Changelog.{Rows, same_row}
+use Rattle.ct_change.specs.Emission.{replaced}
+use Rattle.ct_change.specs.laws.Meanings.{same_row-true, same_row-itself}
+use Rattle.group_rules.specs.Grouping.{row_count}
+use Rattle.op_group.specs.declared.kept.Kept.{Kept}
+use Rattle.op_group.specs.declared.groups.GroupBy.{GroupBy}
+use Rattle.op_group.specs.Kept.{AllRetract, KeptAt, IsKept}
+use Rattle.op_group.specs.Groups.{unless_empty, AreKept, IsTurned}
+use Rattle.op_group.proofs.Shifts.{no_rows}
+
+module _ (by : GroupBy) (groups : BTreeMap Row Kept) (of : Row → Rows) (all : AreKept by groups of) (key : Row) where
+  pub kept_there : (kept : Kept) → get row_cmp groups key ≡ Some kept → IsKept by.tys by.aggs kept (of key) × (by.retracting ≡ true → AllRetract kept.counters.items)
+  kept_there kept e = subst (KeptAt by.tys by.aggs by.retracting (of key)) e (all.each key)
+
+  pub empty_there : get row_cmp groups key ≡ None → of key ≡ none
+  empty_there e = no_rows (of key) (subst (KeptAt by.tys by.aggs by.retracting (of key)) e (all.each key))
+
+-- nothing is at a key that was taken out
+pub absent : (old mid : BTreeMap Row Kept) (key : Row) → ((other : Row) → get row_cmp mid other ≡ cond (same_row key other) None (get row_cmp old other)) → get row_cmp mid key ≡ None
+absent old mid key out = out key ∙ ap (λ b. cond b None (get row_cmp old key)) (same_row-itself key)
+
+-- an absent key that isn't put in stays absent
+pub nothing_put : (groups : BTreeMap Row Kept) (key : Row) → get row_cmp groups key ≡ None → (other : Row) → get row_cmp groups other ≡ cond (same_row key other) None (get row_cmp groups other)
+nothing_put groups key e other =
+    elim (same_row key other) as (λ b. same_row key other ≡ b → get row_cmp groups other ≡ cond b None (get row_cmp groups other)) [
+      | true ↦ λ s. ap (get row_cmp groups) (sym (same_row-true key other s)) ∙ e
+      | false ↦ λ s. refl
+    ] refl
+
+module _ (by : GroupBy) (key : Row) (of after : Row → Rows) (gone come : Option Row) (turned : IsTurned key of after gone come) (old mid new : BTreeMap Row Kept) (kept : Kept) where
+  own : IsKept by.tys by.aggs kept (replaced (of key) gone come) → (by.retracting ≡ true → AllRetract kept.counters.items) → KeptAt by.tys by.aggs by.retracting (after key) (unless_empty (kept.rows == 0) kept)
+  own is retract =
+      elim (kept.rows == 0) as (λ b. (kept.rows == 0) ≡ b → KeptAt by.tys by.aggs by.retracting (after key) (unless_empty b kept)) [
+        | true ↦ λ z. ap row_count turned.own ∙ sym is.count ∙ eqb-true kept.rows 0 z
+        | false ↦ λ z. (subst (IsKept by.tys by.aggs kept) (sym turned.own) is, retract)
+      ] refl
+
+  pub kept_after : AreKept by old of → IsKept by.tys by.aggs kept (replaced (of key) gone come) → (by.retracting ≡ true → AllRetract kept.counters.items)
+      → ((other : Row) → get row_cmp mid other ≡ cond (same_row key other) None (get row_cmp old other))
+      → ((other : Row) → get row_cmp new other ≡ cond (same_row key other) (unless_empty (kept.rows == 0) kept) (get row_cmp mid other))
+      → IsOrdered row_cmp new → AreKept by new after
+  kept_after all is retract out put ordered = record {
+    ordered = ordered;
+    each = λ other.
+        elim (same_row key other) as (λ b. same_row key other ≡ b → get row_cmp new other ≡ cond b (unless_empty (kept.rows == 0) kept) (get row_cmp mid other) → get row_cmp mid other ≡ cond b None (get row_cmp old other) → KeptAt by.tys by.aggs by.retracting (after other) (get row_cmp new other)) [
+          | true ↦ λ e p q.
+              subst (KeptAt by.tys by.aggs by.retracting (after other)) (sym p)
+              (subst (λ k. KeptAt by.tys by.aggs by.retracting (after k) (unless_empty (kept.rows == 0) kept)) (same_row-true key other e) (own is retract))
+          | false ↦ λ e p q.
+              subst (KeptAt by.tys by.aggs by.retracting (after other)) (sym (p ∙ q))
+              (subst (λ r. KeptAt by.tys by.aggs by.retracting r (get row_cmp old other)) (sym (turned.others other e)) (all.each other))
+        ] refl (put other) (out other);
+  }

@@ -1,0 +1,70 @@
+-- What is kept of all groups, and what a change of one of them makes of it.
+use Rattle.std.specs.Prelude.{◌≡◌, ◌≤◌, ◌<◌, ◌+◌, ◌^◌, ◌&&◌, ℕ, Bool, true, false, List, Option, Some, None, length}
+use Rattle.std.specs.BTreeMap.{BTreeMap, IsOrdered, get}
+use Rattle.ct_value.specs.Order.{row_cmp}
+use Rattle.ct_value.specs.declared.row.Row.{Row}
+use Rattle.ct_value.specs.declared.ty.ColTy.{ColTy}
+use Rattle.ct_change.specs.declared.kind.Kind.TheVariants.{D}
+use Rattle.ct_change.specs.declared.change.Change.{Change}
+use Rattle.ct_change.specs.Changelog.{Mode, Rows, same_row, admits, MayCome, HasKey}
+use Rattle.ct_change.specs.Emission.{replaced}
+use Rattle.rel_clauses.specs.declared.agg.Agg.{Agg}
+use Rattle.rel_clauses.specs.Clauses.{Fits}
+use Rattle.rel_algebra.specs.Groups.{AreWide}
+use Rattle.group_rules.specs.Grouping.{Grouping, members, row_count, sums_fit, is_counted, IsSound}
+use Rattle.op_group.specs.declared.kept.Kept.{Kept}
+use Rattle.op_group.specs.declared.groups.GroupBy.{GroupBy}
+use Rattle.op_group.specs.declared.groups.Results.{Results}
+use Rattle.op_group.specs.Kept.{KeptAt, all_fit, all_counted, row_in}
+
+-- a group that has no rows isn't kept
+abbrev pub unless_empty : Bool → Kept → Option Kept
+unless_empty true kept = None
+unless_empty false kept = Some kept
+
+-- what is kept of each group, by its key, stands for its rows
+pub record AreKept (by : GroupBy) (groups : BTreeMap Row Kept) (of : Row → Rows) : Type 0 where
+  pub ordered : IsOrdered row_cmp groups
+  pub each : (key : Row) → KeptAt by.tys by.aggs by.retracting (of key) (get row_cmp groups key)
+
+-- the rows of each group after a change of the one with this key
+pub record IsTurned (key : Row) (of after : Row → Rows) (gone come : Option Row) : Type 0 where
+  pub own : after key ≡ replaced (of key) gone come
+  pub others : (other : Row) → same_row key other ≡ false → after other ≡ of other
+
+-- whether the sums and the calls of a group with these rows are in range
+abbrev pub in_range : GroupBy → Rows → Bool
+in_range by rows = all_fit by.tys by.aggs rows && all_counted by.tys by.aggs rows
+
+-- the rows of a group whose members were these, and are those, where nothing is out of range
+pub record IsTold (by : GroupBy) (key : Row) (before after : Rows) (results : Results) : Type 0 where
+  pub old : results.old ≡ row_in by.keys by.tys by.aggs key before
+  pub fresh : results.fresh ≡ row_in by.keys by.tys by.aggs key after
+  pub fine : all_fit by.tys by.aggs before ≡ true → in_range by after ≡ true
+
+-- ---- as a rule's
+
+-- the grouping by these keys and calls, from a mode to a mode
+abbrev pub grouping : GroupBy → Mode → Mode → Grouping
+grouping by input output = record { keys = by.keys; aggs = by.aggs; columns = by.tys; input = input; output = output }
+
+-- what is kept stands for the groups of these rows, at most so many, of which no sum and no call is out of range
+pub record IsGrouped (by : GroupBy) (g : Grouping) (rows : Rows) (groups : BTreeMap Row Kept) (held : ℕ) : Type 0 where
+  pub kept : AreKept by groups (λ key. members g key rows)
+  pub fit : (key : Row) → sums_fit g (members g key rows) ≡ true
+  pub counted : (key : Row) → is_counted g rows key ≡ true
+  pub wide : AreWide g.keys rows
+  pub few : row_count rows ≤ held
+
+-- a grouping that is sound, and rows can be removed wherever they may be
+abbrev pub IsSet : GroupBy → Grouping → Type 0
+IsSet by g = IsSound g × (by.retracting ≡ admits g.input D)
+
+-- a change may be taken: it may come, its row has the columns, and there is room for it
+pub record MayTake (by : GroupBy) (g : Grouping) (rows : Rows) (groups : BTreeMap Row Kept) (held : ℕ) (change : Change) : Type 0 where
+  pub set : IsSet by g
+  pub grouped : IsGrouped by g rows groups held
+  pub may : MayCome g.input rows change
+  pub fits : Fits g.columns change.row
+  pub key : HasKey g.input change.row
+  pub few : held + 1 < 2 ^ 32

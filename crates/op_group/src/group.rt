@@ -1,0 +1,177 @@
+ghost use Rattle.std.specs.Prelude.{◌≡◌, ◌≢◌, ℕ, ◌+◌, [], ◌∷◌, take, true, false, Ok, Err, IfOk, OnOk, option_copied};
+ghost use Rattle.ct_change.specs.Changelog.{Rows, apply};
+ghost use Rattle.ct_change.specs.Emission.{emission, row_of, CanTell};
+ghost use Rattle.op_rules.specs.Faults.{IfRange};
+
+use crate::groups::{GroupBy, Results, first_row, turn_group};
+use crate::kept::Kept;
+use ct_change::{Change, Changes, InMode, Kind, OutMode, Steps};
+use ct_value::{ColTys, Memory, Row};
+use op_rules::{OpFault, Operator};
+use rel_clauses::Aggs;
+use std::alloc::Global;
+use std::collections::BTreeMap;
+use std::sync::ledger::Ledger;
+
+/// The operator that groups rows by their first columns, with aggregates over each group, from a changelog in one mode to
+/// one in another (Flink documentation, "Group Aggregation"). Without key columns all rows are one group, which has its row
+/// also where there are none. It keeps the number of rows and the accumulators of each group that has rows, found by key.
+#[derive(Drop)]
+pub struct Group<I: InMode, O: OutMode> {
+    by: GroupBy,
+    input: I,
+    output: O,
+    rows: I::Kept,
+    groups: BTreeMap<Row, Kept>,
+    broken: bool,
+}
+
+impl<I: InMode, O: OutMode> Group<I, O> {
+    ghost use Rattle.group_rules.specs.Grouping.{Grouping, group_rule, group_emits, IsSound};
+    ghost use Rattle.op_group.specs.Groups.{grouping, MayTake, IsGrouped};
+
+    /// A group of no rows, by the first `keys` columns of rows with columns of these types, with these calls. The calls have
+    /// to have types, and the modes to suit the groups: rows with one key of the input are of one group, and two rows of the
+    /// answer agree on the key of the output exactly where they are of one group. Into an append changelog goes a group
+    /// without calls alone, of rows that stay.
+    pub fn new(
+        alloc: Global,
+        keys: u32,
+        aggs: Aggs,
+        tys: ColTys,
+        input: I,
+        output: O,
+    ) -> Result<Group<I, O>, Memory>
+        requires { IsSound (record { keys = keys; aggs = aggs; columns = tys; input = I.mode input; output = O.mode output }) }
+        ensures rule { IfOk result (λ made. ⟦<Group<I, O> as Operator>⟧.rule made ≡ group_rule (record { keys = keys; aggs = aggs; columns = tys; input = I.mode input; output = O.mode output })) }
+        ensures stands { IfOk result (λ made. ⟦<Group<I, O> as Operator>⟧.stands_for made []) }
+        ensures whole { IfOk result (λ made. ⟦<Group<I, O> as Operator>⟧.broken made ≡ false) }
+    {
+        let rows = input.fresh()?;
+        let retracting = input.admits(Kind::D);
+        Ok(Group {
+            by: GroupBy {
+                alloc,
+                keys,
+                aggs,
+                tys,
+                retracting,
+            },
+            input,
+            output,
+            rows,
+            groups: BTreeMap::new(alloc),
+            broken: false,
+        })
+    }
+
+    // Takes a change, and answers what is emitted for it.
+    fn take(&mut self, change: Change) -> Result<Changes, OpFault>
+        requires { (rows : Rows) × (held : ℕ) × I.stands_for self.old.input self.old.rows rows × MayTake self.old.by (grouping self.old.by (I.mode self.old.input) (O.mode self.old.output)) rows self.old.groups held change }
+        ensures sent { IfOk result (λ sent. (rows : Rows) (held : ℕ) → I.stands_for self.old.input self.old.rows rows → MayTake self.old.by (grouping self.old.by (I.mode self.old.input) (O.mode self.old.output)) rows self.old.groups held change → group_emits (grouping self.old.by (I.mode self.old.input) (O.mode self.old.output)) rows (change ∷ []) (take self.old.by.keys change.row) ≡ Ok sent) }
+        ensures kept { OnOk result ((rows : Rows) (held : ℕ) → I.stands_for self.old.input self.old.rows rows → MayTake self.old.by (grouping self.old.by (I.mode self.old.input) (O.mode self.old.output)) rows self.old.groups held change → I.stands_for self.new.input self.new.rows (apply (I.mode self.old.input) rows change) × IsGrouped self.old.by (grouping self.old.by (I.mode self.old.input) (O.mode self.old.output)) (apply (I.mode self.old.input) rows change) self.new.groups (held + 1)) }
+        ensures range { IfRange result (λ row. (rows : Rows) (held : ℕ) → I.stands_for self.old.input self.old.rows rows → MayTake self.old.by (grouping self.old.by (I.mode self.old.input) (O.mode self.old.output)) rows self.old.groups held change → group_emits (grouping self.old.by (I.mode self.old.input) (O.mode self.old.output)) rows (change ∷ []) (take self.old.by.keys change.row) ≡ Err row) }
+        ensures same { (self.new.by ≡ self.old.by) × (self.new.input ≡ self.old.input) × (self.new.output ≡ self.old.output) × (self.new.broken ≡ self.old.broken) }
+    {
+        let key = change.row.prefix(self.by.keys)?;
+        let diff = self.input.absorb(&mut self.rows, change)?;
+        let (gone, come) = (row_of(&diff.gone), row_of(&diff.come));
+        let results = match turn_group(&self.by, &mut self.groups, key, gone, come) {
+            Ok(results) => results,
+            Err(fault) => return Err(fault),
+        };
+        let sent = told(self.by.alloc, &self.output, results)?;
+        Ok(sent)
+    }
+
+    // What is emitted when the job opens.
+    fn opened(&self, subtask: u32) -> Result<Changes, Memory>
+        ensures { IfOk result (λ sent. sent ≡ (group_rule (grouping self.now.by (I.mode self.now.input) (O.mode self.now.output))).opening subtask) }
+    {
+        if self.by.keys != 0 || subtask != 0 {
+            return Ok(Changes::new(self.by.alloc));
+        }
+        let fresh = first_row(&self.by)?;
+        let sent = told(self.by.alloc, &self.output, Results { old: None, fresh })?;
+        Ok(sent)
+    }
+}
+
+impl<I: InMode, O: OutMode> Operator for Group<I, O> {
+    ghost use Rattle.std.specs.Prelude.{length};
+    ghost use Rattle.ct_change.specs.Changelog.{fold};
+    ghost use Rattle.op_rules.specs.History.{at_port};
+    ghost use Rattle.group_rules.specs.Grouping.{group_rule};
+    ghost use Rattle.op_group.specs.Groups.{grouping, IsSet, IsGrouped};
+
+    ghost rule = { λ s. group_rule (grouping s.by (I.mode s.input) (O.mode s.output)) };
+
+    ghost broken = { λ s. s.broken };
+
+    ghost stands_for = { λ s before.
+        IsSet s.by (grouping s.by (I.mode s.input) (O.mode s.output))
+        × I.stands_for s.input s.rows (fold (I.mode s.input) (at_port 0 before))
+        × IsGrouped s.by (grouping s.by (I.mode s.input) (O.mode s.output)) (fold (I.mode s.input) (at_port 0 before)) s.groups (length before) };
+
+    fn opening(&mut self, subtask: u32) -> Result<Changes, Memory> {
+        self.broken = true;
+        let sent = self.opened(subtask)?;
+        self.broken = false;
+        Ok(sent)
+    }
+
+    fn consume<L: Ledger>(
+        &mut self,
+        _port: u32,
+        change: Change,
+        _steps: &mut Steps<L>,
+    ) -> Result<Changes, OpFault> {
+        self.broken = true;
+        match self.take(change) {
+            Ok(sent) => {
+                self.broken = false;
+                Ok(sent)
+            }
+            Err(fault) => Err(fault),
+        }
+    }
+
+    fn is_broken(&self) -> bool {
+        self.broken
+    }
+}
+
+// The row of a change.
+fn row_of(change: &Option<Change>) -> Option<&Row>
+    ensures { option_copied result ≡ row_of change.now }
+{
+    match change {
+        None => None,
+        Some(change) => Some(&change.row),
+    }
+}
+
+// The changes that replace one row of a group by another, none where it stays.
+fn told<O: OutMode>(alloc: Global, output: &O, results: Results) -> Result<Changes, Memory>
+    requires { results.old ≢ results.fresh → CanTell (O.mode output.now) results.old results.fresh }
+    ensures { IfOk result (λ sent. sent ≡ emission (O.mode output.now) results.old results.fresh) }
+{
+    let mut sent = Changes::new(alloc);
+    if stays(&results) {
+        return Ok(sent);
+    }
+    output.emit(results.old, results.fresh, &mut sent)?;
+    Ok(sent)
+}
+
+// Whether the group's row is as before.
+fn stays(results: &Results) -> bool
+    ensures same { result ≡ true → results.now.old ≡ results.now.fresh }
+    ensures other { result ≡ false → results.now.old ≢ results.now.fresh }
+{
+    match (&results.old, &results.fresh) {
+        (None, None) => true,
+        (Some(old), Some(fresh)) => old == fresh,
+        _ => false,
+    }
+}

@@ -1,0 +1,144 @@
+-- Several trees, laid one behind the other.
+use Rattle.std.specs.Prelude.{◌≡◌, ℕ, ◌+◌, ◌<◌, ◌≤◌, ◌||◌, List, ◌++◌, length, take, get_or, slice_get}
+use Rattle.std.proofs.Common.{zero, suc, true, false, [], ◌∷◌, refl, sym, ap, subst, ◌∙◌, arith, Bool, Some}
+use Rattle.std.proofs.lemmas.List.{take_more, take_all}
+use Rattle.ct_catalog.specs.declared.table.TableDef.{TableDef}
+use Rattle.rel_algebra.specs.declared.rel.Rel.{Rel as Tree}
+use Rattle.rel_algebra.specs.Rel.{Rel, Rels, rels}
+use Rattle.rel_algebra.specs.View.{rel_view, rels_view}
+use Rattle.phys_plan.specs.declared.edge.Exchange.TheVariants.{Forward}
+use Rattle.phys_plan.specs.declared.plan.Plan.{Plan}
+use Rattle.plan_maker.specs.Laid.{IsLaid, AreLaid}
+use Rattle.plan_build.specs.declared.fault.PlanFault.{PlanFault}
+use Rattle.plan_build.specs.declared.fault.PlanFault.TheVariants.{Unbuilt, NoTable, TooMany, Memory}
+use Rattle.plan_build.specs.declared.laying.Laying.{Laying}
+use Rattle.plan_build.specs.Faults.{has_unbuilt, any_unbuilt, lacks_table, any_lacks, nodes_of, nodes_of_all}
+use Rattle.plan_build.specs.Laying.{Extends, Lays, LaysAll, Fails, FailsAll}
+
+-- ---- one tree more
+
+or_not : (a b : Bool) → a ≡ false → b ≡ false → (a || b) ≡ false
+or_not a b p q = ap (λ x. x || b) p ∙ q
+
+left_not : (a b : Bool) → (a || b) ≡ false → a ≡ false
+left_not true b e = absurd (cc)
+left_not false b e = refl
+
+right_not : (a b : Bool) → (a || b) ≡ false → b ≡ false
+right_not true b e = absurd (cc)
+right_not false b e = e
+
+built_behind : (xs : List Rel) (x : Rel) → any_unbuilt (rels xs) ≡ false → has_unbuilt x ≡ false → any_unbuilt (rels (xs ++ x ∷ [])) ≡ false
+built_behind [] x all one = or_not (has_unbuilt x) false one refl
+built_behind (y ∷ xs) x all one =
+    or_not (has_unbuilt y) (any_unbuilt (rels (xs ++ x ∷ []))) (left_not (has_unbuilt y) (any_unbuilt (rels xs)) all)
+    (built_behind xs x (right_not (has_unbuilt y) (any_unbuilt (rels xs)) all) one)
+
+tables_behind : (sources : List TableDef) (xs : List Rel) (x : Rel) → any_lacks sources (rels xs) ≡ false → lacks_table sources x ≡ false → any_lacks sources (rels (xs ++ x ∷ [])) ≡ false
+tables_behind sources [] x all one = or_not (lacks_table sources x) false one refl
+tables_behind sources (y ∷ xs) x all one =
+    or_not (lacks_table sources y) (any_lacks sources (rels (xs ++ x ∷ []))) (left_not (lacks_table sources y) (any_lacks sources (rels xs)) all)
+    (tables_behind sources xs x (right_not (lacks_table sources y) (any_lacks sources (rels xs)) all) one)
+
+count_behind : (sources : List TableDef) (xs : List Rel) (x : Rel) → nodes_of_all sources (rels (xs ++ x ∷ [])) ≡ nodes_of_all sources (rels xs) + nodes_of sources x
+count_behind sources [] x = omega arith
+count_behind sources (y ∷ xs) x = omega (arith, count_behind sources xs x)
+
+one_longer : (xs : List ℕ) (y : ℕ) → length (xs ++ y ∷ []) ≡ length xs + 1
+one_longer [] y = refl
+one_longer (x ∷ xs) y = omega (arith, one_longer xs y)
+
+more_laid : (plan : Plan) (x : Rel) (mid root : ℕ) → IsLaid plan mid Forward x root → (xs : List Rel) (n : ℕ) (roots : List ℕ) → AreLaid plan n (rels xs) roots mid → AreLaid plan n (rels (xs ++ x ∷ [])) (roots ++ root ∷ []) root
+more_laid plan x mid root laid [] n roots are =
+    (root, [], subst (λ m. IsLaid plan m Forward x root) are.1 laid, (refl, refl), ap (λ (ro : List ℕ). ro ++ root ∷ []) are.0)
+more_laid plan x mid root laid (first ∷ xs) n roots are =
+    (are.0, are.1 ++ root ∷ [], are.2, more_laid plan x mid root laid xs are.0 are.1 are.3, ap (λ (ro : List ℕ). ro ++ root ∷ []) are.4)
+
+one_more_lays : (old mid new : Laying) (xs : List Rel) (x : Rel) (roots : List ℕ) (root : ℕ) → LaysAll old mid (rels xs) roots → Lays mid new Forward x root → LaysAll old new (rels (xs ++ x ∷ [])) (roots ++ root ∷ [])
+one_more_lays old mid new xs x roots root all l =
+    let a = all.grows in
+    let b = l.grows in
+    let c = one_longer roots root in
+    let same : nodes_of mid.sources x ≡ nodes_of old.sources x = ap (λ (s : List TableDef). nodes_of s x) all.sources in
+    let d = all.count in
+    let e = l.count in
+    let f = count_behind old.sources xs x in
+    record {
+      fine = l.fine;
+      grows = omega arith;
+      sources = l.sources ∙ all.sources;
+      extends = λ plan e. all.extends plan (l.extends plan e);
+      laid = λ plan e.
+          subst (λ m. AreLaid plan (length old.nodes) (rels (xs ++ x ∷ [])) (roots ++ root ∷ []) m) l.root_is
+          (more_laid plan x (length mid.nodes) root (l.laid plan e) xs (length old.nodes) roots (all.laid plan (l.extends plan e)));
+      built = built_behind xs x all.built l.built;
+      tables = tables_behind old.sources xs x all.tables (subst (λ (s : List TableDef). lacks_table s x ≡ false) all.sources l.tables);
+      count = omega arith;
+    }
+
+-- ---- one that isn't laid
+
+or_right : (a b : Bool) → b ≡ true → (a || b) ≡ true
+or_right true b e = refl
+or_right false b e = e
+
+or_left : (a b : Bool) → a ≡ true → (a || b) ≡ true
+or_left true b e = refl
+or_left false b e = absurd (cc)
+
+unbuilt_at : (xs : List Rel) (p : ℕ) (x : Rel) → slice_get xs p ≡ Some x → has_unbuilt x ≡ true → any_unbuilt (rels xs) ≡ true
+unbuilt_at [] p x e f = absurd (cc)
+unbuilt_at (y ∷ xs) zero x e f = let same : y ≡ x = cc in or_left (has_unbuilt y) (any_unbuilt (rels xs)) (ap has_unbuilt same ∙ f)
+unbuilt_at (y ∷ xs) (suc p) x e f = or_right (has_unbuilt y) (any_unbuilt (rels xs)) (unbuilt_at xs p x e f)
+
+lacks_at : (sources : List TableDef) (xs : List Rel) (p : ℕ) (x : Rel) → slice_get xs p ≡ Some x → lacks_table sources x ≡ true → any_lacks sources (rels xs) ≡ true
+lacks_at sources [] p x e f = absurd (cc)
+lacks_at sources (y ∷ xs) zero x e f = let same : y ≡ x = cc in or_left (lacks_table sources y) (any_lacks sources (rels xs)) (ap (lacks_table sources) same ∙ f)
+lacks_at sources (y ∷ xs) (suc p) x e f = or_right (lacks_table sources y) (any_lacks sources (rels xs)) (lacks_at sources xs p x e f)
+
+count_at : (sources : List TableDef) (xs : List Rel) (p : ℕ) (x : Rel) → slice_get xs p ≡ Some x → nodes_of_all sources (rels (take p xs)) + nodes_of sources x ≤ nodes_of_all sources (rels xs)
+count_at sources [] p x e = absurd (cc)
+count_at sources (y ∷ xs) zero x e = let same : y ≡ x = cc in let one = ap (nodes_of sources) same in omega arith
+count_at sources (y ∷ xs) (suc p) x e = omega (arith, count_at sources xs p x e)
+
+one_fails : (old mid : Laying) (xs : List Rel) (p : ℕ) (x : Rel) (roots : List ℕ) (fault : PlanFault) → slice_get xs p ≡ Some x → LaysAll old mid (rels (take p xs)) roots → Fails mid x fault → FailsAll old (rels xs) fault
+one_fails old mid xs p x roots Unbuilt e all f = unbuilt_at xs p x e f
+one_fails old mid xs p x roots NoTable e all f = lacks_at old.sources xs p x e (subst (λ (s : List TableDef). lacks_table s x ≡ true) all.sources f)
+one_fails old mid xs p x roots TooMany e all f =
+    let same : nodes_of mid.sources x ≡ nodes_of old.sources x = ap (λ (s : List TableDef). nodes_of s x) all.sources in
+    let count = all.count in
+    let most = count_at old.sources xs p x e in
+    omega (arith, f)
+one_fails old mid xs p x roots Memory e all f = tt
+
+-- ---- the code's trees
+
+viewed_behind : (xs : List Tree) (x : Tree) → rels_view (xs ++ x ∷ []) ≡ rels_view xs ++ rel_view x ∷ []
+viewed_behind [] x = refl
+viewed_behind (y ∷ xs) x = ap (λ l. rel_view y ∷ l) (viewed_behind xs x)
+
+viewed_at : (xs : List Tree) (i : ℕ) (x : Tree) → i < length xs → x ≡ get_or xs i x → slice_get (rels_view xs) i ≡ Some (rel_view x)
+viewed_at [] i x l e = absurd (omega arith)
+viewed_at (y ∷ xs) zero x l e = ap (λ z. Some (rel_view z)) (sym e)
+viewed_at (y ∷ xs) (suc i) x l e = viewed_at xs i x (omega arith) e
+
+viewed_front : (xs : List Tree) (i : ℕ) → rels_view (take i xs) ≡ take i (rels_view xs)
+viewed_front [] zero = refl
+viewed_front [] (suc i) = refl
+viewed_front (y ∷ xs) zero = refl
+viewed_front (y ∷ xs) (suc i) = ap (λ l. rel_view y ∷ l) (viewed_front xs i)
+
+pub turn_lays : (old mid new : Laying) (inputs : List Tree) (i : ℕ) (x : Tree) (roots next : List ℕ) (root : ℕ) → i < length inputs → x ≡ get_or inputs i x → LaysAll old mid (rels (rels_view (take i inputs))) roots
+    → Lays mid new Forward (rel_view x) root → next ≡ roots ++ root ∷ [] → LaysAll old new (rels (rels_view (take (i + 1) inputs))) next
+turn_lays old mid new inputs i x roots next root l e all one is =
+    let taken : take (i + 1) inputs ≡ take i inputs ++ x ∷ [] = take_more inputs i x l ∙ ap (λ y. take i inputs ++ y ∷ []) (sym e) in
+    let viewed : rels_view (take (i + 1) inputs) ≡ rels_view (take i inputs) ++ rel_view x ∷ [] = ap rels_view taken ∙ viewed_behind (take i inputs) x in
+    subst (λ (xs : List Rel). LaysAll old new (rels xs) next) (sym viewed) (subst (λ (ro : List ℕ). LaysAll old new (rels (rels_view (take i inputs) ++ rel_view x ∷ [])) ro) (sym is) (one_more_lays old mid new (rels_view (take i inputs)) (rel_view x) roots root all one))
+
+pub turn_fails : (old mid : Laying) (inputs : List Tree) (i : ℕ) (x : Tree) (roots : List ℕ) (fault : PlanFault) → i < length inputs → x ≡ get_or inputs i x → LaysAll old mid (rels (rels_view (take i inputs))) roots
+    → Fails mid (rel_view x) fault → FailsAll old (rels (rels_view inputs)) fault
+turn_fails old mid inputs i x roots fault l e all fails =
+    one_fails old mid (rels_view inputs) i (rel_view x) roots fault (viewed_at inputs i x l e) (subst (λ (xs : List Rel). LaysAll old mid (rels xs) roots) (viewed_front inputs i) all) fails
+
+pub all_laid : (old new : Laying) (inputs : List Tree) (i : ℕ) (roots : List ℕ) → length inputs ≤ i → LaysAll old new (rels (rels_view (take i inputs))) roots → LaysAll old new (rels (rels_view inputs)) roots
+all_laid old new inputs i roots l all = subst (λ (xs : List Tree). LaysAll old new (rels (rels_view xs)) roots) (take_all i inputs l) all

@@ -1,0 +1,24 @@
+//! Why no plan is made.
+
+use ct_value::Memory;
+
+/// Why no plan is made: a part of the tree isn't built yet, or scans a table that isn't there; the plan would have more than 998
+/// nodes; or memory was wanting.
+#[derive(Clone, Copy, Debug, PartialEq, Eq)]
+pub enum PlanFault {
+    Unbuilt,
+    NoTable,
+    TooMany,
+    Memory,
+}
+
+impl From<Memory> for PlanFault {
+    ghost use Rattle.std.specs.Prelude.{◌≡◌};
+    ghost use Rattle.plan_build.specs.declared.fault.PlanFault.TheVariants.{Memory as Wanting};
+
+    ghost from_gives = { λ _ fault. fault ≡ Wanting };
+
+    fn from(_: Memory) -> Self {
+        PlanFault::Memory
+    }
+}

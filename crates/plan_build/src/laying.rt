@@ -1,0 +1,108 @@
+//! What is laid of a plan, and nodes that are put behind it.
+ghost use Rattle.std.specs.Prelude.{◌≡◌, ◌+◌, ◌<◌, [], ◌∷◌, length, IfOk, IfErr};
+ghost use Rattle.ct_change.specs.Changelog.{retract, upsert, kinds_of};
+ghost use Rattle.phys_plan.specs.declared.edge.Exchange.TheVariants.{Forward as ToSame, Hash as ByHash};
+ghost use Rattle.phys_plan.specs.declared.edge.Update.TheVariants.{Absent as NoUpdate, After as AfterKey, Both as BothRows};
+ghost use Rattle.phys_plan.specs.declared.node.Op.TheVariants as op;
+ghost use Rattle.plan_build.specs.Laying.{Pushed, IsFull};
+
+use crate::fault::PlanFault;
+use crate::parts::{all_kinds, no_keys, upsert_kinds};
+use ct_catalog::Sources;
+use ct_value::{Cols, Numbers};
+use phys_plan::{Edge, Edges, Exchange, Node, Nodes, Op, Update};
+use std::alloc::Global;
+
+// The most nodes of a plan.
+const MOST_NODES: usize = 998;
+
+/// What is laid of a plan over some tables: its nodes so far, and the edges that leave them.
+#[derive(Drop)]
+pub struct Laying {
+    pub alloc: Global,
+    pub sources: Sources,
+    pub nodes: Nodes,
+    pub edges: Edges,
+}
+
+impl Laying {
+    // Puts a node behind the others, with its edge, and answers its number.
+    pub(crate) fn push(&mut self, op: Op, inputs: Numbers, edge: Edge) -> Result<u32, PlanFault>
+        ensures pushed { IfOk result (λ number. Pushed self.old self.new op inputs edge.exchange edge.kinds edge.update number) }
+        ensures full { IfErr result (λ fault. IsFull self.old fault) }
+    {
+        if self.nodes.len() >= MOST_NODES {
+            return Err(PlanFault::TooMany);
+        }
+        let number = self.nodes.len() as u32 + 1;
+        self.nodes.push(Node {
+            op,
+            inputs,
+            keys: no_keys(self.alloc),
+        })?;
+        self.edges.push(edge)?;
+        Ok(number)
+    }
+
+    // The same of a node whose edge carries all kinds, and both rows of an update.
+    pub(crate) fn push_whole(
+        &mut self,
+        op: Op,
+        inputs: Numbers,
+        exchange: Exchange,
+    ) -> Result<u32, PlanFault>
+        ensures pushed { IfOk result (λ number. Pushed self.old self.new op inputs exchange (kinds_of retract) BothRows number) }
+        ensures full { IfErr result (λ fault. IsFull self.old fault) }
+    {
+        let edge = Edge {
+            exchange,
+            kinds: all_kinds(),
+            update: Update::Both,
+        };
+        self.push(op, inputs, edge)
+    }
+
+    // The same of one with a single input.
+    pub(crate) fn push_over(
+        &mut self,
+        below: u32,
+        op: Op,
+        exchange: Exchange,
+    ) -> Result<u32, PlanFault>
+        ensures pushed { IfOk result (λ number. Pushed self.old self.new op (below ∷ []) exchange (kinds_of retract) BothRows number) }
+        ensures full { IfErr result (λ fault. IsFull self.old fault) }
+    {
+        let mut inputs = Numbers::new(self.alloc);
+        inputs.push(below)?;
+        self.push_whole(op, inputs, exchange)
+    }
+
+    // A scan whose edge is after-only by a key, and hashed by it.
+    pub(crate) fn push_keyed_scan(&mut self, source: u32, key: &Cols) -> Result<u32, PlanFault>
+        ensures pushed { IfOk result (λ number. Pushed self.old self.new (op.Scan source) [] (ByHash key.now) (kinds_of (upsert key.now)) (AfterKey key.now) number) }
+        ensures full { IfErr result (λ fault. IsFull self.old fault) }
+    {
+        let edge = Edge {
+            exchange: Exchange::Hash(key.dup()?),
+            kinds: upsert_kinds(),
+            update: Update::After(key.dup()?),
+        };
+        let inputs = Numbers::new(self.alloc);
+        self.push(Op::Scan { source }, inputs, edge)
+    }
+
+    // The sink, over a node.
+    pub(crate) fn push_sink(&mut self, below: u32) -> Result<u32, PlanFault>
+        ensures pushed { IfOk result (λ number. Pushed self.old self.new op.Sink (below ∷ []) ToSame (kinds_of retract) NoUpdate number) }
+        ensures full { IfErr result (λ fault. IsFull self.old fault) }
+    {
+        let mut inputs = Numbers::new(self.alloc);
+        inputs.push(below)?;
+        let edge = Edge {
+            exchange: Exchange::Forward,
+            kinds: all_kinds(),
+            update: Update::Absent,
+        };
+        self.push(Op::Sink, inputs, edge)
+    }
+}

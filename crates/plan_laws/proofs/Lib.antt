@@ -1,9 +1,0 @@
-pub mod Numbers
-pub mod Inputs
-pub mod Wider
-pub mod Between
-pub mod Segments
-pub mod Nodes
-pub mod Trees
-pub mod Wiring
-pub mod Answers

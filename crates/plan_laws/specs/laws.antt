@@ -1,0 +1,11 @@
+pub mod Answers
+pub mod Between
+pub mod Inputs
+pub mod Made
+pub mod Nodes
+pub mod Numbers
+pub mod Printing
+pub mod Segments
+pub mod Trees
+pub mod Wider
+pub mod Wiring

@@ -1,0 +1,4 @@
+pub mod Places
+pub mod One
+pub mod Have
+pub mod Count

@@ -1,0 +1,3 @@
+pub mod Catalogues
+pub mod Settings
+pub mod Plans

@@ -1,0 +1,233 @@
+ghost use Rattle.std.specs.Prelude.{◌≡◌, ℕ, [], List as Seq, Some, None, get_or, length, option_copied, take, IfOk};
+ghost use Rattle.ct_value.specs.declared.ty.ColTy.{ColTy};
+ghost use Rattle.ct_change.specs.Changelog.{retract};
+ghost use Rattle.ct_expr.specs.View.{expr_view, exprs_view};
+ghost use Rattle.rel_clauses.specs.Groups.{group_columns};
+ghost use Rattle.row_rules.specs.Filter.{filter_rule};
+ghost use Rattle.row_rules.specs.Project.{project_rule};
+ghost use Rattle.row_rules.specs.Union.{union_rule};
+ghost use Rattle.row_rules.specs.Normalize.{normalize_rule};
+ghost use Rattle.row_rules.specs.Sink.{sink_rule};
+ghost use Rattle.group_rules.specs.Grouping.{group_rule};
+ghost use Rattle.plan_network.specs.Plans.{numbered};
+ghost use Rattle.plan_rules.specs.Doings.{after_key, around_of, first_input, update_in};
+ghost use Rattle.session_nodes.specs.Running.{IsBuilt, IsBuiltPlan, IsNew, IsOperatorOf, range_types_by};
+
+use crate::AnyOperator;
+use ct_change::Retract;
+use ct_expr::{Expr, Exprs, dup_exprs};
+use ct_value::{ColTys, Cols, List, Memory, Numbers};
+use op_group::Group;
+use op_row::{FilterOp, NormalizeOp, ProjectOp, UnionOp};
+use op_rules::Operator;
+use op_sink::SinkWriter;
+use phys_plan::{Edge, Node, Op, Plan, Update};
+use rel_clauses::Aggs;
+use session_open::PlanOperator;
+use std::alloc::Global;
+
+impl PlanOperator for AnyOperator {
+    ghost runs = { λ plan columns g. IsBuiltPlan plan columns g };
+
+    fn make(
+        alloc: Global,
+        plan: &Plan,
+        columns: &List<ColTys>,
+        node: u32,
+    ) -> Result<Option<Self>, Memory> {
+        match node_at(plan, node) {
+            None => Ok(None),
+            Some(of) => operator_of(alloc, plan, columns, node, of),
+        }
+    }
+
+    fn range_types(
+        alloc: Global,
+        plan: &Plan,
+        columns: &List<ColTys>,
+        node: u32,
+    ) -> Result<ColTys, Memory> {
+        match node_at(plan, node) {
+            None => Ok(ColTys::new(alloc)),
+            Some(of) => range_types_of(alloc, columns, of),
+        }
+    }
+}
+
+// The operator of a node.
+fn operator_of(
+    alloc: Global,
+    plan: &Plan,
+    columns: &List<ColTys>,
+    number: u32,
+    node: &Node,
+) -> Result<Option<AnyOperator>, Memory>
+    requires built { IsBuilt node.now.op (around_of plan.now number node.now.inputs) }
+    requires columns { get_or columns.now (first_input node.now.inputs) [] ≡ (around_of plan.now number node.now.inputs).columns }
+    ensures { IfOk result (λ made. IsOperatorOf ⟦<AnyOperator as Operator>⟧.rule ⟦<AnyOperator as Operator>⟧.broken ⟦<AnyOperator as Operator>⟧.stands_for node.now.op (around_of plan.now number node.now.inputs) made) }
+{
+    match &node.op {
+        Op::Scan { .. } => Ok(None),
+        Op::Filter { cond } => Ok(Some(filter_by(alloc, cond)?)),
+        Op::Project { items } => Ok(Some(project_to(alloc, plan, &node.inputs, items)?)),
+        Op::Union => Ok(Some(union_of(alloc, &node.inputs)?)),
+        Op::Normalize { key } => Ok(Some(normalize_by(alloc, key)?)),
+        Op::Group { keys, aggs } => Ok(Some(group_by(
+            alloc,
+            input_types(alloc, columns, &node.inputs)?,
+            *keys,
+            aggs,
+        )?)),
+        Op::Sink => Ok(Some(sink_of(alloc, plan, &node.inputs)?)),
+        _ => unreachable!(),
+    }
+}
+
+fn filter_by(alloc: Global, cond: &Expr) -> Result<AnyOperator, Memory>
+    ensures { IfOk result (λ made. IsNew ⟦<AnyOperator as Operator>⟧.rule ⟦<AnyOperator as Operator>⟧.broken ⟦<AnyOperator as Operator>⟧.stands_for made (filter_rule (record { condition = expr_view cond.now }))) }
+{
+    Ok(AnyOperator::Filter(FilterOp::new(alloc, cond.dup()?)))
+}
+
+fn project_to(
+    alloc: Global,
+    plan: &Plan,
+    inputs: &Numbers,
+    items: &Exprs,
+) -> Result<AnyOperator, Memory>
+    ensures { IfOk result (λ made. IsNew ⟦<AnyOperator as Operator>⟧.rule ⟦<AnyOperator as Operator>⟧.broken ⟦<AnyOperator as Operator>⟧.stands_for made (project_rule (record { items = exprs_view items.now; after = after_key (update_in (numbered plan.now.edges (first_input inputs.now))) }))) }
+{
+    let items = dup_exprs(items)?;
+    let after = after_of(plan, inputs)?;
+    Ok(AnyOperator::Project(ProjectOp::new(alloc, items, after)))
+}
+
+fn union_of(alloc: Global, inputs: &Numbers) -> Result<AnyOperator, Memory>
+    ensures { IfOk result (λ made. IsNew ⟦<AnyOperator as Operator>⟧.rule ⟦<AnyOperator as Operator>⟧.broken ⟦<AnyOperator as Operator>⟧.stands_for made (union_rule (record { inputs = length inputs.now }))) }
+{
+    let count = count_of(inputs)?;
+    Ok(AnyOperator::Union(UnionOp::new(alloc, count)))
+}
+
+fn normalize_by(alloc: Global, key: &Cols) -> Result<AnyOperator, Memory>
+    ensures { IfOk result (λ made. IsNew ⟦<AnyOperator as Operator>⟧.rule ⟦<AnyOperator as Operator>⟧.broken ⟦<AnyOperator as Operator>⟧.stands_for made (normalize_rule (record { key = key.now; output = retract }))) }
+{
+    let made = NormalizeOp::new(alloc, key.dup()?, Retract)?;
+    Ok(AnyOperator::Normalize(made))
+}
+
+fn group_by(alloc: Global, types: ColTys, keys: u32, aggs: &Aggs) -> Result<AnyOperator, Memory>
+    requires { (made : Seq ColTy) × (group_columns keys types aggs.now ≡ Some made) }
+    ensures { IfOk result (λ made. IsNew ⟦<AnyOperator as Operator>⟧.rule ⟦<AnyOperator as Operator>⟧.broken ⟦<AnyOperator as Operator>⟧.stands_for made (group_rule (record { keys = keys; aggs = aggs.now; columns = types; input = retract; output = retract }))) }
+{
+    let made = Group::new(alloc, keys, aggs.dup()?, types, Retract, Retract)?;
+    Ok(AnyOperator::Group(made))
+}
+
+fn sink_of(alloc: Global, plan: &Plan, inputs: &Numbers) -> Result<AnyOperator, Memory>
+    ensures { IfOk result (λ made. IsNew ⟦<AnyOperator as Operator>⟧.rule ⟦<AnyOperator as Operator>⟧.broken ⟦<AnyOperator as Operator>⟧.stands_for made (sink_rule (record { declared = plan.now.sink.mode; after = after_key (update_in (numbered plan.now.edges (first_input inputs.now))) }))) }
+{
+    let after = after_of(plan, inputs)?;
+    Ok(AnyOperator::Sink(SinkWriter::new(alloc, plan.sink.mode, after)))
+}
+
+// The node of a number.
+fn node_at(plan: &Plan, number: u32) -> Option<&Node>
+    ensures { option_copied result ≡ numbered plan.now.nodes number }
+{
+    if number == 0 {
+        return None;
+    }
+    plan.nodes.get(number as usize - 1)
+}
+
+// The edge of a number.
+fn edge_at(plan: &Plan, number: u32) -> Option<&Edge>
+    ensures { option_copied result ≡ numbered plan.now.edges number }
+{
+    if number == 0 {
+        return None;
+    }
+    plan.edges.get(number as usize - 1)
+}
+
+// The first of these inputs, or 0.
+fn first_of(inputs: &Numbers) -> u32
+    ensures { result ≡ first_input inputs.now }
+{
+    match inputs.as_slice().split_first() {
+        Some((first, _)) => *first,
+        None => 0,
+    }
+}
+
+// How many inputs there are.
+fn count_of(inputs: &Numbers) -> Result<u32, Memory>
+    ensures { IfOk result (λ count. count ≡ length inputs.now) }
+{
+    match u32::try_from(inputs.len()) {
+        Ok(count) => Ok(count),
+        Err(_) => Err(Memory),
+    }
+}
+
+// The key by which the edge of the first input is after-only, if it is.
+fn after_of(plan: &Plan, inputs: &Numbers) -> Result<Option<Cols>, Memory>
+    ensures { IfOk result (λ after. after ≡ after_key (update_in (numbered plan.now.edges (first_input inputs.now)))) }
+{
+    match edge_at(plan, first_of(inputs)) {
+        None => Ok(None),
+        Some(edge) => key_of(&edge.update),
+    }
+}
+
+// The key by which an edge is after-only, if it is.
+fn key_of(update: &Update) -> Result<Option<Cols>, Memory>
+    ensures { IfOk result (λ key. key ≡ after_key update.now) }
+{
+    match update {
+        Update::Absent => Ok(None),
+        Update::After(columns) => Ok(Some(columns.dup()?)),
+        Update::Both => Ok(None),
+    }
+}
+
+// The types of the row at which a node is out of range.
+fn range_types_of(alloc: Global, columns: &List<ColTys>, node: &Node) -> Result<ColTys, Memory>
+    ensures { IfOk result (λ types. types ≡ range_types_by node.now.op (get_or columns.now (first_input node.now.inputs) [])) }
+{
+    match &node.op {
+        Op::Filter { .. } => input_types(alloc, columns, &node.inputs),
+        Op::Project { .. } => input_types(alloc, columns, &node.inputs),
+        Op::Union => input_types(alloc, columns, &node.inputs),
+        Op::Normalize { .. } => input_types(alloc, columns, &node.inputs),
+        Op::Sink => input_types(alloc, columns, &node.inputs),
+        Op::Group { keys, .. } => first_types(alloc, columns, node, *keys),
+        _ => Ok(ColTys::new(alloc)),
+    }
+}
+
+// The types of the columns of a node's first input.
+#[tactic(auto, using(crate::proofs::Nodes::types_there, crate::proofs::Nodes::types_past))]
+fn input_types(alloc: Global, columns: &List<ColTys>, inputs: &Numbers) -> Result<ColTys, Memory>
+    ensures { IfOk result (λ types. types ≡ get_or columns.now (first_input inputs.now) []) }
+{
+    match columns.get(first_of(inputs) as usize) {
+        None => Ok(ColTys::new(alloc)),
+        Some(types) => types.dup(),
+    }
+}
+
+// The first so many of these types.
+fn first_types(
+    alloc: Global,
+    columns: &List<ColTys>,
+    node: &Node,
+    keys: u32,
+) -> Result<ColTys, Memory>
+    ensures { IfOk result (λ types. types ≡ take keys (get_or columns.now (first_input node.now.inputs) [])) }
+{
+    let mut types = input_types(alloc, columns, &node.inputs)?;
+    types.truncate(keys as usize);
+    Ok(types)
+}

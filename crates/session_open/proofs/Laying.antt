@@ -1,0 +1,153 @@
+-- What is laid out for look-ups, item by item.
+use Rattle.std.proofs.Common.{◌≡◌, ℕ, zero, suc, ◌+◌, ◌<◌, true, false, ◌&&◌, Bool, cond, List, [], ◌∷◌, ◌++◌, length, get_or, slice_get, Option, Some, None, refl, sym, ap, subst, ◌∙◌, arith, inl, inr}
+use Rattle.std.proofs.lemmas.Bool.{and_parts, cases_lt, false≢true}
+use Rattle.std.specs.List.{All}
+use Rattle.std.specs.Option.{option_map}
+use Rattle.std.proofs.lemmas.List.{get_or_past}
+use Rattle.std.proofs.lemmas.Option.{none-some, same_Some, slice_get_cases, slice_get_within}
+use Rattle.ct_catalog.specs.declared.table.TableDef.{TableDef}
+use Rattle.phys_plan.specs.declared.node.Node.{Node}
+use Rattle.stream_model.specs.Network.{Feed, Network, IsWired}
+use Rattle.session_traffic.specs.declared.wiring.Feed as kept
+use Rattle.session_traffic.specs.declared.wiring.TableWiring.{TableWiring}
+use Rattle.session_traffic.specs.LaidOut.{IsTableIn, feed_of, scans_below}
+use Rattle.op_rules.specs.Edges.{hash}
+use Rattle.ct_value.specs.declared.ty.ColTy.{ColTy}
+use Rattle.ct_value.specs.declared.value.Value.{Value}
+use Rattle.ct_field.specs.Typed.{row_fits, col_fits}
+use Rattle.route.specs.Routing.{route_of, types_at}
+use Rattle.phys_plan.specs.declared.edge.Edge.{Edge as PlanEdge}
+use Rattle.phys_plan.specs.declared.edge.Exchange.{Exchange as PlanExchange}
+use Rattle.phys_plan.specs.declared.edge.Exchange.TheVariants.{Forward, Hash}
+use Rattle.phys_plan.specs.declared.plan.Plan.{Plan}
+use Rattle.plan_network.specs.Plans.{Doing, bundle_in, bundle_of, column_types, columns_from, exchange_in, exchange_of, network_edge, network_of, numbered, route_by, spread_of, table_of}
+use Rattle.session_channels.specs.declared.exchange.Route.{Route}
+use Rattle.session_channels.specs.declared.exchange.Route.TheVariants as r
+use Rattle.session_channels.specs.Routes.{RoutesFor}
+use Rattle.session_open.specs.Opening.{AreColumns, IsKeyRoute, IsRouteIn, IsRouteOf}
+
+-- ---- lists to which an item is put
+
+module _ {A : Type 0} where
+  -- what holds of each item, by its place
+  abbrev pub Each : (ℕ → A → Type 0) → List A → Type 0
+  Each P xs = (n : ℕ) (x : A) → slice_get xs n ≡ Some x → P n x
+
+  pub each_none : (P : ℕ → A → Type 0) → Each P []
+  each_none P n x is = absurd (none-some x is)
+
+  pub each_push : (P : ℕ → A → Type 0) (xs : List A) (y : A) → Each P xs → P (length xs) y → Each P (xs ++ y ∷ [])
+  each_push P [] y h p zero x is = subst (P 0) (same_Some y x is) p
+  each_push P [] y h p (suc n) x is = absurd (none-some x is)
+  each_push P (z ∷ xs) y h p zero x is = h zero x is
+  each_push P (z ∷ xs) y h p (suc n) x is = each_push (λ m. P (suc m)) xs y (λ m. h (suc m)) p n x is
+
+-- ---- routes
+
+fits_length : (types : List ColTy) (row : List Value) → row_fits types row ≡ true → length row ≡ length types
+fits_length [] [] h = refl
+fits_length [] (v ∷ row) h = absurd (false≢true h)
+fits_length (c ∷ types) [] h = absurd (false≢true h)
+fits_length (c ∷ types) (v ∷ row) h = let e = fits_length types row (and_parts (col_fits c v) (row_fits types row) h).1 in omega (arith, e)
+
+-- a route as the network has it
+routed_by : (of : ℕ → List ColTy) (doing : ℕ → Doing) (plan : Plan) (e : ℕ) (types : List ColTy) (found : Option PlanEdge) (route : Route)
+    → numbered plan.edges e ≡ found → types ≡ of e → IsRouteIn types found route → RoutesFor plan.parallelism route (network_edge of doing plan e)
+routed_by of doing plan e types None r.Forward is same kept = ap exchange_in is
+routed_by of doing plan e types None (r.Hash key) is same kept = absurd kept
+routed_by of doing plan e types (Some edge) route is same kept = by_exchange edge.exchange route (ap exchange_in is) kept
+  where
+    by_exchange : (exchange : PlanExchange) (route : Route) → exchange_in (numbered plan.edges e) ≡ exchange_of exchange → IsRouteOf types exchange route → RoutesFor plan.parallelism route (network_edge of doing plan e)
+    by_exchange Forward r.Forward now kept = now
+    by_exchange Forward (r.Hash key) now kept = absurd kept
+    by_exchange (Hash columns) r.Forward now kept = absurd kept
+    by_exchange (Hash columns) (r.Hash key) now kept = record {
+      exchange = now ∙ ap hash (sym kept.columns_are);
+      spreads = record {
+        routes = λ row.
+            ap (λ x. route_by plan.parallelism (of e) x row) now
+            ∙ (ap (λ (c : List ℕ). route_of plan.parallelism (types_at c (of e)) row) (sym kept.columns_are)
+            ∙ ap (λ (t : List ColTy). route_of plan.parallelism (types_at key.columns t) row) (sym same ∙ sym kept.types_are));
+      };
+      wide = λ change fits. fits_length (of e) change.row fits ∙ ap length (sym same ∙ sym kept.types_are);
+    }
+
+pub routed : (of : ℕ → List ColTy) (doing : ℕ → Doing) (plan : Plan) (columns : List (List ColTy)) (e : ℕ) (route : Route)
+    → AreColumns columns of → IsRouteIn (get_or columns e []) (numbered plan.edges e) route → RoutesFor plan.parallelism route (network_edge of doing plan e)
+routed of doing plan columns e route are kept = routed_by of doing plan e (get_or columns e []) (numbered plan.edges e) route refl (are e) kept
+
+-- ---- columns, one behind the other
+
+pub columns_more : (start n : ℕ) → columns_from start (n + 1) ≡ columns_from start n ++ (start + n) ∷ []
+columns_more start n = ap (columns_from start) (let e : n + 1 ≡ suc n = omega arith in e) ∙ columns_end start n
+  where
+    columns_end : (start n : ℕ) → columns_from start (suc n) ≡ columns_from start n ++ (start + n) ∷ []
+    columns_end start zero = ap (λ m. m ∷ []) (let e : start ≡ start + 0 = omega arith in e)
+    columns_end start (suc n) = ap (λ l. start ∷ l) (columns_end (suc start) n ∙ ap (λ m. columns_from (suc start) n ++ m ∷ []) (let e : suc start + n ≡ start + suc n = omega arith in e))
+
+-- ---- tables, bundles and ports
+
+pub tables_laid : (of : ℕ → List ColTy) (doing : ℕ → Doing) (plan : Plan) (tables : List TableWiring) → length tables ≡ length plan.sources
+    → ((number : ℕ) (kept : TableWiring) → slice_get tables number ≡ Some kept → (table : TableDef) → slice_get plan.sources number ≡ Some table
+    → IsKeyRoute (column_types table) (spread_of table) kept.spread × ((of : ℕ → List ColTy) (doing : ℕ → Doing) → kept.scans ≡ scans_below (network_of of doing plan) number (length plan.nodes)))
+    → (number : ℕ) → IsTableIn (network_of of doing plan) number (slice_get tables number) ((network_of of doing plan).tables number)
+tables_laid of doing plan tables many each number = cases (slice_get tables number) (slice_get plan.sources number) refl refl
+  where
+    cases : (kept : Option TableWiring) (found : Option TableDef) → slice_get tables number ≡ kept → slice_get plan.sources number ≡ found
+        → IsTableIn (network_of of doing plan) number kept (option_map (table_of plan.parallelism) found)
+    cases None None off out = tt
+    cases None (Some table) off is =
+        let within = slice_get_within plan.sources number table is in
+        elim (slice_get_cases tables number).1 [
+          | inl p ↦ absurd (none-some p.0 (sym off ∙ p.2))
+          | inr p ↦ let le = p.0 in absurd (omega (arith, le, many, within))
+        ]
+    cases (Some kept) None is out =
+        let within = slice_get_within tables number kept is in
+        elim (slice_get_cases plan.sources number).1 [
+          | inl p ↦ absurd (none-some p.0 (sym out ∙ p.2))
+          | inr p ↦ let le = p.0 in absurd (omega (arith, le, many, within))
+        ]
+    cases (Some kept) (Some table) is there =
+        let r = each number kept is table there in
+        let key = r.0 in
+        record {
+          spread = sym key.columns_are;
+          spreads = record {
+            routes = λ row.
+                ap (λ (c : List ℕ). route_of plan.parallelism (types_at c (column_types table)) row) (sym key.columns_are)
+                ∙ ap (λ (t : List ColTy). route_of plan.parallelism (types_at kept.spread.columns t) row) (sym key.types_are);
+          };
+          wide = λ change fits. fits_length (column_types table) change.row fits ∙ ap length (sym key.types_are);
+          scans = r.1 of doing;
+        }
+
+none_bundled : (size : ℕ) (nodes : List Node) → All (λ node. bundle_of size node.op ≡ None) nodes → (n : ℕ) → bundle_in size (slice_get nodes n) ≡ None
+none_bundled size [] all n = refl
+none_bundled size (node ∷ nodes) all zero = all 0 node (omega arith)
+none_bundled size (node ∷ nodes) all (suc n) = none_bundled size nodes (λ k d within. all (suc k) d (omega (arith, within))) n
+
+pub unbundled_at : (size : ℕ) (nodes : List Node) → All (λ node. bundle_of size node.op ≡ None) nodes → (v : ℕ) → bundle_in size (numbered nodes v) ≡ None
+unbundled_at size nodes all zero = refl
+unbundled_at size nodes all (suc n) = none_bundled size nodes all n
+
+-- no port is fed by an edge with a greater number
+fed_past : (g : Network) → IsWired g → (e : ℕ) → g.count < e → g.fed e ≡ None
+fed_past g wired e past = cases (g.fed e) refl
+  where
+    cases : (fed : Option Feed) → g.fed e ≡ fed → fed ≡ None
+    cases None is = refl
+    cases (Some feed) is =
+        let p = wired.feeds_port e feed is in
+        let some : 0 < g.ports feed.node = omega (arith, p.0) in
+        let low = wired.below feed.node feed.port p.0 in
+        let top = wired.counted feed.node some in
+        absurd (omega (arith, p.1, low, top, past))
+
+pub feeds_laid : (g : Network) → IsWired g → (feeds : List (Option kept.Feed)) → length feeds ≡ g.count + 1
+    → ((e : ℕ) → e < g.count + 1 → feed_of (get_or feeds e None) ≡ g.fed e) → (e : ℕ) → feed_of (get_or feeds e None) ≡ g.fed e
+feeds_laid g wired feeds many each e =
+    elim (cases_lt e (g.count + 1)) [
+      | inl within ↦ each e within
+      | inr past ↦ ap feed_of (get_or_past feeds e None (omega (arith, past, many))) ∙ sym (fed_past g wired e (omega (arith, past)))
+    ]

@@ -1,0 +1,3 @@
+pub mod Faults
+pub mod Goes
+pub mod laws

@@ -1,0 +1,3 @@
+mod Outs
+mod Rows
+mod Types

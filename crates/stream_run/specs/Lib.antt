@@ -1,0 +1,4 @@
+pub mod Headline
+pub mod Rows
+pub mod Run
+pub mod laws

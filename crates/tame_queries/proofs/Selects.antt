@@ -1,0 +1,243 @@
+-- A select without arithmetic is bound to a tree that calculates nothing, over a tree that calculates nothing: clause by clause.
+use Rattle.std.proofs.Common.{◌≡◌, ℕ, suc, ◌+◌, Bool, true, false, ◌&&◌, List, [], ◌∷◌, ◌++◌, length, Option, Some, None, cond, Ok, IfOk, refl, option_map, slice_get}
+use Rattle.std.specs.Prelude.{flat_map, nat_lt}
+use Rattle.std.specs.List.{list_all}
+use Rattle.ct_value.specs.declared.codes.ScriptCode.TheVariants.{AmbiguousColumn, UnknownColumn, TypeMismatch, NotGrouped, TooManyColumns}
+use Rattle.ct_catalog.specs.declared.table.TableDef.{TableDef}
+use Rattle.rel_clauses.specs.declared.join.JoinKind.{JoinKind}
+use Rattle.rel_clauses.specs.declared.join.Pair.{Pair}
+use Rattle.rel_algebra.specs.Rel.{Rel}
+use Rattle.rel_algebra.specs.Rel as r
+use Rattle.rel_algebra.specs.Types.{is_boolean}
+use Rattle.sql_syntax.specs.Tree.{Tree, Text}
+use Rattle.sql_syntax.specs.Tree as t
+use Rattle.query_answer.specs.declared.scope.ScopeColumn.{ScopeColumn}
+use Rattle.query_answer.specs.Answer.{conjuncts, Listed, Placed, Written, NoSource, Entry, placed_from, placed_of, or_no_source, entries_of, entries, listed_calls, having_calls, select_calls, is_grouped, listed_trees}
+use Rattle.query_answer.specs.Calls.{Call}
+use Rattle.query_answer.specs.Joins.{pair_of, rest_of, unless_pair}
+use Rattle.query_answer.specs.Names.{Scope, Lookup, find, is_called}
+use Rattle.query_answer.specs.Shapes.{column_shape, place_of}
+use Rattle.arithmetic.specs.Arithmetic.{in_tree, in_trees, in_optional, in_item, in_items}
+use Rattle.arithmetic.specs.Tame.{is_tame, rest_is_tame, is_tame_rel}
+use Rattle.binding.specs.Checked.{◌>>=◌, or_code}
+use Rattle.binding.specs.Expressions.{Leaf, bound, each_bound, conditions, conjuncts_bound, column}
+use Rattle.binding.specs.InGroups.{in_group, key_for, has_no_keys, calls_bound, bound_arguments, bound_filters}
+use Rattle.binding.specs.Nodes.{Bound, expr_list}
+use Rattle.binding.specs.Queries.{Relation, read, all_of, filtered, share_source, rest_bound, on_bound, joined, is_in_place, projected, Lister, in_turn, few, list_bound, plain_listed, plain_select, group_listed, condition, having_bound, filter_if, group_rel, grouped_select, once, selected}
+use Rattle.tame_queries.proofs.Bound.{IsFree, AllFree, tame_append, bound_tame, over_tame, each_tame, conditions_tame, conjuncts_tame, conjuncts_free}
+use Rattle.tame_queries.proofs.Calls.{AreCounts, counts_append, calls_count, aggs_count}
+use Rattle.tame_queries.proofs.Checked.{bind, then, tested, tested_else, neither}
+use Rattle.tame_queries.proofs.InGroups.{key_tame, in_group_tame, TameCalls, calls_tame, arguments_tame, filters_tame}
+use Rattle.tame_queries.proofs.Nodes.{Tame, AllTame, MayBe, operands_tame}
+
+abbrev pub TameRel : Relation → Type 0
+TameRel x = is_tame_rel x.rel ≡ true
+
+-- ---- FROM and WHERE
+
+pub read_tame : (alias : Option Text) (found : Option (ℕ × TableDef)) → IfOk (read alias found) TameRel
+read_tame alias None = tt
+read_tame alias (Some x) = refl
+
+all_of_tame : (xs : List Bound) → AllTame xs → is_tame (all_of xs) ≡ true
+all_of_tame [] h = refl
+all_of_tame (x ∷ []) h = h.0
+all_of_tame (x ∷ y ∷ xs) h = operands_tame (x ∷ y ∷ xs) h
+
+pub filtered_tame : (o : t.OptionalTree) (x : Relation) → in_optional o ≡ false → TameRel x → IfOk (filtered o x) TameRel
+unfolding in_optional
+filtered_tame t.no_tree x f h = h
+filtered_tame (t.some_tree c) x f h =
+    bind (conjuncts_bound x.scope c >>= conditions) _ AllTame TameRel
+    (bind (conjuncts_bound x.scope c) conditions AllTame AllTame (conjuncts_tame x.scope c f) conditions_tame)
+    (λ ys p i. h i && all_of_tame ys p i)
+
+-- ---- joins
+
+rest_free : (width : ℕ) (look : Lookup) (xs : List Tree) → AllFree xs → AllFree (rest_of width look xs)
+rest_free width look [] f = tt
+rest_free width look (x ∷ xs) f = go (pair_of width look x) (rest_free width look xs f.1)
+  where
+    go : (o : Option Pair) → AllFree (rest_of width look xs) → AllFree (unless_pair o x (rest_of width look xs))
+    go None h = (f.0, h)
+    go (Some pair) h = h
+
+rest_tame : (scope : Scope) (xs : List Tree) → AllFree xs → IfOk (rest_bound scope xs) (λ o. rest_is_tame o ≡ true)
+rest_tame scope [] f = refl
+rest_tame scope (x ∷ xs) f =
+    bind (each_bound scope (x ∷ xs) >>= conditions) _ AllTame _
+    (bind (each_bound scope (x ∷ xs)) conditions AllTame AllTame (each_tame scope (x ∷ xs) f) conditions_tame)
+    (λ ys p. all_of_tame ys p)
+
+on_tame : (kind : JoinKind) (x y : Relation) (on : Tree) → IsFree on → TameRel x → TameRel y → IfOk (on_bound kind x y on) TameRel
+on_tame kind x y on f h k =
+    let both = x.scope ++ y.scope in
+    let width = length x.scope in
+    let cs = conjuncts on in
+    then (conjuncts_bound both on >>= conditions) _ TameRel (λ all.
+    bind (rest_bound both (rest_of width (find both) cs)) _ (λ o. rest_is_tame o ≡ true) TameRel (rest_tame both (rest_of width (find both) cs) (rest_free width (find both) cs (conjuncts_free on f)))
+    (λ rest p i. h i && (k i && p i)))
+
+pub joined_tame : (kind : JoinKind) (x y : Relation) (on : Tree) → IsFree on → TameRel x → TameRel y → IfOk (joined kind x y on) TameRel
+joined_tame kind x y on f h k = tested (share_source x.scope y.scope) AmbiguousColumn (on_bound kind x y on) TameRel (on_tame kind x y on f h k)
+
+-- ---- what is listed
+
+abbrev FreeListed : Listed → Type 0
+FreeListed (Placed n) = Unit {0}
+FreeListed (Written x) = IsFree x
+FreeListed NoSource = Unit {0}
+
+abbrev pub FreeEntries : List Entry → Type 0
+FreeEntries [] = Unit {0}
+FreeEntries (e ∷ es) = FreeListed e.listed × FreeEntries es
+
+entries_append : (es ds : List Entry) → FreeEntries es → FreeEntries ds → FreeEntries (es ++ ds)
+entries_append [] ds h k = k
+entries_append (e ∷ es) ds h k = (h.0, entries_append es ds h.1 k)
+
+placed_free : (n : ℕ) (scope : Scope) → FreeEntries (placed_from n scope)
+placed_free n [] = tt
+placed_free n (c ∷ cs) = (tt, placed_free (suc n) cs)
+
+source_free : (source : Text) (n : ℕ) (scope : Scope) → FreeEntries (placed_of source n scope)
+source_free source n [] = tt
+source_free source n (c ∷ cs) = go (is_called source c.source) (source_free source (suc n) cs)
+  where
+    go : (b : Bool) → FreeEntries (placed_of source (suc n) cs) → FreeEntries (cond b (record { listed = Placed n; name = c.name } ∷ placed_of source (suc n) cs) (placed_of source (suc n) cs))
+    go true h = (tt, h)
+    go false h = h
+
+or_no_source_free : (es : List Entry) → FreeEntries es → FreeEntries (or_no_source es)
+or_no_source_free [] h = (tt, tt)
+or_no_source_free (e ∷ es) h = h
+
+item_free : (scope : Scope) (x : t.Item) → in_item x ≡ false → FreeEntries (entries_of scope x)
+unfolding in_item
+item_free scope t.All f = placed_free 0 scope
+item_free scope (t.AllOf source) f = or_no_source_free (placed_of source 0 scope) (source_free source 0 scope)
+item_free scope (t.One x name) f = (f, tt)
+
+pub entries_free : (scope : Scope) (xs : t.Items) → in_items xs ≡ false → FreeEntries (entries scope xs)
+unfolding in_items
+entries_free scope t.no_items f = tt
+entries_free scope (t.item_and x xs) f =
+    let g = neither (in_item x) (in_items xs) f in
+    entries_append (entries_of scope x) (entries scope xs) (item_free scope x g.0) (entries_free scope xs g.1)
+
+abbrev TameLister : Lister → Type 0
+TameLister list = (n : ℕ) (l : Listed) → FreeListed l → IfOk (list n l) Tame
+
+in_turn_tame : (list : Lister) → TameLister list → (n : ℕ) (es : List Entry) → FreeEntries es → IfOk (in_turn list n es) AllTame
+in_turn_tame list h n [] f = tt
+in_turn_tame list h n (e ∷ es) f =
+    bind (list n e.listed) _ Tame _ (h n e.listed f.0) (λ x p.
+    bind (in_turn list (n + length (listed_calls e.listed)) es) _ AllTame _ (in_turn_tame list h (n + length (listed_calls e.listed)) es f.1) (λ xs q.
+    (p, q)))
+
+list_tame : (list : Lister) → TameLister list → (es : List Entry) → FreeEntries es → IfOk (list_bound list es) AllTame
+list_tame list h es f = bind (in_turn list 0 es) few AllTame AllTame (in_turn_tame list h 0 es f) (λ xs p. tested (nat_lt 64 (length xs)) TooManyColumns (Ok xs) AllTame p)
+
+exprs_tame : (xs : List Bound) → AllTame xs → list_all is_tame (expr_list xs) ≡ true
+exprs_tame [] h = refl
+exprs_tame (x ∷ xs) h = λ i. h.0 i && exprs_tame xs h.1 i
+
+projected_tame : (width : ℕ) (xs : List Bound) (input : Rel) → AllTame xs → is_tame_rel input ≡ true → is_tame_rel (projected width xs input) ≡ true
+projected_tame width xs input h k = go (is_in_place 0 width (expr_list xs))
+  where
+    go : (b : Bool) → is_tame_rel (cond b input (r.Project input (expr_list xs))) ≡ true
+    go true = k
+    go false = λ i. k i && exprs_tame xs h i
+
+-- ---- a select without groups
+
+plain_listed_tame : (scope : Scope) → TameLister (plain_listed scope)
+plain_listed_tame scope n (Placed m) f = go (slice_get scope m)
+  where
+    go : (o : Option ScopeColumn) → IfOk (or_code UnknownColumn (option_map (λ c. column m c.ty) o)) Tame
+    go None = tt
+    go (Some c) = refl
+plain_listed_tame scope n (Written x) f = over_tame scope x f
+plain_listed_tame scope n NoSource f = tt
+
+plain_tame : (es : List Entry) (x : Relation) → FreeEntries es → TameRel x → IfOk (plain_select es x) TameRel
+plain_tame es x f h =
+    bind (list_bound (plain_listed x.scope) es) _ AllTame TameRel (list_tame (plain_listed x.scope) (plain_listed_tame x.scope) es f)
+    (λ xs p. projected_tame (length x.scope) xs x.rel p h)
+
+-- ---- GROUP BY and HAVING
+
+group_listed_tame : (scope : Scope) (groups : List Tree) (keys : List Bound) → TameLister (group_listed scope groups keys)
+group_listed_tame scope groups keys n (Placed m) f = go (key_for scope groups keys (column_shape m)) (key_tame keys (place_of (find scope) groups (column_shape m)))
+  where
+    go : (o : Option Bound) → MayBe o → IfOk (or_code NotGrouped o) Tame
+    go None h = tt
+    go (Some y) h = h
+group_listed_tame scope groups keys n (Written x) f = bound_tame (in_group scope groups keys) (in_group_tame scope groups keys) x n f
+group_listed_tame scope groups keys n NoSource f = tt
+
+having_tame : (leaf : Leaf) → ((n : ℕ) (x : Tree) → IfOk (leaf n x) MayBe) → (n : ℕ) (o : t.OptionalTree) → in_optional o ≡ false → IfOk (having_bound leaf n o) MayBe
+unfolding in_optional
+having_tame leaf h n t.no_tree f = tt
+having_tame leaf h n (t.some_tree x) f =
+    bind (bound leaf n x >>= condition) _ Tame MayBe
+    (bind (bound leaf n x) condition Tame Tame (bound_tame leaf h x n f) (λ y p. tested_else (is_boolean (Some y.column)) (Ok y) TypeMismatch Tame p))
+    (λ y p. p)
+
+filter_tame : (o : Option Bound) (input : Rel) → MayBe o → is_tame_rel input ≡ true → is_tame_rel (filter_if o input) ≡ true
+filter_tame None input h k = k
+filter_tame (Some x) input h k = λ i. k i && h i
+
+listed_count : (l : Listed) → FreeListed l → AreCounts (listed_calls l)
+listed_count (Placed n) f = tt
+listed_count (Written x) f = calls_count x f
+listed_count NoSource f = tt
+
+entries_count : (es : List Entry) → FreeEntries es → AreCounts (flat_map (λ e. listed_calls e.listed) es)
+entries_count [] f = tt
+entries_count (e ∷ es) f = counts_append (listed_calls e.listed) (flat_map (λ e. listed_calls e.listed) es) (listed_count e.listed f.0) (entries_count es f.1)
+
+having_count : (o : t.OptionalTree) → in_optional o ≡ false → AreCounts (having_calls o)
+unfolding in_optional
+having_count t.no_tree f = tt
+having_count (t.some_tree x) f = calls_count x f
+
+select_count : (es : List Entry) (having : t.OptionalTree) → FreeEntries es → in_optional having ≡ false → AreCounts (select_calls es having)
+select_count es having f g = counts_append (flat_map (λ e. listed_calls e.listed) es) (having_calls having) (entries_count es f) (having_count having g)
+
+group_tame : (width : ℕ) (keys args filters : List Bound) (cs : List Call) (input : Rel) → AllTame keys → AllTame args → AllTame filters → AreCounts cs → is_tame_rel input ≡ true
+    → is_tame_rel (group_rel width keys args filters cs input) ≡ true
+group_tame width keys args filters cs input f g h k l =
+    λ i. projected_tame width (keys ++ (args ++ filters)) input (tame_append keys (args ++ filters) f (tame_append args filters g h)) l i && aggs_count (length keys) (length keys + length args) cs k i
+
+grouped_tame : (es : List Entry) (groups : List Tree) (having : t.OptionalTree) (x : Relation) → FreeEntries es → AllFree groups → in_optional having ≡ false → TameRel x → IfOk (grouped_select es groups having x) TameRel
+grouped_tame es groups having x f g k h =
+    let cs = select_calls es having in
+    let n = length (flat_map (λ e. listed_calls e.listed) es) in
+    bind (each_bound x.scope groups) _ AllTame TameRel (each_tame x.scope groups g) (λ keys p.
+    bind (having_bound (in_group x.scope groups keys) n having) _ MayBe TameRel (having_tame (in_group x.scope groups keys) (in_group_tame x.scope groups keys) n having k) (λ o q.
+    bind (list_bound (group_listed x.scope groups keys) es) _ AllTame TameRel (list_tame (group_listed x.scope groups keys) (group_listed_tame x.scope groups keys) es f) (λ xs l.
+    bind (calls_bound x.scope (has_no_keys keys) cs) _ TameCalls TameRel (calls_tame x.scope (has_no_keys keys) cs (select_count es having f k)) (λ ys m.
+    let group = group_rel (length x.scope) keys (bound_arguments ys) (bound_filters ys) cs x.rel in
+    projected_tame (length keys + length cs) xs (filter_if o group) l
+    (filter_tame o group q (group_tame (length x.scope) keys (bound_arguments ys) (bound_filters ys) cs x.rel p (arguments_tame ys m) (filters_tame ys m) (select_count es having f k) h))))))
+
+-- ---- a select
+
+once_tame : (distinct : Bool) (x : Relation) → TameRel x → TameRel (once distinct x)
+once_tame true x h = λ i. h i && true
+once_tame false x h = h
+
+trees_free : (xs : t.Trees) → in_trees xs ≡ false → AllFree (listed_trees xs)
+unfolding in_trees
+trees_free t.no_trees f = tt
+trees_free (t.tree_and x xs) f = let g = neither (in_tree x) (in_trees xs) f in (g.0, trees_free xs g.1)
+
+pub selected_tame : (distinct : Bool) (es : List Entry) (groups : t.Trees) (having : t.OptionalTree) (x : Relation) → FreeEntries es → in_trees groups ≡ false → in_optional having ≡ false → TameRel x
+    → IfOk (selected distinct es (listed_trees groups) having x) TameRel
+selected_tame distinct [] groups having x f g k h = tt
+selected_tame distinct (e ∷ es) groups having x f g k h = go (is_grouped (e ∷ es) (listed_trees groups) having)
+  where
+    go : (b : Bool) → IfOk (cond b (grouped_select (e ∷ es) (listed_trees groups) having x) (plain_select (e ∷ es) x) >>= λ y. Ok (once distinct y)) TameRel
+    go true = bind (grouped_select (e ∷ es) (listed_trees groups) having x) _ TameRel TameRel (grouped_tame (e ∷ es) (listed_trees groups) having x f (trees_free groups g) k h) (λ y p. once_tame distinct y p)
+    go false = bind (plain_select (e ∷ es) x) _ TameRel TameRel (plain_tame (e ∷ es) x f h) (λ y p. once_tame distinct y p)

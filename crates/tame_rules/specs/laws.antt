@@ -1,0 +1,6 @@
+pub mod Expressions
+pub mod Folds
+pub mod Counts
+pub mod Answers
+pub mod Rows
+pub mod Groups

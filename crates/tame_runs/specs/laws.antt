@@ -1,0 +1,4 @@
+pub mod Lines
+pub mod Steps
+pub mod Nodes
+pub mod Runs

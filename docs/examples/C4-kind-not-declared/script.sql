@@ -1,0 +1,4 @@
+CREATE TABLE t (k INT, word STRING NOT NULL) WITH ('changelog' = 'retract');
+CREATE TABLE out_t (word STRING, n BIGINT) WITH ('changelog' = 'retract');
+CREATE TABLE log (word STRING);
+INSERT INTO out_t SELECT word, COUNT(*) FROM log GROUP BY word;

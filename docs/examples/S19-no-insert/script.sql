@@ -1,0 +1,2 @@
+CREATE TABLE t (k INT, word STRING NOT NULL) WITH ('changelog' = 'retract');
+CREATE TABLE out_t (word STRING, n BIGINT) WITH ('changelog' = 'retract');
