@@ -43,6 +43,7 @@ impl<W: Write + Drop> Stream<W> {
 
     // Counts a failure.
     fn fail(&mut self) -> PutFailed
+        ensures later { self.old.faults ≤ self.new.faults }
         ensures rose { Rose self.old.faults self.new.faults }
         ensures gathered { self.new.gathered ≡ self.old.gathered }
     {

@@ -1,1 +1,1 @@
-mod Planned
+mod Made

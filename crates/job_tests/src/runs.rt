@@ -118,11 +118,7 @@ const WORKED: [Run; 27] = [
     ),
     (MORE_TABLES, "t,+I,a\n", ("+I,a\n=,1\n", "", 0)),
     (THIRTY_TWO_DEEP, "t,+I,a\n", ("+I,a\n=,1\n", "", 0)),
-    (
-        WITH_CONDITION,
-        "t,+I,b\nt,+I,ab\n",
-        ("+I,ab\n=,2\n", "", 0),
-    ),
+    (WITH_CONDITION, "t,+I,b\nt,+I,ab\n", ("+I,ab\n=,2\n", "", 0)),
     (BATCHES_WITHOUT_GROUP, "t,+I,a\n", ("+I,a\n=,1\n", "", 0)),
     (
         SELECT_NULLABLE,
@@ -243,10 +239,7 @@ fn leaves_surely(alloc: Global, run: &Run) -> bool {
 
 // The words of an answer: those of a run with `--do batch`, and others behind them.
 fn answer_words(alloc: Global, others: &[&str]) -> Result<Vec<Text>, Memory> {
-    let mut words = texts(
-        alloc,
-        &["--script", "s", "--changes", "c", "--do", "batch"],
-    )?;
+    let mut words = texts(alloc, &["--script", "s", "--changes", "c", "--do", "batch"])?;
     for word in others {
         words.push(Text::from_str(alloc, word)?)?;
     }
@@ -266,7 +259,12 @@ fn answers(alloc: Global, answer: &Answer) -> bool {
 #[test]
 fn worked_answers_are_what_is_wanted(rt: HostRuntime) {
     for answer in &ANSWERS {
-        assert!(rt; answers(rt.alloc(), answer), "{} over {}", answer.1, answer.2);
+        assert!(rt;
+            answers(rt.alloc(), answer),
+            "{} over {}",
+            answer.1,
+            answer.2
+        );
     }
 }
 
@@ -309,10 +307,7 @@ const REFUSED: [(&str, &str); 9] = [
     ("t,+I,a\nt,-D,a\n", "change C4 KindNotDeclared line 2\n"),
     ("t,+U,a\n", "change C4 KindNotDeclared line 1\n"),
     ("t,+I,\\x\n", "change C5 BadField line 1 column 1\n"),
-    (
-        "t,+I,\\N\n",
-        "change C6 NullNotAllowed line 1 column 1\n",
-    ),
+    ("t,+I,\\N\n", "change C6 NullNotAllowed line 1 column 1\n"),
 ];
 
 fn is_refused_script(alloc: Global, script: &'static str, line: &'static str) -> bool {

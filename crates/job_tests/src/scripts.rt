@@ -128,7 +128,8 @@ pub const COUNT_ALL: &str = "CREATE TABLE t (word STRING NOT NULL) WITH ('change
     INSERT INTO out_t SELECT COUNT(*) FROM t;";
 
 /// The rows of an upsert table.
-pub const SELECT_UPSERT: &str = "CREATE TABLE c (id INT PRIMARY KEY NOT ENFORCED, city STRING) WITH ('changelog' = 'upsert');\
+pub const SELECT_UPSERT: &str =
+    "CREATE TABLE c (id INT PRIMARY KEY NOT ENFORCED, city STRING) WITH ('changelog' = 'upsert');\
     CREATE TABLE out_t (id INT, city STRING) WITH ('changelog' = 'retract');\
     INSERT INTO out_t SELECT id, city FROM c;";
 
@@ -139,7 +140,8 @@ pub const DISTINCT_OF_TWO: &str = "CREATE TABLE t (word STRING) WITH ('changelog
     INSERT INTO out_t SELECT DISTINCT word FROM (SELECT word FROM t UNION ALL SELECT word FROM u);";
 
 /// The customers of orders, and of customers without one.
-pub const RIGHT_JOIN: &str = "CREATE TABLE orders (id INT, cust INT) WITH ('changelog' = 'retract');\
+pub const RIGHT_JOIN: &str =
+    "CREATE TABLE orders (id INT, cust INT) WITH ('changelog' = 'retract');\
     CREATE TABLE customers (cid INT, city STRING);\
     CREATE TABLE out_t (id INT, city STRING) WITH ('changelog' = 'retract');\
     INSERT INTO out_t SELECT o.id, c.city FROM orders AS o RIGHT JOIN customers AS c ON o.cust = c.cid;";

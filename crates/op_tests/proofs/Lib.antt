@@ -1,1 +1,1 @@
-pub mod Arrivals
+pub mod Comings

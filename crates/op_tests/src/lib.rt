@@ -1,9 +1,7 @@
-//! Tests that memory suffices where there is enough of it: each call of changes, modes, kept state, channels and operators
-//! once. What the calls answer is in their contracts, and that the definitions say what they should is shown by `op_examples`.
+//! Tests that memory suffices where there is enough of it: each call of changes, modes, kept state and channels once.
+//! What the calls answer is in their contracts, and that the definitions say what they should is shown by `op_examples`.
 #![tactic(auto)]
 
-#[cfg(test)]
-mod groups;
 #[cfg(test)]
 mod modes;
 #[cfg(test)]

@@ -1,2 +1,2 @@
-pub mod Counted
-pub mod Worked
+mod Planned
+mod Worked

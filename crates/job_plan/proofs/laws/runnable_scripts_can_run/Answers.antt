@@ -1,4 +1,4 @@
-use Rattle.job_plan.proofs.Planned.{can_run_all}
+use Rattle.job_plan.proofs.Made.{can_run_all}
 use Rattle.job_plan.proofs.laws.runnable_scripts_can_run.Goals as goal
 
 pub returns : goal.returns

@@ -1,5 +1,5 @@
 use Rattle.ct_value.specs.Bag.{none}
-use Rattle.op_tests.proofs.Arrivals.{first_may}
+use Rattle.op_tests.proofs.Comings.{first_may}
 use Rattle.op_tests.proofs.modes.takes_row.Goals as goal
 
 pub absorb-requires-clause-may : goal.absorb-requires-clause-may

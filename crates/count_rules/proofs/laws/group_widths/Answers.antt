@@ -1,5 +1,0 @@
-use Rattle.count_rules.specs.laws.GroupFacts as facts
-use Rattle.count_rules.proofs.laws.group_widths.Goals as goal
-
-pub returns : goal.returns
-returns c = λ keys input output ports sound fits. facts.widths_stay keys input output ports sound fits

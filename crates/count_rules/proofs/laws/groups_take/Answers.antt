@@ -1,5 +1,0 @@
-use Rattle.count_rules.specs.laws.RuleTasks as facts
-use Rattle.count_rules.proofs.laws.groups_take.Goals as goal
-
-pub returns : goal.returns
-returns c = facts.groups_take

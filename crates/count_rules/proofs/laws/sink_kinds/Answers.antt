@@ -1,5 +1,0 @@
-use Rattle.count_rules.specs.laws.SinkFacts as facts
-use Rattle.count_rules.proofs.laws.sink_kinds.Goals as goal
-
-pub returns : goal.returns
-returns c = λ mode ports sound fits. facts.kinds_stay mode ports

@@ -1,5 +1,0 @@
-pub mod Facts
-pub mod Rule
-pub mod RuleTasks
-pub mod Rules
-pub mod laws

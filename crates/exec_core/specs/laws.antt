@@ -1,4 +1,0 @@
-pub mod Counts
-pub mod InRange
-pub mod Lines
-pub mod Scans
