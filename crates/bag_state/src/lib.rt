@@ -1,8 +1,8 @@
 //! State that is kept by key: bags of rows by key, and the last row of each key.
 //!
-//! Promised: a `KeyedBag` is a map from keys to the bags of their rows, in which no key without rows is kept. No operator keeps one
-//! yet; the joins will, each side by its key. `LastRows` is the map that `ct_change` keeps for an upsert changelog. The crate stands
-//! on the bags of `ct_change`.
+//! Promised: a `KeyedBag` is a map from keys to the bags of their rows, in which no key without rows is kept. A join keeps one for
+//! each side, by its key. `LastRows` is the map that `ct_change` keeps for an upsert changelog. The crate stands on the bags of
+//! `ct_change`.
 #![tactic(auto)]
 
 mod keyed_bag;

@@ -49,9 +49,13 @@ outcome_of tys (stopped cause printed) = record { ending = ending_of_stop cause;
 abbrev pub sink_types : TableDef → List Ty
 sink_types sink = map (λ c. c.ty.ty) sink.cols
 
--- what a run over a plan makes of a change file
+-- what a run over a plan makes of a change file, where so many changes are sent at most
+abbrev pub streamed_within : ℕ → Plan → List ℕ → Outcome
+streamed_within limit plan bytes = outcome_of (sink_types plan.sink) (whole_run (network plan) limit plan.sources bytes)
+
+-- with the limit of the program
 abbrev pub streamed : Plan → List ℕ → Outcome
-streamed plan bytes = outcome_of (sink_types plan.sink) (whole_run (network plan) most_sent plan.sources bytes)
+streamed plan bytes = streamed_within most_sent plan bytes
 
 -- a plan that can be run: of a tree whose columns go into the sink's, over columns whose types exist, with few nodes in few subtasks
 pub record CanRun (plan : Plan) (rel : Rel) : Type 0 where

@@ -5,7 +5,7 @@ ghost use Rattle.plan_rules.specs.Doings.{network};
 ghost use Rattle.stream_run.specs.Run.{whole_run};
 ghost use Rattle.session_runs.specs.Faults.{IsRan};
 ghost use Rattle.session_runs.specs.Goes.{HasPrinted};
-ghost use Rattle.job_stream.specs.Stream.{CanRun, most_sent};
+ghost use Rattle.job_stream.specs.Stream.{CanRun};
 
 use change_lines::ChangeLines;
 use ct_change::Steps;
@@ -21,14 +21,13 @@ use std::alloc::Global;
 use std::sync::ledger::{Blank, Ledger};
 use stream_model::{PrintList, StepFault, Stopped};
 
-const MOST_SENT: u32 = 4294967295;
-
-/// What a job of the plan has printed, once it has taken the lines of a change file and was drained. Nobody reads how many steps that
-/// takes.
+/// What a job of the plan that sends at most so many changes has printed, once it has taken the lines of a change file and was drained.
+/// Nobody reads how many steps that takes.
 pub(crate) fn printed_of<L: Ledger>(
     alloc: Global,
     plan: &Plan,
     bytes: Bytes,
+    sent_limit: u32,
     blank: Blank,
 ) -> Result<PrintList, RunFault>
     requires name { blank.name ≡ L.name }
@@ -36,14 +35,14 @@ pub(crate) fn printed_of<L: Ledger>(
     requires some { 0 < L.parts }
     requires can { (rel : Rel) × CanRun plan.now rel }
     requires within { length bytes ≤ 67108864 }
-    ensures ok { IfOk result (λ items. HasPrinted (whole_run (network plan.now) most_sent plan.now.sources bytes) items) }
-    ensures refused { IfErr result (λ fault. IsRan fault (whole_run (network plan.now) most_sent plan.now.sources bytes)) }
+    ensures ok { IfOk result (λ items. HasPrinted (whole_run (network plan.now) sent_limit plan.now.sources bytes) items) }
+    ensures refused { IfErr result (λ fault. IsRan fault (whole_run (network plan.now) sent_limit plan.now.sources bytes)) }
 {
     plans_open();
     let columns = columns_of(alloc, plan)?;
     let lines = ChangeLines::new(alloc, bytes)?;
     let mut steps = Steps::<L>::new(blank);
-    match open_job::<AnyOperator, TableCheck>(alloc, plan, &columns, MOST_SENT) {
+    match open_job::<AnyOperator, TableCheck>(alloc, plan, &columns, sent_limit) {
         Ok(session) => run_lines(session, lines, &plan.sources, &mut steps),
         Err(OpenFault::Limit) => Err(RunFault::Stopped(Stopped {
             cause: StepFault::Limit,

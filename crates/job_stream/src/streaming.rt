@@ -4,7 +4,7 @@ ghost use Rattle.ct_io.specs.Counts.{Rose};
 ghost use Rattle.rel_algebra.specs.Rel.{Rel};
 ghost use Rattle.stream_model.specs.Drain.{IsDrainFault};
 ghost use Rattle.job_ending.specs.Runs.{RunsThere};
-ghost use Rattle.job_stream.specs.Stream.{CanRun, halt_of, streamed};
+ghost use Rattle.job_stream.specs.Stream.{CanRun, halt_of, streamed, streamed_within};
 
 use crate::finishing::finish;
 use crate::opened::printed_of;
@@ -20,18 +20,35 @@ use std::sync::ledger::Blank;
 use stream_model::StepFault;
 use stream_run::runs_print_rows;
 
+const MOST_SENT: u32 = 4294967295;
+
 /// Runs a plan over a change file of at most 67,108,864 bytes: all lines are taken, the job is drained, and what it printed is written on
-/// `out`, each item as a line by the types of the sink's columns.
+/// `out`, each item as a line by the types of the sink's columns. It sends at most 4,294,967,295 changes.
 pub fn stream<K: Sink>(alloc: Global, plan: &Plan, bytes: Bytes, out: &mut K) -> Result<(), Halt>
     requires can { (rel : Rel) × CanRun plan.now rel }
     requires within { length bytes ≤ 67108864 }
     ensures { RunsThere (streamed plan.now bytes) (Rose (K.faults out.old) (K.faults out.new)) (K.written out.old) (K.written out.new) result }
 {
+    stream_within(alloc, plan, bytes, MOST_SENT, out)
+}
+
+/// The same of a run that sends at most so many changes.
+pub fn stream_within<K: Sink>(
+    alloc: Global,
+    plan: &Plan,
+    bytes: Bytes,
+    sent_limit: u32,
+    out: &mut K,
+) -> Result<(), Halt>
+    requires can { (rel : Rel) × CanRun plan.now rel }
+    requires within { length bytes ≤ 67108864 }
+    ensures { RunsThere (streamed_within sent_limit plan.now bytes) (Rose (K.faults out.old) (K.faults out.new)) (K.written out.old) (K.written out.new) result }
+{
     runs_print_rows();
     let Ok(tys) = tys_of(alloc, plan.sink.cols.as_slice()) else {
         return Err(Halt::Memory);
     };
-    match printed_of::<Brand>(alloc, plan, bytes, Blank::new(1)) {
+    match printed_of::<Brand>(alloc, plan, bytes, sent_limit, Blank::new(1)) {
         Ok(items) => finish(alloc, items, tys.as_slice(), Ok(()), out),
         Err(RunFault::Refused { code, line }) => Err(Halt::Change { code, line }),
         Err(RunFault::Stopped(stopped)) => {

@@ -1,4 +1,4 @@
-//! Tests of the top call: worked runs, faults, limits, and runs of many lines.
+//! Tests of the top call: worked runs, faults, limits, and runs of many lines; and a run that may send few changes.
 #![tactic(auto)]
 
 #[cfg(test)]
@@ -9,3 +9,5 @@ mod long_runs;
 mod runs;
 #[cfg(test)]
 mod scripts;
+#[cfg(test)]
+mod sent;

@@ -1,6 +1,6 @@
 // Runs of many lines, which end within the time of a test.
 use crate::files::{files, usual_words};
-use crate::scripts::{COUNT_RETRACT, SELECT_RETRACT, SELECT_UPSERT};
+use crate::scripts::{COUNT_RETRACT, LEFT_JOIN, SELECT_RETRACT, SELECT_UPSERT};
 use ct_io::{Files, SureShelf, SureSink};
 use ct_value::{Bytes, Memory, Text};
 use job::{run_job, status};
@@ -60,6 +60,45 @@ fn ends_over_many(alloc: Global, script: &str) -> bool {
 #[test]
 fn many_lines_are_selected(rt: HostRuntime) {
     assert!(rt; ends_over_many(rt.alloc(), SELECT_RETRACT));
+}
+
+// So many lines of the left side of a join, and then as many of the right, each with a key of its own.
+fn join_lines(alloc: Global, count: u32) -> Result<Bytes, Memory> {
+    let mut lines = Bytes::new(alloc);
+    for i in 1..=count {
+        let line = format!(in alloc; "a,+I,{i},{i}\n")?;
+        lines.extend(line.as_bytes())?;
+    }
+    push_right(alloc, &mut lines, count)?;
+    Ok(lines)
+}
+
+fn push_right(alloc: Global, lines: &mut Bytes, count: u32) -> Result<(), Memory> {
+    for i in 1..=count {
+        let line = format!(in alloc; "b,+I,{i},x\n")?;
+        lines.extend(line.as_bytes())?;
+    }
+    Ok(())
+}
+
+fn join_files(alloc: Global) -> Result<Files, Memory> {
+    let script = Bytes::from_slice(alloc, LEFT_JOIN.as_bytes())?;
+    files(alloc, script, join_lines(alloc, 300000)?)
+}
+
+fn ends_over_joins(alloc: Global) -> bool {
+    let Ok(words) = usual_words(alloc) else {
+        return false;
+    };
+    match join_files(alloc) {
+        Ok(files) => ends_well(alloc, words.as_slice(), files),
+        Err(_) => false,
+    }
+}
+
+#[test]
+fn many_rows_are_joined(rt: HostRuntime) {
+    assert!(rt; ends_over_joins(rt.alloc()));
 }
 
 // So many lines of an upsert table, each with a key of its own.

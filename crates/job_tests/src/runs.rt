@@ -2,10 +2,10 @@
 use crate::files::{calls, files, files_of, filled, texts, usual_words};
 use crate::scripts::{
     ANY_SPELLING, BAD_TOKEN_LATER, BATCHES_WITHOUT_GROUP, BEHIND_INSERT, COUNT_ALL, COUNT_APPEND,
-    COUNT_RETRACT, COUNT_SECOND, DISTINCT_OF_TWO, GROUP_IN_BATCHES, INTO_APPEND, MAX_BY_WORD,
-    MEAN_BY_WORD, MORE_TABLES, NO_INSERT, ONE_HOUR, OPEN_END, RIGHT_JOIN, SELECT_APPEND,
-    SELECT_NULLABLE, SELECT_RETRACT, SELECT_TWO, SELECT_UPSERT, SUM_BY_WORD, THIRTY_TWO_DEEP,
-    TOO_DEEP, WITH_CONDITION,
+    COUNT_RETRACT, COUNT_SECOND, DISTINCT_OF_TWO, FULL_JOIN, GROUP_IN_BATCHES, INTO_APPEND,
+    LEFT_JOIN, MAX_BY_WORD, MEAN_BY_WORD, MORE_TABLES, NO_INSERT, ONE_HOUR, OPEN_END, RIGHT_JOIN,
+    SELECT_APPEND, SELECT_NULLABLE, SELECT_RETRACT, SELECT_TWO, SELECT_UPSERT, SUM_BY_WORD,
+    THIRTY_TWO_DEEP, TOO_DEEP, WITH_CONDITION,
 };
 use ct_io::{Calls, Files, MemShelf, MemSink, SureShelf, SureSink};
 use ct_value::{Memory, Text};
@@ -58,7 +58,7 @@ fn usually_leaves(alloc: Global, files: Files, left: &Left) -> bool {
 // A script, a change file, and what the run over them leaves.
 type Run = (&'static str, &'static str, Left);
 
-const WORKED: [Run; 27] = [
+const WORKED: [Run; 30] = [
     (SELECT_APPEND, "", ("=,0\n", "", 0)),
     (
         SELECT_APPEND,
@@ -167,8 +167,23 @@ const WORKED: [Run; 27] = [
     ),
     (
         RIGHT_JOIN,
-        "",
-        ("", "script S18 Unsupported statement 4\n", 2),
+        "orders,+I,7,1\norders,+I,8,\\N\ncustomers,+I,1,Rome\ncustomers,+I,\\N,Oslo\n",
+        ("+I,7,Rome\n+I,\\N,Oslo\n=,4\n", "", 0),
+    ),
+    (
+        LEFT_JOIN,
+        "a,+I,1,5\nb,+I,5,x\nb,-D,5,x\n",
+        ("+I,1,\\N\n-D,1,\\N\n+I,1,x\n-D,1,x\n+I,1,\\N\n=,3\n", "", 0),
+    ),
+    (
+        LEFT_JOIN,
+        "a,+I,1,5\na,+I,1,5\n",
+        ("", "change C8 KeyPresent line 2\n", 3),
+    ),
+    (
+        FULL_JOIN,
+        "a,+I,\\N\nb,+I,\\N\n",
+        ("+I,\\N,1,\\N,\\N\n+I,\\N,\\N,\\N,1\n=,2\n", "", 0),
     ),
 ];
 

@@ -139,6 +139,18 @@ pub const DISTINCT_OF_TWO: &str = "CREATE TABLE t (word STRING) WITH ('changelog
     SET 'table.exec.resource.default-parallelism' = '4';\
     INSERT INTO out_t SELECT DISTINCT word FROM (SELECT word FROM t UNION ALL SELECT word FROM u);";
 
+/// Rows of a, with those of b that have their k.
+pub const LEFT_JOIN: &str = "CREATE TABLE a (id INT PRIMARY KEY NOT ENFORCED, k INT);\
+    CREATE TABLE b (k INT PRIMARY KEY NOT ENFORCED, x STRING) WITH ('changelog' = 'retract');\
+    CREATE TABLE out_t (id INT, x STRING) WITH ('changelog' = 'retract');\
+    INSERT INTO out_t SELECT a.id, b.x FROM a LEFT JOIN b ON a.k = b.k;";
+
+/// Two counts joined by their keys.
+pub const FULL_JOIN: &str = "CREATE TABLE a (k INT); CREATE TABLE b (k INT);\
+    CREATE TABLE out_t (xk INT, xn BIGINT, yk INT, yn BIGINT) WITH ('changelog' = 'retract');\
+    INSERT INTO out_t SELECT x.k, x.n, y.k, y.n FROM (SELECT k, COUNT(*) AS n FROM a GROUP BY k) AS x \
+    FULL JOIN (SELECT k, COUNT(*) AS n FROM b GROUP BY k) AS y ON x.k = y.k;";
+
 /// The customers of orders, and of customers without one.
 pub const RIGHT_JOIN: &str =
     "CREATE TABLE orders (id INT, cust INT) WITH ('changelog' = 'retract');\

@@ -1,18 +1,17 @@
 -- What an operator of a join took, after one more change.
-use Rattle.std.proofs.Common.{◌≡◌, ℕ, ◌+◌, ◌<◌, ◌≤◌, ◌^◌, true, List, [], ◌∷◌, ◌++◌, length, refl, sym, ap, subst, ◌∙◌, arith}
+use Rattle.std.proofs.Common.{◌≡◌, ℕ, ◌+◌, true, List, [], ◌∷◌, ◌++◌, length, sym, ap, subst, ◌∙◌, arith}
 use Rattle.std.proofs.lemmas.List.{length-append}
 use Rattle.ct_change.specs.declared.change.Change.{Change}
-use Rattle.ct_change.specs.Changelog.{Mode, append, retract, upsert, Rows, apply, fold, MayCome, HasKey}
+use Rattle.ct_change.specs.Changelog.{Rows, apply, fold, MayCome, HasKey}
 use Rattle.ct_field.specs.Typed.{row_fits}
 use Rattle.ct_value.specs.Bag.{none}
 use Rattle.rel_clauses.specs.laws.Fits.{fits-length}
 use Rattle.op_rules.specs.History.{Arrival, arrival, at_port}
 use Rattle.op_rules.specs.Rules.{Rule, MayArrive}
-use Rattle.join_rules.specs.Joining.{Joining, join_rule}
 use Rattle.join_rules.specs.laws.Walks.{rows-push}
-use Rattle.join_tests.specs.declared.feeding.Feed.{Feed}
-use Rattle.join_tests.specs.declared.feeding.Reads.{Reads}
-use Rattle.join_tests.specs.declared.feeding.Reads.TheVariants.{Append, Retract, LastRows}
+use Rattle.join_tests.specs.declared.feed.Feed.{Feed}
+use Rattle.join_tests.specs.declared.feed.Reads.{Reads}
+use Rattle.join_tests.specs.declared.feed.Reads.TheVariants.{Append, Retract, LastRows}
 use Rattle.join_tests.specs.Fed.{mode_of, Keeps, IsOfRows, IsFed}
 use Rattle.join_tests.specs.Tables.{columns}
 

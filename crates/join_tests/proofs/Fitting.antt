@@ -1,5 +1,5 @@
 -- Rows of two values that fit, and operators of joins of such rows.
-use Rattle.std.proofs.Common.{◌≡◌, ◌&&◌, ℕ, Bool, true, false, List, [], ◌∷◌, Option, refl}
+use Rattle.std.proofs.Common.{◌≡◌, ◌&&◌, Bool, true, false, List, [], ◌∷◌, Option, refl}
 use Rattle.ct_value.specs.declared.ty.Ty.TheVariants.{BigInt}
 use Rattle.ct_value.specs.declared.ty.ColTy.{ColTy}
 use Rattle.ct_value.specs.declared.value.Value.{Value}
@@ -9,7 +9,7 @@ use Rattle.ct_field.specs.Typed.{value_fits, row_fits}
 use Rattle.rel_clauses.specs.declared.join.Pair.{Pair}
 use Rattle.op_rules.specs.Rules.{Rule}
 use Rattle.join_rules.specs.Joining.{Shape, join_rule}
-use Rattle.join_tests.specs.declared.feeding.Reads.{Reads}
+use Rattle.join_tests.specs.declared.feed.Reads.{Reads}
 use Rattle.join_tests.specs.Fed.{IsOfRows, mode_of}
 use Rattle.join_tests.specs.Tables.{columns}
 

@@ -1,12 +1,12 @@
 -- What an operator of a join took, where the rows that stand are kept beside it.
-use Rattle.std.specs.Prelude.{◌≡◌, ℕ, List, [], ◌∷◌, length}
+use Rattle.std.specs.Prelude.{◌≡◌, List, [], ◌∷◌, length}
 use Rattle.ct_change.specs.Changelog.{Mode, append, retract, upsert, Rows, fold}
 use Rattle.op_rules.specs.History.{Arrival, at_port}
 use Rattle.op_rules.specs.Rules.{Rule}
 use Rattle.join_rules.specs.Joining.{Joining, join_rule}
-use Rattle.join_tests.specs.declared.feeding.Reads.{Reads}
-use Rattle.join_tests.specs.declared.feeding.Reads.TheVariants.{Append, Retract, LastRows}
-use Rattle.join_tests.specs.declared.feeding.Feed.{Feed}
+use Rattle.join_tests.specs.declared.feed.Reads.{Reads}
+use Rattle.join_tests.specs.declared.feed.Reads.TheVariants.{Append, Retract, LastRows}
+use Rattle.join_tests.specs.declared.feed.Feed.{Feed}
 use Rattle.join_tests.specs.Tables.{columns}
 
 abbrev pub mode_of : Reads → Mode

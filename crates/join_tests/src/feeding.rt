@@ -6,6 +6,7 @@ ghost use Rattle.join_tests.specs.Fed.{mode_of, Keeps, IsFed, IsOfRows};
 ghost use Rattle.join_tests.specs.Tables.{columns};
 
 use crate::rows::{Step, change_of};
+use crate::{Feed, Reads};
 use ct_change::{Bag, Change, Changes, Kind, Steps};
 use ct_value::Memory;
 use op_rules::{OpFault, Operator};
@@ -15,24 +16,6 @@ use std::sync::ledger::{Blank, Ledger};
 
 // How many changes that are told are kept at least, of those told last.
 const LAST: usize = 1_000;
-
-/// How the changes of a side are read: as rows that stay, as rows that come and go, or as the last row of each first column.
-#[derive(Clone, Copy, Debug)]
-pub enum Reads {
-    Append,
-    Retract,
-    LastRows,
-}
-
-/// What came to the two sides: the rows that stand where they come and go, and how many changes.
-#[derive(Drop)]
-pub struct Feed {
-    pub left_reads: Reads,
-    pub right_reads: Reads,
-    pub left: Bag,
-    pub right: Bag,
-    pub taken: u32,
-}
 
 // Takes a change into the rows that stand, where it may come.
 fn stands(standing: &mut Bag, change: &Change) -> Result<bool, Memory>

@@ -2,6 +2,7 @@
 //! hand from Flink's documentation of joins, and many rows. What the calls answer is in their contracts.
 #![tactic(auto)]
 
+mod feed;
 #[cfg(test)]
 mod feeding;
 #[cfg(test)]
@@ -12,3 +13,5 @@ mod many;
 mod rows;
 #[cfg(test)]
 mod shown;
+
+pub use feed::{Feed, Reads};

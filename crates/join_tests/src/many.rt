@@ -1,8 +1,9 @@
 ghost use Rattle.std.specs.Prelude.{◌≡◌, ◌<◌, [], false, IfOk};
 ghost use Rattle.join_tests.specs.Fed.{IsOfRows};
-ghost use Rattle.join_tests.specs.declared.feeding.Reads.TheVariants as reads;
+ghost use Rattle.join_tests.specs.declared.feed.Reads.TheVariants as reads;
 
-use crate::feeding::{Reads, told};
+use crate::Reads;
+use crate::feeding::told;
 use crate::rows::{Step, left, pairs, right, row_columns};
 use crate::shown::shown;
 use ct_change::{Append, Changes, Kind};

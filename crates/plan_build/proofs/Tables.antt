@@ -1,6 +1,6 @@
 -- A tree that is well-typed over some tables scans none but these.
 use Rattle.std.specs.Prelude.{◌≡◌, ◌||◌, List, map, is_none, slice_get, Option, option_and_then}
-use Rattle.std.proofs.Common.{zero, suc, true, false, [], ◌∷◌, refl, sym, ap, subst, ◌∙◌, ℕ, Bool, Some, None}
+use Rattle.std.proofs.Common.{zero, suc, false, [], ◌∷◌, refl, ap, ◌∙◌, ℕ, Bool, Some, None}
 use Rattle.ct_value.specs.declared.ty.ColTy.{ColTy}
 use Rattle.ct_catalog.specs.declared.table.TableDef.{TableDef}
 use Rattle.ct_expr.specs.Types.{both_of}

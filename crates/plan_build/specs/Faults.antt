@@ -9,15 +9,15 @@ use Rattle.plan_build.specs.declared.fault.PlanFault.{PlanFault}
 use Rattle.plan_build.specs.declared.fault.PlanFault.TheVariants.{Unbuilt, NoTable, TooMany, Memory}
 
 abbrev mutual
-  -- a part of the tree is a join, a semi join or a rank: these aren't built yet
+  -- a part of the tree is a rank: these aren't built yet
   pub has_unbuilt : Rel → Bool
   has_unbuilt (r.Scan source) = false
   has_unbuilt (r.Filter input condition) = has_unbuilt input
   has_unbuilt (r.Project input items) = has_unbuilt input
   has_unbuilt (r.Union inputs) = any_unbuilt inputs
   has_unbuilt (r.Group input keys aggs) = has_unbuilt input
-  has_unbuilt (r.Join left right kind pairs rest) = true
-  has_unbuilt (r.Semi left right anti pairs rest) = true
+  has_unbuilt (r.Join left right kind pairs rest) = has_unbuilt left || has_unbuilt right
+  has_unbuilt (r.Semi left right anti pairs rest) = has_unbuilt left || has_unbuilt right
   has_unbuilt (r.Rank input partition order bound ranked) = true
 
   pub any_unbuilt : Rels → Bool
@@ -61,8 +61,8 @@ module _ (sources : List TableDef) where
     nodes_of (r.Project input items) = nodes_of input + 1
     nodes_of (r.Union inputs) = nodes_of_all inputs + 1
     nodes_of (r.Group input keys aggs) = nodes_of input + 1
-    nodes_of (r.Join left right kind pairs rest) = 0
-    nodes_of (r.Semi left right anti pairs rest) = 0
+    nodes_of (r.Join left right kind pairs rest) = nodes_of left + nodes_of right + 1
+    nodes_of (r.Semi left right anti pairs rest) = nodes_of left + nodes_of right + 1
     nodes_of (r.Rank input partition order bound ranked) = 0
 
     pub nodes_of_all : Rels → ℕ

@@ -1,11 +1,13 @@
 -- What is laid of a plan, and what a tree adds to it.
 use Rattle.std.specs.Prelude.{◌≡◌, ℕ, ◌+◌, ◌<◌, ◌≤◌, false, true, List, [], ◌∷◌, ◌++◌, length, ⊤}
 use Rattle.std.specs.List.{All}
+use Rattle.ct_change.specs.Changelog.{retract, kinds_of}
 use Rattle.ct_change.specs.declared.kind.KindSet.{KindSet}
 use Rattle.rel_algebra.specs.Rel.{Rel, Rels}
 use Rattle.phys_plan.specs.declared.edge.Edge.{Edge}
 use Rattle.phys_plan.specs.declared.edge.Exchange.{Exchange}
 use Rattle.phys_plan.specs.declared.edge.Update.{Update}
+use Rattle.phys_plan.specs.declared.edge.Update.TheVariants.{Both}
 use Rattle.phys_plan.specs.declared.node.Op.{Op}
 use Rattle.phys_plan.specs.declared.node.Node.{Node}
 use Rattle.phys_plan.specs.declared.plan.Plan.{Plan}
@@ -40,6 +42,10 @@ pub record Pushed (old new : Laying) (op : Op) (inputs : List ℕ) (exchange : E
   pub sources : new.sources ≡ old.sources
   pub nodes : new.nodes ≡ old.nodes ++ record { op = op; inputs = inputs; keys = no_keys } ∷ []
   pub edges : new.edges ≡ old.edges ++ record { exchange = exchange; kinds = kinds; update = update } ∷ []
+
+-- one with such an operator, whose edge carries all kinds, and both rows of an update
+abbrev pub PushedAs : Laying → Laying → (Op → Type 0) → List ℕ → Exchange → ℕ → Type 0
+PushedAs old new IsOp inputs exchange number = (o : Op) × IsOp o × Pushed old new o inputs exchange (kinds_of retract) Both number
 
 -- there is no room for a node more, or memory was wanting
 abbrev pub IsFull : Laying → PlanFault → Type 0

@@ -1,16 +1,20 @@
 //! What is laid of a plan, and nodes that are put behind it.
-ghost use Rattle.std.specs.Prelude.{◌≡◌, ◌+◌, ◌<◌, [], ◌∷◌, length, IfOk, IfErr};
+ghost use Rattle.std.specs.Prelude.{◌≡◌, ◌+◌, ◌<◌, [], ◌∷◌, length, option_map, IfOk, IfErr};
+ghost use Rattle.ct_expr.specs.View.{expr_view};
 ghost use Rattle.ct_change.specs.Changelog.{retract, upsert, kinds_of};
 ghost use Rattle.phys_plan.specs.declared.edge.Exchange.TheVariants.{Forward as ToSame, Hash as ByHash};
 ghost use Rattle.phys_plan.specs.declared.edge.Update.TheVariants.{Absent as NoUpdate, After as AfterKey, Both as BothRows};
 ghost use Rattle.phys_plan.specs.declared.node.Op.TheVariants as op;
-ghost use Rattle.plan_build.specs.Laying.{Pushed, IsFull};
+ghost use Rattle.plan_maker.specs.Laid.{IsJoin, IsSemi};
+ghost use Rattle.plan_build.specs.Laying.{Pushed, PushedAs, IsFull};
 
 use crate::fault::PlanFault;
-use crate::parts::{all_kinds, no_keys, upsert_kinds};
+use crate::parts::{all_kinds, dup_rest, no_keys, two_numbers, upsert_kinds};
 use ct_catalog::Sources;
+use ct_expr::Expr;
 use ct_value::{Cols, Numbers};
 use phys_plan::{Edge, Edges, Exchange, Node, Nodes, Op, Update};
+use rel_clauses::{JoinKind, Pairs};
 use std::alloc::Global;
 
 // The most nodes of a plan.
@@ -75,6 +79,44 @@ impl Laying {
         let mut inputs = Numbers::new(self.alloc);
         inputs.push(below)?;
         self.push_whole(op, inputs, exchange)
+    }
+
+    // A join of two nodes.
+    pub(crate) fn push_join(
+        &mut self,
+        left: u32,
+        right: u32,
+        kind: JoinKind,
+        on: &Pairs,
+        rest: &Option<Expr>,
+        exchange: Exchange,
+    ) -> Result<u32, PlanFault>
+        ensures pushed { IfOk result (λ number. PushedAs self.old self.new (IsJoin kind on.now (option_map expr_view rest.now)) (left ∷ (right ∷ [])) exchange number) }
+        ensures full { IfErr result (λ fault. IsFull self.old fault) }
+    {
+        let inputs = two_numbers(self.alloc, left, right)?;
+        let on = on.dup()?;
+        let rest = dup_rest(rest)?;
+        self.push_whole(Op::Join { kind, on, rest }, inputs, exchange)
+    }
+
+    // A semi join of two nodes, or with `anti` an anti join.
+    pub(crate) fn push_semi(
+        &mut self,
+        left: u32,
+        right: u32,
+        anti: bool,
+        on: &Pairs,
+        rest: &Option<Expr>,
+        exchange: Exchange,
+    ) -> Result<u32, PlanFault>
+        ensures pushed { IfOk result (λ number. PushedAs self.old self.new (IsSemi anti on.now (option_map expr_view rest.now)) (left ∷ (right ∷ [])) exchange number) }
+        ensures full { IfErr result (λ fault. IsFull self.old fault) }
+    {
+        let inputs = two_numbers(self.alloc, left, right)?;
+        let on = on.dup()?;
+        let rest = dup_rest(rest)?;
+        self.push_whole(Op::Semi { anti, on, rest }, inputs, exchange)
     }
 
     // A scan whose edge is after-only by a key, and hashed by it.

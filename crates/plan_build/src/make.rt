@@ -14,8 +14,8 @@ use rel_algebra::Rel;
 use std::alloc::Global;
 
 /// The plan of a tree over these tables into a retract table, each node in so many subtasks; its last node is the sink. `Unbuilt`
-/// comes where a part of the tree is a join, a semi join or a rank, `NoTable` where one scans a table that isn't there, and `TooMany`
-/// where the plan would have more than 998 nodes. Where none of these is so there is a plan, or memory was wanting.
+/// comes where a part of the tree is a rank, `NoTable` where one scans a table that isn't there, and `TooMany` where the plan would have
+/// more than 998 nodes. Where none of these is so there is a plan, or memory was wanting.
 pub fn plan_of(
     alloc: Global,
     rel: &Rel,

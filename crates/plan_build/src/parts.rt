@@ -1,13 +1,17 @@
 //! Parts of nodes and edges.
-ghost use Rattle.std.specs.Prelude.{◌≡◌, ℕ, List as Seq, [], unwrap_or, IfOk};
+ghost use Rattle.std.specs.Prelude.{◌≡◌, ℕ, List as Seq, [], ◌∷◌, option_map, unwrap_or, IfOk};
 ghost use Rattle.ct_change.specs.Changelog.{retract, upsert, kinds_of};
+ghost use Rattle.ct_expr.specs.View.{expr_view};
 ghost use Rattle.group_rules.specs.Fits.{first_columns};
+ghost use Rattle.join_rules.specs.Fits.{left_pairs, right_pairs};
 ghost use Rattle.plan_maker.specs.Laid.{no_keys};
 
 use ct_catalog::TableDef;
 use ct_change::KindSet;
-use ct_value::{Cols, List, Memory};
+use ct_expr::Expr;
+use ct_value::{Cols, List, Memory, Numbers};
 use phys_plan::KeyInfo;
+use rel_clauses::Pairs;
 use std::alloc::Global;
 
 pub(crate) fn no_keys(alloc: Global) -> KeyInfo
@@ -61,4 +65,45 @@ pub(crate) fn first_columns(alloc: Global, keys: u32) -> Result<Cols, Memory>
         columns.push(column)?;
     }
     Ok(columns)
+}
+
+// The left sides' columns of pairs.
+pub(crate) fn left_columns(alloc: Global, on: &Pairs) -> Result<Cols, Memory>
+    ensures { IfOk result (λ columns. columns ≡ left_pairs on.now) }
+{
+    let mut columns = Cols::new(alloc);
+    for pair in on.as_slice() {
+        columns.push(pair.left)?;
+    }
+    Ok(columns)
+}
+
+// The right sides' columns of pairs.
+pub(crate) fn right_columns(alloc: Global, on: &Pairs) -> Result<Cols, Memory>
+    ensures { IfOk result (λ columns. columns ≡ right_pairs on.now) }
+{
+    let mut columns = Cols::new(alloc);
+    for pair in on.as_slice() {
+        columns.push(pair.right)?;
+    }
+    Ok(columns)
+}
+
+pub(crate) fn two_numbers(alloc: Global, first: u32, second: u32) -> Result<Numbers, Memory>
+    ensures { IfOk result (λ numbers. numbers ≡ first ∷ (second ∷ [])) }
+{
+    let mut numbers = Numbers::new(alloc);
+    numbers.push(first)?;
+    numbers.push(second)?;
+    Ok(numbers)
+}
+
+// An equal condition, if there is one.
+pub(crate) fn dup_rest(rest: &Option<Expr>) -> Result<Option<Expr>, Memory>
+    ensures { IfOk result (λ copy. option_map expr_view copy ≡ option_map expr_view rest.now) }
+{
+    match rest {
+        None => Ok(None),
+        Some(expr) => Ok(Some(expr.dup()?)),
+    }
 }

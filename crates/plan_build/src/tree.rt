@@ -4,16 +4,18 @@ ghost use Rattle.ct_expr.specs.View.{expr_view, exprs_view};
 ghost use Rattle.rel_algebra.specs.Rel.{rels};
 ghost use Rattle.rel_algebra.specs.Rel as r;
 ghost use Rattle.rel_algebra.specs.View.{rel_view, rels_view};
+ghost use Rattle.join_rules.specs.Fits.{left_pairs, right_pairs};
+ghost use Rattle.phys_plan.specs.declared.edge.Exchange.TheVariants.{Hash as ByHash};
 ghost use Rattle.plan_build.specs.Laying.{IsFine, Lays, LaysAll, Fails, FailsAll};
 
 use crate::fault::PlanFault;
 use crate::laying::Laying;
-use crate::parts::first_columns;
+use crate::parts::{first_columns, left_columns, right_columns};
 use ct_expr::{Expr, Exprs, dup_exprs};
 use ct_value::Numbers;
 use phys_plan::{Exchange, Op};
 use rel_algebra::Rel;
-use rel_clauses::Aggs;
+use rel_clauses::{Aggs, Pairs};
 
 impl Laying {
     /// Lays the nodes of a tree whose consumer asks for this exchange, and answers the number of its root.
@@ -30,8 +32,28 @@ impl Laying {
             Rel::Project { input, items } => self.lay_project(input, items, exchange),
             Rel::Union { inputs } => self.lay_union(inputs.as_slice(), exchange),
             Rel::Group { input, keys, aggs } => self.lay_group(input, *keys, aggs, exchange),
-            Rel::Join { .. } => Err(PlanFault::Unbuilt),
-            Rel::Semi { .. } => Err(PlanFault::Unbuilt),
+            Rel::Join {
+                left,
+                right,
+                kind,
+                on,
+                rest,
+            } => {
+                let first = self.lay_left(left, on)?;
+                let second = self.lay_right(right, on)?;
+                self.push_join(first, second, *kind, on, rest, exchange)
+            }
+            Rel::Semi {
+                left,
+                right,
+                anti,
+                on,
+                rest,
+            } => {
+                let first = self.lay_left(left, on)?;
+                let second = self.lay_right(right, on)?;
+                self.push_semi(first, second, *anti, on, rest, exchange)
+            }
             Rel::Rank { .. } => Err(PlanFault::Unbuilt),
         }
     }
@@ -79,6 +101,28 @@ impl Laying {
         let below = self.lay(input, Exchange::Hash(columns))?;
         let aggs = aggs.dup()?;
         self.push_over(below, Op::Group { keys, aggs }, exchange)
+    }
+
+    // The left side of a join, hashed by its columns of the pairs.
+    #[cycle(tree)]
+    fn lay_left(&mut self, left: &Rel, on: &Pairs) -> Result<u32, PlanFault>
+        requires fine { IsFine self.old }
+        ensures laid { IfOk result (λ root. Lays self.old self.new (ByHash (left_pairs on.now)) (rel_view left.now) root) }
+        ensures fails { IfErr result (λ fault. Fails self.old (rel_view left.now) fault) }
+    {
+        let columns = left_columns(self.alloc, on)?;
+        self.lay(left, Exchange::Hash(columns))
+    }
+
+    // The right side.
+    #[cycle(tree)]
+    fn lay_right(&mut self, right: &Rel, on: &Pairs) -> Result<u32, PlanFault>
+        requires fine { IsFine self.old }
+        ensures laid { IfOk result (λ root. Lays self.old self.new (ByHash (right_pairs on.now)) (rel_view right.now) root) }
+        ensures fails { IfErr result (λ fault. Fails self.old (rel_view right.now) fault) }
+    {
+        let columns = right_columns(self.alloc, on)?;
+        self.lay(right, Exchange::Hash(columns))
     }
 
     #[cycle(tree)]

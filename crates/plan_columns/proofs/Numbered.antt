@@ -1,12 +1,16 @@
 -- Lists of the columns of nodes.
-use Rattle.std.proofs.Common.{◌≡◌, ℕ, zero, suc, ◌+◌, ◌<◌, ◌≤◌, ◌==◌, true, false, List, [], ◌∷◌, ◌++◌, length, length-append, map, drop, get_or, Option, Some, None, refl, sym, ap, ◌∙◌, arith}
+use Rattle.std.proofs.Common.{◌≡◌, ℕ, zero, suc, ◌+◌, ◌<◌, ◌≤◌, ◌==◌, true, false, List, [], ◌∷◌, ◌++◌, length, length-append, map, drop, get_or, Option, None, refl, sym, ap, ◌∙◌, arith}
 use Rattle.std.specs.Prelude.{unwrap_or}
 use Rattle.std.proofs.lemmas.Bool.{eqb-true}
 use Rattle.std.proofs.lemmas.List.{at_drop_more, drop_all}
 use Rattle.ct_catalog.specs.declared.table.TableDef.{TableDef}
 use Rattle.ct_value.specs.declared.ty.ColTy.{ColTy}
+use Rattle.ct_expr.specs.Expr.{Expr}
+use Rattle.ct_expr.specs.Types.{both_of}
+use Rattle.rel_clauses.specs.declared.join.Pair.{Pair}
+use Rattle.rel_algebra.specs.Types.{columns_if, match_fits, pairs_fit}
 use Rattle.phys_plan.specs.declared.node.Node.{Node}
-use Rattle.plan_rules.specs.Columns.{columns_after, common_of, common_with, next_columns, numbered_columns, only}
+use Rattle.plan_rules.specs.Columns.{columns_after, common_of, common_with, matched_columns, next_columns, numbered_columns, only}
 use Rattle.session_open.specs.Opening.{AreColumns}
 
 -- the columns of nodes, in order
@@ -83,3 +87,24 @@ common-more f common inputs i l = at_drop_more (λ (xs : List ℕ). common_with 
 
 pub common-end : (f : ℕ → Option (List ColTy)) (common : Option (List ColTy)) (inputs : List ℕ) (i : ℕ) → length inputs ≤ i → common_with common (map f (drop i inputs)) ≡ common
 common-end f common inputs i l = ap (λ (xs : List ℕ). common_with common (map f xs)) (drop_all i inputs l)
+
+-- ---- joins
+
+module _ (f : ℕ → Option (List ColTy)) (on : List Pair) (rest : Option Expr) (made : List ColTy → List ColTy → List ColTy) where
+  pub two-inputs : (inputs : List ℕ) → length inputs ≡ 2 → both_of (λ l r. columns_if (match_fits l r on rest) (made l r)) (f (get_or inputs 0 0)) (f (get_or inputs 1 0)) ≡ matched_columns on rest made (map f inputs)
+  two-inputs [] e = absurd (omega (arith, e))
+  two-inputs (left ∷ []) e = absurd (omega (arith, e))
+  two-inputs (left ∷ right ∷ []) e = refl
+  two-inputs (left ∷ right ∷ other ∷ inputs) e = absurd (omega (arith, e))
+
+  pub not-two : (inputs : List ℕ) → (length inputs ≡ 2 → ⊥) → matched_columns on rest made (map f inputs) ≡ None
+  not-two [] h = refl
+  not-two (left ∷ []) h = refl
+  not-two (left ∷ right ∷ []) h = absurd (h refl)
+  not-two (left ∷ right ∷ other ∷ inputs) h = refl
+
+pub pairs-more : (left right : List ColTy) (on : List Pair) (i : ℕ) (pair : Pair) → i < length on → pair ≡ get_or on i pair → pairs_fit left right (drop i on) ≡ pairs_fit left right (pair ∷ drop (i + 1) on)
+pairs-more left right on i pair l e = at_drop_more (pairs_fit left right) on i pair l ∙ ap (λ p. pairs_fit left right (p ∷ drop (i + 1) on)) (sym e)
+
+pub pairs-end : (left right : List ColTy) (on : List Pair) (i : ℕ) → length on ≤ i → pairs_fit left right (drop i on) ≡ true
+pairs-end left right on i l = ap (pairs_fit left right) (drop_all i on l)

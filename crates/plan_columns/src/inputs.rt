@@ -10,8 +10,8 @@ use rel_columns::common_columns;
 /// The columns of nodes in order, none of a node that isn't well-typed or isn't built yet.
 pub(crate) type NodeColumns = List<Option<ColTys>>;
 
-// The columns of a node by its number, from 1.
-fn numbered(done: &NodeColumns, number: u32) -> Option<&ColTys>
+/// The columns of a node by its number, from 1.
+pub(crate) fn numbered(done: &NodeColumns, number: u32) -> Option<&ColTys>
     ensures { option_copied result ≡ c.numbered_columns done.now number }
 {
     if number == 0 {

@@ -5,6 +5,7 @@
 #![tactic(auto)]
 
 mod inputs;
+mod joins;
 mod listed;
 mod nodes;
 

@@ -7,6 +7,7 @@ ghost use Rattle.rel_algebra.specs.Types as t;
 ghost use Rattle.rel_clauses.specs.Groups as g;
 
 use crate::inputs::{NodeColumns, common_input, only_input, same_columns};
+use crate::joins::{joined, semi_joined};
 use ct_catalog::Sources;
 use ct_expr::{Expr, Exprs};
 use ct_value::{ColTys, Memory};
@@ -29,6 +30,8 @@ pub(crate) fn next_columns(
         Op::Union => common_input(done, &node.inputs),
         Op::Normalize { .. } => same_columns(only_input(done, &node.inputs)),
         Op::Group { keys, aggs } => grouped(*keys, aggs, only_input(done, &node.inputs)),
+        Op::Join { kind, on, rest } => joined(*kind, on, rest, done, &node.inputs),
+        Op::Semi { on, rest, .. } => semi_joined(on, rest, done, &node.inputs),
         Op::Sink => same_columns(only_input(done, &node.inputs)),
         _ => Ok(None),
     }

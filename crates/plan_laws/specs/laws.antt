@@ -1,6 +1,7 @@
 pub mod Answers
 pub mod Between
 pub mod Inputs
+pub mod Joins
 pub mod Made
 pub mod Nodes
 pub mod Numbers

@@ -1,5 +1,5 @@
 -- Which plan is that of a tree of the algebra: its nodes are laid one behind the other, each behind its inputs.
-use Rattle.std.specs.Prelude.{◌≡◌, ℕ, ◌+◌, List, [], ◌∷◌, length, map, slice_get, Option, Some, None, unwrap_or}
+use Rattle.std.specs.Prelude.{◌≡◌, ℕ, ◌+◌, Bool, List, [], ◌∷◌, length, map, slice_get, Option, Some, None, option_map, unwrap_or}
 use Rattle.ct_change.specs.declared.kind.Declared.{Declared}
 use Rattle.ct_change.specs.declared.kind.Declared.TheVariants.{Append, Retract, Upsert}
 use Rattle.ct_change.specs.declared.kind.KindSet.{KindSet}
@@ -7,9 +7,12 @@ use Rattle.ct_change.specs.Changelog.{retract, upsert, kinds_of}
 use Rattle.ct_catalog.specs.declared.table.TableDef.{TableDef}
 use Rattle.ct_expr.specs.Expr.{Expr}
 use Rattle.ct_expr.specs.View.{expr_view}
+use Rattle.rel_clauses.specs.declared.join.JoinKind.{JoinKind}
+use Rattle.rel_clauses.specs.declared.join.Pair.{Pair}
 use Rattle.rel_algebra.specs.Rel.{Rel, Rels, no_rels, rel_and}
 use Rattle.rel_algebra.specs.Rel as r
 use Rattle.group_rules.specs.Fits.{first_columns}
+use Rattle.join_rules.specs.Fits.{left_pairs, right_pairs}
 use Rattle.phys_plan.specs.declared.edge.Exchange.{Exchange}
 use Rattle.phys_plan.specs.declared.edge.Exchange.TheVariants.{Forward, Hash}
 use Rattle.phys_plan.specs.declared.edge.Update.{Update}
@@ -30,6 +33,14 @@ IsFilter condition _ = ⊥
 abbrev pub IsProject : List Expr → Op → Type 0
 IsProject items (op.Project own) = map expr_view own ≡ items
 IsProject items _ = ⊥
+
+abbrev pub IsJoin : JoinKind → List Pair → Option Expr → Op → Type 0
+IsJoin kind pairs rest (op.Join own on test) = (own ≡ kind) × (on ≡ pairs) × (option_map expr_view test ≡ rest)
+IsJoin kind pairs rest _ = ⊥
+
+abbrev pub IsSemi : Bool → List Pair → Option Expr → Op → Type 0
+IsSemi anti pairs rest (op.Semi own on test) = (own ≡ anti) × (on ≡ pairs) × (option_map expr_view test ≡ rest)
+IsSemi anti pairs rest _ = ⊥
 
 -- ---- nodes and edges
 
@@ -77,9 +88,14 @@ module _ (plan : Plan) where
         (roots : List ℕ) × (below : ℕ) × AreLaid n inputs roots below × (root ≡ below + 1) × HasNode root (λ o. o ≡ op.Union) roots × CarriesAll root exchange
     IsLaid n exchange (r.Group input keys aggs) root =
         (below : ℕ) × IsLaid n (Hash (first_columns keys)) input below × (root ≡ below + 1) × HasNode root (λ o. o ≡ op.Group keys aggs) (below ∷ []) × CarriesAll root exchange
+    -- the right side lies behind the left
+    IsLaid n exchange (r.Join left right kind pairs rest) root =
+        (first : ℕ) × (second : ℕ) × IsLaid n (Hash (left_pairs pairs)) left first × IsLaid first (Hash (right_pairs pairs)) right second
+        × (root ≡ second + 1) × HasNode root (IsJoin kind pairs rest) (first ∷ (second ∷ [])) × CarriesAll root exchange
+    IsLaid n exchange (r.Semi left right anti pairs rest) root =
+        (first : ℕ) × (second : ℕ) × IsLaid n (Hash (left_pairs pairs)) left first × IsLaid first (Hash (right_pairs pairs)) right second
+        × (root ≡ second + 1) × HasNode root (IsSemi anti pairs rest) (first ∷ (second ∷ [])) × CarriesAll root exchange
     -- not built yet
-    IsLaid n exchange (r.Join left right kind pairs rest) root = ⊥
-    IsLaid n exchange (r.Semi left right anti pairs rest) root = ⊥
     IsLaid n exchange (r.Rank input partition order bound ranked) root = ⊥
 
     -- several trees behind one another, with their roots, up to the last

@@ -1,10 +1,10 @@
 -- What is asked of a plan's nodes so that it opens, by induction over the tree.
-use Rattle.std.specs.Prelude.{◌≡◌, ℕ, ◌+◌, ◌<◌, ◌≤◌, ◌^◌, nat_le, Bool, cond, List, length, map, get_or, slice_get, Option, unwrap_or}
+use Rattle.std.specs.Prelude.{◌≡◌, ℕ, ◌+◌, ◌<◌, ◌≤◌, ◌^◌, nat_le, Bool, cond, List, length, map, get_or, slice_get, Option, is_some, unwrap_or}
 use Rattle.std.proofs.Common.{zero, suc, true, false, [], ◌∷◌, ◌++◌, refl, sym, ap, subst, ◌∙◌, arith, Some, None, inl, inr}
 use Rattle.std.specs.List.{All, AllByRecursion}
-use Rattle.std.specs.Option.{option_map, option_and_then}
+use Rattle.std.specs.Option.{option_map}
 use Rattle.std.proofs.lemmas.Bool.{leb-true}
-use Rattle.std.proofs.lemmas.Option.{get_or_from_slice_get, none-some, slice_get-get_or}
+use Rattle.std.proofs.lemmas.Option.{none-some, slice_get-get_or}
 use Rattle.ct_value.specs.declared.ty.ColTy.{ColTy}
 use Rattle.ct_change.specs.declared.kind.Declared.{Declared}
 use Rattle.ct_change.specs.declared.kind.Declared.TheVariants.{Append, Retract, Upsert}
@@ -12,13 +12,19 @@ use Rattle.ct_change.specs.declared.kind.KindSet.{KindSet}
 use Rattle.ct_change.specs.Changelog.{retract, upsert, kinds_of}
 use Rattle.ct_catalog.specs.declared.table.ColDef.{ColDef}
 use Rattle.ct_catalog.specs.declared.table.TableDef.{TableDef}
+use Rattle.ct_expr.specs.declared.expr.Expr.{Expr as CodeExpr}
+use Rattle.ct_expr.specs.Expr.{Expr}
 use Rattle.ct_expr.specs.Types.{both_of}
-use Rattle.rel_clauses.specs.declared.agg.Agg.{Agg}
+use Rattle.rel_clauses.specs.declared.join.Pair.{Pair}
 use Rattle.rel_clauses.specs.Groups.{group_columns}
+use Rattle.rel_clauses.specs.Joins.{join_columns}
+use Rattle.rel_clauses.specs.laws.Fits as both
 use Rattle.rel_algebra.specs.Rel.{Rel, Rels, no_rels, rel_and}
 use Rattle.rel_algebra.specs.Rel as r
-use Rattle.rel_algebra.specs.Types.{columns_if, is_condition, item_columns, common_columns, columns_of, common_from}
+use Rattle.rel_algebra.specs.Types.{columns_if, is_condition, is_condition_if, pair_fits, pairs_fit, match_fits, item_columns, common_column, common_columns, columns_of, common_from}
 use Rattle.group_rules.specs.Fits.{GroupsStand, GroupsTake, first_columns}
+use Rattle.join_rules.specs.Joining.{Shape, joins, matched}
+use Rattle.join_rules.specs.Fits.{left_pairs, right_pairs}
 use Rattle.phys_plan.specs.declared.edge.Edge.{Edge as PlanEdge}
 use Rattle.phys_plan.specs.declared.edge.Exchange.{Exchange}
 use Rattle.phys_plan.specs.declared.edge.Exchange.TheVariants.{Forward, Hash}
@@ -31,18 +37,18 @@ use Rattle.phys_plan.specs.declared.plan.Plan.{Plan}
 use Rattle.stream_model.specs.Scans.{ScansStand}
 use Rattle.plan_network.specs.Plans.{bundle_of, column_types, columns_from, numbered, scan_of, spread_of}
 use Rattle.plan_rules.specs.Columns.{columns_at, columns_by, node_columns}
-use Rattle.plan_rules.specs.Doings.{around_of, update_in}
-use Rattle.plan_maker.specs.Laid.{IsFilter, IsProject, HasEdge, HasNode, CarriesAll, ScanLaid, SourceLaid, IsLaid, AreLaid}
+use Rattle.plan_rules.specs.Doings.{Around, around_of, update_in}
+use Rattle.plan_maker.specs.Laid.{IsFilter, IsProject, IsJoin, IsSemi, HasEdge, HasNode, CarriesAll, ScanLaid, SourceLaid, IsLaid, AreLaid}
 use Rattle.plan_laws.specs.Trees.{IsMade, IsPlanOfTyped, PlansAreWired, PlansMeetFacts, PortsTake, types_of}
-use Rattle.plan_laws.specs.laws.Numbers.{the_same, then_parts, all_at, numbered_within, side}
+use Rattle.plan_laws.specs.laws.Numbers.{the_same, then_parts, all_at, within, numbered_within, side}
 use Rattle.plan_laws.specs.laws.Wider.{both_parts}
 use Rattle.plan_laws.specs.laws.Nodes as nodes
-use Rattle.plan_laws.specs.laws.Nodes.{filter_is, project_is}
-use Rattle.plan_laws.specs.laws.Trees.{common_some, get-map, tree}
+use Rattle.plan_laws.specs.laws.Nodes.{filter_is, project_is, op_by, join_is, semi_is, join_no_scan}
+use Rattle.plan_laws.specs.laws.Trees.{Planned, common_some, get-map, tree}
 use Rattle.type_laws.specs.Exist.{Exist}
-use Rattle.session_open.specs.Opening.{AreColumns, AreRoutable, IsExchange}
-use Rattle.session_nodes.specs.Running.{IsBuilt, IsBuiltNode, IsWhole}
-use Rattle.plan_opens.specs.Opening.{CanOpen, IsSmallPlan, PlansOpen}
+use Rattle.session_open.specs.Opening.{AreRoutable, IsExchange}
+use Rattle.session_nodes.specs.Running.{AreWhole, IsBuilt, IsBuiltNode, IsWhole}
+use Rattle.plan_opens.specs.Opening.{PlansOpen}
 
 -- ---- columns
 
@@ -92,10 +98,46 @@ if_le keys many o made is = by (nat_le keys many) refl is
     by true e is = leb-true keys many e
     by false e is = absurd (none-some made is)
 
+-- the columns of a join's pairs, on each side
+pair_within : (left right : List ColTy) (pair : Pair) → pair_fits left right pair ≡ true → (pair.left < length left) × (pair.right < length right)
+pair_within left right pair fits = go (slice_get left pair.left) (slice_get right pair.right) refl refl fits
+  where
+    go : (o p : Option ColTy) → slice_get left pair.left ≡ o → slice_get right pair.right ≡ p → is_some (both_of common_column o p) ≡ true → (pair.left < length left) × (pair.right < length right)
+    go None p is other_is e = absurd (cc)
+    go (Some column) None is other_is e = absurd (cc)
+    go (Some column) (Some other) is other_is e = (within left pair.left column is, within right pair.right other other_is)
+
+pairs_within : (left right : List ColTy) (on : List Pair) → pairs_fit left right on ≡ true
+    → AllByRecursion (λ column. column < length left) (left_pairs on) × AllByRecursion (λ column. column < length right) (right_pairs on)
+pairs_within left right [] fits = (tt, tt)
+pairs_within left right (pair ∷ on) fits =
+    let own = pair_within left right pair (both.first (pair_fits left right pair) (pairs_fit left right on) fits) in
+    let others = pairs_within left right on (both.second (pair_fits left right pair) (pairs_fit left right on) fits) in
+    ((own.0, others.0), (own.1, others.1))
+
+if_fits : (fits : Bool) (made columns : List ColTy) → columns_if fits made ≡ Some columns → fits ≡ true
+if_fits true made columns is = refl
+if_fits false made columns is = absurd (none-some columns is)
+
+sides_within : (left right : List ColTy) (on : List Pair) (rest : Option Expr) (made columns : List ColTy) → columns_if (match_fits left right on rest) made ≡ Some columns
+    → AllByRecursion (λ column. column < length left) (left_pairs on) × AllByRecursion (λ column. column < length right) (right_pairs on)
+sides_within left right on rest made columns is =
+    pairs_within left right on (both.first (pairs_fit left right on) (is_condition_if (left ++ right) rest) (if_fits (match_fits left right on rest) made columns is))
+
 all_table : (P : TableDef → Type 0) (sources : List TableDef) → ((n : ℕ) (table : TableDef) → slice_get sources n ≡ Some table → P table) → All P sources
 all_table P [] f k d within = absurd (omega (arith, within))
 all_table P (x ∷ xs) f zero d within = f 0 x refl
 all_table P (x ∷ xs) f (suc k) d within = all_table P xs (λ n. f (suc n)) k d (omega (arith, within))
+
+-- ---- joins of any shape
+
+join_built : (shape : Shape) (on : List Pair) (rest : Option CodeExpr) (around : Around) → AreWhole around → IsBuilt (op_by shape on rest) around
+join_built (joins kind) on rest around whole = whole
+join_built (matched anti) on rest around whole = whole
+
+join_unbundled : (size : ℕ) (shape : Shape) (on : List Pair) (rest : Option CodeExpr) → bundle_of size (op_by shape on rest) ≡ None
+join_unbundled size (joins kind) on rest = refl
+join_unbundled size (matched anti) on rest = refl
 
 -- ---- nodes
 
@@ -148,6 +190,18 @@ module _ (plan : Plan) where
   scan : (v source : ℕ) (x : Exchange) (kinds : KindSet) (update : Update) (columns : List ColTy) → HasNode plan v (λ o. o ≡ op.Scan source) [] → HasEdge plan v x kinds update → of_node v ≡ Some columns → IsExchange columns x → Known v
   scan v source x kinds update columns has told typed routes =
       know v (λ o. o ≡ op.Scan source) (op.Scan source) [] x kinds update columns has has.is_op told typed routes tt refl (omega arith) (λ s e. refl) (λ e. absurd (none-some source (sym e)))
+
+  -- a join over both its sides
+  join_known : (n first second root : ℕ) (x : Exchange) (shape : Shape) (on : List Pair) (own : Option CodeExpr) (left right columns : List ColTy) (IsOp : Op → Type 0) → (has : HasNode plan root IsOp (first ∷ (second ∷ []))) → has.node.op ≡ op_by shape on own
+      → CarriesAll plan root x → root ≡ second + 1 → Planned plan n (Hash (left_pairs on)) first left → Planned plan first (Hash (right_pairs on)) second right → of_node root ≡ Some columns → IsExchange columns x
+      → AllKnown n first → AllKnown first second → AllKnown n root
+  join_known n first second root x shape on own left right columns IsOp has is told next a b typed routes firsts seconds =
+      let inputs = first ∷ (second ∷ []) in
+      let behind = (b.part.contains 0 second refl).0 in
+      one_known n second root (both_known n first second firsts seconds) next
+      (know root IsOp (op_by shape on own) inputs x (kinds_of retract) Both columns has is told typed routes
+      (join_built shape on own (around_of plan root inputs) (subst IsWhole (sym a.update) tt, subst IsWhole (sym b.update) tt)) (join_unbundled plan.mini_batch shape on own)
+      (omega (arith, behind, next)) (λ source s. absurd (none-some source (sym (join_no_scan shape on own) ∙ s))) (λ s. omega arith))
 
   whole_edge : (v : ℕ) (x : Exchange) → CarriesAll plan v x → IsWhole (update_in (numbered plan.edges v))
   whole_edge v x told = subst (λ (o : Option PlanEdge). IsWhole (update_in o)) (sym told) tt
@@ -228,8 +282,34 @@ module _ (plan : Plan) (made : AllByRecursion IsMade plan.sources) (parallel : 0
         one_known plan n laid.0 root (known input n (Hash (first_columns keys)) laid.0 laid.1 low p.0 p.1 spread) next
         (over plan root laid.0 (λ o. o ≡ op.Group keys aggs) (op.Group keys aggs) x Both (kinds_of retract) columns laid.3 laid.3.is_op laid.4 next typed routes
         (subst IsWhole (sym b.update) tt, whole_edge plan root x laid.4, columns, ap (λ (c : List ColTy). group_columns keys c aggs) (ap (λ o. unwrap_or o []) b.columns_are) ∙ p.2) refl refl)
-    known (r.Join left right kind pairs rest) n x root laid high columns t routes = absurd laid
-    known (r.Semi left right anti pairs rest) n x root laid high columns t routes = absurd laid
+    known (r.Join left right kind pairs rest) n x root laid high columns t routes =
+        let p = both_parts (λ l c. columns_if (match_fits l c pairs rest) (join_columns kind l c)) (columns_of types left) (columns_of types right) columns t in
+        let next = laid.4 in
+        let low : laid.1 < length plan.nodes = omega (arith, next, high) in
+        let b = tree plan made parallel scans_stand groups_stand groups_take right laid.0 (Hash (right_pairs pairs)) laid.1 laid.3 low p.1 p.3 in
+        let before = b.part.grows in
+        let lower : laid.0 < length plan.nodes = omega (arith, before, low) in
+        let a = tree plan made parallel scans_stand groups_stand groups_take left n (Hash (left_pairs pairs)) laid.0 laid.2 lower p.0 p.2 in
+        let f = join_is kind pairs rest laid.5.node.op laid.5.is_op in
+        let typed = (tree plan made parallel scans_stand groups_stand groups_take (r.Join left right kind pairs rest) n x root laid high columns t).columns_are in
+        let sides = sides_within p.0 p.1 pairs rest (join_columns kind p.0 p.1) columns p.4 in
+        join_known plan n laid.0 laid.1 root x (joins kind) pairs f.0 p.0 p.1 columns (IsJoin kind pairs rest) laid.5 f.1 laid.6 next a b typed routes
+        (known left n (Hash (left_pairs pairs)) laid.0 laid.2 lower p.0 p.2 (routable p.0 (left_pairs pairs) sides.0 (types_exist types exist left p.0 p.2)))
+        (known right laid.0 (Hash (right_pairs pairs)) laid.1 laid.3 low p.1 p.3 (routable p.1 (right_pairs pairs) sides.1 (types_exist types exist right p.1 p.3)))
+    known (r.Semi left right anti pairs rest) n x root laid high columns t routes =
+        let p = both_parts (λ l c. columns_if (match_fits l c pairs rest) l) (columns_of types left) (columns_of types right) columns t in
+        let next = laid.4 in
+        let low : laid.1 < length plan.nodes = omega (arith, next, high) in
+        let b = tree plan made parallel scans_stand groups_stand groups_take right laid.0 (Hash (right_pairs pairs)) laid.1 laid.3 low p.1 p.3 in
+        let before = b.part.grows in
+        let lower : laid.0 < length plan.nodes = omega (arith, before, low) in
+        let a = tree plan made parallel scans_stand groups_stand groups_take left n (Hash (left_pairs pairs)) laid.0 laid.2 lower p.0 p.2 in
+        let f = semi_is anti pairs rest laid.5.node.op laid.5.is_op in
+        let typed = (tree plan made parallel scans_stand groups_stand groups_take (r.Semi left right anti pairs rest) n x root laid high columns t).columns_are in
+        let sides = sides_within p.0 p.1 pairs rest p.0 columns p.4 in
+        join_known plan n laid.0 laid.1 root x (matched anti) pairs f.0 p.0 p.1 columns (IsSemi anti pairs rest) laid.5 f.1 laid.6 next a b typed routes
+        (known left n (Hash (left_pairs pairs)) laid.0 laid.2 lower p.0 p.2 (routable p.0 (left_pairs pairs) sides.0 (types_exist types exist left p.0 p.2)))
+        (known right laid.0 (Hash (right_pairs pairs)) laid.1 laid.3 low p.1 p.3 (routable p.1 (right_pairs pairs) sides.1 (types_exist types exist right p.1 p.3)))
     known (r.Rank input partition order bound ranked) n x root laid high columns t routes = absurd laid
 
     several : (inputs : Rels) (n : ℕ) (roots : List ℕ) (last : ℕ) → AreLaid plan n inputs roots last → last < length plan.nodes → (start : Option (List ColTy)) (columns : List ColTy) → common_from types start inputs ≡ Some columns

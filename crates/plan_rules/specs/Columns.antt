@@ -1,11 +1,14 @@
 -- The columns that each node of a plan sends.
-use Rattle.std.specs.Prelude.{ℕ, List, [], ◌∷◌, ◌++◌, length, map, slice_get, Option, Some, None, option_map, option_and_then, unwrap_or}
+use Rattle.std.specs.Prelude.{ℕ, List, [], ◌∷◌, ◌++◌, map, slice_get, Option, None, option_map, option_and_then, unwrap_or}
 use Rattle.ct_value.specs.declared.ty.ColTy.{ColTy}
 use Rattle.ct_catalog.specs.declared.table.TableDef.{TableDef}
-use Rattle.ct_expr.specs.View.{expr_view, exprs_view}
+use Rattle.ct_expr.specs.View.{expr_view}
 use Rattle.ct_expr.specs.Types.{both_of}
+use Rattle.rel_clauses.specs.declared.join.Pair.{Pair}
+use Rattle.ct_expr.specs.Expr.{Expr}
 use Rattle.rel_clauses.specs.Groups.{group_columns}
-use Rattle.rel_algebra.specs.Types.{columns_if, is_condition, item_columns, common_columns}
+use Rattle.rel_clauses.specs.Joins.{join_columns}
+use Rattle.rel_algebra.specs.Types.{columns_if, is_condition, match_fits, item_columns, common_columns}
 use Rattle.phys_plan.specs.declared.node.Op.{Op}
 use Rattle.phys_plan.specs.declared.node.Op.TheVariants as op
 use Rattle.phys_plan.specs.declared.node.Node.{Node}
@@ -25,6 +28,11 @@ abbrev pub only : List (Option (List ColTy)) → Option (List ColTy)
 only (input ∷ []) = input
 only _ = None
 
+-- of two inputs, joined on these pairs and this rest: what is made of the columns of both, where the condition fits them
+abbrev pub matched_columns : List Pair → Option Expr → (List ColTy → List ColTy → List ColTy) → List (Option (List ColTy)) → Option (List ColTy)
+matched_columns on rest made (left ∷ (right ∷ [])) = both_of (λ l r. columns_if (match_fits l r on rest) (made l r)) left right
+matched_columns on rest made _ = None
+
 -- the columns of a node, from those of its inputs; none where it isn't well-typed, or isn't built yet
 abbrev pub columns_by : List TableDef → Op → List (Option (List ColTy)) → Option (List ColTy)
 columns_by sources (op.Scan source) inputs = option_map column_types (slice_get sources source)
@@ -33,6 +41,8 @@ columns_by sources (op.Project items) inputs = option_and_then (λ columns. item
 columns_by sources op.Union inputs = common_of inputs
 columns_by sources (op.Normalize key) inputs = only inputs
 columns_by sources (op.Group keys aggs) inputs = option_and_then (λ columns. group_columns keys columns aggs) (only inputs)
+columns_by sources (op.Join kind on rest) inputs = matched_columns on (option_map expr_view rest) (join_columns kind) inputs
+columns_by sources (op.Semi anti on rest) inputs = matched_columns on (option_map expr_view rest) (λ left right. left) inputs
 columns_by sources op.Sink inputs = only inputs
 columns_by sources _ inputs = None
 

@@ -1,11 +1,12 @@
 -- What each node of a plan does, by the rule of its operator.
-use Rattle.std.specs.Prelude.{ℕ, List, [], ◌∷◌, length, take, map, Option, Some, None, Ok}
+use Rattle.std.specs.Prelude.{ℕ, List, [], ◌∷◌, ◌++◌, length, take, map, Option, Some, None, option_map, Ok}
 use Rattle.ct_value.specs.declared.ty.ColTy.{ColTy}
 use Rattle.ct_change.specs.Changelog.{Mode, retract, upsert, Rows}
 use Rattle.ct_change.specs.declared.kind.Declared.{Declared}
 use Rattle.ct_expr.specs.Expr.{Expr}
 use Rattle.ct_expr.specs.View.{expr_view}
 use Rattle.rel_clauses.specs.declared.agg.Agg.{Agg}
+use Rattle.rel_clauses.specs.declared.join.Pair.{Pair}
 use Rattle.rel_algebra.specs.Batch.{filter_answer, project_answer}
 use Rattle.op_rules.specs.Rules.{Rule}
 use Rattle.row_rules.specs.Filter.{Filter, filter_rule}
@@ -15,6 +16,7 @@ use Rattle.row_rules.specs.Normalize.{Normalize, normalize_rule}
 use Rattle.row_rules.specs.Sink.{Sink, sink_rule}
 use Rattle.group_rules.specs.Grouping.{Grouping, group_rule}
 use Rattle.group_rules.specs.Fits.{part, batch}
+use Rattle.join_rules.specs.Joining.{Shape, joins, matched, Joining, joined_answer, join_rule}
 use Rattle.phys_plan.specs.declared.edge.Edge.{Edge as PlanEdge}
 use Rattle.phys_plan.specs.declared.edge.Update.{Update}
 use Rattle.phys_plan.specs.declared.edge.Update.TheVariants.{Absent, After, Both}
@@ -38,14 +40,28 @@ mode_told Absent = retract
 mode_told (After columns) = upsert columns
 mode_told Both = retract
 
--- what is around a node: how many subtasks there are, how its first input tells updates and how it does itself, the columns of
--- its first input, and how many inputs it has
+-- an input: how it tells updates, and its columns
+pub record Side : Type 0 where
+  pub input : Update
+  pub columns : List ColTy
+
+-- what is around a node: how its first input tells updates and how it does itself, the columns of its first input, its other
+-- inputs, how many inputs it has, and what the sink's table is declared as
 pub record Around : Type 0 where
   pub input : Update
   pub own : Update
   pub columns : List ColTy
+  pub others : List Side
   pub inputs : ℕ
   pub declared : Declared
+
+-- the second input; one that isn't there has no columns
+abbrev pub first_side : List Side → Side
+first_side [] = record { input = Both; columns = [] }
+first_side (side ∷ sides) = side
+
+abbrev pub second : Around → Side
+second around = first_side around.others
 
 -- what a node does that runs by a rule: the types are those of the row at which it is out of range
 abbrev pub ruled : Rule → List ColTy → (ℕ → (ℕ → Rows) → Option Rows) → ((ℕ → Rows) → Option Rows) → Doing
@@ -74,6 +90,21 @@ normalize_of key around = record { key = key; output = mode_told around.own }
 abbrev pub grouping_of : ℕ → List Agg → Around → Grouping
 grouping_of keys aggs around = record { keys = keys; aggs = aggs; columns = around.columns; input = mode_told around.input; output = mode_told around.own }
 
+abbrev pub joining_of : Shape → List Pair → Option Expr → Around → Joining
+joining_of shape on rest around = record {
+  shape = shape;
+  on = on;
+  rest = rest;
+  left_columns = around.columns;
+  right_columns = (second around).columns;
+  left = mode_told around.input;
+  right = mode_told (second around).input;
+}
+
+-- a join is out of range at a joined row: the left's columns, then the right's
+abbrev pub joined_alike : Joining → Doing
+joined_alike j = alike (join_rule j) (j.left_columns ++ j.right_columns) (λ rows. joined_answer j (rows 0) (rows 1))
+
 abbrev pub sink_of : Around → Sink
 sink_of around = record { declared = around.declared; after = after_key around.input }
 
@@ -84,6 +115,8 @@ rule_by (op.Project items) around = project_rule (project_of (map expr_view item
 rule_by op.Union around = union_rule (union_of around)
 rule_by (op.Normalize key) around = normalize_rule (normalize_of key around)
 rule_by (op.Group keys aggs) around = group_rule (grouping_of keys aggs around)
+rule_by (op.Join kind on rest) around = join_rule (joining_of (joins kind) on (option_map expr_view rest) around)
+rule_by (op.Semi anti on rest) around = join_rule (joining_of (matched anti) on (option_map expr_view rest) around)
 rule_by op.Sink around = sink_rule (sink_of around)
 rule_by _ around = union_rule (union_of around)
 
@@ -94,6 +127,8 @@ doing_by (op.Project items) around = alike (project_rule (project_of (map expr_v
 doing_by op.Union around = alike (union_rule (union_of around)) around.columns (union_answer (union_of around))
 doing_by (op.Normalize key) around = alike (normalize_rule (normalize_of key around)) around.columns (λ rows. Some (rows 0))
 doing_by (op.Group keys aggs) around = ruled (group_rule (grouping_of keys aggs around)) (take keys around.columns) (part (grouping_of keys aggs around)) (batch (grouping_of keys aggs around))
+doing_by (op.Join kind on rest) around = joined_alike (joining_of (joins kind) on (option_map expr_view rest) around)
+doing_by (op.Semi anti on rest) around = joined_alike (joining_of (matched anti) on (option_map expr_view rest) around)
 doing_by op.Sink around = alike (sink_rule (sink_of around)) around.columns (λ rows. Some (rows 0))
 doing_by _ around = idle
 
@@ -107,11 +142,19 @@ abbrev pub first_input : List ℕ → ℕ
 first_input [] = 0
 first_input (input ∷ inputs) = input
 
+abbrev pub other_inputs : List ℕ → List ℕ
+other_inputs [] = []
+other_inputs (input ∷ inputs) = inputs
+
+abbrev pub side_of : Plan → ℕ → Side
+side_of plan input = record { input = update_in (numbered plan.edges input); columns = columns_at plan.sources plan.nodes input }
+
 abbrev pub around_of : Plan → ℕ → List ℕ → Around
 around_of plan v inputs = record {
   input = update_in (numbered plan.edges (first_input inputs));
   own = update_in (numbered plan.edges v);
   columns = columns_at plan.sources plan.nodes (first_input inputs);
+  others = map (side_of plan) (other_inputs inputs);
   inputs = length inputs;
   declared = plan.sink.mode;
 }

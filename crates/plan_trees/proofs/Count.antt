@@ -9,6 +9,7 @@ use Rattle.ct_catalog.specs.declared.table.TableDef.{TableDef}
 use Rattle.rel_algebra.specs.Rel.{Rel, Rels, no_rels, rel_and}
 use Rattle.rel_algebra.specs.Rel as r
 use Rattle.group_rules.specs.Fits.{first_columns}
+use Rattle.join_rules.specs.Fits.{left_pairs, right_pairs}
 use Rattle.phys_plan.specs.declared.edge.Exchange.{Exchange}
 use Rattle.phys_plan.specs.declared.edge.Exchange.TheVariants.{Forward, Hash}
 use Rattle.phys_plan.specs.declared.edge.Update.TheVariants.{Absent}
@@ -29,6 +30,9 @@ of_source n x source (Some table) = of_scan n x source table.mode (unwrap_or tab
 longer : (ps : List Piece) (p : Piece) (k : ℕ) → length ps ≡ k → length (ps ++ p ∷ []) ≡ k + 1
 longer ps p k e = omega (arith, one_longer ps p, e)
 
+of_both : (ps qs : List Piece) (p : Piece) (a b : ℕ) → length ps ≡ a → length qs ≡ b → length ((ps ++ qs) ++ p ∷ []) ≡ a + b + 1
+of_both ps qs p a b d e = omega (arith, one_longer (ps ++ qs) p, length-append ps qs, d, e)
+
 module _ (sources : List TableDef) where
   mutual
     of_tree : (n : ℕ) (x : Exchange) (rel : Rel) → length (pieces_of sources n x rel) ≡ nodes_of sources rel
@@ -37,8 +41,14 @@ module _ (sources : List TableDef) where
     of_tree n x (r.Project input items) = longer (pieces_of sources n Forward input) _ (nodes_of sources input) (of_tree n Forward input)
     of_tree n x (r.Union inputs) = longer (pieces_of_all sources n inputs) _ (nodes_of_all sources inputs) (of_trees n inputs)
     of_tree n x (r.Group input keys aggs) = longer (pieces_of sources n (Hash (first_columns keys)) input) _ (nodes_of sources input) (of_tree n (Hash (first_columns keys)) input)
-    of_tree n x (r.Join left right kind pairs rest) = refl
-    of_tree n x (r.Semi left right anti pairs rest) = refl
+    of_tree n x (r.Join left right kind pairs rest) =
+        let mid : ℕ = n + length (pieces_of sources n (Hash (left_pairs pairs)) left) in
+        of_both (pieces_of sources n (Hash (left_pairs pairs)) left) (pieces_of sources mid (Hash (right_pairs pairs)) right) _ (nodes_of sources left) (nodes_of sources right)
+        (of_tree n (Hash (left_pairs pairs)) left) (of_tree mid (Hash (right_pairs pairs)) right)
+    of_tree n x (r.Semi left right anti pairs rest) =
+        let mid : ℕ = n + length (pieces_of sources n (Hash (left_pairs pairs)) left) in
+        of_both (pieces_of sources n (Hash (left_pairs pairs)) left) (pieces_of sources mid (Hash (right_pairs pairs)) right) _ (nodes_of sources left) (nodes_of sources right)
+        (of_tree n (Hash (left_pairs pairs)) left) (of_tree mid (Hash (right_pairs pairs)) right)
     of_tree n x (r.Rank input partition order bound ranked) = refl
 
     of_trees : (n : ℕ) (inputs : Rels) → length (pieces_of_all sources n inputs) ≡ nodes_of_all sources inputs

@@ -1,5 +1,5 @@
 -- The pieces of a tree, wherever they stand in a plan, are the tree laid.
-use Rattle.std.specs.Prelude.{◌≡◌, ℕ, ◌+◌, ◌||◌, List, ◌++◌, Bool, is_none, length, map, slice_get, Option, unwrap_or}
+use Rattle.std.specs.Prelude.{◌≡◌, ℕ, ◌+◌, ◌||◌, List, ◌++◌, Bool, is_none, length, map, slice_get, Option, option_map, unwrap_or}
 use Rattle.std.proofs.Common.{suc, true, false, [], ◌∷◌, refl, ap, subst, ◌∙◌, arith, Some, None, length-append}
 use Rattle.std.proofs.lemmas.List.{length-map}
 use Rattle.ct_change.specs.Changelog.{retract, upsert, kinds_of}
@@ -14,6 +14,7 @@ use Rattle.expr_views.specs.laws.Seen.{seen}
 use Rattle.rel_algebra.specs.Rel.{Rel, Rels, no_rels, rel_and}
 use Rattle.rel_algebra.specs.Rel as r
 use Rattle.group_rules.specs.Fits.{first_columns}
+use Rattle.join_rules.specs.Fits.{left_pairs, right_pairs}
 use Rattle.phys_plan.specs.declared.edge.Exchange.{Exchange}
 use Rattle.phys_plan.specs.declared.edge.Exchange.TheVariants.{Forward, Hash}
 use Rattle.phys_plan.specs.declared.edge.Update.{Update}
@@ -22,9 +23,9 @@ use Rattle.phys_plan.specs.declared.node.Op.{Op}
 use Rattle.phys_plan.specs.declared.node.Op.TheVariants as op
 use Rattle.phys_plan.specs.declared.plan.Plan.{Plan}
 use Rattle.plan_network.specs.Plans.{numbered}
-use Rattle.plan_maker.specs.Laid.{IsFilter, IsProject, HasNode, HasEdge, ScanLaid, SourceLaid, IsLaid, AreLaid, IsPlanOf}
+use Rattle.plan_maker.specs.Laid.{IsFilter, IsProject, IsJoin, IsSemi, HasNode, HasEdge, ScanLaid, SourceLaid, IsLaid, AreLaid, IsPlanOf}
 use Rattle.plan_build.specs.Faults.{has_unbuilt, any_unbuilt, lacks_table, any_lacks}
-use Rattle.plan_trees.specs.Trees.{Piece, node_of, edge_of, piece, full_piece, scan_pieces, source_pieces, pieces_of, pieces_of_all, roots_of, with_sink, plan_of_tree}
+use Rattle.plan_trees.specs.Trees.{Piece, node_of, edge_of, piece, full_piece, topped_both, scan_pieces, source_pieces, pieces_of, pieces_of_all, roots_of, with_sink, plan_of_tree}
 use Rattle.plan_trees.proofs.Places.{one_longer, Stand, front_stands, back_stands, stand_alone}
 
 left_not : (a b : Bool) → (a || b) ≡ false → a ≡ false
@@ -38,6 +39,10 @@ right_not false b e = e
 each_seen : (items : List Expr) → map expr_view (map expr_of items) ≡ items
 each_seen [] = refl
 each_seen (x ∷ items) = λ i. seen x i ∷ each_seen items i
+
+rest_seen : (rest : Option Expr) → option_map expr_view (option_map expr_of rest) ≡ rest
+rest_seen None = refl
+rest_seen (Some x) = ap Some (seen x)
 
 module _ (plan : Plan) where
   abbrev Placed : ℕ → List Piece → Type 0
@@ -83,6 +88,32 @@ module _ (plan : Plan) where
   source_laid n x source None there s = absurd (cc)
   source_laid n x source (Some table) there s = scan_laid n x source table.mode (unwrap_or table.key []) s
 
+  -- the pieces of both sides of a join, and a node of this operator over them
+  module _ (n : ℕ) (x y z : Exchange) (left right : Rel) (ps qs : List Piece) (o : Op) (s : Placed n (topped_both n ps qs o x)) where
+    abbrev top : ℕ
+    top = n + length (topped_both n ps qs o x)
+
+    left_placed : Placed n ps
+    left_placed = front_stands plan.nodes plan.edges n ps qs (front_stands plan.nodes plan.edges n (ps ++ qs) (full_piece o ((n + length ps) ∷ ((n + length ps + length qs) ∷ [])) x ∷ []) s)
+
+    right_placed : Placed (n + length ps) qs
+    right_placed = back_stands plan.nodes plan.edges n ps qs (front_stands plan.nodes plan.edges n (ps ++ qs) (full_piece o ((n + length ps) ∷ ((n + length ps + length qs) ∷ [])) x ∷ []) s)
+
+    both_laid : (IsOp : Op → Type 0) → IsOp o → IsLaid plan n y left (n + length ps) → IsLaid plan (n + length ps) z right (n + length ps + length qs)
+        → (first : ℕ) × (second : ℕ) × IsLaid plan n y left first × IsLaid plan first z right second × (top ≡ second + 1) × HasNode plan top IsOp (first ∷ (second ∷ [])) × HasEdge plan top x (kinds_of retract) Both
+    both_laid IsOp is l m =
+        let inputs = (n + length ps) ∷ ((n + length ps + length qs) ∷ []) in
+        let number = last_number n (ps ++ qs) o inputs x (kinds_of retract) Both s in
+        let whole = length-append ps qs in (
+          n + length ps,
+          n + length ps + length qs,
+          l,
+          m,
+          omega (arith, number, whole),
+          last_has n (ps ++ qs) o inputs x (kinds_of retract) Both s IsOp is,
+          last_told n (ps ++ qs) o inputs x (kinds_of retract) Both s,
+        )
+
   mutual
     laid : (n : ℕ) (x : Exchange) (rel : Rel) → has_unbuilt rel ≡ false → lacks_table plan.sources rel ≡ false → Placed n (pieces_of plan.sources n x rel)
         → IsLaid plan n x rel (n + length (pieces_of plan.sources n x rel))
@@ -124,8 +155,26 @@ module _ (plan : Plan) where
           last_has n ps o ((n + length ps) ∷ []) x (kinds_of retract) Both s (λ q. q ≡ op.Group keys aggs) refl,
           last_told n ps o ((n + length ps) ∷ []) x (kinds_of retract) Both s,
         )
-    laid n x (r.Join left right kind pairs rest) built tables s = absurd (cc)
-    laid n x (r.Semi left right anti pairs rest) built tables s = absurd (cc)
+    laid n x (r.Join left right kind pairs rest) built tables s =
+        let mid : ℕ = n + length (pieces_of plan.sources n (Hash (left_pairs pairs)) left) in
+        let ps = pieces_of plan.sources n (Hash (left_pairs pairs)) left in
+        let qs = pieces_of plan.sources (n + length (pieces_of plan.sources n (Hash (left_pairs pairs)) left)) (Hash (right_pairs pairs)) right in
+        let o = op.Join kind pairs (option_map expr_of rest) in
+        both_laid n x (Hash (left_pairs pairs)) (Hash (right_pairs pairs)) left right ps qs o s (IsJoin kind pairs rest) (refl, refl, rest_seen rest)
+        (laid n (Hash (left_pairs pairs)) left (left_not (has_unbuilt left) (has_unbuilt right) built) (left_not (lacks_table plan.sources left) (lacks_table plan.sources right) tables)
+        (left_placed n x (Hash (left_pairs pairs)) (Hash (right_pairs pairs)) left right ps qs o s))
+        (laid mid (Hash (right_pairs pairs)) right (right_not (has_unbuilt left) (has_unbuilt right) built) (right_not (lacks_table plan.sources left) (lacks_table plan.sources right) tables)
+        (right_placed n x (Hash (left_pairs pairs)) (Hash (right_pairs pairs)) left right ps qs o s))
+    laid n x (r.Semi left right anti pairs rest) built tables s =
+        let mid : ℕ = n + length (pieces_of plan.sources n (Hash (left_pairs pairs)) left) in
+        let ps = pieces_of plan.sources n (Hash (left_pairs pairs)) left in
+        let qs = pieces_of plan.sources (n + length (pieces_of plan.sources n (Hash (left_pairs pairs)) left)) (Hash (right_pairs pairs)) right in
+        let o = op.Semi anti pairs (option_map expr_of rest) in
+        both_laid n x (Hash (left_pairs pairs)) (Hash (right_pairs pairs)) left right ps qs o s (IsSemi anti pairs rest) (refl, refl, rest_seen rest)
+        (laid n (Hash (left_pairs pairs)) left (left_not (has_unbuilt left) (has_unbuilt right) built) (left_not (lacks_table plan.sources left) (lacks_table plan.sources right) tables)
+        (left_placed n x (Hash (left_pairs pairs)) (Hash (right_pairs pairs)) left right ps qs o s))
+        (laid mid (Hash (right_pairs pairs)) right (right_not (has_unbuilt left) (has_unbuilt right) built) (right_not (lacks_table plan.sources left) (lacks_table plan.sources right) tables)
+        (right_placed n x (Hash (left_pairs pairs)) (Hash (right_pairs pairs)) left right ps qs o s))
     laid n x (r.Rank input partition order bound ranked) built tables s = absurd (cc)
 
     all_laid : (n : ℕ) (inputs : Rels) → any_unbuilt inputs ≡ false → any_lacks plan.sources inputs ≡ false → Placed n (pieces_of_all plan.sources n inputs)

@@ -1,5 +1,5 @@
 -- Of a plan that is one of a tree: its nodes, as they are seen, and its edges are the tree's pieces.
-use Rattle.std.specs.Prelude.{◌≡◌, ℕ, ◌+◌, List, ◌++◌, length, map, slice_get, Option, option_map, unwrap_or}
+use Rattle.std.specs.Prelude.{◌≡◌, ℕ, ◌+◌, Bool, List, ◌++◌, length, map, slice_get, Option, option_map, unwrap_or}
 use Rattle.std.proofs.Common.{suc, [], ◌∷◌, refl, ap, subst, ◌∙◌, arith, Some, None, length-append}
 use Rattle.std.proofs.lemmas.List.{length-map}
 use Rattle.std.proofs.lemmas.Option.{slice_get-map}
@@ -12,9 +12,12 @@ use Rattle.ct_expr.specs.declared.expr.Expr.{Expr as CodeExpr}
 use Rattle.ct_expr.specs.Expr.{Expr}
 use Rattle.ct_expr.specs.View.{expr_view}
 use Rattle.expr_views.specs.Views.{expr_of, as_seen}
+use Rattle.rel_clauses.specs.declared.join.JoinKind.{JoinKind}
+use Rattle.rel_clauses.specs.declared.join.Pair.{Pair}
 use Rattle.rel_algebra.specs.Rel.{Rel, Rels, no_rels, rel_and}
 use Rattle.rel_algebra.specs.Rel as r
 use Rattle.group_rules.specs.Fits.{first_columns}
+use Rattle.join_rules.specs.Fits.{left_pairs, right_pairs}
 use Rattle.phys_plan.specs.declared.edge.Exchange.{Exchange}
 use Rattle.phys_plan.specs.declared.edge.Exchange.TheVariants.{Forward, Hash}
 use Rattle.phys_plan.specs.declared.edge.Update.{Update}
@@ -23,8 +26,8 @@ use Rattle.phys_plan.specs.declared.node.Op.{Op}
 use Rattle.phys_plan.specs.declared.node.Op.TheVariants as op
 use Rattle.phys_plan.specs.declared.plan.Plan.{Plan}
 use Rattle.plan_network.specs.Plans.{numbered}
-use Rattle.plan_maker.specs.Laid.{IsFilter, IsProject, HasNode, HasEdge, CarriesAll, ScanLaid, SourceLaid, IsLaid, AreLaid, IsPlanOf}
-use Rattle.plan_trees.specs.Trees.{Piece, node_of, edge_of, piece, scan_pieces, source_pieces, topped, pieces_of, pieces_of_all, roots_of, with_sink, plan_of_tree}
+use Rattle.plan_maker.specs.Laid.{IsFilter, IsProject, IsJoin, IsSemi, HasNode, HasEdge, CarriesAll, ScanLaid, SourceLaid, IsLaid, AreLaid, IsPlanOf}
+use Rattle.plan_trees.specs.Trees.{Piece, node_of, edge_of, piece, scan_pieces, source_pieces, topped, topped_both, pieces_of, pieces_of_all, roots_of, with_sink, plan_of_tree}
 use Rattle.plan_trees.specs.Seen.{op_as_seen, node_as_seen, plan_as_seen}
 use Rattle.plan_trees.proofs.Places.{one_longer, Stand, stand_behind, all_there_is}
 
@@ -41,6 +44,22 @@ each_as_seen (x ∷ own) = ap (λ xs. as_seen x ∷ xs) (each_as_seen own)
 project_as_seen : (items : List Expr) (o : Op) → IsProject items o → op_as_seen o ≡ op.Project (map expr_of items)
 project_as_seen items (op.Project own) is = ap op.Project (each_as_seen own ∙ ap (map expr_of) is)
 project_as_seen items _ is = absurd is
+
+rest_as_seen : (own : Option CodeExpr) → option_map as_seen own ≡ option_map expr_of (option_map expr_view own)
+rest_as_seen None = refl
+rest_as_seen (Some x) = refl
+
+join_as_seen : (kind : JoinKind) (pairs : List Pair) (rest : Option Expr) (o : Op) → IsJoin kind pairs rest o → op_as_seen o ≡ op.Join kind pairs (option_map expr_of rest)
+join_as_seen kind pairs rest (op.Join own on test) is =
+    let sees = rest_as_seen test ∙ ap (option_map expr_of) is.2 in
+    λ i. op.Join (is.0 i) (is.1 i) (sees i)
+join_as_seen kind pairs rest _ is = absurd is
+
+semi_as_seen : (anti : Bool) (pairs : List Pair) (rest : Option Expr) (o : Op) → IsSemi anti pairs rest o → op_as_seen o ≡ op.Semi anti pairs (option_map expr_of rest)
+semi_as_seen anti pairs rest (op.Semi own on test) is =
+    let sees = rest_as_seen test ∙ ap (option_map expr_of) is.2 in
+    λ i. op.Semi (is.0 i) (is.1 i) (sees i)
+semi_as_seen anti pairs rest _ is = absurd is
 
 -- ---- a tree of the plan
 
@@ -96,6 +115,15 @@ module _ (plan : Plan) where
   source_placed n x source None root l = absurd l
   source_placed n x source (Some table) root l = scan_placed n x source table.mode (unwrap_or table.key []) root l
 
+  -- both sides of a join, and a node over them
+  both_placed : (n : ℕ) (x : Exchange) (ps qs : List Piece) (IsOp : Op → Type 0) (o : Op) (first second root : ℕ) → ((q : Op) → IsOp q → op_as_seen q ≡ o)
+      → (first ≡ n + length ps) × Placed n ps → (second ≡ n + length ps + length qs) × Placed (n + length ps) qs → root ≡ second + 1 → HasNode plan root IsOp (first ∷ (second ∷ [])) → CarriesAll plan root x
+      → (root ≡ n + length (topped_both n ps qs o x)) × Placed n (topped_both n ps qs o x)
+  both_placed n x ps qs IsOp o first second root as_op a b next has carries =
+      let is : second ≡ n + length (ps ++ qs) = omega (arith, b.0, length-append ps qs) in
+      more_placed n second root (ps ++ qs) is (stand_behind (map node_as_seen plan.nodes) plan.edges n ps qs a.1 b.1) next IsOp ((n + length ps) ∷ ((n + length ps + length qs) ∷ [])) o x (kinds_of retract) Both as_op
+      (subst (λ (roots : List ℕ). HasNode plan root IsOp roots) (λ i. a.0 i ∷ (b.0 i ∷ [])) has) carries
+
   mutual
     laid_placed : (n : ℕ) (x : Exchange) (rel : Rel) (root : ℕ) → IsLaid plan n x rel root → (root ≡ n + length (pieces_of plan.sources n x rel)) × Placed n (pieces_of plan.sources n x rel)
     laid_placed n x (r.Scan source) root l = source_placed n x source (slice_get plan.sources source) root l
@@ -112,8 +140,20 @@ module _ (plan : Plan) where
     laid_placed n x (r.Group input keys aggs) root l =
         let below = laid_placed n (Hash (first_columns keys)) input l.0 l.1 in
         topped_placed n l.0 root (pieces_of plan.sources n (Hash (first_columns keys)) input) below.0 below.1 l.2 (λ o. o ≡ op.Group keys aggs) (op.Group keys aggs) x (λ q e. ap op_as_seen e) l.3 l.4
-    laid_placed n x (r.Join left right kind pairs rest) root l = absurd l
-    laid_placed n x (r.Semi left right anti pairs rest) root l = absurd l
+    laid_placed n x (r.Join left right kind pairs rest) root l =
+        let first = laid_placed n (Hash (left_pairs pairs)) left l.0 l.2 in
+        let ps = pieces_of plan.sources n (Hash (left_pairs pairs)) left in
+        let mid : ℕ = n + length (pieces_of plan.sources n (Hash (left_pairs pairs)) left) in
+        let second = laid_placed mid (Hash (right_pairs pairs)) right l.1 (subst (λ k. IsLaid plan k (Hash (right_pairs pairs)) right l.1) first.0 l.3) in
+        both_placed n x ps (pieces_of plan.sources (n + length (pieces_of plan.sources n (Hash (left_pairs pairs)) left)) (Hash (right_pairs pairs)) right) (IsJoin kind pairs rest) (op.Join kind pairs (option_map expr_of rest))
+        l.0 l.1 root (join_as_seen kind pairs rest) first second l.4 l.5 l.6
+    laid_placed n x (r.Semi left right anti pairs rest) root l =
+        let first = laid_placed n (Hash (left_pairs pairs)) left l.0 l.2 in
+        let ps = pieces_of plan.sources n (Hash (left_pairs pairs)) left in
+        let mid : ℕ = n + length (pieces_of plan.sources n (Hash (left_pairs pairs)) left) in
+        let second = laid_placed mid (Hash (right_pairs pairs)) right l.1 (subst (λ k. IsLaid plan k (Hash (right_pairs pairs)) right l.1) first.0 l.3) in
+        both_placed n x ps (pieces_of plan.sources (n + length (pieces_of plan.sources n (Hash (left_pairs pairs)) left)) (Hash (right_pairs pairs)) right) (IsSemi anti pairs rest) (op.Semi anti pairs (option_map expr_of rest))
+        l.0 l.1 root (semi_as_seen anti pairs rest) first second l.4 l.5 l.6
     laid_placed n x (r.Rank input partition order bound ranked) root l = absurd l
 
     all_placed : (n : ℕ) (inputs : Rels) (roots : List ℕ) (last : ℕ) → AreLaid plan n inputs roots last

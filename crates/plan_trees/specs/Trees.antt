@@ -1,5 +1,5 @@
 -- The plan of a tree of the algebra as a function of it: its nodes one behind the other, each behind its inputs, and the sink behind them.
-use Rattle.std.specs.Prelude.{ℕ, ◌+◌, List, [], ◌∷◌, ◌++◌, length, map, slice_get, Option, Some, None, unwrap_or}
+use Rattle.std.specs.Prelude.{ℕ, ◌+◌, List, [], ◌∷◌, ◌++◌, length, map, slice_get, Option, Some, None, option_map, unwrap_or}
 use Rattle.ct_change.specs.Changelog.{retract, upsert, kinds_of}
 use Rattle.ct_change.specs.declared.kind.Declared.{Declared}
 use Rattle.ct_change.specs.declared.kind.Declared.TheVariants.{Append, Retract, Upsert}
@@ -9,6 +9,7 @@ use Rattle.expr_views.specs.Views.{expr_of}
 use Rattle.rel_algebra.specs.Rel.{Rel, Rels, no_rels, rel_and}
 use Rattle.rel_algebra.specs.Rel as r
 use Rattle.group_rules.specs.Fits.{first_columns}
+use Rattle.join_rules.specs.Fits.{left_pairs, right_pairs}
 use Rattle.phys_plan.specs.declared.edge.Edge.{Edge}
 use Rattle.phys_plan.specs.declared.edge.Exchange.{Exchange}
 use Rattle.phys_plan.specs.declared.edge.Exchange.TheVariants.{Forward, Hash}
@@ -57,6 +58,11 @@ source_pieces n exchange source (Some table) = scan_pieces n exchange source tab
 abbrev pub topped : ℕ → List Piece → Op → Exchange → List Piece
 topped n pieces operator exchange = pieces ++ full_piece operator ((n + length pieces) ∷ []) exchange ∷ []
 
+-- a node more over the last of pieces behind n nodes and the last of those behind these
+abbrev pub topped_both : ℕ → List Piece → List Piece → Op → Exchange → List Piece
+topped_both n left right operator exchange =
+    (left ++ right) ++ full_piece operator ((n + length left) ∷ ((n + length left + length right) ∷ [])) exchange ∷ []
+
 module _ (sources : List TableDef) where
   abbrev mutual
     pub pieces_of : ℕ → Exchange → Rel → List Piece
@@ -65,9 +71,13 @@ module _ (sources : List TableDef) where
     pieces_of n exchange (r.Project input items) = topped n (pieces_of n Forward input) (op.Project (map expr_of items)) exchange
     pieces_of n exchange (r.Union inputs) = pieces_of_all n inputs ++ full_piece op.Union (roots_of n inputs) exchange ∷ []
     pieces_of n exchange (r.Group input keys aggs) = topped n (pieces_of n (Hash (first_columns keys)) input) (op.Group keys aggs) exchange
+    pieces_of n exchange (r.Join left right kind pairs rest) =
+        topped_both n (pieces_of n (Hash (left_pairs pairs)) left) (pieces_of (n + length (pieces_of n (Hash (left_pairs pairs)) left)) (Hash (right_pairs pairs)) right)
+        (op.Join kind pairs (option_map expr_of rest)) exchange
+    pieces_of n exchange (r.Semi left right anti pairs rest) =
+        topped_both n (pieces_of n (Hash (left_pairs pairs)) left) (pieces_of (n + length (pieces_of n (Hash (left_pairs pairs)) left)) (Hash (right_pairs pairs)) right)
+        (op.Semi anti pairs (option_map expr_of rest)) exchange
     -- not built yet
-    pieces_of n exchange (r.Join left right kind pairs rest) = []
-    pieces_of n exchange (r.Semi left right anti pairs rest) = []
     pieces_of n exchange (r.Rank input partition order bound ranked) = []
 
     -- several trees behind one another

@@ -1,5 +1,5 @@
 -- What operators of a plan's nodes do, by cases.
-use Rattle.std.proofs.Common.{◌≡◌, ℕ, ◌<◌, Bool, false, List, [], length, take, Option, Some, None, get_or, refl, sym, ap, subst, ◌∙◌, arith}
+use Rattle.std.proofs.Common.{◌≡◌, ℕ, ◌<◌, Bool, List, [], ◌∷◌, length, Option, Some, None, get_or, refl, sym, ap, subst, ◌∙◌}
 use Rattle.std.specs.Option.{unwrap_or}
 use Rattle.std.specs.Prelude.{slice_get}
 use Rattle.std.proofs.lemmas.Option.{none-some, get_or_from_slice_get, unwrap_or-slice_get}
@@ -13,14 +13,12 @@ use Rattle.phys_plan.specs.declared.node.Op.TheVariants as op
 use Rattle.phys_plan.specs.declared.plan.Plan.{Plan}
 use Rattle.stream_model.specs.Network.{Network, task}
 use Rattle.plan_network.specs.Plans.{Doing, inputs_in, numbered, scan_of}
-use Rattle.plan_rules.specs.Columns.{columns_at}
-use Rattle.plan_rules.specs.Doings.{Around, around_of, doing_by, doing_in, first_input, mode_told, network, rule_by}
-use Rattle.session_core.specs.Runs.{RunsAs}
+use Rattle.plan_rules.specs.Doings.{Around, around_of, doing_by, doing_in, first_input, mode_told, network, rule_by, second}
 use Rattle.session_open.specs.Opening.{IsMade}
 use Rattle.ct_change.specs.Changelog.{retract}
 use Rattle.phys_plan.specs.declared.edge.Update.{Update}
 use Rattle.phys_plan.specs.declared.edge.Update.TheVariants.{Absent, After, Both}
-use Rattle.session_nodes.specs.Running.{IsWhole, IsBuilt, IsBuiltNode, IsBuiltPlan, IsOperatorOf, range_types_by}
+use Rattle.session_nodes.specs.Running.{IsWhole, IsBuilt, IsBuiltPlan, IsOperatorOf, range_types_by, second_input}
 
 -- what a node does is its operator's rule
 pub record DoesBy (doing : Doing) (rule : Rule) : Type 0 where
@@ -35,8 +33,8 @@ by_rule op.Union around built off = record { emits = refl; opens = refl }
 by_rule (op.Normalize key) around built off = record { emits = refl; opens = refl }
 by_rule (op.Group keys aggs) around built off = record { emits = refl; opens = refl }
 by_rule (op.BatchGroup keys aggs) around built off = absurd built
-by_rule (op.Join kind on rest) around built off = absurd built
-by_rule (op.Semi anti on rest) around built off = absurd built
+by_rule (op.Join kind on rest) around built off = record { emits = refl; opens = refl }
+by_rule (op.Semi anti on rest) around built off = record { emits = refl; opens = refl }
 by_rule (op.TopN partition order bound ranked) around built off = absurd built
 by_rule (op.Materialize key) around built off = absurd built
 by_rule op.Sink around built off = record { emits = refl; opens = refl }
@@ -62,7 +60,7 @@ scan_opens (op.LocalGroup keys aggs) around source j is = absurd (none-some sour
 scan_opens (op.MultiJoin on) around source j is = absurd (none-some source is)
 scan_opens (op.SetOp except all) around source j is = absurd (none-some source is)
 
-types_by : (o : Op) (around : Around) → range_types_by o around.columns ≡ (doing_by o around).range_types
+types_by : (o : Op) (around : Around) → range_types_by o around.columns (second around).columns ≡ (doing_by o around).range_types
 types_by (op.Scan source) around = refl
 types_by (op.Filter cond) around = refl
 types_by (op.Project items) around = refl
@@ -79,15 +77,21 @@ types_by (op.LocalGroup keys aggs) around = refl
 types_by (op.MultiJoin on) around = refl
 types_by (op.SetOp except all) around = refl
 
+-- the columns of a node's second input
+pub others_of : (plan : Plan) (columns : List (List ColTy)) (g : Network) (v : ℕ) (inputs : List ℕ) → IsBuiltPlan plan columns g → get_or columns (second_input inputs) [] ≡ (second (around_of plan v inputs)).columns
+others_of plan columns g v [] built = built.columns_are 0
+others_of plan columns g v (first ∷ []) built = built.columns_are 0
+others_of plan columns g v (first ∷ (other ∷ others)) built = built.columns_are other
+
 -- the types of the row at which a node is out of range
 pub types_none : (plan : Plan) (columns : List (List ColTy)) (g : Network) (v : ℕ) → IsBuiltPlan plan columns g → numbered plan.nodes v ≡ None → [] ≡ g.range_types v
 types_none plan columns g v built is = subst (λ (g : Network). [] ≡ g.range_types v) (sym built.network_is) (sym (ap (λ n. (doing_in plan v n).range_types) is))
 
 pub types_of : (plan : Plan) (columns : List (List ColTy)) (g : Network) (v : ℕ) (node : Node) → IsBuiltPlan plan columns g → numbered plan.nodes v ≡ Some node
-    → range_types_by node.op (get_or columns (first_input node.inputs) []) ≡ g.range_types v
+    → range_types_by node.op (get_or columns (first_input node.inputs) []) (get_or columns (second_input node.inputs) []) ≡ g.range_types v
 types_of plan columns g v node built is =
-    subst (λ (g : Network). range_types_by node.op (get_or columns (first_input node.inputs) []) ≡ g.range_types v) (sym built.network_is)
-    (ap (range_types_by node.op) (built.columns_are (first_input node.inputs))
+    subst (λ (g : Network). range_types_by node.op (get_or columns (first_input node.inputs) []) (get_or columns (second_input node.inputs) []) ≡ g.range_types v) (sym built.network_is)
+    ((λ i. range_types_by node.op (built.columns_are (first_input node.inputs) i) (others_of plan columns g v node.inputs built i))
     ∙ (types_by node.op (around_of plan v node.inputs) ∙ sym (ap (λ n. (doing_in plan v n).range_types) is)))
 
 module _ {O : Type 0} (rule_is : O → Rule) (is_broken : O → Bool) (stands : O → List Arrival → Type 0) (plan : Plan) (columns : List (List ColTy)) (g : Network) (v : ℕ) (built : IsBuiltPlan plan columns g) where

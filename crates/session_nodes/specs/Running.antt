@@ -1,5 +1,5 @@
 -- For which networks the operators of a plan are made.
-use Rattle.std.specs.Prelude.{◌≡◌, ℕ, ◌<◌, Bool, false, List, [], length, take, Option, Some, None}
+use Rattle.std.specs.Prelude.{◌≡◌, ℕ, ◌<◌, Bool, false, List, [], ◌++◌, length, take, Option, Some, None}
 use Rattle.ct_value.specs.declared.ty.ColTy.{ColTy}
 use Rattle.rel_clauses.specs.Groups.{group_columns}
 use Rattle.op_rules.specs.History.{Arrival}
@@ -14,7 +14,7 @@ use Rattle.phys_plan.specs.declared.plan.Plan.{Plan}
 use Rattle.stream_model.specs.Network.{Network, task}
 use Rattle.plan_network.specs.Plans.{numbered, scan_of}
 use Rattle.plan_rules.specs.Columns.{columns_at}
-use Rattle.plan_rules.specs.Doings.{Around, around_of, network, rule_by}
+use Rattle.plan_rules.specs.Doings.{Around, around_of, first_input, network, other_inputs, rule_by, second}
 use Rattle.session_open.specs.Opening.{AreColumns}
 
 -- both rows of an update are told
@@ -22,6 +22,10 @@ abbrev pub IsWhole : Update → Type 0
 IsWhole Absent = Unit {0}
 IsWhole (After columns) = ⊥
 IsWhole Both = Unit {0}
+
+-- by both sides of a join
+abbrev pub AreWhole : Around → Type 0
+AreWhole around = IsWhole around.input × IsWhole (second around).input
 
 -- the operator is built, as it stands among its inputs
 abbrev pub IsBuilt : Op → Around → Type 0
@@ -31,18 +35,26 @@ IsBuilt (op.Project items) around = Unit {0}
 IsBuilt op.Union around = Unit {0}
 IsBuilt (op.Normalize key) around = IsWhole around.own
 IsBuilt (op.Group keys aggs) around = IsWhole around.input × IsWhole around.own × (made : List ColTy) × (group_columns keys around.columns aggs ≡ Some made)
+IsBuilt (op.Join kind on rest) around = AreWhole around
+IsBuilt (op.Semi anti on rest) around = AreWhole around
 IsBuilt op.Sink around = Unit {0}
 IsBuilt _ around = ⊥
 
--- the types of the row at which an operator is out of range, by the columns of its first input
-abbrev pub range_types_by : Op → List ColTy → List ColTy
-range_types_by (op.Filter cond) columns = columns
-range_types_by (op.Project items) columns = columns
-range_types_by op.Union columns = columns
-range_types_by (op.Normalize key) columns = columns
-range_types_by op.Sink columns = columns
-range_types_by (op.Group keys aggs) columns = take keys columns
-range_types_by _ columns = []
+-- the number of the second input; 0, which no node has, where there is none
+abbrev pub second_input : List ℕ → ℕ
+second_input inputs = first_input (other_inputs inputs)
+
+-- the types of the row at which an operator is out of range, by the columns of its first and of its second input
+abbrev pub range_types_by : Op → List ColTy → List ColTy → List ColTy
+range_types_by (op.Filter cond) columns others = columns
+range_types_by (op.Project items) columns others = columns
+range_types_by op.Union columns others = columns
+range_types_by (op.Normalize key) columns others = columns
+range_types_by op.Sink columns others = columns
+range_types_by (op.Group keys aggs) columns others = take keys columns
+range_types_by (op.Join kind on rest) columns others = columns ++ others
+range_types_by (op.Semi anti on rest) columns others = columns ++ others
+range_types_by _ columns others = []
 
 -- what is known of a node: its operator is built, it has ports unless it scans, and each takes what its edge carries, by the
 -- operator's rule

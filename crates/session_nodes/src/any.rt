@@ -1,6 +1,7 @@
 use ct_change::{Change, Changes, Retract, Steps};
 use ct_value::Memory;
 use op_group::Group;
+use op_join::{Join, SemiJoin};
 use op_row::{FilterOp, NormalizeOp, ProjectOp, UnionOp};
 use op_rules::{OpFault, Operator};
 use op_sink::SinkWriter;
@@ -14,11 +15,13 @@ pub enum AnyOperator {
     Union(UnionOp),
     Normalize(NormalizeOp<Retract>),
     Group(Group<Retract, Retract>),
+    Join(Join<Retract, Retract>),
+    Semi(SemiJoin<Retract, Retract>),
     Sink(SinkWriter),
 }
 
 impl Operator for AnyOperator {
-    ghost use Rattle.session_nodes.specs.declared.any.AnyOperator.TheVariants.{Filter, Project, Union, Normalize, Group as Grouped, Sink};
+    ghost use Rattle.session_nodes.specs.declared.any.AnyOperator.TheVariants.{Filter, Project, Union, Normalize, Group as Grouped, Join as Joined, Semi, Sink};
 
     ghost rule = { elim [
       | Filter o ↦ ⟦<FilterOp as Operator>⟧.rule o
@@ -26,6 +29,8 @@ impl Operator for AnyOperator {
       | Union o ↦ ⟦<UnionOp as Operator>⟧.rule o
       | Normalize o ↦ ⟦<NormalizeOp<Retract> as Operator>⟧.rule o
       | Grouped o ↦ ⟦<Group<Retract, Retract> as Operator>⟧.rule o
+      | Joined o ↦ ⟦<Join<Retract, Retract> as Operator>⟧.rule o
+      | Semi o ↦ ⟦<SemiJoin<Retract, Retract> as Operator>⟧.rule o
       | Sink o ↦ ⟦<SinkWriter as Operator>⟧.rule o
     ] };
 
@@ -35,6 +40,8 @@ impl Operator for AnyOperator {
       | Union o ↦ ⟦<UnionOp as Operator>⟧.broken o
       | Normalize o ↦ ⟦<NormalizeOp<Retract> as Operator>⟧.broken o
       | Grouped o ↦ ⟦<Group<Retract, Retract> as Operator>⟧.broken o
+      | Joined o ↦ ⟦<Join<Retract, Retract> as Operator>⟧.broken o
+      | Semi o ↦ ⟦<SemiJoin<Retract, Retract> as Operator>⟧.broken o
       | Sink o ↦ ⟦<SinkWriter as Operator>⟧.broken o
     ] };
 
@@ -44,6 +51,8 @@ impl Operator for AnyOperator {
       | Union o ↦ ⟦<UnionOp as Operator>⟧.stands_for o
       | Normalize o ↦ ⟦<NormalizeOp<Retract> as Operator>⟧.stands_for o
       | Grouped o ↦ ⟦<Group<Retract, Retract> as Operator>⟧.stands_for o
+      | Joined o ↦ ⟦<Join<Retract, Retract> as Operator>⟧.stands_for o
+      | Semi o ↦ ⟦<SemiJoin<Retract, Retract> as Operator>⟧.stands_for o
       | Sink o ↦ ⟦<SinkWriter as Operator>⟧.stands_for o
     ] };
 
@@ -54,6 +63,8 @@ impl Operator for AnyOperator {
             AnyOperator::Union(o) => o.opening(subtask),
             AnyOperator::Normalize(o) => o.opening(subtask),
             AnyOperator::Group(o) => o.opening(subtask),
+            AnyOperator::Join(o) => o.opening(subtask),
+            AnyOperator::Semi(o) => o.opening(subtask),
             AnyOperator::Sink(o) => o.opening(subtask),
         }
     }
@@ -70,6 +81,8 @@ impl Operator for AnyOperator {
             AnyOperator::Union(o) => o.consume(port, change, steps),
             AnyOperator::Normalize(o) => o.consume(port, change, steps),
             AnyOperator::Group(o) => o.consume(port, change, steps),
+            AnyOperator::Join(o) => o.consume(port, change, steps),
+            AnyOperator::Semi(o) => o.consume(port, change, steps),
             AnyOperator::Sink(o) => o.consume(port, change, steps),
         }
     }
@@ -81,6 +94,8 @@ impl Operator for AnyOperator {
             AnyOperator::Union(o) => o.is_broken(),
             AnyOperator::Normalize(o) => o.is_broken(),
             AnyOperator::Group(o) => o.is_broken(),
+            AnyOperator::Join(o) => o.is_broken(),
+            AnyOperator::Semi(o) => o.is_broken(),
             AnyOperator::Sink(o) => o.is_broken(),
         }
     }

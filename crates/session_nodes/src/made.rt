@@ -1,4 +1,4 @@
-ghost use Rattle.std.specs.Prelude.{◌≡◌, ℕ, [], List as Seq, Some, None, get_or, length, option_copied, take, IfOk};
+ghost use Rattle.std.specs.Prelude.{◌≡◌, ℕ, [], ◌++◌, List as Seq, Some, None, get_or, length, option_copied, option_map, take, IfOk};
 ghost use Rattle.ct_value.specs.declared.ty.ColTy.{ColTy};
 ghost use Rattle.ct_change.specs.Changelog.{retract};
 ghost use Rattle.ct_expr.specs.View.{expr_view, exprs_view};
@@ -9,20 +9,22 @@ ghost use Rattle.row_rules.specs.Union.{union_rule};
 ghost use Rattle.row_rules.specs.Normalize.{normalize_rule};
 ghost use Rattle.row_rules.specs.Sink.{sink_rule};
 ghost use Rattle.group_rules.specs.Grouping.{group_rule};
+ghost use Rattle.join_rules.specs.Joining.{joins, matched, join_rule};
 ghost use Rattle.plan_network.specs.Plans.{numbered};
-ghost use Rattle.plan_rules.specs.Doings.{after_key, around_of, first_input, update_in};
-ghost use Rattle.session_nodes.specs.Running.{IsBuilt, IsBuiltPlan, IsNew, IsOperatorOf, range_types_by};
+ghost use Rattle.plan_rules.specs.Doings.{after_key, around_of, first_input, second, update_in};
+ghost use Rattle.session_nodes.specs.Running.{IsBuilt, IsBuiltPlan, IsNew, IsOperatorOf, range_types_by, second_input};
 
 use crate::AnyOperator;
 use ct_change::Retract;
 use ct_expr::{Expr, Exprs, dup_exprs};
 use ct_value::{ColTys, Cols, List, Memory, Numbers};
 use op_group::Group;
+use op_join::{Join, SemiJoin};
 use op_row::{FilterOp, NormalizeOp, ProjectOp, UnionOp};
 use op_rules::Operator;
 use op_sink::SinkWriter;
 use phys_plan::{Edge, Node, Op, Plan, Update};
-use rel_clauses::Aggs;
+use rel_clauses::{Aggs, JoinKind, Pairs};
 use session_open::PlanOperator;
 use std::alloc::Global;
 
@@ -64,6 +66,7 @@ fn operator_of(
 ) -> Result<Option<AnyOperator>, Memory>
     requires built { IsBuilt node.now.op (around_of plan.now number node.now.inputs) }
     requires columns { get_or columns.now (first_input node.now.inputs) [] ≡ (around_of plan.now number node.now.inputs).columns }
+    requires others { get_or columns.now (second_input node.now.inputs) [] ≡ (second (around_of plan.now number node.now.inputs)).columns }
     ensures { IfOk result (λ made. IsOperatorOf ⟦<AnyOperator as Operator>⟧.rule ⟦<AnyOperator as Operator>⟧.broken ⟦<AnyOperator as Operator>⟧.stands_for node.now.op (around_of plan.now number node.now.inputs) made) }
 {
     match &node.op {
@@ -78,6 +81,14 @@ fn operator_of(
             *keys,
             aggs,
         )?)),
+        Op::Join { kind, on, rest } => {
+            let types = both_types(alloc, columns, &node.inputs)?;
+            Ok(Some(join_by(alloc, types, *kind, on, rest)?))
+        }
+        Op::Semi { anti, on, rest } => {
+            let types = both_types(alloc, columns, &node.inputs)?;
+            Ok(Some(semi_by(alloc, types, *anti, on, rest)?))
+        }
         Op::Sink => Ok(Some(sink_of(alloc, plan, &node.inputs)?)),
         _ => unreachable!(),
     }
@@ -124,6 +135,46 @@ fn group_by(alloc: Global, types: ColTys, keys: u32, aggs: &Aggs) -> Result<AnyO
     Ok(AnyOperator::Group(made))
 }
 
+fn join_by(
+    alloc: Global,
+    types: (ColTys, ColTys),
+    kind: JoinKind,
+    on: &Pairs,
+    rest: &Option<Expr>,
+) -> Result<AnyOperator, Memory>
+    ensures { IfOk result (λ made. IsNew ⟦<AnyOperator as Operator>⟧.rule ⟦<AnyOperator as Operator>⟧.broken ⟦<AnyOperator as Operator>⟧.stands_for made (join_rule (record { shape = joins kind; on = on.now; rest = option_map expr_view rest.now; left_columns = types.0; right_columns = types.1; left = retract; right = retract }))) }
+{
+    let (left, right) = types;
+    let (on, rest) = (on.dup()?, dup_rest(rest)?);
+    let made = Join::new(alloc, kind, on, rest, left, right, Retract, Retract)?;
+    Ok(AnyOperator::Join(made))
+}
+
+fn semi_by(
+    alloc: Global,
+    types: (ColTys, ColTys),
+    anti: bool,
+    on: &Pairs,
+    rest: &Option<Expr>,
+) -> Result<AnyOperator, Memory>
+    ensures { IfOk result (λ made. IsNew ⟦<AnyOperator as Operator>⟧.rule ⟦<AnyOperator as Operator>⟧.broken ⟦<AnyOperator as Operator>⟧.stands_for made (join_rule (record { shape = matched anti; on = on.now; rest = option_map expr_view rest.now; left_columns = types.0; right_columns = types.1; left = retract; right = retract }))) }
+{
+    let (left, right) = types;
+    let (on, rest) = (on.dup()?, dup_rest(rest)?);
+    let made = SemiJoin::new(alloc, anti, on, rest, left, right, Retract, Retract)?;
+    Ok(AnyOperator::Semi(made))
+}
+
+// An equal condition, if there is one.
+fn dup_rest(rest: &Option<Expr>) -> Result<Option<Expr>, Memory>
+    ensures { IfOk result (λ copy. option_map expr_view copy ≡ option_map expr_view rest.now) }
+{
+    match rest {
+        None => Ok(None),
+        Some(condition) => Ok(Some(condition.dup()?)),
+    }
+}
+
 fn sink_of(alloc: Global, plan: &Plan, inputs: &Numbers) -> Result<AnyOperator, Memory>
     ensures { IfOk result (λ made. IsNew ⟦<AnyOperator as Operator>⟧.rule ⟦<AnyOperator as Operator>⟧.broken ⟦<AnyOperator as Operator>⟧.stands_for made (sink_rule (record { declared = plan.now.sink.mode; after = after_key (update_in (numbered plan.now.edges (first_input inputs.now))) }))) }
 {
@@ -155,7 +206,23 @@ fn edge_at(plan: &Plan, number: u32) -> Option<&Edge>
 fn first_of(inputs: &Numbers) -> u32
     ensures { result ≡ first_input inputs.now }
 {
+    first_in(inputs.as_slice())
+}
+
+// The second of these inputs, or 0.
+fn second_of(inputs: &Numbers) -> u32
+    ensures { result ≡ second_input inputs.now }
+{
     match inputs.as_slice().split_first() {
+        Some((_, others)) => first_in(others),
+        None => 0,
+    }
+}
+
+fn first_in(inputs: &[u32]) -> u32
+    ensures { result ≡ first_input inputs.now }
+{
+    match inputs.split_first() {
         Some((first, _)) => *first,
         None => 0,
     }
@@ -194,7 +261,7 @@ fn key_of(update: &Update) -> Result<Option<Cols>, Memory>
 
 // The types of the row at which a node is out of range.
 fn range_types_of(alloc: Global, columns: &List<ColTys>, node: &Node) -> Result<ColTys, Memory>
-    ensures { IfOk result (λ types. types ≡ range_types_by node.now.op (get_or columns.now (first_input node.now.inputs) [])) }
+    ensures { IfOk result (λ types. types ≡ range_types_by node.now.op (get_or columns.now (first_input node.now.inputs) []) (get_or columns.now (second_input node.now.inputs) [])) }
 {
     match &node.op {
         Op::Filter { .. } => input_types(alloc, columns, &node.inputs),
@@ -203,16 +270,47 @@ fn range_types_of(alloc: Global, columns: &List<ColTys>, node: &Node) -> Result<
         Op::Normalize { .. } => input_types(alloc, columns, &node.inputs),
         Op::Sink => input_types(alloc, columns, &node.inputs),
         Op::Group { keys, .. } => first_types(alloc, columns, node, *keys),
+        Op::Join { .. } => joined_types(alloc, columns, &node.inputs),
+        Op::Semi { .. } => joined_types(alloc, columns, &node.inputs),
         _ => Ok(ColTys::new(alloc)),
     }
 }
 
 // The types of the columns of a node's first input.
-#[tactic(auto, using(crate::proofs::Nodes::types_there, crate::proofs::Nodes::types_past))]
 fn input_types(alloc: Global, columns: &List<ColTys>, inputs: &Numbers) -> Result<ColTys, Memory>
     ensures { IfOk result (λ types. types ≡ get_or columns.now (first_input inputs.now) []) }
 {
-    match columns.get(first_of(inputs) as usize) {
+    types_at(alloc, columns, first_of(inputs))
+}
+
+// Those of its first and of its second input.
+fn both_types(
+    alloc: Global,
+    columns: &List<ColTys>,
+    inputs: &Numbers,
+) -> Result<(ColTys, ColTys), Memory>
+    ensures { IfOk result (λ types. (types.0 ≡ get_or columns.now (first_input inputs.now) []) × (types.1 ≡ get_or columns.now (second_input inputs.now) [])) }
+{
+    let first = types_at(alloc, columns, first_of(inputs))?;
+    let second = types_at(alloc, columns, second_of(inputs))?;
+    Ok((first, second))
+}
+
+// The same as the columns of one row, the first input's in front.
+fn joined_types(alloc: Global, columns: &List<ColTys>, inputs: &Numbers) -> Result<ColTys, Memory>
+    ensures { IfOk result (λ types. types ≡ get_or columns.now (first_input inputs.now) [] ++ get_or columns.now (second_input inputs.now) []) }
+{
+    let mut types = types_at(alloc, columns, first_of(inputs))?;
+    types.append(types_at(alloc, columns, second_of(inputs))?)?;
+    Ok(types)
+}
+
+// The types of the columns of a node by its number, none past the last.
+#[tactic(auto, using(crate::proofs::Nodes::types_there, crate::proofs::Nodes::types_past))]
+fn types_at(alloc: Global, columns: &List<ColTys>, number: u32) -> Result<ColTys, Memory>
+    ensures { IfOk result (λ types. types ≡ get_or columns.now number []) }
+{
+    match columns.get(number as usize) {
         None => Ok(ColTys::new(alloc)),
         Some(types) => types.dup(),
     }

@@ -1,3 +1,5 @@
 mod Outs
 mod Rows
 mod Types
+mod Answers
+mod Joins

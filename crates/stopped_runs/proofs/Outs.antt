@@ -1,11 +1,9 @@
 -- A run stops out of range at a step of the machine, in a state that it has reached.
 use Rattle.std.specs.Prelude.{◌≡◌, ℕ, ◌+◌, ◌<◌, ◌==◌, ◌&&◌, nat_le, nat_lt, Bool, cond, Option, Result, List, ◌++◌, length}
-use Rattle.std.proofs.Common.{true, false, [], ◌∷◌, refl, sym, ap, subst, ◌∙◌, arith, Some, None, Ok, Err, append_assoc}
+use Rattle.std.proofs.Common.{true, false, [], ◌∷◌, refl, sym, ap, subst, ◌∙◌, Some, None, Ok, Err, append_assoc}
 use Rattle.std.proofs.lemmas.Bool.{eq-eqb, and_parts, ltb-true}
 use Rattle.ct_value.specs.declared.codes.ChangeCode.{ChangeCode}
 use Rattle.ct_value.specs.declared.codes.OrderCode.TheVariants.{NoSuchPlace}
-use Rattle.ct_value.specs.declared.row.Row.{Row}
-use Rattle.ct_value.specs.declared.ty.ColTy.{ColTy}
 use Rattle.ct_change.specs.declared.change.Change.{Change}
 use Rattle.ct_change.specs.Changelog.{fold}
 use Rattle.change_lines.specs.declared.line.Line.{Line}

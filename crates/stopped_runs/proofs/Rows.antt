@@ -1,27 +1,25 @@
 -- The row at which a node is out of range is one that came to it, or the key of a group of rows that came.
-use Rattle.std.specs.Prelude.{◌≡◌, ℕ, ◌<◌, ◌==◌, ◌&&◌, Bool, cond, not, List, ◌++◌, length, map, take, slice_index_or, Option, Result}
+use Rattle.std.specs.Prelude.{◌≡◌, ℕ, ◌<◌, ◌==◌, Bool, cond, not, List, ◌++◌, length, map, take, slice_index_or, Option, option_map}
 use Rattle.std.proofs.Common.{zero, suc, true, false, [], ◌∷◌, refl, sym, ap, subst, ◌∙◌, arith, Some, None, Ok, Err}
 use Rattle.std.specs.List.{AllByRecursion, filter}
-use Rattle.std.proofs.lemmas.Bool.{and_parts, and_from, eq-eqb}
+use Rattle.std.proofs.lemmas.Bool.{and_parts, and_from}
 use Rattle.ct_value.specs.declared.row.Row.{Row}
 use Rattle.ct_value.specs.declared.value.Value.{Value}
 use Rattle.ct_value.specs.declared.ty.ColTy.{ColTy}
 use Rattle.ct_field.specs.Typed.{col_fits, row_fits}
 use Rattle.ct_change.specs.declared.change.Change.{Change}
 use Rattle.ct_change.specs.Changelog.{Rows, fold, same_row}
-use Rattle.ct_expr.specs.declared.expr.Expr.{Expr as CodeExpr}
 use Rattle.ct_expr.specs.View.{expr_view}
-use Rattle.rel_clauses.specs.declared.agg.Agg.{Agg}
 use Rattle.rel_algebra.specs.Rel.{Rel}
 use Rattle.rel_algebra.specs.Groups.{first_seen}
 use Rattle.op_rules.specs.History.{Arrival, at_port}
-use Rattle.op_rules.specs.Rules.{Answer, appended}
+use Rattle.op_rules.specs.Rules.{Answer}
 use Rattle.op_rules.specs.Tasks.{IsReady}
 use Rattle.row_rules.specs.Changes.{changes_of, each_change}
-use Rattle.row_rules.specs.Filter.{Filter, kept_where, filter_change}
-use Rattle.row_rules.specs.Project.{Project, with_row, row_made, project_change}
+use Rattle.row_rules.specs.Filter.{kept_where, filter_change}
+use Rattle.row_rules.specs.Project.{with_row, row_made, project_change}
 use Rattle.row_rules.specs.Union.{union_change}
-use Rattle.row_rules.specs.Sink.{Sink, sink_change}
+use Rattle.row_rules.specs.Sink.{sink_change}
 use Rattle.group_rules.specs.Grouping.{Grouping, answers, group_emits, groups_of}
 use Rattle.rel_clauses.specs.Clauses.{holds}
 use Rattle.ct_expr.specs.Eval.{eval}
@@ -29,50 +27,37 @@ use Rattle.phys_plan.specs.declared.node.Op.{Op}
 use Rattle.phys_plan.specs.declared.node.Op.TheVariants as op
 use Rattle.phys_plan.specs.declared.node.Node.{Node}
 use Rattle.phys_plan.specs.declared.plan.Plan.{Plan}
-use Rattle.stream_model.specs.declared.events.PrintItem.{PrintItem}
-use Rattle.stream_model.specs.Network.{Network, task}
+use Rattle.stream_model.specs.Network.{task}
 use Rattle.plan_network.specs.Plans.{numbered, inputs_in, scan_of}
 use Rattle.plan_rules.specs.Columns.{columns_at}
-use Rattle.plan_rules.specs.Doings.{Around, first_input, around_of, rule_by, doing_by, doing_in, filter_of, project_of, grouping_of, sink_of, network}
+use Rattle.plan_rules.specs.Doings.{Around, first_input, other_inputs, side_of, first_side, second, around_of, rule_by, doing_by, doing_in, filter_of, project_of, grouping_of, joining_of, sink_of, network}
 use Rattle.plan_laws.specs.Trees.{IsPlanOfTyped, PortsTake}
-use Rattle.stopped_runs.specs.Stops.{IsOutAt, RunsStopWhereOut, RunsStopAtRows}
+use Rattle.join_rules.specs.Joining.{joins, matched, Joining, emits}
+use Rattle.stopped_runs.proofs.Answers.{not_err, err_same, OutsAt, outs_both}
+use Rattle.stopped_runs.proofs.Joins.{all_arrive, joins_out, Arrives}
+use Rattle.stopped_runs.specs.Stops.{RunsStopWhereOut, RunsStopAtRows}
 
 -- ---- answers, one behind the other
 
-not_err : {A : Type 0} (xs : List Change) (row : Row) → (let r : Answer = Ok xs in r ≡ Err row) → A
-not_err xs row e = absurd (cc (e))
-
-err_same : (row other : Row) → (let r : Answer = Err row in r ≡ Err other) → row ≡ other
-err_same row other e = cc (e)
-
 module _ (P : Row → Type 0) where
-  -- an answer that is out of range is so at a row with the property
-  abbrev OutsAt : Answer → Type 0
-  OutsAt answer = (row : Row) → answer ≡ Err row → P row
-
-  outs_both : (a b : Answer) → OutsAt a → OutsAt b → OutsAt (appended a b)
-  outs_both (Ok xs) (Ok ys) h k row e = not_err (xs ++ ys) row e
-  outs_both (Ok xs) (Err other) h k row e = k row e
-  outs_both (Err other) b h k row e = h row e
-
-  outs_each : (answer : Change → Answer) (changes : List Change) → AllByRecursion (λ change. OutsAt (answer change)) changes → OutsAt (each_change answer changes)
+  outs_each : (answer : Change → Answer) (changes : List Change) → AllByRecursion (λ change. OutsAt P (answer change)) changes → OutsAt P (each_change answer changes)
   outs_each answer [] h row e = not_err [] row e
-  outs_each answer (change ∷ changes) h row e = outs_both (answer change) (each_change answer changes) h.0 (outs_each answer changes h.1) row e
+  outs_each answer (change ∷ changes) h row e = outs_both P (answer change) (each_change answer changes) h.0 (outs_each answer changes h.1) row e
 
-  outs_groups : (answer : Row → Answer) (keys : List Row) → AllByRecursion (λ key. OutsAt (answer key)) keys → OutsAt (answers answer keys)
+  outs_groups : (answer : Row → Answer) (keys : List Row) → AllByRecursion (λ key. OutsAt P (answer key)) keys → OutsAt P (answers answer keys)
   outs_groups answer [] h row e = not_err [] row e
-  outs_groups answer (key ∷ keys) h row e = outs_both (answer key) (answers answer keys) h.0 (outs_groups answer keys h.1) row e
+  outs_groups answer (key ∷ keys) h row e = outs_both P (answer key) (answers answer keys) h.0 (outs_groups answer keys h.1) row e
 
-  outs_kept : (change : Change) → P change.row → (o : Option Bool) → OutsAt (kept_where change o)
+  outs_kept : (change : Change) → P change.row → (o : Option Bool) → OutsAt P (kept_where change o)
   outs_kept change p None row e = subst P (err_same change.row row e) p
   outs_kept change p (Some true) row e = not_err (change ∷ []) row e
   outs_kept change p (Some false) row e = not_err [] row e
 
-  outs_made : (change : Change) → P change.row → (o : Option Row) → OutsAt (with_row change o)
+  outs_made : (change : Change) → P change.row → (o : Option Row) → OutsAt P (with_row change o)
   outs_made change p None row e = subst P (err_same change.row row e) p
   outs_made change p (Some made) row e = not_err (record { kind = change.kind; row = made } ∷ []) row e
 
-  outs_if : (b : Bool) (xs : List Change) (key : Row) → P key → OutsAt (cond b (Ok xs) (Err key))
+  outs_if : (b : Bool) (xs : List Change) (key : Row) → P key → OutsAt P (cond b (Ok xs) (Err key))
   outs_if true xs key p row e = not_err xs row e
   outs_if false xs key p row e = subst P (err_same key row e) p
 
@@ -85,6 +70,10 @@ all_weaker P Q f (x ∷ xs) h = (f x h.0, all_weaker P Q f xs h.1)
 all_any : {A : Type 0} (P : A → Type 0) → ((x : A) → P x) → (xs : List A) → AllByRecursion P xs
 all_any P f [] = tt
 all_any P f (x ∷ xs) = (f x, all_any P f xs)
+
+all_left : {A : Type 0} (P : A → Type 0) (xs ys : List A) → AllByRecursion P (xs ++ ys) → AllByRecursion P xs
+all_left P [] ys h = tt
+all_left P (x ∷ xs) ys h = (h.0, all_left P xs ys h.1)
 
 all_right : {A : Type 0} (P : A → Type 0) (xs ys : List A) → AllByRecursion P (xs ++ ys) → AllByRecursion P ys
 all_right P [] ys h = h
@@ -154,6 +143,32 @@ module _ (plan : Plan) (rel : Rel) (is : IsPlanOfTyped plan rel) (takes : PortsT
     one_port : (o : Op) → node.op ≡ o → scan_of o ≡ None → (rule_by o around).ports ≡ 1 → (task (network plan) v).ports ≡ 1
     one_port o own no_scan one = (takes plan rel is v node there (ap scan_of own ∙ no_scan)).0 ∙ ap (λ (p : Op). (rule_by p around).ports) own ∙ one
 
+    -- a join's inputs are two
+    two_ports : (o : Op) → node.op ≡ o → scan_of o ≡ None → (rule_by o around).ports ≡ 2 → (task (network plan) v).ports ≡ 2
+    two_ports o own no_scan two = (takes plan rel is v node there (ap scan_of own ∙ no_scan)).0 ∙ ap (λ (p : Op). (rule_by p around).ports) own ∙ two
+
+    second_is : (inputs : List ℕ) → length inputs ≡ 2 → columns_at plan.sources plan.nodes (slice_index_or inputs 1 0) ≡ (first_side (map (side_of plan) (other_inputs inputs))).columns
+    second_is [] two = absurd (omega (arith, two))
+    second_is (input ∷ []) two = absurd (omega (arith, two))
+    second_is (input ∷ other ∷ inputs) two = refl
+
+    -- what comes to the sides of a join has their columns
+    both_fit : (task (network plan) v).ports ≡ 2 → AllByRecursion (Arrives (Fit around.columns) (Fit (second around).columns)) (before ++ piece)
+    both_fit two =
+        let many : length node.inputs ≡ 2 = sym (ap (λ o. length (inputs_in o)) there) ∙ two in
+        let left = ready.types 0 (omega (arith, two)) in
+        let right = ready.types 1 (omega (arith, two)) in
+        let first : columns_at plan.sources plan.nodes (slice_index_or (inputs_in (numbered plan.nodes v)) 0 0) ≡ around.columns =
+        ap (λ o. columns_at plan.sources plan.nodes (slice_index_or (inputs_in o) 0 0)) there ∙ ap (columns_at plan.sources plan.nodes) (first_is node.inputs) in
+        let other : columns_at plan.sources plan.nodes (slice_index_or (inputs_in (numbered plan.nodes v)) 1 0) ≡ (second around).columns =
+        ap (λ o. columns_at plan.sources plan.nodes (slice_index_or (inputs_in o) 1 0)) there ∙ second_is node.inputs many in
+        all_arrive (Fit around.columns) (Fit (second around).columns) (before ++ piece) (subst (λ n. AllByRecursion (λ a. a.port < n) (before ++ piece)) two ready.ports)
+        (subst (λ (c : List ColTy). AllByRecursion (λ change. row_fits c change.row ≡ true) (at_port 0 (before ++ piece))) first left)
+        (subst (λ (c : List ColTy). AllByRecursion (λ change. row_fits c change.row ≡ true) (at_port 1 (before ++ piece))) other right)
+
+    both_out : (j : Joining) → AllByRecursion (Arrives (Fit j.left_columns) (Fit j.right_columns)) (before ++ piece) → OutsAt (Fit (j.left_columns ++ j.right_columns)) (emits j before piece)
+    both_out j fit = joins_out j before piece (all_left (Arrives (Fit j.left_columns) (Fit j.right_columns)) before piece fit) (all_right (Arrives (Fit j.left_columns) (Fit j.right_columns)) before piece fit)
+
     -- all that came at the first port has the columns of the first input
     fit_first : (task (network plan) v).ports ≡ 1 → AllByRecursion (λ change. Fit around.columns change.row) (at_port 0 piece)
     fit_first one =
@@ -189,6 +204,8 @@ module _ (plan : Plan) (rel : Rel) (is : IsPlanOfTyped plan rel) (takes : PortsT
     op_outs (op.Normalize key) own = λ row e. not_err _ row e
     op_outs (op.Group keys aggs) own =
         group_outs (grouping_of keys aggs around) (fit_first (one_port (op.Group keys aggs) own refl refl)) (fold (grouping_of keys aggs around).input (at_port 0 before))
+    op_outs (op.Join kind on rest) own = both_out (joining_of (joins kind) on (option_map expr_view rest) around) (both_fit (two_ports (op.Join kind on rest) own refl refl))
+    op_outs (op.Semi anti on rest) own = both_out (joining_of (matched anti) on (option_map expr_view rest) around) (both_fit (two_ports (op.Semi anti on rest) own refl refl))
     op_outs op.Sink own =
         outs_each (Fit around.columns) (sink_change (sink_of around)) (changes_of piece) (all_any (λ change. OutsAt (Fit around.columns) (sink_change (sink_of around) change)) (λ change row e. not_err _ row e) (changes_of piece))
     op_outs _ own = λ row e. not_err [] row e

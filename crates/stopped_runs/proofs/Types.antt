@@ -1,10 +1,9 @@
 -- The types of the columns of a plan's nodes exist, by induction over the tree.
-use Rattle.std.specs.Prelude.{◌≡◌, ℕ, ◌+◌, ◌<◌, ◌≤◌, List, length, map, take, slice_get, slice_index_or, Option, unwrap_or}
+use Rattle.std.specs.Prelude.{◌≡◌, ℕ, ◌+◌, ◌<◌, ◌≤◌, List, ◌++◌, length, map, take, slice_get, slice_index_or, Option, unwrap_or}
 use Rattle.std.proofs.lemmas.Option.{none-some}
-use Rattle.std.proofs.Common.{zero, suc, true, false, [], ◌∷◌, refl, sym, ap, subst, ◌∙◌, arith, Some, None, inl, inr}
+use Rattle.std.proofs.Common.{zero, suc, [], ◌∷◌, refl, sym, ap, subst, ◌∙◌, arith, Some, None, inl, inr}
 use Rattle.std.specs.List.{AllByRecursion}
 use Rattle.std.specs.Option.{option_map}
-use Rattle.ct_value.specs.declared.row.Row.{Row}
 use Rattle.ct_value.specs.declared.ty.ColTy.{ColTy}
 use Rattle.ct_change.specs.declared.kind.Declared.{Declared}
 use Rattle.ct_change.specs.declared.kind.Declared.TheVariants.{Append, Retract, Upsert}
@@ -12,9 +11,11 @@ use Rattle.ct_catalog.specs.declared.table.TableDef.{TableDef}
 use Rattle.ct_expr.specs.Types.{both_of}
 use Rattle.rel_algebra.specs.Rel.{Rel, Rels, no_rels, rel_and}
 use Rattle.rel_algebra.specs.Rel as r
-use Rattle.rel_algebra.specs.Types.{columns_if, is_condition, item_columns, common_columns, columns_of, common_from}
+use Rattle.rel_algebra.specs.Types.{columns_if, is_condition, match_fits, item_columns, common_columns, columns_of, common_from}
 use Rattle.rel_clauses.specs.Groups.{group_columns}
+use Rattle.rel_clauses.specs.Joins.{join_columns}
 use Rattle.group_rules.specs.Fits.{GroupsStand, GroupsTake, first_columns}
+use Rattle.join_rules.specs.Fits.{left_pairs, right_pairs}
 use Rattle.phys_plan.specs.declared.edge.Exchange.{Exchange}
 use Rattle.phys_plan.specs.declared.edge.Exchange.TheVariants.{Forward, Hash}
 use Rattle.phys_plan.specs.declared.node.Node.{Node}
@@ -25,10 +26,10 @@ use Rattle.stream_model.specs.Scans.{ScansStand}
 use Rattle.stream_model.specs.Network.{IsWired}
 use Rattle.plan_network.specs.Plans.{column_types, inputs_in, numbered}
 use Rattle.plan_rules.specs.Columns.{columns_at, columns_by, node_columns}
-use Rattle.plan_rules.specs.Doings.{Around, first_input, around_of, doing_by, doing_in, network}
+use Rattle.plan_rules.specs.Doings.{Around, first_input, other_inputs, side_of, first_side, second, around_of, doing_by, doing_in, network}
 use Rattle.plan_maker.specs.Laid.{ScanLaid, SourceLaid, IsLaid, AreLaid}
 use Rattle.plan_laws.specs.Trees.{IsMade, IsPlanOfTyped, PlansAreWired, types_of}
-use Rattle.plan_laws.specs.laws.Numbers.{then_parts, all_at, numbered_within, side}
+use Rattle.plan_laws.specs.laws.Numbers.{then_parts, all_at, side}
 use Rattle.plan_laws.specs.laws.Wider.{both_parts}
 use Rattle.plan_laws.specs.laws.Nodes as nodes
 use Rattle.plan_laws.specs.laws.Trees.{common_some, get-map, tree}
@@ -39,6 +40,10 @@ all_first : {A : Type 0} (P : A → Type 0) (n : ℕ) (xs : List A) → AllByRec
 all_first P zero xs h = tt
 all_first P (suc n) [] h = tt
 all_first P (suc n) (x ∷ xs) h = (h.0, all_first P n xs h.1)
+
+all_both : {A : Type 0} (P : A → Type 0) (xs ys : List A) → AllByRecursion P xs → AllByRecursion P ys → AllByRecursion P (xs ++ ys)
+all_both P [] ys h k = k
+all_both P (x ∷ xs) ys h k = (h.0, all_both P xs ys h.1 k)
 
 -- ---- the tree
 
@@ -116,8 +121,22 @@ module _ (plan : Plan) (made : AllByRecursion IsMade plan.sources) (parallel : 0
         let next = laid.2 in
         let low : laid.0 < length plan.nodes = omega (arith, next, high) in
         one_known n laid.0 root (tree_known input n (Hash (first_columns keys)) laid.0 laid.1 low p.0 p.1) next (root_known (r.Group input keys aggs) n x root laid high columns t)
-    tree_known (r.Join left right kind pairs rest) n x root laid high columns t = absurd laid
-    tree_known (r.Semi left right anti pairs rest) n x root laid high columns t = absurd laid
+    tree_known (r.Join left right kind pairs rest) n x root laid high columns t =
+        let p = both_parts (λ l c. columns_if (match_fits l c pairs rest) (join_columns kind l c)) (columns_of types left) (columns_of types right) columns t in
+        let next = laid.4 in
+        let low : laid.1 < length plan.nodes = omega (arith, next, high) in
+        let before = (tree plan made parallel scans_stand groups_stand groups_take right laid.0 (Hash (right_pairs pairs)) laid.1 laid.3 low p.1 p.3).part.grows in
+        let lower : laid.0 < length plan.nodes = omega (arith, before, low) in
+        one_known n laid.1 root (both_known n laid.0 laid.1 (tree_known left n (Hash (left_pairs pairs)) laid.0 laid.2 lower p.0 p.2) (tree_known right laid.0 (Hash (right_pairs pairs)) laid.1 laid.3 low p.1 p.3)) next
+        (root_known (r.Join left right kind pairs rest) n x root laid high columns t)
+    tree_known (r.Semi left right anti pairs rest) n x root laid high columns t =
+        let p = both_parts (λ l c. columns_if (match_fits l c pairs rest) (l)) (columns_of types left) (columns_of types right) columns t in
+        let next = laid.4 in
+        let low : laid.1 < length plan.nodes = omega (arith, next, high) in
+        let before = (tree plan made parallel scans_stand groups_stand groups_take right laid.0 (Hash (right_pairs pairs)) laid.1 laid.3 low p.1 p.3).part.grows in
+        let lower : laid.0 < length plan.nodes = omega (arith, before, low) in
+        one_known n laid.1 root (both_known n laid.0 laid.1 (tree_known left n (Hash (left_pairs pairs)) laid.0 laid.2 lower p.0 p.2) (tree_known right laid.0 (Hash (right_pairs pairs)) laid.1 laid.3 low p.1 p.3)) next
+        (root_known (r.Semi left right anti pairs rest) n x root laid high columns t)
     tree_known (r.Rank input partition order bound ranked) n x root laid high columns t = absurd laid
 
     several : (inputs : Rels) (n : ℕ) (roots : List ℕ) (last : ℕ) → AreLaid plan n inputs roots last → last < length plan.nodes → (start : Option (List ColTy)) (columns : List ColTy) → common_from types start inputs ≡ Some columns
@@ -162,18 +181,33 @@ module _ (scans_stand : ScansStand) (groups_stand : GroupsStand) (groups_take : 
         let top : v ≤ length plan.nodes = wired.counted v some in
         all_nodes input above (omega (arith, below, top, count))
 
-    op_types : (o : Op) (around : Around) → Exist around.columns → Exist (doing_by o around).range_types
-    op_types (op.Filter cond) around h = h
-    op_types (op.Project items) around h = h
-    op_types op.Union around h = h
-    op_types (op.Normalize key) around h = h
-    op_types (op.Group keys aggs) around h = all_first _ keys around.columns h
-    op_types op.Sink around h = h
-    op_types _ around h = tt
+    second_known : (node : Node) → numbered plan.nodes v ≡ Some node → (inputs : List ℕ) → node.inputs ≡ inputs → Exist (first_side (map (side_of plan) (other_inputs inputs))).columns
+    second_known node there [] own = tt
+    second_known node there (input ∷ []) own = tt
+    second_known node there (input ∷ other ∷ inputs) own =
+        let count = is.plan_of.nodes in
+        let ports : length (inputs_in (numbered plan.nodes v)) ≡ suc (suc (length inputs)) = ap (λ o. length (inputs_in o)) there ∙ ap length own in
+        let some : 1 < length (inputs_in (numbered plan.nodes v)) = omega (arith, ports) in
+        let second : slice_index_or (inputs_in (numbered plan.nodes v)) 1 0 ≡ other = ap (λ o. slice_index_or (inputs_in o) 1 0) there ∙ ap (λ (ins : List ℕ). slice_index_or ins 1 0) own in
+        let below : other < v = subst (λ n. n < v) second (wired.below v 1 some) in
+        let above : 0 < other = subst (λ n. 0 < n) second (wired.numbered v 1 some) in
+        let top : v ≤ length plan.nodes = wired.counted v (omega (arith, ports)) in
+        all_nodes other above (omega (arith, below, top, count))
+
+    op_types : (o : Op) (around : Around) → Exist around.columns → Exist (second around).columns → Exist (doing_by o around).range_types
+    op_types (op.Filter cond) around h k = h
+    op_types (op.Project items) around h k = h
+    op_types op.Union around h k = h
+    op_types (op.Normalize key) around h k = h
+    op_types (op.Group keys aggs) around h k = all_first _ keys around.columns h
+    op_types (op.Join kind on rest) around h k = all_both _ around.columns (second around).columns h k
+    op_types (op.Semi anti on rest) around h k = all_both _ around.columns (second around).columns h k
+    op_types op.Sink around h k = h
+    op_types _ around h k = tt
 
     node_types : (o : Option Node) → numbered plan.nodes v ≡ o → Exist (doing_in plan v o).range_types
     node_types None there = tt
-    node_types (Some node) there = op_types node.op (around_of plan v node.inputs) (first_known node there node.inputs refl)
+    node_types (Some node) there = op_types node.op (around_of plan v node.inputs) (first_known node there node.inputs refl) (second_known node there node.inputs refl)
 
     pub range_types_exist : Exist ((network plan).range_types v)
     range_types_exist = node_types (numbered plan.nodes v) refl

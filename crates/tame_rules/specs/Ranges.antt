@@ -4,7 +4,7 @@ use Rattle.std.specs.Prelude.{◌≡◌, ℕ, ◌+◌, ◌<◌, true, List, leng
 use Rattle.std.specs.List.{AllByRecursion, list_all}
 use Rattle.ct_value.specs.declared.row.Row.{Row}
 use Rattle.ct_change.specs.declared.change.Change.{Change}
-use Rattle.arithmetic.specs.Tame.{is_short, is_tame, only_counts}
+use Rattle.arithmetic.specs.Tame.{is_short, is_tame, only_counts, rest_is_tame}
 use Rattle.op_rules.specs.History.{Arrival}
 use Rattle.op_rules.specs.Rules.{Answer, Rule}
 use Rattle.row_rules.specs.Filter.{Filter, filter_rule}
@@ -13,6 +13,7 @@ use Rattle.row_rules.specs.Union.{Union, union_rule}
 use Rattle.row_rules.specs.Normalize.{Normalize, normalize_rule}
 use Rattle.row_rules.specs.Sink.{Sink, sink_rule}
 use Rattle.group_rules.specs.Grouping.{Grouping, group_rule}
+use Rattle.join_rules.specs.Joining.{Joining, join_rule}
 
 -- the texts of a row are short
 abbrev pub IsShortRow : Row → Type 0
@@ -59,3 +60,6 @@ SinksStayInRange = (sink : Sink) → RuleStaysInRange (sink_rule sink)
 
 abbrev pub GroupsStayInRange : Type 0
 GroupsStayInRange = (g : Grouping) → list_all (λ agg. only_counts agg.call) g.aggs ≡ true → RuleStaysInRange (group_rule g)
+
+abbrev pub JoinsStayInRange : Type 0
+JoinsStayInRange = (j : Joining) → rest_is_tame j.rest ≡ true → RuleStaysInRange (join_rule j)

@@ -4,3 +4,4 @@ pub mod Counts
 pub mod Answers
 pub mod Rows
 pub mod Groups
+pub mod Joins

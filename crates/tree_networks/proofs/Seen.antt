@@ -10,29 +10,37 @@ use Rattle.ct_expr.specs.declared.expr.Expr.{Expr}
 use Rattle.ct_expr.specs.View.{expr_view}
 use Rattle.expr_views.specs.Views.{as_seen}
 use Rattle.expr_views.specs.laws.Seen.{seen}
+use Rattle.rel_clauses.specs.Joins.{join_columns}
 use Rattle.rel_algebra.specs.Batch.{filter_answer, project_answer}
 use Rattle.rel_algebra.specs.Types.{columns_if, is_condition, item_columns}
 use Rattle.op_rules.specs.Edges.{meaning_of}
 use Rattle.row_rules.specs.Filter.{filter_rule}
 use Rattle.row_rules.specs.Project.{project_rule}
+use Rattle.join_rules.specs.Joining.{joins, matched}
 use Rattle.phys_plan.specs.declared.node.Op.{Op}
 use Rattle.phys_plan.specs.declared.node.Op.TheVariants as op
 use Rattle.phys_plan.specs.declared.node.Node.{Node}
 use Rattle.phys_plan.specs.declared.plan.Plan.{Plan}
 use Rattle.plan_network.specs.Plans.{numbered, inputs_in, scan_of, scan_in, bundle_of, bundle_in, port_of, feed_at, feed_from, exchange_in, route_by, meaning_in, kinds_in, keys_in, table_mode, table_of, Doing, network_edge, network_of}
-use Rattle.plan_rules.specs.Columns.{only, columns_by, numbered_columns, next_columns, columns_after, columns_at}
-use Rattle.plan_rules.specs.Doings.{Around, alike, filter_of, project_of, doing_by, update_in, first_input, around_of, doing_in, network}
+use Rattle.plan_rules.specs.Columns.{only, matched_columns, columns_by, numbered_columns, next_columns, columns_after, columns_at}
+use Rattle.plan_rules.specs.Doings.{Around, alike, filter_of, project_of, joining_of, joined_alike, doing_by, update_in, first_input, other_inputs, around_of, doing_in, network}
 use Rattle.plan_trees.specs.Seen.{op_as_seen, node_as_seen, plan_as_seen}
 
 exprs_seen : (items : List Expr) → map expr_view (map as_seen items) ≡ map expr_view items
 exprs_seen [] = refl
 exprs_seen (x ∷ items) = λ i. seen (expr_view x) i ∷ exprs_seen items i
 
+rest_seen : (rest : Option Expr) → option_map expr_view (option_map as_seen rest) ≡ option_map expr_view rest
+rest_seen None = refl
+rest_seen (Some x) = ap Some (seen (expr_view x))
+
 -- ---- columns
 
 columns_by_seen : (sources : List TableDef) (o : Op) (inputs : List (Option (List ColTy))) → columns_by sources (op_as_seen o) inputs ≡ columns_by sources o inputs
 columns_by_seen sources (op.Filter cond) inputs = ap (λ c. option_and_then (λ columns. columns_if (is_condition columns c) columns) (only inputs)) (seen (expr_view cond))
 columns_by_seen sources (op.Project items) inputs = ap (λ es. option_and_then (λ columns. item_columns columns es) (only inputs)) (exprs_seen items)
+columns_by_seen sources (op.Join kind on rest) inputs = ap (λ r. matched_columns on r (join_columns kind) inputs) (rest_seen rest)
+columns_by_seen sources (op.Semi anti on rest) inputs = ap (λ r. matched_columns on r (λ left right. left) inputs) (rest_seen rest)
 columns_by_seen sources _ inputs = refl
 
 columns_after_seen : (sources : List TableDef) (done : List (Option (List ColTy))) (nodes : List Node) → columns_after sources done (map node_as_seen nodes) ≡ columns_after sources done nodes
@@ -53,6 +61,8 @@ numbered_seen nodes (suc n) = slice_get-map node_as_seen nodes n
 doing_by_seen : (o : Op) (around : Around) → doing_by (op_as_seen o) around ≡ doing_by o around
 doing_by_seen (op.Filter cond) around = ap (λ c. alike (filter_rule (filter_of c)) around.columns (λ rows. filter_answer c (rows 0))) (seen (expr_view cond))
 doing_by_seen (op.Project items) around = ap (λ es. alike (project_rule (project_of es around)) around.columns (λ rows. project_answer es (rows 0))) (exprs_seen items)
+doing_by_seen (op.Join kind on rest) around = ap (λ r. joined_alike (joining_of (joins kind) on r around)) (rest_seen rest)
+doing_by_seen (op.Semi anti on rest) around = ap (λ r. joined_alike (joining_of (matched anti) on r around)) (rest_seen rest)
 doing_by_seen _ around = refl
 
 module _ (plan : Plan) where
@@ -61,6 +71,7 @@ module _ (plan : Plan) where
     input = update_in (numbered plan.edges (first_input inputs));
     own = update_in (numbered plan.edges v);
     columns = columns_seen plan.sources plan.nodes i (first_input inputs);
+    others = map (λ input. record { input = update_in (numbered plan.edges input); columns = columns_seen plan.sources plan.nodes i input }) (other_inputs inputs);
     inputs = length inputs;
     declared = plan.sink.mode;
   }

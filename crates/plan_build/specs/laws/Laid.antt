@@ -1,6 +1,6 @@
 -- How trees are laid, one part behind the other.
-use Rattle.std.specs.Prelude.{◌≡◌, ℕ, ◌+◌, ◌<◌, ◌≤◌, ◌||◌, List, ◌++◌, Bool, is_none, length, map, slice_get, Option, unwrap_or}
-use Rattle.std.proofs.Common.{zero, suc, true, false, [], ◌∷◌, refl, sym, ap, subst, ◌∙◌, arith, Some, None}
+use Rattle.std.specs.Prelude.{◌≡◌, ℕ, ◌+◌, ◌<◌, ◌≤◌, List, ◌++◌, is_none, length, map, slice_get, Option, unwrap_or}
+use Rattle.std.proofs.Common.{zero, suc, false, [], ◌∷◌, refl, sym, ap, subst, ◌∙◌, arith, Some, None}
 use Rattle.std.specs.List.{All}
 use Rattle.std.proofs.lemmas.List.Elements.{All-append}
 use Rattle.ct_change.specs.Changelog.{retract, upsert, kinds_of}
@@ -25,7 +25,7 @@ use Rattle.phys_plan.specs.declared.node.Op.TheVariants as op
 use Rattle.phys_plan.specs.declared.node.Node.{Node}
 use Rattle.phys_plan.specs.declared.plan.Plan.{Plan}
 use Rattle.plan_network.specs.Plans.{numbered}
-use Rattle.plan_maker.specs.Laid.{IsFilter, IsProject, no_keys, HasNode, HasEdge, ScanLaid, SourceLaid, IsLaid, AreLaid, IsPlanOf}
+use Rattle.plan_maker.specs.Laid.{IsFilter, IsProject, no_keys, HasNode, HasEdge, ScanLaid, SourceLaid, IsLaid, IsPlanOf}
 use Rattle.plan_build.specs.declared.fault.PlanFault.{PlanFault}
 use Rattle.plan_build.specs.declared.fault.PlanFault.TheVariants.{Unbuilt, NoTable, TooMany, Memory}
 use Rattle.plan_build.specs.declared.laying.Laying.{Laying}
@@ -103,7 +103,7 @@ module _ (old new : Laying) (o : Op) (inputs : List ℕ) (x : Exchange) (kinds :
   pushed_edge plan e even =
       number_at plan.edges old.edges (record { exchange = x; kinds = kinds; update = update }) e.edges v (e.edges_are ∙ ap (λ es. es ++ e.edges) p.edges) (p.number_is ∙ ap (λ n. n + 1) even)
 
-as_op : (plan : Plan) (v : ℕ) (IsOp : Op → Type 0) (inputs : List ℕ) (o : Op) → IsOp o → HasNode plan v (λ q. q ≡ o) inputs → HasNode plan v IsOp inputs
+pub as_op : (plan : Plan) (v : ℕ) (IsOp : Op → Type 0) (inputs : List ℕ) (o : Op) → IsOp o → HasNode plan v (λ q. q ≡ o) inputs → HasNode plan v IsOp inputs
 as_op plan v IsOp inputs o is has = record { node = has.node; is_there = has.is_there; is_op = subst IsOp (sym has.is_op) is; inputs_are = has.inputs_are; keyless = has.keyless }
 
 abbrev Whole : Laying → Laying → Op → List ℕ → Exchange → ℕ → Type 0

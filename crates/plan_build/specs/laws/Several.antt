@@ -4,7 +4,7 @@ use Rattle.std.proofs.Common.{zero, suc, true, false, [], ◌∷◌, refl, sym, 
 use Rattle.std.proofs.lemmas.List.{take_more, take_all}
 use Rattle.ct_catalog.specs.declared.table.TableDef.{TableDef}
 use Rattle.rel_algebra.specs.declared.rel.Rel.{Rel as Tree}
-use Rattle.rel_algebra.specs.Rel.{Rel, Rels, rels}
+use Rattle.rel_algebra.specs.Rel.{Rel, rels}
 use Rattle.rel_algebra.specs.View.{rel_view, rels_view}
 use Rattle.phys_plan.specs.declared.edge.Exchange.TheVariants.{Forward}
 use Rattle.phys_plan.specs.declared.plan.Plan.{Plan}
@@ -13,7 +13,7 @@ use Rattle.plan_build.specs.declared.fault.PlanFault.{PlanFault}
 use Rattle.plan_build.specs.declared.fault.PlanFault.TheVariants.{Unbuilt, NoTable, TooMany, Memory}
 use Rattle.plan_build.specs.declared.laying.Laying.{Laying}
 use Rattle.plan_build.specs.Faults.{has_unbuilt, any_unbuilt, lacks_table, any_lacks, nodes_of, nodes_of_all}
-use Rattle.plan_build.specs.Laying.{Extends, Lays, LaysAll, Fails, FailsAll}
+use Rattle.plan_build.specs.Laying.{Lays, LaysAll, Fails, FailsAll}
 
 -- ---- one tree more
 

@@ -11,13 +11,15 @@ use Rattle.ct_expr.specs.Types.{both_of}
 use Rattle.rel_clauses.specs.Sums.{plus}
 use Rattle.rel_clauses.specs.Clauses.{union_rows}
 use Rattle.rel_clauses.specs.Groups.{group_columns}
+use Rattle.rel_clauses.specs.Joins.{join_columns}
 use Rattle.rel_algebra.specs.Rel.{Rel, Rels, no_rels, rel_and}
 use Rattle.rel_algebra.specs.Rel as r
-use Rattle.rel_algebra.specs.Batch.{filter_answer, project_answer, group_answer}
-use Rattle.rel_algebra.specs.Types.{columns_if, is_condition, item_columns, common_columns, columns_of, common_from}
+use Rattle.rel_algebra.specs.Batch.{filter_answer, project_answer, group_answer, join_answer, semi_answer}
+use Rattle.rel_algebra.specs.Types.{columns_if, is_condition, match_fits, item_columns, common_columns, columns_of, common_from}
 use Rattle.rel_algebra.specs.Answer.{Table, types_in, rows_in, columns_in, answer, answers}
 use Rattle.row_rules.specs.Union.{rows_of_ports}
 use Rattle.group_rules.specs.Fits.{GroupsStand, GroupsTake, first_columns}
+use Rattle.join_rules.specs.Fits.{left_pairs, right_pairs}
 use Rattle.phys_plan.specs.declared.edge.Exchange.{Exchange}
 use Rattle.phys_plan.specs.declared.edge.Exchange.TheVariants.{Forward, Hash}
 use Rattle.phys_plan.specs.declared.node.Op.{Op}
@@ -32,7 +34,7 @@ use Rattle.plan_maker.specs.Laid.{HasNode, ScanLaid, SourceLaid, IsLaid, AreLaid
 use Rattle.plan_laws.specs.Trees.{IsMade, types_of, tables_with, PlansAnswer}
 use Rattle.plan_laws.specs.laws.Numbers.{the_same, then_parts}
 use Rattle.plan_laws.specs.laws.Wider.{both_parts}
-use Rattle.plan_laws.specs.laws.Nodes.{filter_is, project_is, renamed}
+use Rattle.plan_laws.specs.laws.Nodes.{filter_is, project_is, join_is, semi_is, renamed}
 use Rattle.plan_laws.specs.laws.Trees.{common_some, tree, several}
 
 -- ---- the tables
@@ -96,6 +98,9 @@ module _ (plan : Plan) (made : AllByRecursion IsMade plan.sources) (parallel : 0
   abbrev tables : List Table
   tables = tables_with plan.sources rows
 
+  columns_told : (input : Rel) (columns : List ColTy) → columns_of (types_of plan.sources) input ≡ Some columns → columns_in (tables_with plan.sources rows) input ≡ columns
+  columns_told input columns e = ap (λ types. unwrap_or (columns_of types input) []) (types_are plan.sources rows) ∙ ap (λ o. unwrap_or o []) e
+
   mutual
     pub tree_answer : (rel : Rel) (n : ℕ) (x : Exchange) (root : ℕ) → IsLaid plan n x rel root → root < length plan.nodes → (columns : List ColTy) → columns_of (types_of plan.sources) rel ≡ Some columns
         → (result : Rows) → IsAnswer (network plan) rows root result → answer (tables_with plan.sources rows) rel ≡ Some result
@@ -137,11 +142,36 @@ module _ (plan : Plan) (made : AllByRecursion IsMade plan.sources) (parallel : 0
         let b = tree plan made parallel scans_stand groups_stand groups_take input n (Hash (first_columns keys)) laid.0 laid.1 low p.0 p.1 in
         let c = by_operator plan rows root (op.Group keys aggs) (laid.0 ∷ []) result laid.3 refl a in
         let below = tree_answer input n (Hash (first_columns keys)) laid.0 laid.1 low p.0 p.1 (c.whole 0) (c.each 0 (omega arith)) in
-        let told : columns_in (tables_with plan.sources rows) input ≡ p.0 = ap (λ types. unwrap_or (columns_of types input) []) (types_are plan.sources rows) ∙ ap (λ o. unwrap_or o []) p.1 in
+        let told = columns_told input p.0 p.1 in
         ap (option_and_then (group_answer (columns_in (tables_with plan.sources rows) input) keys aggs)) below
         ∙ ap (λ k. group_answer k keys aggs (c.whole 0)) (told ∙ sym (ap (λ o. unwrap_or o []) b.columns_are)) ∙ c.is_result
-    tree_answer (r.Join left right kind pairs rest) n x root laid high columns t result a = absurd laid
-    tree_answer (r.Semi left right anti pairs rest) n x root laid high columns t result a = absurd laid
+    tree_answer (r.Join left right kind pairs rest) n x root laid high columns t result a =
+        let p = both_parts (λ l c. columns_if (match_fits l c pairs rest) (join_columns kind l c)) (columns_of (types_of plan.sources) left) (columns_of (types_of plan.sources) right) columns t in
+        let next = laid.4 in
+        let low : laid.1 < length plan.nodes = omega arith in
+        let second = tree plan made parallel scans_stand groups_stand groups_take right laid.0 (Hash (right_pairs pairs)) laid.1 laid.3 low p.1 p.3 in
+        let before = second.part.grows in
+        let lower : laid.0 < length plan.nodes = omega arith in
+        let first = tree plan made parallel scans_stand groups_stand groups_take left n (Hash (left_pairs pairs)) laid.0 laid.2 lower p.0 p.2 in
+        let f = join_is kind pairs rest laid.5.node.op laid.5.is_op in
+        let c = by_operator plan rows root (op.Join kind pairs f.0) (laid.0 ∷ (laid.1 ∷ [])) result (renamed plan root _ (laid.0 ∷ (laid.1 ∷ [])) (op.Join kind pairs f.0) laid.5 f.1) refl a in
+        let own = tree_answer left n (Hash (left_pairs pairs)) laid.0 laid.2 lower p.0 p.2 (c.whole 0) (c.each 0 (omega arith)) in
+        let other = tree_answer right laid.0 (Hash (right_pairs pairs)) laid.1 laid.3 low p.1 p.3 (c.whole 1) (c.each 1 (omega arith)) in
+        let own_told = columns_told left p.0 p.2 ∙ sym (ap (λ o. unwrap_or o []) first.columns_are) in
+        let other_told = columns_told right p.1 p.3 ∙ sym (ap (λ o. unwrap_or o []) second.columns_are) in
+        (λ i. both_of (join_answer (own_told i) (other_told i) kind pairs (sym f.2 i)) (own i) (other i)) ∙ c.is_result
+    tree_answer (r.Semi left right anti pairs rest) n x root laid high columns t result a =
+        let p = both_parts (λ l c. columns_if (match_fits l c pairs rest) l) (columns_of (types_of plan.sources) left) (columns_of (types_of plan.sources) right) columns t in
+        let next = laid.4 in
+        let low : laid.1 < length plan.nodes = omega arith in
+        let second = tree plan made parallel scans_stand groups_stand groups_take right laid.0 (Hash (right_pairs pairs)) laid.1 laid.3 low p.1 p.3 in
+        let before = second.part.grows in
+        let lower : laid.0 < length plan.nodes = omega arith in
+        let f = semi_is anti pairs rest laid.5.node.op laid.5.is_op in
+        let c = by_operator plan rows root (op.Semi anti pairs f.0) (laid.0 ∷ (laid.1 ∷ [])) result (renamed plan root _ (laid.0 ∷ (laid.1 ∷ [])) (op.Semi anti pairs f.0) laid.5 f.1) refl a in
+        let own = tree_answer left n (Hash (left_pairs pairs)) laid.0 laid.2 lower p.0 p.2 (c.whole 0) (c.each 0 (omega arith)) in
+        let other = tree_answer right laid.0 (Hash (right_pairs pairs)) laid.1 laid.3 low p.1 p.3 (c.whole 1) (c.each 1 (omega arith)) in
+        (λ i. both_of (semi_answer anti pairs (sym f.2 i)) (own i) (other i)) ∙ c.is_result
     tree_answer (r.Rank input partition order bound ranked) n x root laid high columns t result a = absurd laid
 
     pub tree_answers : (inputs : Rels) (n : ℕ) (roots : List ℕ) (last : ℕ) → AreLaid plan n inputs roots last → last < length plan.nodes → (start : Option (List ColTy)) (columns : List ColTy) → common_from (types_of plan.sources) start inputs ≡ Some columns

@@ -1,6 +1,6 @@
 -- The tables of a catalogue are as a plan needs them.
-use Rattle.std.specs.Prelude.{◌≡◌, ℕ, ◌+◌, ◌<◌, ◌≤◌, Bool, ◌||◌, not, is_none, nat_lt, cond, if◌then◌else◌, List, ◌++◌, length, slice_get, Option, option_map, unwrap_or, Result, Ok, Err}
-use Rattle.std.proofs.Common.{zero, suc, true, false, [], ◌∷◌, refl, sym, ap, subst, ◌∙◌, arith, Some, None}
+use Rattle.std.specs.Prelude.{◌≡◌, ℕ, ◌+◌, ◌<◌, ◌≤◌, Bool, ◌||◌, not, is_none, nat_lt, if◌then◌else◌, List, ◌++◌, length, slice_get, Option, option_map, unwrap_or, Result, Ok, Err}
+use Rattle.std.proofs.Common.{suc, true, false, [], ◌∷◌, refl, sym, ap, subst, ◌∙◌, arith, Some, None}
 use Rattle.std.specs.List.{AllByRecursion}
 use Rattle.ct_value.specs.declared.codes.ScriptCode.{ScriptCode}
 use Rattle.ct_value.specs.declared.codes.ScriptCode.TheVariants.{DuplicateName, Unsupported, TooManyColumns, KeyMissing, BadSetting}
@@ -13,7 +13,7 @@ use Rattle.sql_syntax.specs.declared.statement.TextPair.{TextPair}
 use Rattle.sql_syntax.specs.Tree as t
 use Rattle.ct_catalog.specs.Types.{type_of}
 use Rattle.ct_catalog.specs.Tables.{has_name, repeats, column_names, has_types, keys, first_key, with_column, columns, places, declared_mode, has_unknown_mode, is_upsert, lacks_key, has_table, first_code, create_refusal, table_of}
-use Rattle.ct_catalog.specs.Catalogue.{Catalogue, with_table, with_settings, applied}
+use Rattle.ct_catalog.specs.Catalogue.{Catalogue, with_table, with_settings}
 use Rattle.ct_catalog.specs.Setting.{set_of}
 use Rattle.ct_catalog.specs.declared.settings.Settings.{Settings}
 use Rattle.ct_catalog.specs.declared.table.TableDef.{TableDef}

@@ -1,5 +1,5 @@
 -- What holds of each node of a plan, and how it follows from what the node does and from the edges around it.
-use Rattle.std.specs.Prelude.{◌≡◌, ℕ, ◌<◌, ◌⊎◌, ◌==◌, Bool, cond, List, length, map, slice_get, slice_index_or, Option, unwrap_or}
+use Rattle.std.specs.Prelude.{◌≡◌, ℕ, ◌<◌, ◌⊎◌, ◌==◌, Bool, cond, List, length, map, slice_get, slice_index_or, Option, option_map, unwrap_or}
 use Rattle.std.proofs.Common.{zero, suc, true, false, [], ◌∷◌, refl, sym, ap, subst, ◌∙◌, arith, Some, None, inl, inr}
 use Rattle.std.specs.List.{AllByRecursion}
 use Rattle.ct_value.specs.declared.ty.ColTy.{ColTy}
@@ -13,8 +13,10 @@ use Rattle.ct_expr.specs.declared.expr.Expr.{Expr as CodeExpr}
 use Rattle.ct_expr.specs.Expr.{Expr}
 use Rattle.ct_expr.specs.View.{expr_view}
 use Rattle.rel_clauses.specs.declared.agg.Agg.{Agg}
+use Rattle.rel_clauses.specs.declared.join.JoinKind.{JoinKind}
+use Rattle.rel_clauses.specs.declared.join.Pair.{Pair}
 use Rattle.rel_clauses.specs.Groups.{group_columns}
-use Rattle.rel_algebra.specs.Types.{item_columns}
+use Rattle.rel_algebra.specs.Types.{columns_if, match_fits, pairs_fit, item_columns}
 use Rattle.op_rules.specs.Edges.{Edge, Meaning, meaning_of, forward, IsKeyedBy}
 use Rattle.op_rules.specs.Tasks.{Task, Facts}
 use Rattle.op_rules.specs.Ports.{TakesAll}
@@ -30,6 +32,9 @@ use Rattle.row_rules.specs.laws.Normalizes.{normalizes_stand, normalizes_take}
 use Rattle.row_rules.specs.laws.Sinks.{sinks_stand, sinks_take}
 use Rattle.group_rules.specs.Grouping.{group_rule}
 use Rattle.group_rules.specs.Fits.{GroupFits, GroupsStand, GroupsTake, group_task, first_columns}
+use Rattle.join_rules.specs.Joining.{Shape, joins, matched}
+use Rattle.join_rules.specs.Fits.{left_pairs, right_pairs, columns_by as joined_columns}
+use Rattle.join_rules.specs.laws.Nodes.{joins_stand, joins_take}
 use Rattle.phys_plan.specs.declared.edge.Edge.{Edge as PlanEdge}
 use Rattle.phys_plan.specs.declared.edge.Exchange.{Exchange}
 use Rattle.phys_plan.specs.declared.edge.Exchange.TheVariants.{Forward, Hash}
@@ -44,11 +49,12 @@ use Rattle.stream_model.specs.Network.{task, ScanFacts}
 use Rattle.stream_model.specs.Scans.{ScansStand}
 use Rattle.plan_network.specs.Plans.{column_types, numbered, inputs_in, scan_of, exchange_of, exchange_in, route_by, meaning_by, meaning_in, kinds_in, keys_in, table_mode, table_of}
 use Rattle.plan_rules.specs.Columns.{columns_by, node_columns}
-use Rattle.plan_rules.specs.Doings.{Around, update_in, around_of, rule_by, doing_by, doing_in, network}
-use Rattle.plan_maker.specs.Laid.{IsFilter, IsProject, HasNode, HasEdge}
+use Rattle.plan_rules.specs.Doings.{Side, Around, update_in, side_of, around_of, rule_by, doing_by, doing_in, network}
+use Rattle.plan_maker.specs.Laid.{IsFilter, IsProject, IsJoin, IsSemi, HasNode, HasEdge}
 use Rattle.plan_laws.specs.Trees.{IsMade}
 use Rattle.plan_laws.specs.laws.Numbers.{below_is_not, columns_made}
 use Rattle.plan_laws.specs.laws.Inputs.{facts_of_ports, takes_of_ports}
+use Rattle.plan_laws.specs.laws.Joins.{joining_all, join_fits}
 use Rattle.plan_laws.specs.laws.Between.{carried, carries_all, carries_last, filter_fits, project_fits, sink_fits, normalize_fits, group_all, group_fits, scan_carries, scan_fits}
 
 -- ---- operators
@@ -60,6 +66,28 @@ filter_is condition _ h = absurd h
 pub project_is : (items : List Expr) (o : Op) → IsProject items o → (own : List CodeExpr) × (o ≡ op.Project own) × (map expr_view own ≡ items)
 project_is items (op.Project own) h = (own, refl, h)
 project_is items _ h = absurd h
+
+-- a join's operator by its shape
+abbrev pub op_by : Shape → List Pair → Option CodeExpr → Op
+op_by (joins kind) on rest = op.Join kind on rest
+op_by (matched anti) on rest = op.Semi anti on rest
+
+pub join_is : (kind : JoinKind) (on : List Pair) (rest : Option Expr) (o : Op) → IsJoin kind on rest o → (own : Option CodeExpr) × (o ≡ op_by (joins kind) on own) × (option_map expr_view own ≡ rest)
+join_is kind on rest (op.Join k p own) h = (own, (λ i. op.Join (h.0 i) (h.1 i) own), h.2)
+join_is kind on rest _ h = absurd h
+
+pub semi_is : (anti : Bool) (on : List Pair) (rest : Option Expr) (o : Op) → IsSemi anti on rest o → (own : Option CodeExpr) × (o ≡ op_by (matched anti) on own) × (option_map expr_view own ≡ rest)
+semi_is anti on rest (op.Semi a p own) h = (own, (λ i. op.Semi (h.0 i) (h.1 i) own), h.2)
+semi_is anti on rest _ h = absurd h
+
+pub join_no_scan : (shape : Shape) (on : List Pair) (rest : Option CodeExpr) → scan_of (op_by shape on rest) ≡ None
+join_no_scan (joins kind) on rest = refl
+join_no_scan (matched anti) on rest = refl
+
+pub columns_by_shape : (sources : List TableDef) (shape : Shape) (on : List Pair) (rest : Option CodeExpr) (left right : List ColTy)
+    → columns_by sources (op_by shape on rest) (Some left ∷ (Some right ∷ [])) ≡ columns_if (match_fits left right on (option_map expr_view rest)) (joined_columns shape left right)
+columns_by_shape sources (joins kind) on rest left right = refl
+columns_by_shape sources (matched anti) on rest left right = refl
 
 -- what holds between two edges holds between the same edges otherwise told
 pub between : (F : Edge → Edge → Type 0) (from to told_from told_to : Edge) → from ≡ told_from → to ≡ told_to → F told_from told_to → F from to
@@ -135,13 +163,21 @@ module _ (plan : Plan) where
 
   -- ---- what is around a node
 
-  abbrev pub around_as : Update → Update → List ColTy → ℕ → Around
-  around_as input own columns inputs = record { input = input; own = own; columns = columns; inputs = inputs; declared = plan.sink.mode }
+  abbrev pub around_as : Update → Update → List ColTy → List Side → ℕ → Around
+  around_as input own columns others inputs = record { input = input; own = own; columns = columns; others = others; inputs = inputs; declared = plan.sink.mode }
 
   pub around_is : (v first : ℕ) (others : List ℕ) (input own : Update) (columns : List ColTy)
       → update_in (numbered plan.edges first) ≡ input → update_in (numbered plan.edges v) ≡ own → columns_of_node first ≡ Some columns
-      → around_of plan v (first ∷ others) ≡ around_as input own columns (length (first ∷ others))
-  around_is v first others input own columns p q c = λ i. around_as (p i) (q i) (unwrap_or (c i) []) (length (first ∷ others))
+      → around_of plan v (first ∷ others) ≡ around_as input own columns (map (side_of plan) others) (length (first ∷ others))
+  around_is v first others input own columns p q c = λ i. around_as (p i) (q i) (unwrap_or (c i) []) (map (side_of plan) others) (length (first ∷ others))
+
+  -- two inputs, each with both rows of an update
+  abbrev pub around_both : List ColTy → List ColTy → Around
+  around_both left right = around_as Both Both left (record { input = Both; columns = right } ∷ []) 2
+
+  pub both_around : (v first second : ℕ) (left right : List ColTy) → update_in (numbered plan.edges first) ≡ Both → update_in (numbered plan.edges second) ≡ Both → update_in (numbered plan.edges v) ≡ Both
+      → columns_of_node first ≡ Some left → columns_of_node second ≡ Some right → around_of plan v (first ∷ (second ∷ [])) ≡ around_both left right
+  both_around v first second left right p q o c d = λ i. around_as (p i) (o i) (unwrap_or (c i) []) (record { input = q i; columns = unwrap_or (d i) [] } ∷ []) 2
 
   -- ---- what a node does
 
@@ -252,7 +288,7 @@ module _ (plan : Plan) where
 
   pub project_stands : (v below : ℕ) (items : List CodeExpr) (columns made : List ColTy) (x : Exchange) (own : Update) (inputs : ℕ) → item_columns columns (map expr_view items) ≡ Some made
       → edge_at below ≡ carries_all plan.parallelism columns Forward → edge_at v ≡ carries_all plan.parallelism made x
-      → Stands (op.Project items) (around_as Both own columns inputs) (task_as v (below ∷ []) (op.Project items) (around_as Both own columns inputs))
+      → Stands (op.Project items) (around_as Both own columns [] inputs) (task_as v (below ∷ []) (op.Project items) (around_as Both own columns [] inputs))
   project_stands v below items columns made x own inputs typed p q =
       let project : Project = record { items = map expr_view items; after = None } in
       let fits = between (ProjectFits project) (edge_at below) (edge_at v) (carries_all plan.parallelism columns Forward) (carries_all plan.parallelism made x) p q (project_fits plan.parallelism columns made (map expr_view items) x typed) in
@@ -260,7 +296,7 @@ module _ (plan : Plan) where
 
   pub normalize_stands : 0 < plan.parallelism → (v below : ℕ) (key : List ℕ) (columns : List ColTy) (x : Exchange) (input : Update) (inputs : ℕ) → AllByRecursion (λ column. column < length columns) key
       → edge_at below ≡ carries_last plan.parallelism columns key → edge_at v ≡ carries_all plan.parallelism columns x
-      → Stands (op.Normalize key) (around_as input Both columns inputs) (task_as v (below ∷ []) (op.Normalize key) (around_as input Both columns inputs))
+      → Stands (op.Normalize key) (around_as input Both columns [] inputs) (task_as v (below ∷ []) (op.Normalize key) (around_as input Both columns [] inputs))
   normalize_stands parallel v below key columns x input inputs exist p q =
       let normalize : Normalize = record { key = key; output = retract } in
       let fits = between (NormalizeFits normalize plan.parallelism) (edge_at below) (edge_at v) (carries_last plan.parallelism columns key) (carries_all plan.parallelism columns x) p q (normalize_fits plan.parallelism parallel columns key x exist) in
@@ -272,7 +308,7 @@ module _ (plan : Plan) where
 
   pub group_stands : GroupsStand → GroupsTake → 0 < plan.parallelism → (v below keys : ℕ) (aggs : List Agg) (columns made : List ColTy) (x : Exchange) (inputs : ℕ) → group_columns keys columns aggs ≡ Some made
       → edge_at below ≡ carries_all plan.parallelism columns (Hash (first_columns keys)) → edge_at v ≡ carries_all plan.parallelism made x
-      → Stands (op.Group keys aggs) (around_as Both Both columns inputs) (task_as v (below ∷ []) (op.Group keys aggs) (around_as Both Both columns inputs))
+      → Stands (op.Group keys aggs) (around_as Both Both columns [] inputs) (task_as v (below ∷ []) (op.Group keys aggs) (around_as Both Both columns [] inputs))
   group_stands stand take_all parallel v below keys aggs columns made x inputs typed p q =
       let g = group_all keys aggs columns in
       let fits = between (GroupFits plan.parallelism g) (edge_at below) (edge_at v) (carries_all plan.parallelism columns (Hash (first_columns keys))) (carries_all plan.parallelism made x) p q
@@ -283,14 +319,28 @@ module _ (plan : Plan) where
       )
 
   pub union_stands : (v first : ℕ) (others : List ℕ) (columns : List ColTy) → UnionFits (record { inputs = length (first ∷ others) }) (inputs_of (first ∷ others)) (edge_at v)
-      → Stands op.Union (around_as Both Both columns (length (first ∷ others))) (task_as v (first ∷ others) op.Union (around_as Both Both columns (length (first ∷ others))))
+      → Stands op.Union (around_as Both Both columns (map (side_of plan) others) (length (first ∷ others))) (task_as v (first ∷ others) op.Union (around_as Both Both columns (map (side_of plan) others) (length (first ∷ others))))
   union_stands v first others columns fits =
       let union : Union = record { inputs = length (first ∷ others) } in
       (unions_stand union plan.parallelism (inputs_of (first ∷ others)) (edge_at v) fits, unions_take union plan.parallelism (inputs_of (first ∷ others)) (edge_at v) fits)
 
+  pub join_stands : 0 < plan.parallelism → (v first second : ℕ) (shape : Shape) (on : List Pair) (rest : Option CodeExpr) (left right : List ColTy) (x : Exchange) → pairs_fit left right on ≡ true
+      → edge_at first ≡ carries_all plan.parallelism left (Hash (left_pairs on)) → edge_at second ≡ carries_all plan.parallelism right (Hash (right_pairs on)) → edge_at v ≡ carries_all plan.parallelism (joined_columns shape left right) x
+      → Stands (op_by shape on rest) (around_both left right) (task_as v (first ∷ (second ∷ [])) (op_by shape on rest) (around_both left right))
+  join_stands parallel v first second (joins kind) on rest left right x typed p q r =
+      let from = inputs_of (first ∷ (second ∷ [])) in
+      let j = joining_all (joins kind) on (option_map expr_view rest) left right in
+      let fits = join_fits plan.parallelism parallel (joins kind) on (option_map expr_view rest) left right x from (edge_at v) typed p q r in
+      (joins_stand plan.parallelism j from (edge_at v) fits, joins_take plan.parallelism j from (edge_at v) fits)
+  join_stands parallel v first second (matched anti) on rest left right x typed p q r =
+      let from = inputs_of (first ∷ (second ∷ [])) in
+      let j = joining_all (matched anti) on (option_map expr_view rest) left right in
+      let fits = join_fits plan.parallelism parallel (matched anti) on (option_map expr_view rest) left right x from (edge_at v) typed p q r in
+      (joins_stand plan.parallelism j from (edge_at v) fits, joins_take plan.parallelism j from (edge_at v) fits)
+
   pub sink_stands : (v below : ℕ) (columns : List ColTy) (inputs : ℕ) → plan.sink.mode ≡ Retract
       → edge_at below ≡ carries_all plan.parallelism columns Forward → edge_at v ≡ carried plan.parallelism columns Forward (kinds_of retract) Absent
-      → Stands op.Sink (around_as Both Absent columns inputs) (task_as v (below ∷ []) op.Sink (around_as Both Absent columns inputs))
+      → Stands op.Sink (around_as Both Absent columns [] inputs) (task_as v (below ∷ []) op.Sink (around_as Both Absent columns [] inputs))
   sink_stands v below columns inputs into p q =
       let sink : Sink = record { declared = plan.sink.mode; after = None } in
       let told : SinkFits sink (carries_all plan.parallelism columns Forward) (carried plan.parallelism columns Forward (kinds_of retract) Absent) =

@@ -1,5 +1,5 @@
 -- What a run over the plan of a tree prints.
-use Rattle.std.specs.Prelude.{◌≡◌, ℕ, ◌==◌, Bool, cond, List, length}
+use Rattle.std.specs.Prelude.{◌≡◌, cond, length}
 use Rattle.std.proofs.Common.{[], refl, ap, ◌∙◌}
 use Rattle.std.proofs.lemmas.Bool.{eq-eqb}
 use Rattle.std.specs.Prelude.{unwrap_or}
@@ -8,7 +8,7 @@ use Rattle.rel_algebra.specs.Rel.{Rel}
 use Rattle.op_rules.specs.Edges.{meaning_of}
 use Rattle.phys_plan.specs.declared.plan.Plan.{Plan}
 use Rattle.stream_model.specs.Machine.{opened}
-use Rattle.stream_model.specs.Runs.{Item, after, changes_in}
+use Rattle.stream_model.specs.Runs.{after, changes_in}
 use Rattle.stream_model.specs.Theorem.{table_rows, PrintedFolds}
 use Rattle.plan_network.specs.Plans.{numbered, meaning_in, table_mode}
 use Rattle.plan_rules.specs.Doings.{network}

@@ -1,5 +1,5 @@
 -- The nodes of a tree's plan, by induction over the tree.
-use Rattle.std.specs.Prelude.{◌≡◌, ℕ, ◌+◌, ◌<◌, Bool, cond, List, length, map, slice_get, slice_index_or, Option, option_map, unwrap_or}
+use Rattle.std.specs.Prelude.{◌≡◌, ℕ, ◌+◌, ◌<◌, Bool, cond, List, ◌++◌, length, map, slice_get, slice_index_or, Option, option_map, unwrap_or}
 use Rattle.std.proofs.Common.{zero, suc, true, false, [], ◌∷◌, refl, sym, ap, subst, ◌∙◌, arith, Some, None}
 use Rattle.std.specs.List.{AllByRecursion, Contains}
 use Rattle.ct_value.specs.declared.row.Row.{Row}
@@ -8,18 +8,24 @@ use Rattle.ct_change.specs.declared.kind.Declared.{Declared}
 use Rattle.ct_change.specs.declared.kind.Declared.TheVariants.{Append, Retract, Upsert}
 use Rattle.ct_change.specs.Changelog.{retract, upsert, kinds_of}
 use Rattle.ct_catalog.specs.declared.table.TableDef.{TableDef}
+use Rattle.ct_expr.specs.declared.expr.Expr.{Expr as CodeExpr}
 use Rattle.ct_expr.specs.Expr.{Expr}
 use Rattle.ct_expr.specs.View.{expr_view}
 use Rattle.ct_expr.specs.Types.{both_of}
 use Rattle.rel_clauses.specs.declared.agg.Agg.{Agg}
 use Rattle.rel_clauses.specs.Clauses.{Fits}
+use Rattle.rel_clauses.specs.declared.join.Pair.{Pair}
 use Rattle.rel_clauses.specs.Groups.{group_columns}
+use Rattle.rel_clauses.specs.Joins.{join_columns}
+use Rattle.rel_clauses.specs.laws.Fits.{first as first_holds}
 use Rattle.rel_algebra.specs.Rel.{Rel, Rels, no_rels, rel_and}
 use Rattle.rel_algebra.specs.Rel as r
-use Rattle.rel_algebra.specs.Types.{columns_if, is_condition, item_columns, common_columns, columns_of, common_from}
+use Rattle.rel_algebra.specs.Types.{columns_if, is_condition, is_condition_if, pairs_fit, match_fits, item_columns, common_columns, columns_of, common_from}
 use Rattle.op_rules.specs.Edges.{Edge}
 use Rattle.row_rules.specs.Union.{InputFits, UnionFits}
 use Rattle.group_rules.specs.Fits.{GroupsStand, GroupsTake, first_columns}
+use Rattle.join_rules.specs.Joining.{Shape, joins, matched}
+use Rattle.join_rules.specs.Fits.{left_pairs, right_pairs, columns_by as joined_columns}
 use Rattle.phys_plan.specs.declared.edge.Exchange.{Exchange}
 use Rattle.phys_plan.specs.declared.edge.Exchange.TheVariants.{Forward, Hash}
 use Rattle.phys_plan.specs.declared.edge.Update.{Update}
@@ -30,14 +36,14 @@ use Rattle.phys_plan.specs.declared.plan.Plan.{Plan}
 use Rattle.stream_model.specs.Scans.{ScansStand}
 use Rattle.plan_network.specs.Plans.{numbered, scan_of, column_types}
 use Rattle.plan_rules.specs.Columns.{common_with, columns_by, node_columns}
-use Rattle.plan_rules.specs.Doings.{update_in}
-use Rattle.plan_maker.specs.Laid.{IsFilter, IsProject, HasNode, CarriesAll, ScanLaid, SourceLaid, IsLaid, AreLaid}
+use Rattle.plan_rules.specs.Doings.{update_in, side_of}
+use Rattle.plan_maker.specs.Laid.{IsFilter, IsProject, IsJoin, IsSemi, HasNode, CarriesAll, ScanLaid, SourceLaid, IsLaid, AreLaid}
 use Rattle.plan_laws.specs.Trees.{IsMade, types_of}
 use Rattle.plan_laws.specs.laws.Numbers.{the_same, then_parts, all_at, index_at}
 use Rattle.plan_laws.specs.laws.Wider.{both_parts, all_wider}
 use Rattle.plan_laws.specs.laws.Between.{carries_all, scan_carries, input_fits}
 use Rattle.plan_laws.specs.laws.Segments.{Segment, nothing, both, more}
-use Rattle.plan_laws.specs.laws.Nodes.{filter_is, project_is, between, edge_at, columns_of_node, renamed, carried_is, columns_from, around_as, around_is, task_as, Stands, NodeStands, keyed_at, worker, scan_node, filter_stands, project_stands, normalize_stands, group_stands, union_stands}
+use Rattle.plan_laws.specs.laws.Nodes.{filter_is, project_is, op_by, join_is, semi_is, join_no_scan, columns_by_shape, around_both, both_around, join_stands, between, edge_at, columns_of_node, renamed, carried_is, columns_from, around_as, around_is, task_as, Stands, NodeStands, keyed_at, worker, scan_node, filter_stands, project_stands, normalize_stands, group_stands, union_stands}
 
 pub get-map : {A B : Type 0} (f : A → B) (xs : List A) (n : ℕ) → slice_get (map f xs) n ≡ option_map f (slice_get xs n)
 get-map f [] n = refl
@@ -55,6 +61,10 @@ of_each P (x ∷ xs) h = (h 0 x refl, of_each P xs (λ p y e. h (suc p) y e))
 if_some : {A : Type 0} (test : Bool) (a b : A) → cond test (Some a) None ≡ Some b → a ≡ b
 if_some true a b e = cc
 if_some false a b e = absurd (cc)
+
+when_some : {A : Type 0} (test : Bool) (a b : A) → cond test (Some a) None ≡ Some b → test ≡ true
+when_some true a b e = refl
+when_some false a b e = absurd (cc)
 
 contains_none : {A : Type 0} (k : A) → Contains {X = A} [] k → ⊥
 contains_none k c = omega (arith, c.1)
@@ -89,7 +99,7 @@ module _ (plan : Plan) where
   with_one : (n below root : ℕ) (input : Update) (x : Exchange) (o : Op) (own columns : List ColTy)
       → Segment plan (NodeStands plan) n below (below ∷ []) → columns_of_node plan below ≡ Some own → update_in (numbered plan.edges below) ≡ input
       → root ≡ below + 1 → HasNode plan root (λ p. p ≡ o) (below ∷ []) → CarriesAll plan root x → root < length plan.nodes → scan_of o ≡ None → columns_by plan.sources o (Some own ∷ []) ≡ Some columns
-      → (edge_at plan root ≡ carries_all plan.parallelism columns x → Stands plan o (around_as plan input Both own 1) (task_as plan root (below ∷ []) o (around_as plan input Both own 1)))
+      → (edge_at plan root ≡ carries_all plan.parallelism columns x → Stands plan o (around_as plan input Both own [] 1) (task_as plan root (below ∷ []) o (around_as plan input Both own [] 1)))
       → Planned n x root columns
   with_one n below root input x o own columns part c u next has carries high no_scan typed stands =
       let lower : below < root = omega arith in
@@ -98,7 +108,7 @@ module _ (plan : Plan) where
       let some : 0 < length (below ∷ []) = omega arith in
       record {
         part = more plan (NodeStands plan) n below root (below ∷ []) has.node part next has.is_there has.inputs_are
-            (worker plan root o (below ∷ []) (around_as plan input Both own 1) has (around_is plan root below [] input Both own u (ap update_in carries) c) no_scan some
+            (worker plan root o (below ∷ []) (around_as plan input Both own [] 1) has (around_is plan root below [] input Both own u (ap update_in carries) c) no_scan some
             (keyed_at plan root x (kinds_of retract) Both carries tt) (stands e) columns k);
         edge = e;
         columns_are = k;
@@ -169,7 +179,7 @@ module _ (plan : Plan) where
       let same : own ≡ columns = if_some (is_condition own condition) own columns typed in
       with_one n below root Both x (op.Filter f.0) own columns b.part b.columns_are b.update next (renamed plan root (IsFilter condition) (below ∷ []) (op.Filter f.0) has f.1) carries high refl
       (ap (λ c. columns_if (is_condition own c) own) f.2 ∙ typed)
-      (λ e. filter_stands plan root below f.0 own x (around_as plan Both Both own 1) b.edge (e ∙ ap (λ c. carries_all plan.parallelism c x) (sym same)))
+      (λ e. filter_stands plan root below f.0 own x (around_as plan Both Both own [] 1) b.edge (e ∙ ap (λ c. carries_all plan.parallelism c x) (sym same)))
 
   project_tree : (n below root : ℕ) (x : Exchange) (items : List Expr) (own columns : List ColTy) → root ≡ below + 1 → HasNode plan root (IsProject items) (below ∷ []) → CarriesAll plan root x → root < length plan.nodes
       → item_columns own items ≡ Some columns → Planned n Forward below own → Planned n x root columns
@@ -184,6 +194,36 @@ module _ (plan : Plan) where
   group_tree stand takes parallel n below root x keys aggs own columns next has carries high typed b =
       with_one n below root Both x (op.Group keys aggs) own columns b.part b.columns_are b.update next has carries high refl typed
       (λ e. group_stands plan stand takes parallel root below keys aggs own columns x 1 typed b.edge e)
+
+  -- ---- joins
+
+  -- both trees, one behind the other, and the join behind them
+  join_tree : 0 < plan.parallelism → (n first second root : ℕ) (x : Exchange) (shape : Shape) (on : List Pair) (rest : Option Expr) (own : Option CodeExpr) (left right columns : List ColTy) → option_map expr_view own ≡ rest
+      → root ≡ second + 1 → HasNode plan root (λ o. o ≡ op_by shape on own) (first ∷ (second ∷ [])) → CarriesAll plan root x → root < length plan.nodes
+      → columns_if (match_fits left right on rest) (joined_columns shape left right) ≡ Some columns → Planned n (Hash (left_pairs on)) first left → Planned first (Hash (right_pairs on)) second right → Planned n x root columns
+  join_tree parallel n first second root x shape on rest own left right columns sees next has carries high typed a b =
+      let o = op_by shape on own in
+      let inputs = first ∷ (second ∷ []) in
+      let part = both plan (NodeStands plan) n first second (second ∷ []) a.part b.part in
+      let behind = b.part.grows in
+      let lower : AllByRecursion (λ input. input < root) inputs = (omega arith, (omega arith, tt)) in
+      let k : columns_of_node plan root ≡ Some columns =
+      columns_from plan root o inputs has lower ∙ (λ i. columns_by plan.sources o (a.columns_are i ∷ (b.columns_are i ∷ []))) ∙ columns_by_shape plan.sources shape on own left right
+      ∙ ap (λ r. columns_if (match_fits left right on r) (joined_columns shape left right)) sees ∙ typed in
+      let fits = when_some (match_fits left right on rest) (joined_columns shape left right) columns typed in
+      let same : joined_columns shape left right ≡ columns = if_some (match_fits left right on rest) (joined_columns shape left right) columns typed in
+      let e = carried_is plan root (λ p. p ≡ o) inputs x (kinds_of retract) Both columns has carries k high in
+      let told = e ∙ ap (λ c. carries_all plan.parallelism c x) (sym same) in
+      let some : 0 < length inputs = omega arith in
+      record {
+        part = more plan (NodeStands plan) n second root inputs has.node part next has.is_there has.inputs_are
+            (worker plan root o inputs (around_both plan left right) has (both_around plan root first second left right a.update b.update (ap update_in carries) a.columns_are b.columns_are) (join_no_scan shape on own) some
+            (keyed_at plan root x (kinds_of retract) Both carries tt)
+            (join_stands plan parallel root first second shape on own left right x (first_holds (pairs_fit left right on) (is_condition_if (left ++ right) rest) fits) a.edge b.edge told) columns k);
+        edge = e;
+        columns_are = k;
+        update = ap update_in carries;
+      }
 
   -- ---- unions
 
@@ -223,7 +263,7 @@ module _ (plan : Plan) where
       let inputs = inputs_and first others (one_input n first own b) s.inputs in
       record {
         part = more plan (NodeStands plan) n below root all has.node part next has.is_there has.inputs_are
-            (worker plan root op.Union all (around_as plan Both Both own (length all)) has (around_is plan root first others Both Both own b.update (ap update_in carries) b.columns_are) refl some
+            (worker plan root op.Union all (around_as plan Both Both own (map (side_of plan) others) (length all)) has (around_is plan root first others Both Both own b.update (ap update_in carries) b.columns_are) refl some
             (keyed_at plan root x (kinds_of retract) Both carries tt) (union_stands plan root first others own (fits inputs e (widens wide.0 wide.1 wide.2 wide.3))) columns k);
         edge = e;
         columns_are = k;
@@ -288,8 +328,26 @@ module _ (plan : Plan) (made : AllByRecursion IsMade plan.sources) (parallel : 0
         let next = laid.2 in
         let low : laid.0 < length plan.nodes = omega arith in
         group_tree plan groups_stand groups_take parallel n laid.0 root x keys aggs p.0 columns next laid.3 laid.4 high p.2 (tree input n (Hash (first_columns keys)) laid.0 laid.1 low p.0 p.1)
-    tree (r.Join left right kind pairs rest) n x root laid high columns t = absurd laid
-    tree (r.Semi left right anti pairs rest) n x root laid high columns t = absurd laid
+    tree (r.Join left right kind pairs rest) n x root laid high columns t =
+        let p = both_parts (λ l c. columns_if (match_fits l c pairs rest) (join_columns kind l c)) (columns_of (types_of plan.sources) left) (columns_of (types_of plan.sources) right) columns t in
+        let next = laid.4 in
+        let low : laid.1 < length plan.nodes = omega arith in
+        let b = tree right laid.0 (Hash (right_pairs pairs)) laid.1 laid.3 low p.1 p.3 in
+        let before = b.part.grows in
+        let lower : laid.0 < length plan.nodes = omega arith in
+        let f = join_is kind pairs rest laid.5.node.op laid.5.is_op in
+        join_tree plan parallel n laid.0 laid.1 root x (joins kind) pairs rest f.0 p.0 p.1 columns f.2 next (renamed plan root (IsJoin kind pairs rest) (laid.0 ∷ (laid.1 ∷ [])) (op_by (joins kind) pairs f.0) laid.5 f.1) laid.6 high p.4
+        (tree left n (Hash (left_pairs pairs)) laid.0 laid.2 lower p.0 p.2) b
+    tree (r.Semi left right anti pairs rest) n x root laid high columns t =
+        let p = both_parts (λ l c. columns_if (match_fits l c pairs rest) l) (columns_of (types_of plan.sources) left) (columns_of (types_of plan.sources) right) columns t in
+        let next = laid.4 in
+        let low : laid.1 < length plan.nodes = omega arith in
+        let b = tree right laid.0 (Hash (right_pairs pairs)) laid.1 laid.3 low p.1 p.3 in
+        let before = b.part.grows in
+        let lower : laid.0 < length plan.nodes = omega arith in
+        let f = semi_is anti pairs rest laid.5.node.op laid.5.is_op in
+        join_tree plan parallel n laid.0 laid.1 root x (matched anti) pairs rest f.0 p.0 p.1 columns f.2 next (renamed plan root (IsSemi anti pairs rest) (laid.0 ∷ (laid.1 ∷ [])) (op_by (matched anti) pairs f.0) laid.5 f.1) laid.6 high p.4
+        (tree left n (Hash (left_pairs pairs)) laid.0 laid.2 lower p.0 p.2) b
     tree (r.Rank input partition order bound ranked) n x root laid high columns t = absurd laid
 
     pub several : (inputs : Rels) (n : ℕ) (roots : List ℕ) (last : ℕ) → AreLaid plan n inputs roots last → last < length plan.nodes → (start : Option (List ColTy)) (columns : List ColTy) → common_from (types_of plan.sources) start inputs ≡ Some columns

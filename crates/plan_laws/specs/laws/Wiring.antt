@@ -59,7 +59,7 @@ module _ (scans_stand : ScansStand) (groups_stand : GroupsStand) (groups_take : 
       let last : (v == length plan.nodes) ≡ true = eq-eqb v (length plan.nodes) (sym is.plan_of.nodes) in
       let e = sink_carries plan v (λ o. o ≡ op.Sink) (is.plan_of.root ∷ []) is.columns has told k last is.plan_of.into in
       more plan (NodeStands plan) 0 is.plan_of.root v (is.plan_of.root ∷ []) has.node planned.part refl has.is_there has.inputs_are
-      (worker plan v op.Sink (is.plan_of.root ∷ []) (around_as plan Both Absent is.columns 1) has (around_is plan v is.plan_of.root [] Both Absent is.columns planned.update (ap update_in told) planned.columns_are) refl some
+      (worker plan v op.Sink (is.plan_of.root ∷ []) (around_as plan Both Absent is.columns [] 1) has (around_is plan v is.plan_of.root [] Both Absent is.columns planned.update (ap update_in told) planned.columns_are) refl some
       (keyed_at plan v Forward (kinds_of retract) Absent told tt) (sink_stands plan v is.plan_of.root is.columns 1 is.plan_of.into planned.edge e) is.columns k)
 
   reached : (v : ℕ) (node : Node) → numbered plan.nodes v ≡ Some node → (0 < v) × (v ≤ is.plan_of.root + 1)

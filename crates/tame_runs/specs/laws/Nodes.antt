@@ -1,5 +1,5 @@
 -- Each node of the plan of a tree that calculates nothing stays in range.
-use Rattle.std.specs.Prelude.{◌≡◌, ℕ, ◌+◌, ◌<◌, ◌≤◌, List, map, slice_get, Option, unwrap_or}
+use Rattle.std.specs.Prelude.{◌≡◌, ℕ, ◌+◌, ◌<◌, ◌≤◌, Bool, List, map, slice_get, Option, option_map, unwrap_or}
 use Rattle.std.proofs.Common.{true, [], ◌∷◌, refl, sym, ap, subst, ◌∙◌, arith, Some, None, Ok, inl, inr}
 use Rattle.std.specs.List.{list_all}
 use Rattle.std.proofs.lemmas.Bool.{and_parts}
@@ -8,10 +8,14 @@ use Rattle.ct_change.specs.declared.kind.Declared.TheVariants.{Append, Retract, 
 use Rattle.ct_catalog.specs.declared.table.TableDef.{TableDef}
 use Rattle.ct_expr.specs.Expr.{Expr}
 use Rattle.ct_expr.specs.View.{expr_view}
-use Rattle.arithmetic.specs.Tame.{is_tame, only_counts, is_tame_rel, are_tame_rels}
+use Rattle.arithmetic.specs.Tame.{is_tame, only_counts, rest_is_tame, is_tame_rel, are_tame_rels}
+use Rattle.rel_clauses.specs.declared.join.JoinKind.{JoinKind}
+use Rattle.rel_clauses.specs.declared.join.Pair.{Pair}
 use Rattle.rel_algebra.specs.Rel.{Rel, Rels, no_rels, rel_and}
 use Rattle.rel_algebra.specs.Rel as r
 use Rattle.group_rules.specs.Fits.{first_columns}
+use Rattle.join_rules.specs.Joining.{joins, matched}
+use Rattle.join_rules.specs.Fits.{left_pairs, right_pairs}
 use Rattle.phys_plan.specs.declared.edge.Exchange.{Exchange}
 use Rattle.phys_plan.specs.declared.edge.Exchange.TheVariants.{Forward, Hash}
 use Rattle.phys_plan.specs.declared.node.Op.{Op}
@@ -19,11 +23,11 @@ use Rattle.phys_plan.specs.declared.node.Op.TheVariants as op
 use Rattle.phys_plan.specs.declared.node.Node.{Node}
 use Rattle.phys_plan.specs.declared.plan.Plan.{Plan}
 use Rattle.plan_network.specs.Plans.{numbered}
-use Rattle.plan_rules.specs.Doings.{Around, filter_of, project_of, union_of, normalize_of, grouping_of, sink_of, around_of, doing_by, doing_in, network}
-use Rattle.plan_maker.specs.Laid.{IsFilter, IsProject, HasNode, ScanLaid, SourceLaid, IsLaid, AreLaid, IsPlanOf}
-use Rattle.plan_laws.specs.laws.Nodes.{filter_is, project_is}
+use Rattle.plan_rules.specs.Doings.{Around, filter_of, project_of, union_of, normalize_of, grouping_of, joining_of, sink_of, around_of, doing_by, doing_in, network}
+use Rattle.plan_maker.specs.Laid.{IsFilter, IsProject, IsJoin, IsSemi, HasNode, ScanLaid, SourceLaid, IsLaid, AreLaid, IsPlanOf}
+use Rattle.plan_laws.specs.laws.Nodes.{filter_is, project_is, join_is, semi_is}
 use Rattle.plan_laws.specs.laws.Numbers.{the_same, side, numbered_within}
-use Rattle.tame_rules.specs.Ranges.{StaysInRange, FiltersStayInRange, ProjectsStayInRange, UnionsStayInRange, NormalizesStayInRange, SinksStayInRange, GroupsStayInRange}
+use Rattle.tame_rules.specs.Ranges.{StaysInRange, FiltersStayInRange, ProjectsStayInRange, UnionsStayInRange, NormalizesStayInRange, SinksStayInRange, GroupsStayInRange, JoinsStayInRange}
 
 -- ---- operators
 
@@ -32,6 +36,8 @@ abbrev pub IsTameOp : Op → Type 0
 IsTameOp (op.Filter cond) = is_tame (expr_view cond) ≡ true
 IsTameOp (op.Project items) = list_all is_tame (map expr_view items) ≡ true
 IsTameOp (op.Group keys aggs) = list_all (λ agg. only_counts agg.call) aggs ≡ true
+IsTameOp (op.Join kind on rest) = rest_is_tame (option_map expr_view rest) ≡ true
+IsTameOp (op.Semi anti on rest) = rest_is_tame (option_map expr_view rest) ≡ true
 IsTameOp _ = Unit {0}
 
 -- the rules that stay in range
@@ -42,6 +48,7 @@ pub record Rules : Type 0 where
   pub normalizes : NormalizesStayInRange
   pub sinks : SinksStayInRange
   pub groups : GroupsStayInRange
+  pub joins : JoinsStayInRange
 
 -- nothing is sent
 idles : StaysInRange (λ subtask. []) (λ before piece. Ok [])
@@ -54,6 +61,8 @@ module _ (rules : Rules) where
   does op.Union around tame = rules.unions (union_of around)
   does (op.Normalize key) around tame = rules.normalizes (normalize_of key around)
   does (op.Group keys aggs) around tame = rules.groups (grouping_of keys aggs around) tame
+  does (op.Join kind on rest) around tame = rules.joins (joining_of (joins kind) on (option_map expr_view rest) around) tame
+  does (op.Semi anti on rest) around tame = rules.joins (joining_of (matched anti) on (option_map expr_view rest) around) tame
   does op.Sink around tame = rules.sinks (sink_of around)
   does _ around tame = idles
 
@@ -106,6 +115,16 @@ module _ (plan : Plan) where
       let is = project_is items o h in
       subst IsTameOp (sym is.1) (ap (list_all is_tame) is.2 ∙ tame)
 
+  join_tame : (kind : JoinKind) (on : List Pair) (rest : Option Expr) → rest_is_tame rest ≡ true → (o : Op) → IsJoin kind on rest o → IsTameOp o
+  join_tame kind on rest tame o h =
+      let is = join_is kind on rest o h in
+      subst IsTameOp (sym is.1) (ap rest_is_tame is.2 ∙ tame)
+
+  semi_tame : (anti : Bool) (on : List Pair) (rest : Option Expr) → rest_is_tame rest ≡ true → (o : Op) → IsSemi anti on rest o → IsTameOp o
+  semi_tame anti on rest tame o h =
+      let is = semi_is anti on rest o h in
+      subst IsTameOp (sym is.1) (ap rest_is_tame is.2 ∙ tame)
+
   scan_tame : (n : ℕ) (x : Exchange) (source : ℕ) (mode : Declared) (key : List ℕ) (root : ℕ) → ScanLaid plan n x source mode key root → AreTame n root
   scan_tame n x source Append key root laid = more n n root (nothing n) laid.0 (at_node root (λ o. o ≡ op.Scan source) [] laid.1 (is_op (op.Scan source) tt))
   scan_tame n x source Retract key root laid = more n n root (nothing n) laid.0 (at_node root (λ o. o ≡ op.Scan source) [] laid.1 (is_op (op.Scan source) tt))
@@ -132,8 +151,16 @@ module _ (plan : Plan) where
     tree_tame (r.Group input keys aggs) tame n x root laid =
         let p = and_parts _ _ tame in
         more n laid.0 root (tree_tame input p.0 n (Hash (first_columns keys)) laid.0 laid.1) laid.2 (at_node root (λ o. o ≡ op.Group keys aggs) (laid.0 ∷ []) laid.3 (is_op (op.Group keys aggs) p.1))
-    tree_tame (r.Join left right kind pairs rest) tame n x root laid = absurd laid
-    tree_tame (r.Semi left right anti pairs rest) tame n x root laid = absurd laid
+    tree_tame (r.Join left right kind pairs rest) tame n x root laid =
+        let p = and_parts _ _ tame in
+        let q = and_parts _ _ p.1 in
+        more n laid.1 root (both n laid.0 laid.1 (tree_tame left p.0 n (Hash (left_pairs pairs)) laid.0 laid.2) (tree_tame right q.0 laid.0 (Hash (right_pairs pairs)) laid.1 laid.3)) laid.4
+        (at_node root (IsJoin kind pairs rest) (laid.0 ∷ (laid.1 ∷ [])) laid.5 (join_tame kind pairs rest q.1))
+    tree_tame (r.Semi left right anti pairs rest) tame n x root laid =
+        let p = and_parts _ _ tame in
+        let q = and_parts _ _ p.1 in
+        more n laid.1 root (both n laid.0 laid.1 (tree_tame left p.0 n (Hash (left_pairs pairs)) laid.0 laid.2) (tree_tame right q.0 laid.0 (Hash (right_pairs pairs)) laid.1 laid.3)) laid.4
+        (at_node root (IsSemi anti pairs rest) (laid.0 ∷ (laid.1 ∷ [])) laid.5 (semi_tame anti pairs rest q.1))
     tree_tame (r.Rank input partition order bound ranked) tame n x root laid = absurd laid
 
     trees_tame : (inputs : Rels) → are_tame_rels inputs ≡ true → (n : ℕ) (roots : List ℕ) (last : ℕ) → AreLaid plan n inputs roots last → AreTame n last

@@ -9,7 +9,6 @@ use Rattle.session_open.specs.Opening.{IsTooMany}
 use Rattle.session_runs.specs.Faults.{IsRan}
 use Rattle.session_runs.specs.Goes.{run_of}
 use Rattle.session_runs.specs.laws.Taking.{ok_weaker, err_weaker}
-use Rattle.job_stream.specs.Stream.{most_sent}
 use Rattle.job_stream.proofs.Ends.{small, whole_opened, whole_too_many}
 use Rattle.job_stream.proofs.opened.printed_of.Goals as goal
 
@@ -34,7 +33,7 @@ run_lines-requires g c =
     let can = c.requires.can in
     let opening = (c.plans_open.ensures plan can.0 c.in_ok-columns.columns (small plan can.0 c.in_ok-columns.columns can.1 c.in_ok-columns.ensures.columns c.in_ok-columns.ensures.many)).openable in
     let stands = c.in-Ok.ensures.ok (columns_at plan.sources plan.nodes) (λ v. doing_in plan v (numbered plan.nodes v)) opening in
-    record { ready = (network plan, most_sent, plan.parallelism, record { stands_for = stands; tables = λ table. refl }) }
+    record { ready = (network plan, c.args.sent_limit, plan.parallelism, record { stands_for = stands; tables = λ table. refl }) }
 
 pub returns-in-Ok-clause-ok : goal.returns-in-Ok-clause-ok
 returns-in-Ok-clause-ok g c =
@@ -43,10 +42,10 @@ returns-in-Ok-clause-ok g c =
     let opening = (c.plans_open.ensures plan can.0 c.in_ok-columns.columns (small plan can.0 c.in_ok-columns.columns can.1 c.in_ok-columns.ensures.columns c.in_ok-columns.ensures.many)).openable in
     let stands = c.in-Ok.ensures.ok (columns_at plan.sources plan.nodes) (λ v. doing_in plan v (numbered plan.nodes v)) opening in
     ok_weaker c.run_lines.result c.run_lines.ensures.ok (λ items told.
-    let p = told (network plan) most_sent plan.parallelism (record { stands_for = stands; tables = λ table. refl }) in
+    let p = told (network plan) c.args.sent_limit plan.parallelism (record { stands_for = stands; tables = λ table. refl }) in
     record {
       state = p.state;
-      ends = whole_opened (network plan) most_sent plan.sources c.args.bytes stands.keeps.carries.within ∙ ap (run_of (network plan) most_sent plan.sources) (sym c.in_ok-lines.ensures) ∙ p.ends;
+      ends = whole_opened (network plan) c.args.sent_limit plan.sources c.args.bytes stands.keeps.carries.within ∙ ap (run_of (network plan) c.args.sent_limit plan.sources) (sym c.in_ok-lines.ensures) ∙ p.ends;
       printed = p.printed;
     })
 
@@ -57,7 +56,7 @@ returns-in-Ok-clause-refused g c =
     let opening = (c.plans_open.ensures plan can.0 c.in_ok-columns.columns (small plan can.0 c.in_ok-columns.columns can.1 c.in_ok-columns.ensures.columns c.in_ok-columns.ensures.many)).openable in
     let stands = c.in-Ok.ensures.ok (columns_at plan.sources plan.nodes) (λ v. doing_in plan v (numbered plan.nodes v)) opening in
     err_weaker c.run_lines.result c.run_lines.ensures.refused (λ fault told.
-    subst (IsRan fault) (sym (whole_opened (network plan) most_sent plan.sources c.args.bytes stands.keeps.carries.within ∙ ap (run_of (network plan) most_sent plan.sources) (sym c.in_ok-lines.ensures))) (told (network plan) most_sent plan.parallelism (record { stands_for = stands; tables = λ table. refl })))
+    subst (IsRan fault) (sym (whole_opened (network plan) c.args.sent_limit plan.sources c.args.bytes stands.keeps.carries.within ∙ ap (run_of (network plan) c.args.sent_limit plan.sources) (sym c.in_ok-lines.ensures))) (told (network plan) c.args.sent_limit plan.parallelism (record { stands_for = stands; tables = λ table. refl })))
 
 pub returns-in-Err-Limit-clause-refused : goal.returns-in-Err-Limit-clause-refused
 returns-in-Err-Limit-clause-refused g c =
@@ -65,4 +64,4 @@ returns-in-Err-Limit-clause-refused g c =
     let can = c.requires.can in
     let opening = (c.plans_open.ensures plan can.0 c.in_ok-columns.columns (small plan can.0 c.in_ok-columns.columns can.1 c.in_ok-columns.ensures.columns c.in_ok-columns.ensures.many)).openable in
     let many = c.in-Err-Limit.ensures.err (columns_at plan.sources plan.nodes) (λ v. doing_in plan v (numbered plan.nodes v)) opening in
-    (tt, whole_too_many (network plan) most_sent plan.sources c.args.bytes (subst (IsTooMany most_sent (opened (network plan)).sends) c.in-Err-Limit.field-0-is many) ∙ ap (stopped Limit) (sym c.new-in-Err-Limit.ensures))
+    (tt, whole_too_many (network plan) c.args.sent_limit plan.sources c.args.bytes (subst (IsTooMany c.args.sent_limit (opened (network plan)).sends) c.in-Err-Limit.field-0-is many) ∙ ap (stopped Limit) (sym c.new-in-Err-Limit.ensures))

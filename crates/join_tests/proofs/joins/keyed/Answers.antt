@@ -1,7 +1,7 @@
 use Rattle.std.proofs.Common.{None, ap, refl}
 use Rattle.ct_change.specs.Changelog.{retract, upsert}
 use Rattle.join_rules.specs.Joining.{joins}
-use Rattle.join_tests.specs.declared.feeding.Reads.TheVariants.{Retract, LastRows}
+use Rattle.join_tests.specs.declared.feed.Reads.TheVariants.{Retract, LastRows}
 use Rattle.join_tests.proofs.Fitting.{of_rows}
 use Rattle.join_tests.proofs.joins.keyed.Goals as goal
 

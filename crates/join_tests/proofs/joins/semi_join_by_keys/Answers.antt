@@ -1,7 +1,7 @@
 use Rattle.std.proofs.Common.{false, None, ap, refl}
 use Rattle.ct_change.specs.Changelog.{append, upsert}
 use Rattle.join_rules.specs.Joining.{matched}
-use Rattle.join_tests.specs.declared.feeding.Reads.TheVariants.{Append, LastRows}
+use Rattle.join_tests.specs.declared.feed.Reads.TheVariants.{Append, LastRows}
 use Rattle.join_tests.proofs.Fitting.{of_rows}
 use Rattle.join_tests.proofs.joins.semi_join_by_keys.Goals as goal
 

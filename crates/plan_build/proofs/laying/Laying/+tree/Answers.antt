@@ -1,8 +1,13 @@
-use Rattle.std.proofs.Common.{rules, IfErr}
+use Rattle.std.proofs.Common.{rules, IfOk, IfErr, ◌≡◌, ◌∙◌, ap, sym, subst, option_map}
+use Rattle.ct_expr.specs.View.{expr_view}
+use Rattle.rel_algebra.specs.Rel.{Rel}
+use Rattle.rel_algebra.specs.Rel as r
 use Rattle.rel_algebra.specs.View.{rel_view}
-use Rattle.plan_build.specs.Laying.{Fails}
+use Rattle.rel_algebra.specs.laws.Views.{view_join, view_semi}
+use Rattle.plan_build.specs.Laying.{Lays, Fails}
 use Rattle.plan_build.specs.laws.Laid.{filter_lays, project_lays, group_lays, union_lays}
 use Rattle.plan_build.specs.laws.Several.{turn_lays, turn_fails}
+use Rattle.plan_build.specs.laws.Sides.{join_lays, semi_lays}
 use Rattle.plan_build.proofs.Answered.{if_ok, if_err}
 use Rattle.plan_build.proofs.laying.Laying.+tree.Goals as goal
 
@@ -25,3 +30,23 @@ lay_all-returns-in_err-root-clause-fails t c =
 
 pub lay_all-loop-input-preserved : goal.lay_all-loop-input-preserved
 lay_all-loop-input-preserved t c = turn_lays _ _ _ _ _ _ _ _ _ c.loop-input-test.true c.input-item.is c.loop-input.invariant c.in_ok-root.ensures.laid c.in_ok-push.ensures.ok
+
+pub lay-returns-in_ok-second-in-Join-clause-laid : goal.lay-returns-in_ok-second-in-Join-clause-laid
+lay-returns-in_ok-second-in-Join-clause-laid t c =
+    let viewed : rel_view c.args.rel.now ≡ r.Join (rel_view c.in-Join.left.value) (rel_view c.in-Join.right.value) c.in-Join.kind c.in-Join.on (option_map expr_view c.in-Join.rest) = ap rel_view c.in-Join.is ∙ view_join c.in-Join.left c.in-Join.right c.in-Join.kind c.in-Join.on c.in-Join.rest in
+    let left = c.deref-in-Join.ensures in
+    let right = c.deref-in-Join-2.ensures in
+    let sees : rel_view c.args.rel.now ≡ r.Join (rel_view c.deref-in-Join.result.now) (rel_view c.deref-in-Join-2.result.now) c.in-Join.kind c.in-Join.on (option_map expr_view c.in-Join.rest) =
+    viewed ∙ (λ i. r.Join (rel_view (sym left i)) (rel_view (sym right i)) c.in-Join.kind c.in-Join.on (option_map expr_view c.in-Join.rest)) in
+    subst (λ (rel : Rel). IfOk c.push_join.result (λ root. Lays c.args.self.now c.push_join.new.self c.args.exchange rel root)) (sym sees)
+    (if_ok _ _ _ (λ root p. join_lays _ _ _ _ _ _ _ _ _ _ _ _ root c.in_ok-first-in-Join.ensures.laid c.in_ok-second-in-Join.ensures.laid p) c.push_join.ensures.pushed)
+
+pub lay-returns-in_ok-second-in-Semi-clause-laid : goal.lay-returns-in_ok-second-in-Semi-clause-laid
+lay-returns-in_ok-second-in-Semi-clause-laid t c =
+    let viewed : rel_view c.args.rel.now ≡ r.Semi (rel_view c.in-Semi.left.value) (rel_view c.in-Semi.right.value) c.in-Semi.anti c.in-Semi.on (option_map expr_view c.in-Semi.rest) = ap rel_view c.in-Semi.is ∙ view_semi c.in-Semi.left c.in-Semi.right c.in-Semi.anti c.in-Semi.on c.in-Semi.rest in
+    let left = c.deref-in-Semi.ensures in
+    let right = c.deref-in-Semi-2.ensures in
+    let sees : rel_view c.args.rel.now ≡ r.Semi (rel_view c.deref-in-Semi.result.now) (rel_view c.deref-in-Semi-2.result.now) c.in-Semi.anti c.in-Semi.on (option_map expr_view c.in-Semi.rest) =
+    viewed ∙ (λ i. r.Semi (rel_view (sym left i)) (rel_view (sym right i)) c.in-Semi.anti c.in-Semi.on (option_map expr_view c.in-Semi.rest)) in
+    subst (λ (rel : Rel). IfOk c.push_semi.result (λ root. Lays c.args.self.now c.push_semi.new.self c.args.exchange rel root)) (sym sees)
+    (if_ok _ _ _ (λ root p. semi_lays _ _ _ _ _ _ _ _ _ _ _ _ root c.in_ok-first-in-Semi.ensures.laid c.in_ok-second-in-Semi.ensures.laid p) c.push_semi.ensures.pushed)

@@ -45,6 +45,30 @@ returns-in-Group-clause-range g c = rw c.in-Group.is c.consume-in-Group.ensures.
 pub returns-in-Group-clause-cost : goal.returns-in-Group-clause-cost
 returns-in-Group-clause-cost g c = rw c.in-Group.is c.consume-in-Group.ensures.cost
 
+pub returns-in-Join-clause-rule_stays : goal.returns-in-Join-clause-rule_stays
+returns-in-Join-clause-rule_stays g c = rw c.in-Join.is c.consume-in-Join.ensures.rule_stays
+
+pub returns-in-Join-clause-ok : goal.returns-in-Join-clause-ok
+returns-in-Join-clause-ok g c = rw c.in-Join.is c.consume-in-Join.ensures.ok
+
+pub returns-in-Join-clause-range : goal.returns-in-Join-clause-range
+returns-in-Join-clause-range g c = rw c.in-Join.is c.consume-in-Join.ensures.range
+
+pub returns-in-Join-clause-cost : goal.returns-in-Join-clause-cost
+returns-in-Join-clause-cost g c = rw c.in-Join.is c.consume-in-Join.ensures.cost
+
+pub returns-in-Semi-clause-rule_stays : goal.returns-in-Semi-clause-rule_stays
+returns-in-Semi-clause-rule_stays g c = rw c.in-Semi.is c.consume-in-Semi.ensures.rule_stays
+
+pub returns-in-Semi-clause-ok : goal.returns-in-Semi-clause-ok
+returns-in-Semi-clause-ok g c = rw c.in-Semi.is c.consume-in-Semi.ensures.ok
+
+pub returns-in-Semi-clause-range : goal.returns-in-Semi-clause-range
+returns-in-Semi-clause-range g c = rw c.in-Semi.is c.consume-in-Semi.ensures.range
+
+pub returns-in-Semi-clause-cost : goal.returns-in-Semi-clause-cost
+returns-in-Semi-clause-cost g c = rw c.in-Semi.is c.consume-in-Semi.ensures.cost
+
 pub returns-in-Sink-clause-ok : goal.returns-in-Sink-clause-ok
 returns-in-Sink-clause-ok g c = rw c.in-Sink.is c.consume-in-Sink.ensures.ok
 

@@ -1,4 +1,4 @@
-use Rattle.std.proofs.Common.{◌≡◌, Some, sym, ◌∙◌}
+use Rattle.std.proofs.Common.{sym, ◌∙◌}
 use Rattle.std.proofs.lemmas.Result.{IfOk-weaker}
 use Rattle.session_nodes.proofs.Nodes.{types_of}
 use Rattle.session_nodes.proofs.made.AnyOperatorPlanOperator.range_types.Goals as goal

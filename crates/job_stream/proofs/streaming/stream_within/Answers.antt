@@ -8,10 +8,10 @@ use Rattle.printed_lines.specs.Printed.{IsWide}
 use Rattle.stream_run.specs.Run.{whole_run}
 use Rattle.session_runs.specs.Faults.{IsRan}
 use Rattle.job_ending.specs.declared.halt.Halt.{Halt}
-use Rattle.job_stream.specs.Stream.{most_sent, sink_types, streamed}
+use Rattle.job_stream.specs.Stream.{sink_types, streamed_within}
 use Rattle.job_stream.specs.Writing.{Finishes}
 use Rattle.job_stream.proofs.Ends.{memory_runs, printed_finishes, printed_wide, ran_wide, stop_finishes, stopped_wide, types_exist}
-use Rattle.job_stream.proofs.streaming.stream.Goals as goal
+use Rattle.job_stream.proofs.streaming.stream_within.Goals as goal
 
 pub returns-in_default : goal.returns-in_default
 returns-in_default g c = memory_runs _ _ _
@@ -20,10 +20,10 @@ pub finish-requires-clause-wide : goal.finish-requires-clause-wide
 finish-requires-clause-wide g c =
     let plan = c.args.plan.now in
     let can = c.requires.can in
-    let ran = whole_run (network plan) most_sent plan.sources c.args.bytes in
+    let ran = whole_run (network plan) c.args.sent_limit plan.sources c.args.bytes in
     let tys = c.as_slice-in-Ok-printed_of.ensures.value ∙ c.in-Ok.ensures ∙ ap (λ (cols : List ColDef). map (λ x. x.ty.ty) cols) c.as_slice.ensures in
     subst (λ (l : List Ty). AllByRecursion (IsWide (length l)) c.in-Ok-printed_of.items) (sym tys)
-    (printed_wide (length (sink_types plan.sink)) ran c.in-Ok-printed_of.items c.in-Ok-printed_of.ensures.ok (ran_wide can.1.plan_of.columns plan.sink can.1.goes ran (c.runs_print_rows.ensures plan can.0 can.1.plan_of most_sent c.args.bytes)))
+    (printed_wide (length (sink_types plan.sink)) ran c.in-Ok-printed_of.items c.in-Ok-printed_of.ensures.ok (ran_wide can.1.plan_of.columns plan.sink can.1.goes ran (c.runs_print_rows.ensures plan can.0 can.1.plan_of c.args.sent_limit c.args.bytes)))
 
 pub finish-requires-clause-types : goal.finish-requires-clause-types
 finish-requires-clause-types g c =
@@ -34,21 +34,21 @@ finish-requires-clause-types g c =
 pub returns-in-Ok-printed_of : goal.returns-in-Ok-printed_of
 returns-in-Ok-printed_of g c =
     let plan = c.args.plan.now in
-    let ran = whole_run (network plan) most_sent plan.sources c.args.bytes in
+    let ran = whole_run (network plan) c.args.sent_limit plan.sources c.args.bytes in
     let tys = c.as_slice-in-Ok-printed_of.ensures.value ∙ c.in-Ok.ensures ∙ ap (λ (cols : List ColDef). map (λ x. x.ty.ty) cols) c.as_slice.ensures in
-    c.finish.ensures (streamed plan c.args.bytes)
-    (subst (λ (l : List Ty). let r : Result (Unit {0}) Halt = Ok tt in Finishes l (streamed plan c.args.bytes) c.in-Ok-printed_of.items r) (sym tys) (printed_finishes (sink_types plan.sink) ran c.in-Ok-printed_of.items tt c.in-Ok-printed_of.ensures.ok))
+    c.finish.ensures (streamed_within c.args.sent_limit plan c.args.bytes)
+    (subst (λ (l : List Ty). let r : Result (Unit {0}) Halt = Ok tt in Finishes l (streamed_within c.args.sent_limit plan c.args.bytes) c.in-Ok-printed_of.items r) (sym tys) (printed_finishes (sink_types plan.sink) ran c.in-Ok-printed_of.items tt c.in-Ok-printed_of.ensures.ok))
 
 pub finish-requires-in-Err-Stopped-clause-wide : goal.finish-requires-in-Err-Stopped-clause-wide
 finish-requires-in-Err-Stopped-clause-wide g c =
     let plan = c.args.plan.now in
     let can = c.requires.can in
-    let ran = whole_run (network plan) most_sent plan.sources c.args.bytes in
+    let ran = whole_run (network plan) c.args.sent_limit plan.sources c.args.bytes in
     let stop = c.in-Err-Stopped.stopped in
     let is = subst (λ fault. IsRan fault ran) c.in-Err-Stopped.field-0-is c.in-Err-Stopped.ensures.refused in
     let tys = c.as_slice-in-Err-Stopped.ensures.value ∙ c.in-Ok.ensures ∙ ap (λ (cols : List ColDef). map (λ x. x.ty.ty) cols) c.as_slice.ensures in
     subst (λ (l : List Ty). AllByRecursion (IsWide (length l)) stop.printed) (sym tys)
-    (stopped_wide (length (sink_types plan.sink)) ran stop.cause stop.printed is.0 is.1 (ran_wide can.1.plan_of.columns plan.sink can.1.goes ran (c.runs_print_rows.ensures plan can.0 can.1.plan_of most_sent c.args.bytes)))
+    (stopped_wide (length (sink_types plan.sink)) ran stop.cause stop.printed is.0 is.1 (ran_wide can.1.plan_of.columns plan.sink can.1.goes ran (c.runs_print_rows.ensures plan can.0 can.1.plan_of c.args.sent_limit c.args.bytes)))
 
 pub finish-requires-in-Err-Stopped-clause-types : goal.finish-requires-in-Err-Stopped-clause-types
 finish-requires-in-Err-Stopped-clause-types g c =
@@ -59,13 +59,13 @@ finish-requires-in-Err-Stopped-clause-types g c =
 pub returns-in-Err-Stopped : goal.returns-in-Err-Stopped
 returns-in-Err-Stopped g c =
     let plan = c.args.plan.now in
-    let ran = whole_run (network plan) most_sent plan.sources c.args.bytes in
+    let ran = whole_run (network plan) c.args.sent_limit plan.sources c.args.bytes in
     let stop = c.in-Err-Stopped.stopped in
     let is = subst (λ fault. IsRan fault ran) c.in-Err-Stopped.field-0-is c.in-Err-Stopped.ensures.refused in
     let tys = c.as_slice-in-Err-Stopped.ensures.value ∙ c.in-Ok.ensures ∙ ap (λ (cols : List ColDef). map (λ x. x.ty.ty) cols) c.as_slice.ensures in
     let ends = stop_finishes (sink_types plan.sink) ran stop.cause stop.printed is.0 is.1 in
-    let halted = subst (λ (halt : Halt). let r : Result (Unit {0}) Halt = Err halt in Finishes (sink_types plan.sink) (streamed plan c.args.bytes) stop.printed r) (sym c.halt_of-halt.ensures) ends in
-    c.finish-in-Err-Stopped.ensures (streamed plan c.args.bytes) (subst (λ (l : List Ty). let r : Result (Unit {0}) Halt = Err c.halt_of-halt.result in Finishes l (streamed plan c.args.bytes) stop.printed r) (sym tys) halted)
+    let halted = subst (λ (halt : Halt). let r : Result (Unit {0}) Halt = Err halt in Finishes (sink_types plan.sink) (streamed_within c.args.sent_limit plan c.args.bytes) stop.printed r) (sym c.halt_of-halt.ensures) ends in
+    c.finish-in-Err-Stopped.ensures (streamed_within c.args.sent_limit plan c.args.bytes) (subst (λ (l : List Ty). let r : Result (Unit {0}) Halt = Err c.halt_of-halt.result in Finishes l (streamed_within c.args.sent_limit plan c.args.bytes) stop.printed r) (sym tys) halted)
 
 pub returns : goal.returns
 returns g c = memory_runs _ _ _

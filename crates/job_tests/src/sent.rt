@@ -1,0 +1,62 @@
+// A run that may send few changes.
+ghost use Rattle.std.specs.Prelude.{IfOk};
+ghost use Rattle.job_judgement.specs.Judged.{IsJudged};
+ghost use Rattle.job_judgement.specs.Views.{accepted_view};
+
+use crate::scripts::COUNT_APPEND;
+use ct_io::SureSink;
+use ct_value::{Bytes, Memory};
+use job_ending::{Halt, LimitName};
+use job_judgement::{Accepted, judged};
+use job_plan::planned;
+use job_stream::stream_within;
+use std::alloc::Global;
+
+fn bytes_of(alloc: Global, text: &str) -> Result<Bytes, Halt> {
+    match Bytes::from_slice(alloc, text.as_bytes()) {
+        Ok(bytes) => Ok(bytes),
+        Err(Memory) => Err(Halt::Memory),
+    }
+}
+
+// What a text is judged to be.
+fn script_of(alloc: Global, text: &str) -> Result<Accepted, Halt>
+    ensures { IfOk result (λ script. IsJudged (accepted_view script)) }
+{
+    let bytes = bytes_of(alloc, text)?;
+    if bytes.len() > 1000 {
+        return Err(Halt::Limit(LimitName::Script));
+    }
+    judged(alloc, &bytes)
+}
+
+// Runs a script over the lines of a text, where so many changes are sent at most.
+fn runs_within(alloc: Global, script: &str, changes: &str, sent_limit: u32) -> Result<(), Halt> {
+    let script = script_of(alloc, script)?;
+    let plan = planned(alloc, &script)?;
+    let bytes = bytes_of(alloc, changes)?;
+    if bytes.len() > 1000 {
+        return Err(Halt::Limit(LimitName::Changes));
+    }
+    match SureSink::new(alloc) {
+        Ok(mut out) => stream_within(alloc, &plan, bytes, sent_limit, &mut out),
+        Err(_) => Err(Halt::Memory),
+    }
+}
+
+// Whether that stops since a change more would be sent.
+fn stops_by_limit(alloc: Global, sent_limit: u32) -> bool {
+    let ran = runs_within(alloc, COUNT_APPEND, "t,+I,a\nt,+I,b\nt,+I,a\n", sent_limit);
+    matches!(ran, Err(Halt::Limit(LimitName::Sent)))
+}
+
+#[test]
+fn a_third_line_stops_where_two_changes_are_sent_at_most(rt: HostRuntime) {
+    assert!(rt; stops_by_limit(rt.alloc(), 2));
+}
+
+// Three changes of the table, as many of its counts and one before another, and these again as the sink's.
+#[test]
+fn all_lines_run_where_enough_are_sent(rt: HostRuntime) {
+    assert!(rt; !stops_by_limit(rt.alloc(), 1000));
+}
