@@ -139,6 +139,12 @@ pub const DISTINCT_OF_TWO: &str = "CREATE TABLE t (word STRING) WITH ('changelog
     SET 'table.exec.resource.default-parallelism' = '4';\
     INSERT INTO out_t SELECT DISTINCT word FROM (SELECT word FROM t UNION ALL SELECT word FROM u);";
 
+/// No row of a table.
+pub const KEEPS_NOTHING: &str =
+    "CREATE TABLE t (word STRING NOT NULL) WITH ('changelog' = 'append');\
+    CREATE TABLE out_t (word STRING) WITH ('changelog' = 'retract');\
+    INSERT INTO out_t SELECT word FROM t WHERE FALSE;";
+
 /// Rows of a, with those of b that have their k.
 pub const LEFT_JOIN: &str = "CREATE TABLE a (id INT PRIMARY KEY NOT ENFORCED, k INT);\
     CREATE TABLE b (k INT PRIMARY KEY NOT ENFORCED, x STRING) WITH ('changelog' = 'retract');\

@@ -3,7 +3,7 @@ ghost use Rattle.std.specs.Prelude.{IfOk};
 ghost use Rattle.job_judgement.specs.Judged.{IsJudged};
 ghost use Rattle.job_judgement.specs.Views.{accepted_view};
 
-use crate::scripts::COUNT_APPEND;
+use crate::scripts::{COUNT_APPEND, KEEPS_NOTHING};
 use ct_io::SureSink;
 use ct_value::{Bytes, Memory};
 use job_ending::{Halt, LimitName};
@@ -45,18 +45,26 @@ fn runs_within(alloc: Global, script: &str, changes: &str, sent_limit: u32) -> R
 }
 
 // Whether that stops since a change more would be sent.
-fn stops_by_limit(alloc: Global, sent_limit: u32) -> bool {
-    let ran = runs_within(alloc, COUNT_APPEND, "t,+I,a\nt,+I,b\nt,+I,a\n", sent_limit);
+fn stops_by_limit(alloc: Global, script: &str, changes: &str, sent_limit: u32) -> bool {
+    let ran = runs_within(alloc, script, changes, sent_limit);
     matches!(ran, Err(Halt::Limit(LimitName::Sent)))
 }
 
-#[test]
-fn a_third_line_stops_where_two_changes_are_sent_at_most(rt: HostRuntime) {
-    assert!(rt; stops_by_limit(rt.alloc(), 2));
+// Whether it ends well.
+fn ends_within(alloc: Global, script: &str, changes: &str, sent_limit: u32) -> bool {
+    runs_within(alloc, script, changes, sent_limit).is_ok()
 }
 
-// Three changes of the table, as many of its counts and one before another, and these again as the sink's.
 #[test]
-fn all_lines_run_where_enough_are_sent(rt: HostRuntime) {
-    assert!(rt; !stops_by_limit(rt.alloc(), 1000));
+fn a_count_of_three_lines_needs_more_than_two_changes(rt: HostRuntime) {
+    let lines = "t,+I,a\nt,+I,b\nt,+I,a\n";
+    assert!(rt; stops_by_limit(rt.alloc(), COUNT_APPEND, lines, 2));
+    assert!(rt; ends_within(rt.alloc(), COUNT_APPEND, lines, 1000));
+}
+
+// No row passes, so that the lines alone send changes: it is the third line that stops.
+#[test]
+fn a_third_line_stops_where_two_changes_are_sent_at_most(rt: HostRuntime) {
+    assert!(rt; ends_within(rt.alloc(), KEEPS_NOTHING, "t,+I,a\nt,+I,b\n", 2));
+    assert!(rt; stops_by_limit(rt.alloc(), KEEPS_NOTHING, "t,+I,a\nt,+I,b\nt,+I,a\n", 2));
 }
