@@ -8,10 +8,10 @@ use ct_value::{ColTys, List, Memory, Numbers};
 use rel_columns::common_columns;
 
 /// The columns of nodes in order, none of a node that isn't well-typed or isn't built yet.
-pub(crate) type NodeColumns = List<Option<ColTys>>;
+pub type NodeColumns = List<Option<ColTys>>;
 
 /// The columns of a node by its number, from 1.
-pub(crate) fn numbered(done: &NodeColumns, number: u32) -> Option<&ColTys>
+pub fn numbered_columns(done: &NodeColumns, number: u32) -> Option<&ColTys>
     ensures { option_copied result ≡ c.numbered_columns done.now number }
 {
     if number == 0 {
@@ -24,11 +24,11 @@ pub(crate) fn numbered(done: &NodeColumns, number: u32) -> Option<&ColTys>
 }
 
 /// The columns of an only input.
-pub(crate) fn only_input<'a>(done: &'a NodeColumns, inputs: &Numbers) -> Option<&'a ColTys>
+pub fn only_input<'a>(done: &'a NodeColumns, inputs: &Numbers) -> Option<&'a ColTys>
     ensures { option_copied result ≡ c.only (map (c.numbered_columns done.now) inputs.now) }
 {
     if inputs.len() == 1 {
-        numbered(done, inputs.as_slice()[0])
+        numbered_columns(done, inputs.as_slice()[0])
     } else {
         None
     }
@@ -41,9 +41,9 @@ pub(crate) fn common_input(done: &NodeColumns, inputs: &Numbers) -> Result<Optio
     if inputs.is_empty() {
         return Ok(None);
     }
-    let mut common = same_columns(numbered(done, inputs.as_slice()[0]))?;
+    let mut common = same_columns(numbered_columns(done, inputs.as_slice()[0]))?;
     for i in 1..inputs.len() {
-        common = with_input(common, numbered(done, inputs.as_slice()[i]))?;
+        common = with_input(common, numbered_columns(done, inputs.as_slice()[i]))?;
     }
     Ok(common)
 }
@@ -62,7 +62,7 @@ fn with_input(common: Option<ColTys>, input: Option<&ColTys>) -> Result<Option<C
 }
 
 /// The columns of an input, where it has any.
-pub(crate) fn same_columns(input: Option<&ColTys>) -> Result<Option<ColTys>, Memory>
+pub fn same_columns(input: Option<&ColTys>) -> Result<Option<ColTys>, Memory>
     ensures { IfOk result (λ made. made ≡ option_copied input.entry) }
 {
     match input {

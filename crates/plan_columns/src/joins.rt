@@ -6,7 +6,7 @@ ghost use Rattle.plan_rules.specs.Columns as c;
 ghost use Rattle.rel_algebra.specs.Types as t;
 ghost use Rattle.rel_clauses.specs.Joins as j;
 
-use crate::inputs::{NodeColumns, numbered};
+use crate::inputs::{NodeColumns, numbered_columns};
 use ct_expr::{Expr, common_ty};
 use ct_value::{ColTys, Memory, Numbers};
 use rel_clauses::{JoinKind, Pair, Pairs};
@@ -23,8 +23,8 @@ pub(crate) fn joined(
     ensures { IfOk result (λ made. made ≡ c.matched_columns on.now (option_map expr_view rest.now) (j.join_columns kind) (map (c.numbered_columns done.now) inputs.now)) }
 {
     if inputs.len() == 2 {
-        let left = numbered(done, inputs.as_slice()[0]);
-        let right = numbered(done, inputs.as_slice()[1]);
+        let left = numbered_columns(done, inputs.as_slice()[0]);
+        let right = numbered_columns(done, inputs.as_slice()[1]);
         joined_sides(kind, on, rest, left, right)
     } else {
         Ok(None)
@@ -64,8 +64,8 @@ pub(crate) fn semi_joined(
     ensures { IfOk result (λ made. made ≡ c.matched_columns on.now (option_map expr_view rest.now) (λ left right. left) (map (c.numbered_columns done.now) inputs.now)) }
 {
     if inputs.len() == 2 {
-        let left = numbered(done, inputs.as_slice()[0]);
-        let right = numbered(done, inputs.as_slice()[1]);
+        let left = numbered_columns(done, inputs.as_slice()[0]);
+        let right = numbered_columns(done, inputs.as_slice()[1]);
         semi_sides(on, rest, left, right)
     } else {
         Ok(None)
@@ -124,8 +124,8 @@ fn rest_fits(rest: &Option<Expr>, left: &ColTys, right: &ColTys) -> Result<bool,
     }
 }
 
-// Whether the two columns of each pair are there, and have a common type.
-fn pairs_fit(on: &Pairs, left: &ColTys, right: &ColTys) -> bool
+/// Whether the two columns of each pair are there, and have a common type.
+pub fn pairs_fit(on: &Pairs, left: &ColTys, right: &ColTys) -> bool
     ensures { result ≡ t.pairs_fit left.now right.now on.now }
 {
     for pair in on.as_slice() {

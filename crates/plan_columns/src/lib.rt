@@ -1,7 +1,8 @@
 //! The columns that the nodes of a plan send.
 //!
 //! Promised: `columns_of` answers those of each node by its number, as `plan_rules` defines them: none where a node isn't well-typed
-//! or isn't built yet. It stands on `rel_columns`, which answers the columns of a clause.
+//! or isn't built yet; `next_columns` answers those of one node, from those of the nodes before it. It stands on `rel_columns`, which
+//! answers the columns of a clause.
 #![tactic(auto)]
 
 mod inputs;
@@ -9,4 +10,7 @@ mod joins;
 mod listed;
 mod nodes;
 
+pub use inputs::{NodeColumns, numbered_columns, only_input, same_columns};
+pub use joins::pairs_fit;
 pub use listed::columns_of;
+pub use nodes::next_columns;

@@ -16,7 +16,7 @@ use rel_clauses::Aggs;
 use rel_columns::{group_columns, is_condition, item_columns};
 
 /// The columns of a node behind these.
-pub(crate) fn next_columns(
+pub fn next_columns(
     sources: &Sources,
     done: &NodeColumns,
     node: &Node,

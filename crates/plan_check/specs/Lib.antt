@@ -1,0 +1,6 @@
+pub mod Chains
+pub mod Checked
+pub mod Faults
+pub mod Partials
+pub mod Sound
+pub mod Types

@@ -1,0 +1,118 @@
+-- The rule Types, said of one node of a plan: the columns that each node sends, for all operators, and what the sink takes.
+use Rattle.std.specs.Prelude.{ℕ, Bool, true, false, not, ◌&&◌, ◌||◌, List, [], ◌∷◌, ◌++◌, map, Option, Some, None, option_map, option_and_then}
+use Rattle.std.specs.List.{list_all}
+use Rattle.ct_value.specs.declared.ty.ColTy.{ColTy}
+use Rattle.ct_catalog.specs.declared.table.TableDef.{TableDef}
+use Rattle.ct_expr.specs.Types.{both_of, common_ty}
+use Rattle.rel_clauses.specs.Groups.{group_columns}
+use Rattle.rel_clauses.specs.Ranks.{rank_columns}
+use Rattle.rel_algebra.specs.Types.{columns_if, is_column, rank_fits}
+use Rattle.binding.specs.Inserts.{go_into}
+use Rattle.phys_plan.specs.declared.node.Op.{Op}
+use Rattle.phys_plan.specs.declared.node.Op.TheVariants as op
+use Rattle.phys_plan.specs.declared.node.Node.{Node}
+use Rattle.phys_plan.specs.declared.plan.Plan.{Plan}
+use Rattle.plan_network.specs.Plans.{column_types, numbered}
+use Rattle.plan_rules.specs.Columns.{columns_by, numbered_columns, only}
+use Rattle.plan_check.specs.Chains.{chain_columns}
+use Rattle.plan_check.specs.Partials.{partial_columns}
+
+-- ---- columns of one operator
+
+-- these columns, where those of the key are among them
+abbrev pub keyed_columns : List ℕ → List ColTy → Option (List ColTy)
+keyed_columns key columns = columns_if (list_all (is_column columns) key) columns
+
+-- NULL may stand in a row of the left that isn't on the right where it may on the left, and in one of both where it may on both
+abbrev pub set_nullable : Bool → ColTy → ColTy → Bool
+set_nullable true left right = left.nullable
+set_nullable false left right = left.nullable && right.nullable
+
+abbrev pub set_column : Bool → ColTy → ColTy → Option ColTy
+set_column except left right = option_map (λ ty. record { ty = ty; nullable = set_nullable except left right }) (common_ty left.ty right.ty)
+
+-- column by column, equally many
+abbrev pub set_columns : Bool → List ColTy → List ColTy → Option (List ColTy)
+set_columns except [] [] = Some []
+set_columns except [] (right ∷ rights) = None
+set_columns except (left ∷ lefts) [] = None
+set_columns except (left ∷ lefts) (right ∷ rights) = both_of (λ column columns. Some (column ∷ columns)) (set_column except left right) (set_columns except lefts rights)
+
+-- those of two inputs
+abbrev pub of_two : (List ColTy → List ColTy → Option (List ColTy)) → List (Option (List ColTy)) → Option (List ColTy)
+of_two made (left ∷ (right ∷ [])) = both_of made left right
+of_two made _ = None
+
+-- the columns of a node, from those of its inputs; none where it isn't well-typed
+abbrev pub types_by : List TableDef → Op → List (Option (List ColTy)) → Option (List ColTy)
+types_by sources (op.Normalize key) inputs = option_and_then (keyed_columns key) (only inputs)
+types_by sources (op.Materialize key) inputs = option_and_then (keyed_columns key) (only inputs)
+types_by sources (op.BatchGroup keys aggs) inputs = option_and_then (λ columns. group_columns keys columns aggs) (only inputs)
+types_by sources (op.LocalGroup keys aggs) inputs = option_and_then (λ columns. partial_columns keys columns aggs) (only inputs)
+types_by sources (op.TopN partition order bound ranked) inputs = option_and_then (λ columns. columns_if (rank_fits columns partition order bound) (rank_columns ranked columns)) (only inputs)
+types_by sources (op.MultiJoin on) inputs = chain_columns on inputs
+types_by sources (op.SetOp except all) inputs = of_two (set_columns except) inputs
+types_by sources operator inputs = columns_by sources operator inputs
+
+-- ---- columns of the nodes of a plan
+
+-- the columns of the rows whose parts a local group sends, and of another node its own
+abbrev pub under_parts : List (Option (List ColTy)) → ℕ → Op → List ℕ → Option (List ColTy)
+under_parts done v (op.LocalGroup keys aggs) inputs = only (map (numbered_columns done) inputs)
+under_parts done v _ inputs = numbered_columns done v
+
+abbrev pub summed_in : List (Option (List ColTy)) → ℕ → Option Node → Option (List ColTy)
+summed_in done v None = numbered_columns done v
+summed_in done v (Some node) = under_parts done v node.op node.inputs
+
+abbrev pub summed_columns : List Node → List (Option (List ColTy)) → ℕ → Option (List ColTy)
+summed_columns nodes done v = summed_in done v (numbered nodes v)
+
+-- the columns of its inputs, as an operator counts them: a group in bundles above a local group counts those of the rows that it
+-- sums up
+abbrev pub input_columns : List Node → List (Option (List ColTy)) → Op → List ℕ → List (Option (List ColTy))
+input_columns nodes done (op.BatchGroup keys aggs) inputs = map (summed_columns nodes done) inputs
+input_columns nodes done _ inputs = map (numbered_columns done) inputs
+
+-- those of a node behind these
+abbrev pub next_types : List TableDef → List Node → List (Option (List ColTy)) → Node → Option (List ColTy)
+next_types sources nodes done node = types_by sources node.op (input_columns nodes done node.op node.inputs)
+
+-- those of some nodes, each after its inputs, behind those of the nodes before them
+abbrev pub types_after : List TableDef → List Node → List (Option (List ColTy)) → List Node → List (Option (List ColTy))
+types_after sources nodes done [] = done
+types_after sources nodes done (node ∷ more) = types_after sources nodes (done ++ next_types sources nodes done node ∷ []) more
+
+-- those of all nodes, and of a node by its number, from 1
+abbrev pub all_types : List TableDef → List Node → List (Option (List ColTy))
+all_types sources nodes = types_after sources nodes [] nodes
+
+abbrev pub types_at : List TableDef → List Node → ℕ → Option (List ColTy)
+types_at sources nodes v = numbered_columns (all_types sources nodes) v
+
+-- ---- the sink
+
+-- column by column, NULL may stand in the sink's where it may in a row's
+abbrev pub keep_nulls : List ColTy → List ColTy → Bool
+keep_nulls (column ∷ columns) (sink ∷ sinks) = (not column.nullable || sink.nullable) && keep_nulls columns sinks
+keep_nulls columns sinks = true
+
+-- rows of these columns may go into the sink's
+abbrev pub fit_sink : List ColTy → List ColTy → Bool
+fit_sink columns sinks = go_into columns sinks && keep_nulls columns sinks
+
+-- ---- nodes
+
+-- a node has columns, and those of the sink go into its table
+abbrev pub is_typed_by : TableDef → Op → Option (List ColTy) → Bool
+is_typed_by sink operator None = false
+is_typed_by sink op.Sink (Some columns) = fit_sink columns (column_types sink)
+is_typed_by sink _ (Some columns) = true
+
+abbrev pub is_typed : TableDef → Option Node → Option (List ColTy) → Bool
+is_typed sink None columns = true
+is_typed sink (Some node) columns = is_typed_by sink node.op columns
+
+-- Types at a number
+abbrev pub has_types : Plan → ℕ → Bool
+has_types plan v = is_typed plan.sink (numbered plan.nodes v) (types_at plan.sources plan.nodes v)

@@ -1,0 +1,21 @@
+//! Plans that were checked.
+//!
+//! Promised: `check_plan` accepts exactly the plans whose nodes all meet the rules that `specs/Sound` tells, so far Shape and Types, and
+//! names the first rule that a node breaks and the first such node; a `CheckedPlan` keeps to them. `node_types` answers the columns of a
+//! node, for all operators. It stands on `plan_shape` and on the columns of clauses and nodes.
+#![tactic(auto)]
+
+mod chains;
+mod check;
+mod checked;
+mod edges;
+mod groups;
+mod nodes;
+mod operators;
+mod sets;
+mod sinks;
+
+pub use check::{PlanFault, check_plan};
+pub use checked::CheckedPlan;
+pub use edges::edge_admits;
+pub use nodes::node_types;

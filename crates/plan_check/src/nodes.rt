@@ -1,0 +1,64 @@
+//! The columns of nodes.
+ghost use Rattle.std.specs.Prelude.{◌≡◌, option_copied, IfOk};
+ghost use Rattle.plan_network.specs.Plans.{numbered};
+ghost use Rattle.plan_check.specs.Types as t;
+
+use crate::operators::next_types;
+use crate::sinks::is_typed_by;
+use ct_catalog::Sources;
+use ct_value::{ColTys, Memory};
+use phys_plan::{Node, Nodes, Plan};
+use plan_columns::{NodeColumns, numbered_columns, same_columns};
+use std::alloc::Global;
+
+/// The types of a node's columns, by its number, from 1; a sink has its input's. None where there is no such node, or it or a node
+/// that it reads isn't well-typed.
+pub fn node_types(
+    alloc: Global,
+    sources: &Sources,
+    nodes: &Nodes,
+    node: u32,
+) -> Result<Option<ColTys>, Memory>
+    ensures { IfOk result (λ types. types ≡ t.types_at sources.now nodes.now node) }
+{
+    let types = all_types(alloc, sources, nodes)?;
+    same_columns(numbered_columns(&types, node))
+}
+
+/// The columns of all nodes of a plan.
+pub(crate) fn plan_types(alloc: Global, plan: &Plan) -> Result<NodeColumns, Memory>
+    ensures { IfOk result (λ types. types ≡ t.all_types plan.now.sources plan.now.nodes) }
+{
+    all_types(alloc, &plan.sources, &plan.nodes)
+}
+
+fn all_types(alloc: Global, sources: &Sources, nodes: &Nodes) -> Result<NodeColumns, Memory>
+    ensures { IfOk result (λ types. types ≡ t.all_types sources.now nodes.now) }
+{
+    let mut done = NodeColumns::with_capacity(alloc, nodes.len())?;
+    for node in nodes.as_slice() {
+        let columns = next_types(sources, nodes, &done, node)?;
+        done.push(columns)?;
+    }
+    Ok(done)
+}
+
+/// Whether a node meets the rule Types, by its number and the columns of all nodes.
+pub(crate) fn has_types(plan: &Plan, types: &NodeColumns, number: u32) -> bool
+    requires { types.now ≡ t.all_types plan.now.sources plan.now.nodes }
+    ensures { result ≡ t.has_types plan.now number }
+{
+    match node_at(plan, number) {
+        None => true,
+        Some(node) => is_typed_by(&plan.sink, &node.op, numbered_columns(types, number)),
+    }
+}
+
+fn node_at(plan: &Plan, number: u32) -> Option<&Node>
+    ensures { option_copied result ≡ numbered plan.now.nodes number }
+{
+    if number == 0 {
+        return None;
+    }
+    plan.nodes.get(number as usize - 1)
+}
