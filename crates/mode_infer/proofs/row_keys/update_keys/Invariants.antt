@@ -1,0 +1,8 @@
+use Rattle.std.proofs.Common.{◌≡◌, drop, []}
+use Rattle.plan_reading.specs.Reading.{wires}
+use Rattle.plan_reading.specs.Columns.{columns_in}
+use Rattle.mode_infer.specs.UpdateKeys.{update_keys_after}
+use Rattle.mode_infer.proofs.row_keys.update_keys.Given as goal
+
+abbrev pub invariant-loop-node : goal.invariant-loop-node
+invariant-loop-node l = update_keys_after (columns_in l.columns) l.done (wires (drop l.node-index l.nodes)) ≡ update_keys_after (columns_in l.columns) [] (wires l.nodes)

@@ -1,0 +1,5 @@
+pub mod Kinds
+pub mod UpdateKeys
+pub mod Exchanges
+pub mod Updates
+pub mod Modes

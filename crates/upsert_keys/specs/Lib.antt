@@ -1,0 +1,4 @@
+pub mod Seen
+pub mod Joins
+pub mod Keys
+pub mod laws
