@@ -1,0 +1,143 @@
+//! The partitions by key, each kept in rank order.
+ghost use Rattle.std.specs.Prelude.{◌≡◌, ◌+◌, ◌*◌, ◌<◌, ◌≤◌, ◌^◌, true, false, cond, None, take, IfOk, OnOk};
+ghost use Rattle.std.specs.BTreeMap.{get, IsOrdered};
+ghost use Rattle.ct_value.specs.Bag.{total};
+ghost use Rattle.ct_value.specs.Order.{row_cmp};
+ghost use Rattle.ct_value.specs.declared.row.Row.{Row};
+ghost use Rattle.ct_change.specs.Changelog.{Rows, same_row, with, without};
+ghost use Rattle.ct_change.specs.Emission.{replaced};
+ghost use Rattle.rel_clauses.specs.Ranks.{in_rank_order};
+ghost use Rattle.ranked_rows.specs.Kept.{IsRanked, is_empty};
+ghost use Rattle.op_topn.specs.Kept.{HasRow, unless_empty, AreKept, IsTurned};
+
+use ct_change::Steps;
+use ct_value::{ColTys, Cols, Memory, Row};
+use ranked_rows::{RankKey, RankedRows};
+use rel_clauses::Sorts;
+use std::alloc::Global;
+use std::collections::BTreeMap;
+use std::sync::ledger::Ledger;
+
+/// Which rows are kept of rows of these columns: the first `bound` of each partition, which columns name, in this order, with
+/// `ranked` their rank as the last column.
+#[derive(Debug, Drop)]
+pub struct TopBy {
+    pub alloc: Global,
+    pub partition: Cols,
+    pub order: Sorts,
+    pub bound: u32,
+    pub ranked: bool,
+    pub columns: ColTys,
+}
+
+/// The first rows of a partition before and after a change.
+#[derive(Drop)]
+pub struct Firsts {
+    pub olds: Vec<Row>,
+    pub news: Vec<Row>,
+}
+
+/// Takes a row, which has to stand, away from the partition with this key, and adds another. The partition is forgotten where it
+/// then has no rows. Each of its first rows, before and after, is one step.
+pub fn turn_partition<L: Ledger>(
+    by: &TopBy,
+    partitions: &mut BTreeMap<Row, RankedRows>,
+    key: Row,
+    gone: Option<Row>,
+    come: Option<Row>,
+    steps: &mut Steps<L>,
+) -> Result<Firsts, Memory>
+    requires kept { (of : Row → Rows) × AreKept by.now.order partitions.old of × HasRow (of key) gone × (total (λ _. 1) (of key) + 1 < 2 ^ 64) }
+    ensures olds { IfOk result (λ firsts. (of : Row → Rows) → AreKept by.now.order partitions.old of → firsts.olds.items ≡ take by.now.bound (in_rank_order by.now.order (of key))) }
+    ensures news { IfOk result (λ firsts. (of : Row → Rows) → AreKept by.now.order partitions.old of → HasRow (of key) gone → firsts.news.items ≡ take by.now.bound (in_rank_order by.now.order (replaced (of key) gone come))) }
+    ensures kept { OnOk result ((of after : Row → Rows) → AreKept by.now.order partitions.old of → HasRow (of key) gone → IsTurned key of after gone come → AreKept by.now.order partitions.new after) }
+    ensures cost { steps.new ≤ steps.old + 2 * by.now.bound }
+{
+    let mut kept = take_out(by.alloc, partitions, &key);
+    let firsts = turn_rows(by, &mut kept, gone, come, steps)?;
+    put_back(partitions, key, kept)?;
+    Ok(firsts)
+}
+
+// Takes a partition out, which has no rows where it isn't there.
+fn take_out(alloc: Global, partitions: &mut BTreeMap<Row, RankedRows>, key: &Row) -> RankedRows
+    ensures kept { (by : TopBy) (of : Row → Rows) → AreKept by.order partitions.old of → IsRanked by.order result.counts (of key.now) }
+    ensures others { (other : Row) → get row_cmp partitions.new other ≡ cond (same_row key.now other) None (get row_cmp partitions.old other) }
+    ensures ordered { IsOrdered row_cmp partitions.new }
+{
+    match partitions.remove(key) {
+        Some(kept) => kept,
+        None => RankedRows::new(alloc),
+    }
+}
+
+// Puts a partition in, which mustn't be there, unless it has no rows.
+fn put_back(
+    partitions: &mut BTreeMap<Row, RankedRows>,
+    key: Row,
+    kept: RankedRows,
+) -> Result<(), Memory>
+    requires absent { get row_cmp partitions.old key ≡ None }
+    requires ordered { IsOrdered row_cmp partitions.old }
+    ensures put { OnOk result ((other : Row) → get row_cmp partitions.new other ≡ cond (same_row key other) (unless_empty (is_empty kept) kept) (get row_cmp partitions.old other)) }
+    ensures ordered { OnOk result (IsOrdered row_cmp partitions.new) }
+{
+    if kept.is_empty() {
+        return Ok(());
+    }
+    partitions.insert(key, kept)?;
+    Ok(())
+}
+
+/// Takes a row, which has to stand, away from a partition and adds another, and answers its first rows before and after. All of its
+/// rows are kept, so that where one of the first goes the next one follows.
+pub fn turn_rows<L: Ledger>(
+    by: &TopBy,
+    kept: &mut RankedRows,
+    gone: Option<Row>,
+    come: Option<Row>,
+    steps: &mut Steps<L>,
+) -> Result<Firsts, Memory>
+    requires { (rows : Rows) × IsRanked by.now.order kept.old.counts rows × HasRow rows gone × (total (λ _. 1) rows + 1 < 2 ^ 64) }
+    ensures olds { IfOk result (λ firsts. (rows : Rows) → IsRanked by.now.order kept.old.counts rows → firsts.olds.items ≡ take by.now.bound (in_rank_order by.now.order rows)) }
+    ensures news { IfOk result (λ firsts. (rows : Rows) → IsRanked by.now.order kept.old.counts rows → HasRow rows gone → firsts.news.items ≡ take by.now.bound (in_rank_order by.now.order (replaced rows gone come))) }
+    ensures kept { OnOk result ((rows : Rows) → IsRanked by.now.order kept.old.counts rows → HasRow rows gone → IsRanked by.now.order kept.new.counts (replaced rows gone come)) }
+    ensures cost { steps.new ≤ steps.old + 2 * by.now.bound }
+{
+    let bound = by.bound as usize;
+    let olds = kept.first(by.alloc, bound, steps)?;
+    let_go(by, kept, gone)?;
+    take_in(by, kept, come)?;
+    let news = kept.first(by.alloc, bound, steps)?;
+    Ok(Firsts { olds, news })
+}
+
+// Takes away a row, if there is one, which has to stand.
+fn let_go(by: &TopBy, kept: &mut RankedRows, gone: Option<Row>) -> Result<(), Memory>
+    requires { (rows : Rows) × IsRanked by.now.order kept.old.counts rows × HasRow rows gone }
+    ensures { OnOk result ((rows : Rows) → IsRanked by.now.order kept.old.counts rows → HasRow rows gone → IsRanked by.now.order kept.new.counts (without rows gone)) }
+{
+    match gone {
+        None => Ok(()),
+        Some(row) => {
+            let key = RankKey::new(by.alloc, &by.order, row)?;
+            kept.remove(key)?;
+            Ok(())
+        }
+    }
+}
+
+// Adds a row, if there is one.
+fn take_in(by: &TopBy, kept: &mut RankedRows, come: Option<Row>) -> Result<(), Memory>
+    requires { (rows : Rows) × IsRanked by.now.order kept.old.counts rows × (total (λ _. 1) rows + 1 < 2 ^ 64) }
+    ensures { OnOk result ((rows : Rows) → IsRanked by.now.order kept.old.counts rows → IsRanked by.now.order kept.new.counts (with rows come)) }
+{
+    match come {
+        None => Ok(()),
+        Some(row) => {
+            let key = RankKey::new(by.alloc, &by.order, row)?;
+            kept.add(key)?;
+            Ok(())
+        }
+    }
+}

@@ -1,0 +1,10 @@
+pub mod Lists
+pub mod Ranked
+pub mod Standing
+pub mod Answers
+pub mod Messages
+pub mod Places
+pub mod Told
+pub mod Histories
+pub mod Keys
+pub mod Facts

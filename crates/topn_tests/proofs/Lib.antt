@@ -1,0 +1,3 @@
+pub mod Arrivals
+pub mod Fitting
+pub mod Sound

@@ -1,0 +1,6 @@
+/// How the changes are read: as rows that come and go, or as the last row of each id.
+#[derive(Clone, Copy, Debug)]
+pub enum Reads {
+    Retract,
+    LastRows,
+}
