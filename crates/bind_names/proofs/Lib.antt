@@ -1,4 +1,3 @@
 pub mod CallLists
 pub mod Digits
 pub mod Finds
-pub mod Outsides

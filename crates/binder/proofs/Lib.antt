@@ -1,9 +1,7 @@
 pub mod BySelects
 pub mod Columns
-pub mod Exists
 pub mod IntoSinks
 pub mod Joins
 pub mod Pops
 pub mod Selects
 pub mod Unions
-pub mod Wheres

@@ -9,3 +9,4 @@ mod selected;
 mod sinks;
 
 pub use inserts::{Inserted, bind};
+pub use queries::bind_query;
