@@ -1,21 +1,16 @@
-//! FROM and WHERE.
+//! FROM, and conditions as one.
 ghost use Rattle.bind_names.specs.declared.fault.BindFault.TheVariants as f;
 ghost use Rattle.std.specs.Prelude.{◌≡◌, ◌+◌, ℕ, Ok, Err, Some, map, option_map, IfOk, IsErrOf};
 ghost use Rattle.ct_value.specs.declared.codes.ScriptCode.{ScriptCode};
 ghost use Rattle.ct_expr.specs.View.{expr_view, exprs_view};
-ghost use Rattle.sql_syntax.specs.Tree.{optional_tree};
-ghost use Rattle.sql_syntax.specs.View.{view};
 ghost use Rattle.query_answer.specs.Answer.{table_scope, renamed_scope, under};
 ghost use Rattle.binding.specs.Queries as q;
 ghost use Rattle.binding.specs.Queries.{all_of, find_source};
-ghost use Rattle.rel_algebra.specs.Rel as r;
-ghost use Rattle.rel_algebra.specs.View.{rel_view};
 ghost use Rattle.bind_nodes.specs.Views.{bounds_view};
 ghost use Rattle.bind_clauses.specs.Conditions.{one_or_all};
 ghost use Rattle.bind_clauses.specs.Views.{relation_view};
 
 use crate::relation::Relation;
-use bind_expressions::{bind_conjuncts, conditions};
 use bind_names::BindFault;
 use bind_nodes::{Bounds, operands};
 use ct_catalog::{ColDef, Sources, TableDef};
@@ -23,7 +18,6 @@ use ct_expr::{Expr, Exprs};
 use ct_value::{Memory, ScriptCode, Text};
 use query_answer::{Scope, ScopeColumn};
 use rel_algebra::Rel;
-use sql_syntax::Tree;
 use std::alloc::Global;
 
 /// The next number; no list has more items than a number of 32 bits tells.
@@ -173,43 +167,4 @@ fn one_or_all(exprs: Exprs) -> Expr
         Some(expr) => expr,
         None => Expr::And(exprs),
     }
-}
-
-/// The rows on which the condition of a WHERE is TRUE.
-#[tactic(auto, using(rel_algebra::specs::laws::Views::view_filter))]
-pub fn filtered(
-    alloc: Global,
-    condition: &Option<Tree>,
-    relation: Relation,
-) -> Result<Relation, BindFault>
-    ensures ok { IfOk result (λ x. q.filtered (optional_tree (option_map view condition.now)) (relation_view relation) ≡ Ok (relation_view x)) }
-    ensures refused { (code : ScriptCode) → IsErrOf result (f.Refused code) → q.filtered (optional_tree (option_map view condition.now)) (relation_view relation) ≡ Err code }
-{
-    match condition {
-        None => Ok(relation),
-        Some(tree) => {
-            let bounds = bind_conjuncts(alloc, &relation.scope, tree)?;
-            let bounds = conditions(bounds)?;
-            Ok(kept(alloc, bounds, relation)?)
-        }
-    }
-}
-
-// The rows on which all conditions are TRUE.
-#[tactic(auto, using(rel_algebra::specs::laws::Views::view_filter))]
-fn kept(alloc: Global, bounds: Bounds, relation: Relation) -> Result<Relation, Memory>
-    ensures { IfOk result (λ x. relation_view x ≡ record { rel = r.Filter (rel_view relation.rel.value) (all_of (bounds_view bounds)); scope = relation.scope }) }
-{
-    let cond = all_of(alloc, bounds)?;
-    let rel = Box::new(
-        alloc,
-        Rel::Filter {
-            input: relation.rel,
-            cond,
-        },
-    )?;
-    Ok(Relation {
-        rel,
-        scope: relation.scope,
-    })
 }

@@ -1,4 +1,4 @@
-//! Clauses of a select are bound: FROM a table, WHERE, what a select list lists, a Project, DISTINCT and the columns of UNION ALL.
+//! Clauses of a select are bound: FROM a table, what a select list lists, a Project, DISTINCT and the columns of UNION ALL.
 //!
 //! Promised: each call answers what the definition of `binding` says of the clause, or its refusal. It stands on bound
 //! expressions, and knows neither groups nor whole queries.
@@ -14,8 +14,8 @@ mod selects;
 
 pub use calls::{is_grouped, item_calls, select_calls};
 pub use entries::{Entries, Entry, Listed, entries_of};
-pub use from::{all_of, filtered, read, renamed};
+pub use from::{all_of, read, renamed};
 pub use lists::{few, finished, projected};
-pub use plain::plain_select;
+pub use plain::{list_plain, plain_select};
 pub use relation::Relation;
 pub use selects::{once, united};

@@ -29,10 +29,18 @@ pub fn plain_select(
     ensures ok { IfOk result (λ x. q.plain_select (entries_view entries.now) (relation_view relation) ≡ Ok (relation_view x)) }
     ensures refused { (code : ScriptCode) → IsErrOf result (f.Refused code) → q.plain_select (entries_view entries.now) (relation_view relation) ≡ Err code }
 {
-    let bounds = each_listed(alloc, &relation.scope, entries)?;
-    let bounds = few(bounds)?;
+    let bounds = list_plain(alloc, &relation.scope, entries)?;
     let width = relation.scope.len();
     Ok(finished(alloc, width, entries, bounds, relation.rel)?)
+}
+
+/// What a select list without groups lists, of which there is at most 64.
+pub fn list_plain(alloc: Global, scope: &Scope, entries: &Entries<'_>) -> Result<Bounds, BindFault>
+    ensures ok { IfOk result (λ xs. q.list_bound (q.plain_listed scope.now) (entries_view entries.now) ≡ Ok (bounds_view xs)) }
+    ensures refused { (code : ScriptCode) → IsErrOf result (f.Refused code) → q.list_bound (q.plain_listed scope.now) (entries_view entries.now) ≡ Err code }
+{
+    let bounds = each_listed(alloc, scope, entries)?;
+    few(bounds)
 }
 
 // What each entry lists, in order.

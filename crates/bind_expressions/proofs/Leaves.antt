@@ -11,17 +11,23 @@ use Rattle.query_answer.specs.Functions.{function_of}
 use Rattle.query_answer.specs.Names.{Scope}
 use Rattle.binding.specs.Checked.{Checked, ◌>>=◌}
 use Rattle.binding.specs.Nodes.{Bound}
-use Rattle.binding.specs.Expressions.{Leaf, args_bound, names, optional_bound}
+use Rattle.binding.specs.Expressions.{Leaf, args_bound, names, names_by, optional_bound}
 use Rattle.binding.specs.InGroups.{call_bound, call_column, call_or_key, has_no_keys, in_group}
 use Rattle.bind_names.specs.declared.fault.BindFault.{BindFault}
+use Rattle.bind_names.specs.declared.names.Lookup.{Lookup}
+use Rattle.bind_names.specs.declared.names.Lookup.TheVariants as l
+use Rattle.bind_names.specs.Lookups.{lookup_of}
 use Rattle.bind_nodes.specs.declared.bound.Bound.{Bound as Made}
 use Rattle.bind_nodes.specs.Views.{bound_view, bounds_view}
 use Rattle.bind_expressions.specs.declared.reach.Reach.TheVariants as r
 use Rattle.bind_expressions.specs.Reach.{leaf_of}
 
-pub rows_leaf : (scope : Bor Scope) → leaf_of (r.Rows scope) ≡ names scope.now
+pub rows_leaf : (look : Lookup) → leaf_of (r.Rows look) ≡ names_by (lookup_of look)
 unfolding leaf_of
-rows_leaf scope = refl
+rows_leaf look = refl
+
+pub own_leaf : (scope : Bor Scope) → leaf_of (r.Rows (l.Own scope)) ≡ names scope.now
+own_leaf scope = rows_leaf (l.Own scope)
 
 pub bounds_length : (xs : List Made) → length (bounds_view xs) ≡ length xs
 bounds_length [] = refl

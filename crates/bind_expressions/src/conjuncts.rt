@@ -4,7 +4,8 @@ ghost use Rattle.std.specs.Prelude.{◌≡◌, Ok, Err, IfOk, IsErrOf};
 ghost use Rattle.ct_value.specs.declared.codes.ScriptCode.{ScriptCode};
 ghost use Rattle.sql_syntax.specs.Tree.{trees as tree_list};
 ghost use Rattle.sql_syntax.specs.View.{view, trees_view};
-ghost use Rattle.binding.specs.Expressions.{all_conjuncts_bound, bound, bound_over, conditions, conjuncts_bound, each_bound};
+ghost use Rattle.bind_names.specs.Lookups.{lookup_of};
+ghost use Rattle.binding.specs.Expressions.{all_conjuncts_bound, bound, bound_by, bound_over, conditions, conjuncts_bound, each_bound};
 ghost use Rattle.bind_nodes.specs.Views.{bound_view, bounds_view};
 ghost use Rattle.bind_expressions.specs.Reach.{group_leaf};
 ghost use Rattle.bind_expressions.specs.Walk.{only_conjunct};
@@ -12,7 +13,7 @@ ghost use Rattle.bind_expressions.specs.Walk.{only_conjunct};
 use crate::reach::Reach;
 use crate::walk::bind;
 use bind_columns::Group;
-use bind_names::BindFault;
+use bind_names::{BindFault, Lookup};
 use bind_nodes::{Bound, Bounds, columns_are_truths};
 use ct_value::ScriptCode;
 use query_answer::Scope;
@@ -20,12 +21,20 @@ use sql_syntax::{Tree, Trees};
 use std::alloc::Global;
 
 /// What a tree over the columns in reach is bound to; it has no place for aggregate calls.
-#[tactic(auto, unfolding(crate::specs::Reach::leaf_of))]
 pub fn bind_over(alloc: Global, scope: &Scope, tree: &Tree) -> Result<Bound, BindFault>
     ensures ok { IfOk result (λ x. bound_over scope.now (view tree.now) ≡ Ok (bound_view x)) }
     ensures refused { (code : ScriptCode) → IsErrOf result (f.Refused code) → bound_over scope.now (view tree.now) ≡ Err code }
 {
-    let reach = Reach::Rows(scope);
+    bind_by(alloc, Lookup::Own(scope), tree)
+}
+
+/// What a tree is bound to whose names stand for columns by a look-up; it has no place for aggregate calls.
+#[tactic(auto, unfolding(crate::specs::Reach::leaf_of))]
+pub fn bind_by(alloc: Global, look: Lookup<'_>, tree: &Tree) -> Result<Bound, BindFault>
+    ensures ok { IfOk result (λ x. bound_by (lookup_of look.entry) (view tree.now) ≡ Ok (bound_view x)) }
+    ensures refused { (code : ScriptCode) → IsErrOf result (f.Refused code) → bound_by (lookup_of look.entry) (view tree.now) ≡ Err code }
+{
+    let reach = Reach::Rows(look);
     bind(alloc, &reach, 0, tree)
 }
 

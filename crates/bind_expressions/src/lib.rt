@@ -9,6 +9,6 @@ mod conjuncts;
 mod reach;
 mod walk;
 
-pub use conjuncts::{bind_conjuncts, bind_each, bind_in_group, bind_over, conditions};
+pub use conjuncts::{bind_by, bind_conjuncts, bind_each, bind_in_group, bind_over, conditions};
 pub use reach::Reach;
 pub use walk::{after, bind};

@@ -4,13 +4,13 @@ ghost use Rattle.std.specs.Prelude.{◌≡◌, ◌+◌, ℕ, None, Ok, Err, leng
 ghost use Rattle.ct_value.specs.declared.codes.ScriptCode.{ScriptCode};
 ghost use Rattle.sql_syntax.specs.Tree as t;
 ghost use Rattle.sql_syntax.specs.View.{view, args_view};
-ghost use Rattle.query_answer.specs.Names as q;
-ghost use Rattle.binding.specs.Expressions.{found_column, may_change, names};
+ghost use Rattle.binding.specs.Expressions.{found_column, may_change, names_by};
 ghost use Rattle.binding.specs.InGroups as g;
+ghost use Rattle.bind_names.specs.Lookups.{lookup_of};
 ghost use Rattle.bind_nodes.specs.Views.{bound_view, bounds_view};
 
 use bind_columns::{Group, call_column, has_no_keys, plus};
-use bind_names::{BindFault, find, function_of, is_changing};
+use bind_names::{BindFault, Lookup, function_of, is_changing};
 use bind_nodes::{Bound, Bounds, found_column};
 use ct_value::{ScriptCode, Text};
 use query_answer::Scope;
@@ -21,7 +21,7 @@ use std::alloc::Global;
 /// What whole nodes are bound to: the columns in reach, or in a grouped select the columns of a group's row.
 #[derive(Clone, Copy)]
 pub enum Reach<'a> {
-    Rows(&'a Scope),
+    Rows(Lookup<'a>),
     Groups(&'a Group<'a>),
 }
 
@@ -38,28 +38,30 @@ fn may_change(of: &Option<Text>, name: &Text, quoted: bool) -> bool
 /// The column that a name stands for.
 pub(crate) fn name_bound(
     alloc: Global,
-    scope: &Scope,
+    look: Lookup<'_>,
     of: &Option<Text>,
     name: &Text,
     quoted: bool,
 ) -> Result<Bound, BindFault>
-    ensures ok { IfOk result (λ x. found_column (may_change of.now name.now quoted) (q.find scope.now of.now name.now) ≡ Ok (bound_view x)) }
-    ensures refused { (code : ScriptCode) → IsErrOf result (f.Refused code) → found_column (may_change of.now name.now quoted) (q.find scope.now of.now name.now) ≡ Err code }
+    ensures ok { IfOk result (λ x. found_column (may_change of.now name.now quoted) (lookup_of look.entry of.now name.now) ≡ Ok (bound_view x)) }
+    ensures refused { (code : ScriptCode) → IsErrOf result (f.Refused code) → found_column (may_change of.now name.now quoted) (lookup_of look.entry of.now name.now) ≡ Err code }
 {
-    let found = find(scope, of, name)?;
+    let found = look.find(of, name)?;
     found_column(alloc, may_change(of, name, quoted), found)
 }
 
 // What a whole node over the columns in reach is bound to; `None` where its operands decide.
 #[tactic(auto, unfolding(sql_syntax::specs::View::view))]
-pub(crate) fn named(alloc: Global, scope: &Scope, tree: &Tree) -> Result<Option<Bound>, BindFault>
-    ensures ok { IfOk result (λ o. (n : ℕ) → names scope.now n (view tree.now) ≡ Ok (option_map bound_view o)) }
-    ensures refused { (code : ScriptCode) → IsErrOf result (f.Refused code) → (n : ℕ) → names scope.now n (view tree.now) ≡ Err code }
+pub(crate) fn named(
+    alloc: Global,
+    look: Lookup<'_>,
+    tree: &Tree,
+) -> Result<Option<Bound>, BindFault>
+    ensures ok { IfOk result (λ o. (n : ℕ) → names_by (lookup_of look.entry) n (view tree.now) ≡ Ok (option_map bound_view o)) }
+    ensures refused { (code : ScriptCode) → IsErrOf result (f.Refused code) → (n : ℕ) → names_by (lookup_of look.entry) n (view tree.now) ≡ Err code }
 {
     match tree {
-        Tree::Name { of, name, quoted } => {
-            Ok(Some(name_bound(alloc, scope, of, name, *quoted)?))
-        }
+        Tree::Name { of, name, quoted } => { Ok(Some(name_bound(alloc, look, of, name, *quoted)?)) }
         _ => Ok(None),
     }
 }
@@ -75,7 +77,7 @@ pub(crate) fn ungrouped(
     ensures ok { IfOk result (λ o. ⊥) }
     ensures refused { (code : ScriptCode) → IsErrOf result (f.Refused code) → g.or_refused scope.now (t.Name of.now name.now quoted) None ≡ Err code }
 {
-    name_bound(alloc, scope, of, name, quoted)?;
+    name_bound(alloc, Lookup::Own(scope), of, name, quoted)?;
     Err(BindFault::Refused(ScriptCode::NotGrouped))
 }
 

@@ -18,8 +18,8 @@ ghost use Rattle.bind_expressions.specs.Walk.{node};
 use crate::reach::{Reach, named, numbered, ungrouped};
 use bind_columns::{Group, is_distinct, key_of, plus};
 use bind_names::{
-    BindFault, CallRefs, aggregate_of, function_of, is_null, is_short, number_of, push_args,
-    push_calls, push_whens,
+    BindFault, CallRefs, Lookup, aggregate_of, function_of, is_null, is_short, number_of,
+    push_args, push_calls, push_whens,
 };
 use bind_nodes::{
     Bound, Bounds, Branch, Branches, CallForm, added, between, call, case, cast_to, compare,
@@ -85,7 +85,7 @@ fn whole(
     ensures refused { (code : ScriptCode) → IsErrOf result (f.Refused code) → leaf_of reach.now number (view tree.now) ≡ Err code }
 {
     match reach {
-        Reach::Rows(scope) => named(alloc, scope, tree),
+        Reach::Rows(look) => named(alloc, *look, tree),
         Reach::Groups(group) => in_group(alloc, group, number, tree),
     }
 }
@@ -112,7 +112,7 @@ fn in_group(
         } => match aggregate_of(function_of(name), over) {
             None => key_of(alloc, group, tree),
             Some(call) => {
-                let rows = Reach::Rows(group.scope);
+                let rows = Reach::Rows(Lookup::Own(group.scope));
                 let operands = bind_args(alloc, &rows, 0, args)?;
                 let filter = bind_optional(alloc, &rows, 0, filter)?;
                 let column = numbered(alloc, &group.keys, number, call, args, &operands, &filter)?;

@@ -1,24 +1,24 @@
-//! Key pairs: conjuncts that compare a column of one side with one of the other.
+//! Key pairs: conjuncts that compare a column of one side with one of the other. Names stand for columns of a row of both.
 ghost use Rattle.std.specs.Prelude.{◌≡◌, IfOk};
 ghost use Rattle.sql_syntax.specs.View.{view};
 ghost use Rattle.query_answer.specs.Joins as j;
-ghost use Rattle.query_answer.specs.Names as q;
+ghost use Rattle.bind_names.specs.Lookups.{lookup_of};
 
-use bind_names::find;
+use bind_names::Lookup;
 use ct_expr::common_ty;
 use ct_value::{ColTy, CompareOp, Memory};
-use query_answer::{Found, Scope};
+use query_answer::Found;
 use rel_clauses::Pair;
 use sql_syntax::Tree;
 
-// The column that a plain column stands for, also in parentheses.
+/// The column that a plain column stands for, also in parentheses.
 #[tactic(auto, unfolding(sql_syntax::specs::View::view))]
-fn plain_column(scope: &Scope, tree: &Tree) -> Result<Found, Memory>
-    ensures { IfOk result (λ found. found ≡ j.plain_column (q.find scope.now) (view tree.now)) }
+pub fn plain_column(look: Lookup<'_>, tree: &Tree) -> Result<Found, Memory>
+    ensures { IfOk result (λ found. found ≡ j.plain_column (lookup_of look.entry) (view tree.now)) }
 {
     match tree {
-        Tree::Name { of, name, .. } => find(scope, of, name),
-        Tree::Paren(value) => plain_column(scope, value),
+        Tree::Name { of, name, .. } => look.find(of, name),
+        Tree::Paren(value) => plain_column(look, value),
         _ => Ok(Found::Absent),
     }
 }
@@ -36,8 +36,8 @@ fn pair_at(width: u32, left: u32, ty: ColTy, right: u32, other: ColTy) -> Option
     None
 }
 
-// A column of one side and one of the other.
-fn pair_found(width: u32, found: Found, other: Found) -> Option<Pair>
+/// The key pair of a column of one side and one of the other, where the left side has so many columns and they have a common type.
+pub fn pair_found(width: u32, found: Found, other: Found) -> Option<Pair>
     ensures { result ≡ j.pair_found width found other }
 {
     match (found, other) {
@@ -51,8 +51,8 @@ fn pair_found(width: u32, found: Found, other: Found) -> Option<Pair>
 
 /// The key pair that a conjunct is, where the left side has so many columns.
 #[tactic(auto, unfolding(sql_syntax::specs::View::view))]
-pub(crate) fn pair_of(scope: &Scope, width: u32, tree: &Tree) -> Result<Option<Pair>, Memory>
-    ensures { IfOk result (λ pair. pair ≡ j.pair_of width (q.find scope.now) (view tree.now)) }
+pub fn pair_of(look: Lookup<'_>, width: u32, tree: &Tree) -> Result<Option<Pair>, Memory>
+    ensures { IfOk result (λ pair. pair ≡ j.pair_of width (lookup_of look.entry) (view tree.now)) }
 {
     match tree {
         Tree::Compare {
@@ -60,8 +60,8 @@ pub(crate) fn pair_of(scope: &Scope, width: u32, tree: &Tree) -> Result<Option<P
             left,
             right,
         } => {
-            let found = plain_column(scope, left)?;
-            let other = plain_column(scope, right)?;
+            let found = plain_column(look, left)?;
+            let other = plain_column(look, right)?;
             Ok(pair_found(width, found, other))
         }
         _ => Ok(None),

@@ -9,7 +9,7 @@ ghost use Rattle.bind_joins.specs.Splits.{behind, conjuncts_of, pairs_in, rest_i
 
 use crate::pairs::pair_of;
 use bind_expressions::bind_over;
-use bind_names::BindFault;
+use bind_names::{BindFault, Lookup};
 use bind_nodes::Bounds;
 use query_answer::Scope;
 use rel_clauses::Pairs;
@@ -82,7 +82,7 @@ fn one(
     ensures rest { OnOk result (behind (bounds_view parts.old.rest) (rest_in scope.now width (view tree.now ∷ [])) ≡ Ok (bounds_view parts.new.rest)) }
     ensures refused { (code : ScriptCode) → IsErrOf result (f.Refused code) → rest_in scope.now width (view tree.now ∷ []) ≡ Err code }
 {
-    match pair_of(scope, width, tree)? {
+    match pair_of(Lookup::Own(scope), width, tree)? {
         Some(pair) => parts.pairs.push(pair)?,
         None => parts.rest.push(bind_over(alloc, scope, tree)?)?,
     }

@@ -1,3 +1,4 @@
 pub mod CallLists
 pub mod Digits
 pub mod Finds
+pub mod Outsides

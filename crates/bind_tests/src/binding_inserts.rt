@@ -28,7 +28,7 @@ const TABLES: &str =
     CREATE TABLE s (x BIGINT);\
     CREATE TABLE r (x DECIMAL(6, 2), y STRING);";
 
-const INSERTS: [(&str, Outcome); 26] = [
+const INSERTS: [(&str, Outcome); 29] = [
     (
         "INSERT INTO s SELECT DISTINCT x.c FROM t AS x WHERE NOT (a = 1 OR b LIKE 'x%') AND c BETWEEN 1 AND 2 AND a IN (1, 2) \
         AND b IS NOT NULL AND -a + 1 - 2 * 3 > +1 AND CASE WHEN e THEN a ELSE NULL END = 1 AND CAST(a AS STRING) || 'y' <> 'z' \
@@ -49,6 +49,20 @@ const INSERTS: [(&str, Outcome); 26] = [
         Outcome::Bound,
     ),
     ("INSERT INTO r SELECT d, b FROM t;", Outcome::Bound),
+    (
+        "INSERT INTO s SELECT k FROM u WHERE v > 1 AND EXISTS (SELECT * FROM t WHERE t.a = u.k AND c > v AND e AND NOT EXISTS \
+        (SELECT 1 FROM r WHERE y = b)) AND (k IN (SELECT a FROM t WHERE c IN (SELECT x FROM s)) AND v + 1 IN (SELECT a FROM t));",
+        Outcome::Refused(ScriptCode::SinkShape),
+    ),
+    (
+        "INSERT INTO s SELECT k FROM u WHERE v > 1 AND EXISTS (SELECT * FROM t WHERE t.a = u.k AND c > v AND e AND NOT EXISTS \
+        (SELECT 1 FROM r WHERE y = b)) AND (k IN (SELECT a FROM t) AND v + 1 IN (SELECT a FROM t));",
+        Outcome::Bound,
+    ),
+    (
+        "INSERT INTO s SELECT k FROM u WHERE v NOT IN (SELECT a FROM t);",
+        Outcome::Refused(ScriptCode::Unsupported),
+    ),
     ("SET 'pipeline.name' = 'p';", Outcome::NoInsert),
     (
         "INSERT INTO n SELECT k FROM u;",
@@ -216,6 +230,11 @@ fn forms_that_are_not_built_are_told(rt: HostRuntime) -> Result<(), Fail> {
         alloc,
         "INSERT INTO s SELECT k FROM u WHERE EXISTS (SELECT 1 FROM t);",
     );
-    assert!(rt; within == Some(true));
+    assert!(rt; within == Some(false));
+    let numbered = waits(
+        alloc,
+        "INSERT INTO s SELECT k FROM u WHERE EXISTS (SELECT ROW_NUMBER() OVER (ORDER BY a) FROM t);",
+    );
+    assert!(rt; numbered == Some(true));
     Ok(())
 }

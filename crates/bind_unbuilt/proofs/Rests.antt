@@ -10,64 +10,64 @@ use Rattle.sql_syntax.specs.View.{view, product_tails_view, sorts_view, sum_tail
 use Rattle.sql_syntax.specs.laws.Views.{product_tail, sort, sum_tail, tree_when}
 use Rattle.bind_unbuilt.specs.Unbuilt.{waits, product_waits, sorts_wait, sum_waits, whens_wait}
 
-abbrev pub sums_from : Bool → List SumTail → Bool
-sums_from within xs = sum_waits within (t.sum_tails (sum_tails_view xs))
+abbrev pub sums_from : List SumTail → Bool
+sums_from xs = sum_waits (t.sum_tails (sum_tails_view xs))
 
-sums_step : (within : Bool) (xs : List SumTail) (i : ℕ) (x : SumTail) → i < length xs → x ≡ get_or xs i x → sums_from within (drop i xs) ≡ (waits within (view x.value) || sums_from within (drop (i + 1) xs))
-sums_step within xs i x l h =
-    at_drop_more (sums_from within) xs i x l ∙ ap (λ y. sums_from within (y ∷ drop (i + 1) xs)) (sym h)
-    ∙ ap (λ v. sum_waits within (t.sum_tail_and v (t.sum_tails (sum_tails_view (drop (i + 1) xs))))) (sum_tail x)
+sums_step : (xs : List SumTail) (i : ℕ) (x : SumTail) → i < length xs → x ≡ get_or xs i x → sums_from (drop i xs) ≡ (waits (view x.value) || sums_from (drop (i + 1) xs))
+sums_step xs i x l h =
+    at_drop_more sums_from xs i x l ∙ ap (λ y. sums_from (y ∷ drop (i + 1) xs)) (sym h)
+    ∙ ap (λ v. sum_waits (t.sum_tail_and v (t.sum_tails (sum_tails_view (drop (i + 1) xs))))) (sum_tail x)
 
-pub sums_yes : (within : Bool) (xs : List SumTail) (i : ℕ) (x : SumTail) → i < length xs → x ≡ get_or xs i x → waits within (view x.value) ≡ true → sums_from within (drop i xs) ≡ true
-sums_yes within xs i x l h e = sums_step within xs i x l h ∙ ap (λ b. b || sums_from within (drop (i + 1) xs)) e
+pub sums_yes : (xs : List SumTail) (i : ℕ) (x : SumTail) → i < length xs → x ≡ get_or xs i x → waits (view x.value) ≡ true → sums_from (drop i xs) ≡ true
+sums_yes xs i x l h e = sums_step xs i x l h ∙ ap (λ b. b || sums_from (drop (i + 1) xs)) e
 
-pub sums_more : (within : Bool) (xs : List SumTail) (i : ℕ) (x : SumTail) → i < length xs → x ≡ get_or xs i x → waits within (view x.value) ≡ false → sums_from within (drop i xs) ≡ sums_from within (drop (i + 1) xs)
-sums_more within xs i x l h e = sums_step within xs i x l h ∙ ap (λ b. b || sums_from within (drop (i + 1) xs)) e
+pub sums_more : (xs : List SumTail) (i : ℕ) (x : SumTail) → i < length xs → x ≡ get_or xs i x → waits (view x.value) ≡ false → sums_from (drop i xs) ≡ sums_from (drop (i + 1) xs)
+sums_more xs i x l h e = sums_step xs i x l h ∙ ap (λ b. b || sums_from (drop (i + 1) xs)) e
 
-abbrev pub products_from : Bool → List ProductTail → Bool
-products_from within xs = product_waits within (t.product_tails (product_tails_view xs))
+abbrev pub products_from : List ProductTail → Bool
+products_from xs = product_waits (t.product_tails (product_tails_view xs))
 
-products_step : (within : Bool) (xs : List ProductTail) (i : ℕ) (x : ProductTail) → i < length xs → x ≡ get_or xs i x → products_from within (drop i xs) ≡ (waits within (view x.value) || products_from within (drop (i + 1) xs))
-products_step within xs i x l h =
-    at_drop_more (products_from within) xs i x l ∙ ap (λ y. products_from within (y ∷ drop (i + 1) xs)) (sym h)
-    ∙ ap (λ v. product_waits within (t.product_tail_and v (t.product_tails (product_tails_view (drop (i + 1) xs))))) (product_tail x)
+products_step : (xs : List ProductTail) (i : ℕ) (x : ProductTail) → i < length xs → x ≡ get_or xs i x → products_from (drop i xs) ≡ (waits (view x.value) || products_from (drop (i + 1) xs))
+products_step xs i x l h =
+    at_drop_more products_from xs i x l ∙ ap (λ y. products_from (y ∷ drop (i + 1) xs)) (sym h)
+    ∙ ap (λ v. product_waits (t.product_tail_and v (t.product_tails (product_tails_view (drop (i + 1) xs))))) (product_tail x)
 
-pub products_yes : (within : Bool) (xs : List ProductTail) (i : ℕ) (x : ProductTail) → i < length xs → x ≡ get_or xs i x → waits within (view x.value) ≡ true → products_from within (drop i xs) ≡ true
-products_yes within xs i x l h e = products_step within xs i x l h ∙ ap (λ b. b || products_from within (drop (i + 1) xs)) e
+pub products_yes : (xs : List ProductTail) (i : ℕ) (x : ProductTail) → i < length xs → x ≡ get_or xs i x → waits (view x.value) ≡ true → products_from (drop i xs) ≡ true
+products_yes xs i x l h e = products_step xs i x l h ∙ ap (λ b. b || products_from (drop (i + 1) xs)) e
 
-pub products_more : (within : Bool) (xs : List ProductTail) (i : ℕ) (x : ProductTail) → i < length xs → x ≡ get_or xs i x → waits within (view x.value) ≡ false → products_from within (drop i xs) ≡ products_from within (drop (i + 1) xs)
-products_more within xs i x l h e = products_step within xs i x l h ∙ ap (λ b. b || products_from within (drop (i + 1) xs)) e
+pub products_more : (xs : List ProductTail) (i : ℕ) (x : ProductTail) → i < length xs → x ≡ get_or xs i x → waits (view x.value) ≡ false → products_from (drop i xs) ≡ products_from (drop (i + 1) xs)
+products_more xs i x l h e = products_step xs i x l h ∙ ap (λ b. b || products_from (drop (i + 1) xs)) e
 
-abbrev pub sorts_from : Bool → List Sort → Bool
-sorts_from within xs = sorts_wait within (t.sort_list (sorts_view xs))
+abbrev pub sorts_from : List Sort → Bool
+sorts_from xs = sorts_wait (t.sort_list (sorts_view xs))
 
-sorts_step : (within : Bool) (xs : List Sort) (i : ℕ) (x : Sort) → i < length xs → x ≡ get_or xs i x → sorts_from within (drop i xs) ≡ (waits within (view x.value) || sorts_from within (drop (i + 1) xs))
-sorts_step within xs i x l h =
-    at_drop_more (sorts_from within) xs i x l ∙ ap (λ y. sorts_from within (y ∷ drop (i + 1) xs)) (sym h)
-    ∙ ap (λ v. sorts_wait within (t.sort_and v (t.sort_list (sorts_view (drop (i + 1) xs))))) (sort x)
+sorts_step : (xs : List Sort) (i : ℕ) (x : Sort) → i < length xs → x ≡ get_or xs i x → sorts_from (drop i xs) ≡ (waits (view x.value) || sorts_from (drop (i + 1) xs))
+sorts_step xs i x l h =
+    at_drop_more sorts_from xs i x l ∙ ap (λ y. sorts_from (y ∷ drop (i + 1) xs)) (sym h)
+    ∙ ap (λ v. sorts_wait (t.sort_and v (t.sort_list (sorts_view (drop (i + 1) xs))))) (sort x)
 
-pub sorts_yes : (within : Bool) (xs : List Sort) (i : ℕ) (x : Sort) → i < length xs → x ≡ get_or xs i x → waits within (view x.value) ≡ true → sorts_from within (drop i xs) ≡ true
-sorts_yes within xs i x l h e = sorts_step within xs i x l h ∙ ap (λ b. b || sorts_from within (drop (i + 1) xs)) e
+pub sorts_yes : (xs : List Sort) (i : ℕ) (x : Sort) → i < length xs → x ≡ get_or xs i x → waits (view x.value) ≡ true → sorts_from (drop i xs) ≡ true
+sorts_yes xs i x l h e = sorts_step xs i x l h ∙ ap (λ b. b || sorts_from (drop (i + 1) xs)) e
 
-pub sorts_more : (within : Bool) (xs : List Sort) (i : ℕ) (x : Sort) → i < length xs → x ≡ get_or xs i x → waits within (view x.value) ≡ false → sorts_from within (drop i xs) ≡ sorts_from within (drop (i + 1) xs)
-sorts_more within xs i x l h e = sorts_step within xs i x l h ∙ ap (λ b. b || sorts_from within (drop (i + 1) xs)) e
+pub sorts_more : (xs : List Sort) (i : ℕ) (x : Sort) → i < length xs → x ≡ get_or xs i x → waits (view x.value) ≡ false → sorts_from (drop i xs) ≡ sorts_from (drop (i + 1) xs)
+sorts_more xs i x l h e = sorts_step xs i x l h ∙ ap (λ b. b || sorts_from (drop (i + 1) xs)) e
 
-abbrev pub whens_from : Bool → List TreeWhen → Bool
-whens_from within xs = whens_wait within (t.tree_whens (whens_view xs))
+abbrev pub whens_from : List TreeWhen → Bool
+whens_from xs = whens_wait (t.tree_whens (whens_view xs))
 
-whens_step : (within : Bool) (xs : List TreeWhen) (i : ℕ) (x : TreeWhen) → i < length xs → x ≡ get_or xs i x
-    → whens_from within (drop i xs) ≡ (waits within (view x.cond) || (waits within (view x.result) || whens_from within (drop (i + 1) xs)))
-whens_step within xs i x l h =
-    at_drop_more (whens_from within) xs i x l ∙ ap (λ y. whens_from within (y ∷ drop (i + 1) xs)) (sym h)
-    ∙ ap (λ v. whens_wait within (t.tree_when_and v (t.tree_whens (whens_view (drop (i + 1) xs))))) (tree_when x)
+whens_step : (xs : List TreeWhen) (i : ℕ) (x : TreeWhen) → i < length xs → x ≡ get_or xs i x
+    → whens_from (drop i xs) ≡ (waits (view x.cond) || (waits (view x.result) || whens_from (drop (i + 1) xs)))
+whens_step xs i x l h =
+    at_drop_more whens_from xs i x l ∙ ap (λ y. whens_from (y ∷ drop (i + 1) xs)) (sym h)
+    ∙ ap (λ v. whens_wait (t.tree_when_and v (t.tree_whens (whens_view (drop (i + 1) xs))))) (tree_when x)
 
-pub whens_yes : (within : Bool) (xs : List TreeWhen) (i : ℕ) (x : TreeWhen) → i < length xs → x ≡ get_or xs i x → waits within (view x.cond) ≡ true → whens_from within (drop i xs) ≡ true
-whens_yes within xs i x l h e = whens_step within xs i x l h ∙ ap (λ b. b || (waits within (view x.result) || whens_from within (drop (i + 1) xs))) e
+pub whens_yes : (xs : List TreeWhen) (i : ℕ) (x : TreeWhen) → i < length xs → x ≡ get_or xs i x → waits (view x.cond) ≡ true → whens_from (drop i xs) ≡ true
+whens_yes xs i x l h e = whens_step xs i x l h ∙ ap (λ b. b || (waits (view x.result) || whens_from (drop (i + 1) xs))) e
 
-pub whens_also : (within : Bool) (xs : List TreeWhen) (i : ℕ) (x : TreeWhen) → i < length xs → x ≡ get_or xs i x → waits within (view x.cond) ≡ false → waits within (view x.result) ≡ true
-    → whens_from within (drop i xs) ≡ true
-whens_also within xs i x l h e f = whens_step within xs i x l h ∙ (λ j. e j || (f j || whens_from within (drop (i + 1) xs)))
+pub whens_also : (xs : List TreeWhen) (i : ℕ) (x : TreeWhen) → i < length xs → x ≡ get_or xs i x → waits (view x.cond) ≡ false → waits (view x.result) ≡ true
+    → whens_from (drop i xs) ≡ true
+whens_also xs i x l h e f = whens_step xs i x l h ∙ (λ j. e j || (f j || whens_from (drop (i + 1) xs)))
 
-pub whens_more : (within : Bool) (xs : List TreeWhen) (i : ℕ) (x : TreeWhen) → i < length xs → x ≡ get_or xs i x → waits within (view x.cond) ≡ false → waits within (view x.result) ≡ false
-    → whens_from within (drop i xs) ≡ whens_from within (drop (i + 1) xs)
-whens_more within xs i x l h e f = whens_step within xs i x l h ∙ (λ j. e j || (f j || whens_from within (drop (i + 1) xs)))
+pub whens_more : (xs : List TreeWhen) (i : ℕ) (x : TreeWhen) → i < length xs → x ≡ get_or xs i x → waits (view x.cond) ≡ false → waits (view x.result) ≡ false
+    → whens_from (drop i xs) ≡ whens_from (drop (i + 1) xs)
+whens_more xs i x l h e f = whens_step xs i x l h ∙ (λ j. e j || (f j || whens_from (drop (i + 1) xs)))

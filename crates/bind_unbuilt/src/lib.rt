@@ -1,6 +1,6 @@
 //! Forms of queries that aren't built yet.
 //!
-//! Promised: `is_unbuilt` tells whether a query has a subquery in a WHERE or a call of ROW_NUMBER, at any depth.
+//! Promised: `is_unbuilt` tells whether a query has a call of ROW_NUMBER, at any depth.
 #![tactic(auto)]
 
 mod waits;

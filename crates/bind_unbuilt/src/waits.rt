@@ -16,13 +16,13 @@ fn is_row_number(function: Function) -> bool
     matches!(function, Function::RowNumber)
 }
 
-/// Whether a query has a form that isn't built yet: a subquery in a WHERE, or a call of ROW_NUMBER, at any depth.
+/// Whether a query has a form that isn't built yet: a call of ROW_NUMBER, at any depth.
 #[cycle(waits)]
 #[tactic(auto, using(sql_syntax::specs::laws::Views::query))]
 pub fn is_unbuilt(query: &Query) -> bool
     ensures { result ≡ u.is_unbuilt (query_view query.now) }
 {
-    any_select_waits(&query.selects) || any_sort_waits(false, &query.order)
+    any_select_waits(&query.selects) || any_sort_waits(&query.order)
 }
 
 #[cycle(waits)]
@@ -45,9 +45,9 @@ fn select_waits(select: &Select) -> bool
     any_item_waits(&select.items)
         || source_waits(&select.from)
         || any_join_waits(&select.joins)
-        || condition_waits(true, &select.cond)
-        || any_waits(false, &select.groups)
-        || condition_waits(false, &select.having)
+        || condition_waits(&select.cond)
+        || any_waits(&select.groups)
+        || condition_waits(&select.having)
 }
 
 #[cycle(waits)]
@@ -67,7 +67,7 @@ fn any_join_waits(joins: &JoinItems) -> bool
 fn join_waits(join: &JoinItem) -> bool
     ensures { result ≡ u.join_waits (join_view join.now) }
 {
-    source_waits(&join.source) || waits(false, &join.on)
+    source_waits(&join.source) || waits(&join.on)
 }
 
 #[cycle(waits)]
@@ -89,7 +89,7 @@ fn item_waits(item: &Item) -> bool
 {
     match item {
         Item::All | Item::AllOf(_) => false,
-        Item::One { value, .. } => waits(false, value),
+        Item::One { value, .. } => waits(value),
     }
 }
 
@@ -105,41 +105,39 @@ fn source_waits(source: &Source) -> bool
 }
 
 #[cycle(waits)]
-fn condition_waits(within: bool, condition: &Option<Tree>) -> bool
-    ensures { result ≡ u.optional_waits within (optional_tree (option_map view condition.now)) }
+fn condition_waits(condition: &Option<Tree>) -> bool
+    ensures { result ≡ u.optional_waits (optional_tree (option_map view condition.now)) }
 {
     match condition {
         None => false,
-        Some(tree) => waits(within, tree),
+        Some(tree) => waits(tree),
     }
 }
 
-// Within a WHERE a subquery waits, elsewhere only what it holds.
+// Whether a tree has such a call.
 #[cycle(waits)]
 #[tactic(auto, unfolding(sql_syntax::specs::View::view, sql_syntax::specs::View::sum_view, sql_syntax::specs::View::product_view, sql_syntax::specs::View::when_view, sql_syntax::specs::View::args_view, sql_syntax::specs::View::over_view, sql_syntax::specs::View::query_view))]
-fn waits(within: bool, tree: &Tree) -> bool
-    ensures { result ≡ u.waits within (view tree.now) }
+fn waits(tree: &Tree) -> bool
+    ensures { result ≡ u.waits (view tree.now) }
 {
     match tree {
-        Tree::Or(trees) | Tree::And(trees) => any_waits(within, trees),
-        Tree::Not(value) | Tree::Paren(value) => waits(within, value),
-        Tree::IsNull { value, .. } | Tree::Sign { value, .. } => waits(within, value),
-        Tree::Cast { value, .. } => waits(within, value),
-        Tree::Exists(query) | Tree::Sub(query) => within || is_unbuilt(query),
-        Tree::Compare { left, right, .. } => waits(within, left) || waits(within, right),
+        Tree::Or(trees) | Tree::And(trees) => any_waits(trees),
+        Tree::Not(value) | Tree::Paren(value) => waits(value),
+        Tree::IsNull { value, .. } | Tree::Sign { value, .. } => waits(value),
+        Tree::Cast { value, .. } => waits(value),
+        Tree::Exists(query) | Tree::Sub(query) => is_unbuilt(query),
+        Tree::Compare { left, right, .. } => waits(left) || waits(right),
         Tree::Between {
             value,
             low,
             high,
             ..
-        } => waits(within, value) || waits(within, low) || waits(within, high),
-        Tree::InList { value, items, .. } => waits(within, value) || any_waits(within, items),
-        Tree::InQuery { value, query, .. } => {
-            within || waits(within, value) || is_unbuilt(query)
-        }
-        Tree::Like { value, pattern, .. } => waits(within, value) || waits(within, pattern),
-        Tree::Sum { first, rest } => waits(within, first) || any_term_waits(within, rest),
-        Tree::Product { first, rest } => waits(within, first) || any_factor_waits(within, rest),
+        } => waits(value) || waits(low) || waits(high),
+        Tree::InList { value, items, .. } => waits(value) || any_waits(items),
+        Tree::InQuery { value, query, .. } => { waits(value) || is_unbuilt(query) }
+        Tree::Like { value, pattern, .. } => waits(value) || waits(pattern),
+        Tree::Sum { first, rest } => waits(first) || any_term_waits(rest),
+        Tree::Product { first, rest } => waits(first) || any_factor_waits(rest),
         Tree::Number(_) | Tree::Str(_) | Tree::Bool(_) => false,
         Tree::Null | Tree::Name { .. } => false,
         Tree::Call {
@@ -149,22 +147,20 @@ fn waits(within: bool, tree: &Tree) -> bool
             over,
         } => {
             is_row_number(function_of(name))
-                || args_wait(within, args)
-                || optional_waits(within, filter)
-                || over_waits(within, over)
+                || args_wait(args)
+                || optional_waits(filter)
+                || over_waits(over)
         }
-        Tree::Case { whens, otherwise } => {
-            any_when_waits(within, whens) || optional_waits(within, otherwise)
-        }
+        Tree::Case { whens, otherwise } => { any_when_waits(whens) || optional_waits(otherwise) }
     }
 }
 
 #[cycle(waits)]
-fn any_waits(within: bool, trees: &Trees) -> bool
-    ensures { result ≡ u.trees_wait within (tree_list (trees_view trees.now)) }
+fn any_waits(trees: &Trees) -> bool
+    ensures { result ≡ u.trees_wait (tree_list (trees_view trees.now)) }
 {
     for tree in trees.as_slice() {
-        if waits(within, tree) {
+        if waits(tree) {
             return true;
         }
     }
@@ -173,11 +169,11 @@ fn any_waits(within: bool, trees: &Trees) -> bool
 
 #[cycle(waits)]
 #[tactic(auto, using(crate::proofs::Rests::sums_yes, crate::proofs::Rests::sums_more))]
-fn any_term_waits(within: bool, tails: &SumTails) -> bool
-    ensures { result ≡ u.sum_waits within (sum_tails (sum_tails_view tails.now)) }
+fn any_term_waits(tails: &SumTails) -> bool
+    ensures { result ≡ u.sum_waits (sum_tails (sum_tails_view tails.now)) }
 {
     for tail in tails.as_slice() {
-        if waits(within, &tail.value) {
+        if waits(&tail.value) {
             return true;
         }
     }
@@ -186,11 +182,11 @@ fn any_term_waits(within: bool, tails: &SumTails) -> bool
 
 #[cycle(waits)]
 #[tactic(auto, using(crate::proofs::Rests::products_yes, crate::proofs::Rests::products_more))]
-fn any_factor_waits(within: bool, tails: &ProductTails) -> bool
-    ensures { result ≡ u.product_waits within (product_tails (product_tails_view tails.now)) }
+fn any_factor_waits(tails: &ProductTails) -> bool
+    ensures { result ≡ u.product_waits (product_tails (product_tails_view tails.now)) }
 {
     for tail in tails.as_slice() {
-        if waits(within, &tail.value) {
+        if waits(&tail.value) {
             return true;
         }
     }
@@ -199,14 +195,14 @@ fn any_factor_waits(within: bool, tails: &ProductTails) -> bool
 
 #[cycle(waits)]
 #[tactic(auto, using(crate::proofs::Rests::whens_yes, crate::proofs::Rests::whens_also, crate::proofs::Rests::whens_more))]
-fn any_when_waits(within: bool, whens: &TreeWhens) -> bool
-    ensures { result ≡ u.whens_wait within (tree_whens (whens_view whens.now)) }
+fn any_when_waits(whens: &TreeWhens) -> bool
+    ensures { result ≡ u.whens_wait (tree_whens (whens_view whens.now)) }
 {
     for when in whens.as_slice() {
-        if waits(within, &when.cond) {
+        if waits(&when.cond) {
             return true;
         }
-        if waits(within, &when.result) {
+        if waits(&when.result) {
             return true;
         }
     }
@@ -215,11 +211,11 @@ fn any_when_waits(within: bool, whens: &TreeWhens) -> bool
 
 #[cycle(waits)]
 #[tactic(auto, using(crate::proofs::Rests::sorts_yes, crate::proofs::Rests::sorts_more))]
-fn any_sort_waits(within: bool, sorts: &SortList) -> bool
-    ensures { result ≡ u.sorts_wait within (sort_list (sorts_view sorts.now)) }
+fn any_sort_waits(sorts: &SortList) -> bool
+    ensures { result ≡ u.sorts_wait (sort_list (sorts_view sorts.now)) }
 {
     for sort in sorts.as_slice() {
-        if waits(within, &sort.value) {
+        if waits(&sort.value) {
             return true;
         }
     }
@@ -227,33 +223,33 @@ fn any_sort_waits(within: bool, sorts: &SortList) -> bool
 }
 
 #[cycle(waits)]
-fn optional_waits(within: bool, tree: &Option<Box<Tree>>) -> bool
-    ensures { result ≡ u.optional_waits within (optional_tree (option_map (λ y. view y.value) tree.now)) }
+fn optional_waits(tree: &Option<Box<Tree>>) -> bool
+    ensures { result ≡ u.optional_waits (optional_tree (option_map (λ y. view y.value) tree.now)) }
 {
     match tree {
         None => false,
-        Some(tree) => waits(within, tree),
+        Some(tree) => waits(tree),
     }
 }
 
 #[cycle(waits)]
 #[tactic(auto, unfolding(sql_syntax::specs::View::args_view, sql_syntax::specs::View::view))]
-fn args_wait(within: bool, args: &Args) -> bool
-    ensures { result ≡ u.args_wait within (args_view args.now) }
+fn args_wait(args: &Args) -> bool
+    ensures { result ≡ u.args_wait (args_view args.now) }
 {
     match args {
         Args::Empty | Args::Star => false,
-        Args::List { values, .. } => any_waits(within, values),
+        Args::List { values, .. } => any_waits(values),
     }
 }
 
 #[cycle(waits)]
 #[tactic(auto, using(sql_syntax::specs::laws::Views::over))]
-fn over_waits(within: bool, over: &Option<Over>) -> bool
-    ensures { result ≡ u.over_waits within (optional_over (option_map over_view over.now)) }
+fn over_waits(over: &Option<Over>) -> bool
+    ensures { result ≡ u.over_waits (optional_over (option_map over_view over.now)) }
 {
     match over {
         None => false,
-        Some(over) => any_waits(within, &over.partition) || any_sort_waits(within, &over.order),
+        Some(over) => any_waits(&over.partition) || any_sort_waits(&over.order),
     }
 }

@@ -1,7 +1,9 @@
 pub mod BySelects
 pub mod Columns
+pub mod Exists
 pub mod IntoSinks
 pub mod Joins
 pub mod Pops
 pub mod Selects
 pub mod Unions
+pub mod Wheres

@@ -1,5 +1,5 @@
 -- Steps of the walk of a query, as the code takes them.
-use Rattle.std.specs.Prelude.{ℕ, Bool, not, ◌||◌, cond, List, [], ◌∷◌, ◌++◌, Option, Some, None, Ok, Err}
+use Rattle.std.specs.Prelude.{◌≡◌, ℕ, Bool, false, not, ◌&&◌, ◌||◌, cond, List, [], ◌∷◌, ◌++◌, Option, Some, None, Ok, Err}
 use Rattle.ct_value.specs.declared.codes.ScriptCode.TheVariants.{Unsupported}
 use Rattle.ct_catalog.specs.declared.table.TableDef.{TableDef}
 use Rattle.rel_algebra.specs.Rel.{Rel, Rels, Union, rels, rel_and}
@@ -9,7 +9,7 @@ use Rattle.query_answer.specs.Answer.{Entry, is_grouped, types}
 use Rattle.query_answer.specs.Names.{Scope}
 use Rattle.binding.specs.Checked.{Checked, ◌>>=◌}
 use Rattle.binding.specs.Inserts.{column_types, go_into, scans}
-use Rattle.binding.specs.Queries.{Relation, grouped_select, is_plain, plain_select, select_bound, selects_bound, united}
+use Rattle.binding.specs.Queries.{Outside, Part, Relation, alone, denied_bound, exists_bound, grouped_select, inside_bound, is_plain, is_simple, member_part, own_value, plain_part, plain_select, query_bound, select_bound, selects_bound, united}
 
 -- a query with ORDER BY or LIMIT is refused behind its selects
 abbrev pub unless_ordered : t.SortList → Option Text → Relation → Checked Relation
@@ -56,3 +56,31 @@ listed es groups having x = cond (is_grouped es groups having) (grouped_select e
 -- a query that reads its sink, whose number is this one, or whose columns don't go into it
 abbrev pub misfits : ℕ → Relation → TableDef → Bool
 misfits number x sink = scans number x.rel || not (go_into (types x.scope) (column_types sink))
+
+-- ---- subqueries
+
+-- it isn't refused
+abbrev pub IsOk : {A : Type 0} → Checked A → Type 0
+IsOk {A} r = (x : A) × (r ≡ Ok x)
+
+abbrev pub member_bound : List TableDef → Outside → Scope → Tree → t.Query → Checked Part
+member_bound sources outside own x q = plain_part outside own x >>= own_value >>= λ a. query_bound sources q >>= member_part own x a
+
+-- a conjunct that is neither an AND nor in parentheses
+abbrev pub part_bound : List TableDef → Outside → Scope → Tree → Checked Part
+part_bound sources outside own (t.Exists q) = exists_bound sources false own q
+part_bound sources outside own (t.Not x) = denied_bound sources outside own (t.Not x) x
+part_bound sources outside own (t.InQuery x q false) = member_bound sources outside own x q
+part_bound sources outside own x = plain_part outside own x
+
+abbrev pub only_part : List TableDef → Outside → Scope → Tree → Checked (List Part)
+only_part sources outside own x = part_bound sources outside own x >>= alone
+
+-- the subquery of an EXISTS, by its selects
+abbrev pub exists_simple : List TableDef → Bool → Scope → Bool → t.Select → Checked Part
+exists_simple sources anti outside plain x = cond (is_simple x && plain) (inside_bound sources anti outside x) (Err Unsupported)
+
+abbrev pub exists_only : List TableDef → Bool → Scope → Bool → t.Selects → Checked Part
+exists_only sources anti outside plain t.no_selects = Err Unsupported
+exists_only sources anti outside plain (t.select_and x t.no_selects) = exists_simple sources anti outside plain x
+exists_only sources anti outside plain (t.select_and x (t.select_and y ys)) = Err Unsupported

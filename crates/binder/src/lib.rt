@@ -9,4 +9,3 @@ mod selected;
 mod sinks;
 
 pub use inserts::{Inserted, bind};
-pub use queries::bind_query;

@@ -1,18 +1,19 @@
 //! The select list of a select.
 ghost use Rattle.bind_names.specs.declared.fault.BindFault.TheVariants as f;
-ghost use Rattle.std.specs.Prelude.{◌≡◌, Ok, Err, option_map, IfOk, IsErrOf};
+ghost use Rattle.std.specs.Prelude.{◌≡◌, Ok, Err, option_map, IfOk, OnOk, IsErrOf};
 ghost use Rattle.ct_value.specs.declared.codes.ScriptCode.{ScriptCode};
 ghost use Rattle.sql_syntax.specs.Tree.{items as item_list, optional_tree, trees as tree_list};
 ghost use Rattle.sql_syntax.specs.View.{view, items_view, trees_view};
 ghost use Rattle.query_answer.specs.Answer.{entries, listed_trees};
 ghost use Rattle.binding.specs.Queries as q;
 ghost use Rattle.bind_clauses.specs.Views.{entries_view, relation_view};
-ghost use Rattle.binder.specs.Steps.{listed};
+ghost use Rattle.binder.specs.Steps.{IsOk, listed};
 
-use bind_clauses::{Entries, Relation, entries_of, is_grouped, once, plain_select};
+use bind_clauses::{Entries, Relation, entries_of, is_grouped, list_plain, once, plain_select};
 use bind_groups::grouped_select;
 use bind_names::BindFault;
 use ct_value::ScriptCode;
+use query_answer::Scope;
 use sql_syntax::{Items, Tree, Trees};
 use std::alloc::Global;
 
@@ -52,4 +53,14 @@ fn listed<'a>(
         return grouped_select(alloc, entries, groups, having, relation);
     }
     plain_select(alloc, entries, relation)
+}
+
+// The select list of a subquery that is bound for its refusals alone.
+pub(crate) fn refuse_list(alloc: Global, scope: &Scope, items: &Items) -> Result<(), BindFault>
+    ensures ok { OnOk result (IsOk (q.list_bound (q.plain_listed scope.now) (entries scope.now (item_list (items_view items.now))))) }
+    ensures refused { (code : ScriptCode) → IsErrOf result (f.Refused code) → q.list_bound (q.plain_listed scope.now) (entries scope.now (item_list (items_view items.now))) ≡ Err code }
+{
+    let entries = entries_of(alloc, scope, items)?;
+    list_plain(alloc, scope, &entries)?;
+    Ok(())
 }

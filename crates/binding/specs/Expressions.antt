@@ -14,7 +14,7 @@ use Rattle.query_answer.specs.declared.scope.Found.TheVariants.{Absent, At, Seve
 use Rattle.query_answer.specs.Calls.{calls, args_calls, when_calls}
 use Rattle.query_answer.specs.Functions.{function_of, is_changing}
 use Rattle.query_answer.specs.Literals.{number_of, is_null, is_short}
-use Rattle.query_answer.specs.Names.{Scope, find}
+use Rattle.query_answer.specs.Names.{Scope, Lookup, find}
 use Rattle.query_answer.specs.Shapes.{has_tree, has_over}
 use Rattle.binding.specs.Checked.{Checked, ◌>>=◌, refused_if}
 use Rattle.binding.specs.Nodes.{Bound, CallForm, columns, literal, number, signed, added, multiplied, compare, conjunction, disjunction, negation, negated_if, null_test, between, in_list, like, cast_to, case, call}
@@ -130,13 +130,20 @@ found_column changing Absent = cond changing (Err Nondeterministic) (Err Unknown
 found_column changing (At n ty) = Ok (column n ty)
 found_column changing Several = Err AmbiguousColumn
 
-abbrev pub names : Scope → Leaf
-names scope n (t.Name of name quoted) = found_column (may_change of name quoted) (find scope of name) >>= λ x. Ok (Some x)
-names scope n _ = Ok None
+abbrev pub names_by : Lookup → Leaf
+names_by look n (t.Name of name quoted) = found_column (may_change of name quoted) (look of name) >>= λ x. Ok (Some x)
+names_by look n _ = Ok None
 
--- a tree over the columns in reach; it has no place for aggregate calls
+abbrev pub names : Scope → Leaf
+names scope = names_by (find scope)
+
+-- a tree whose names stand for columns by this look-up; it has no place for aggregate calls
+abbrev pub bound_by : Lookup → Tree → Checked Bound
+bound_by look x = bound (names_by look) 0 x
+
+-- a tree over the columns in reach
 abbrev pub bound_over : Scope → Tree → Checked Bound
-bound_over scope x = bound (names scope) 0 x
+bound_over scope x = bound_by (find scope) x
 
 abbrev pub each_bound : Scope → List Tree → Checked (List Bound)
 each_bound scope [] = Ok []

@@ -4,4 +4,3 @@ pub mod InGroups
 pub mod Inserts
 pub mod Nodes
 pub mod Queries
-pub mod Unbuilt

@@ -1,26 +1,32 @@
 -- Binding of a query: the first refusal of the walk, or the algebra with the columns in reach.
-use Rattle.std.specs.Prelude.{ℕ, suc, ◌+◌, ◌==◌, nat_lt, Bool, true, false, cond, ◌&&◌, List, [], ◌∷◌, ◌++◌, flat_map, length, slice_get, Option, Some, None, option_map, Ok, Err}
-use Rattle.std.specs.List.{list_any}
+use Rattle.std.specs.Prelude.{ℕ, suc, ◌+◌, ◌==◌, nat_lt, Bool, true, false, cond, not, ◌&&◌, ◌||◌, List, [], ◌∷◌, ◌++◌, flat_map, length, slice_get, Option, Some, None, option_map, Ok, Err}
+use Rattle.std.specs.List.{list_any, list_all}
 use Rattle.std.specs.Str.{bytes_eq}
+use Rattle.ct_value.specs.declared.ty.ColTy.{ColTy}
+use Rattle.ct_value.specs.declared.value.CompareOp.TheVariants.{Eq}
 use Rattle.ct_value.specs.declared.codes.ScriptCode.TheVariants.{UnknownTable, UnknownColumn, AmbiguousColumn, TypeMismatch, Unsupported, NotGrouped, TooManyColumns}
 use Rattle.ct_expr.specs.Expr.{Expr}
 use Rattle.ct_expr.specs.Expr as e
+use Rattle.ct_expr.specs.Types.{is_truths}
 use Rattle.ct_catalog.specs.declared.table.TableDef.{TableDef}
 use Rattle.rel_clauses.specs.declared.agg.Agg.{Agg}
 use Rattle.rel_clauses.specs.declared.join.JoinKind.{JoinKind}
+use Rattle.rel_clauses.specs.declared.join.Pair.{Pair}
 use Rattle.rel_algebra.specs.Rel.{Rel, Rels, no_rels, rel_and}
 use Rattle.rel_algebra.specs.Rel as r
 use Rattle.rel_algebra.specs.Types.{common_columns, is_boolean}
 use Rattle.sql_syntax.specs.Tree.{Tree, Text}
 use Rattle.sql_syntax.specs.Tree as t
-use Rattle.query_answer.specs.Calls.{Call}
-use Rattle.query_answer.specs.Joins.{kind_of, pairs_of, rest_of, join_scope}
-use Rattle.query_answer.specs.Names.{Scope, find, is_called}
-use Rattle.query_answer.specs.Shapes.{column_shape}
+use Rattle.query_answer.specs.declared.scope.Found.TheVariants.{At}
+use Rattle.query_answer.specs.Calls.{Call, calls}
+use Rattle.query_answer.specs.Joins.{kind_of, plain_column, pair_found, pair_of, with_pair, pairs_of, rest_of, join_scope}
+use Rattle.query_answer.specs.Names.{Scope, find, find_linked, is_called}
+use Rattle.query_answer.specs.Outside.{looks_outside}
+use Rattle.query_answer.specs.Shapes.{column_shape, has_tree}
 use Rattle.query_answer.specs.Answer.{conjuncts, under, table_scope, renamed_scope, Listed, Placed, Written, NoSource, Entry, entries, listed_calls, select_calls, is_grouped, listed_trees, types, retyped}
 use Rattle.binding.specs.Checked.{Checked, ◌>>=◌, or_code, refused_if}
-use Rattle.binding.specs.Nodes.{Bound, expr_list, operands}
-use Rattle.binding.specs.Expressions.{Leaf, bound, bound_over, each_bound, conditions, conjuncts_bound, column}
+use Rattle.binding.specs.Nodes.{Bound, expr_list, operands, compare}
+use Rattle.binding.specs.Expressions.{Leaf, bound, bound_by, bound_over, each_bound, conditions, conjuncts_bound, column}
 use Rattle.binding.specs.InGroups.{in_group, key_for, has_no_keys, calls_bound, bound_arguments, bound_filters}
 
 -- the algebra, and the columns in reach over its rows
@@ -42,7 +48,7 @@ read alias (Some found) = Ok (record { rel = r.Scan found.0; scope = table_scope
 abbrev pub renamed : Option Text → Relation → Relation
 renamed alias x = record { rel = x.rel; scope = renamed_scope alias x.scope }
 
--- ---- WHERE
+-- ---- conditions
 
 -- one condition is itself, several are their And
 abbrev pub all_of : List Bound → Expr
@@ -50,10 +56,14 @@ all_of [] = e.And e.no_exprs
 all_of (x ∷ []) = x.expr
 all_of (x ∷ y ∷ xs) = e.And (operands (x ∷ y ∷ xs))
 
-abbrev pub filtered : t.OptionalTree → Relation → Checked Relation
-filtered t.no_tree x = Ok x
-filtered (t.some_tree condition) x =
-    conjuncts_bound x.scope condition >>= conditions >>= λ xs. Ok (record { rel = r.Filter x.rel (all_of xs); scope = x.scope })
+-- conditions, if there are any, as one
+abbrev pub all_if : List Bound → Option Expr
+all_if [] = None
+all_if (x ∷ xs) = Some (all_of (x ∷ xs))
+
+abbrev pub where_all : List Bound → Rel → Rel
+where_all [] input = input
+where_all (x ∷ xs) input = r.Filter input (all_of (x ∷ xs))
 
 -- ---- joins
 
@@ -177,6 +187,125 @@ grouped_select es groups having x =
       scope = headed es xs;
     })
 
+-- ---- WHERE
+
+-- what a top-level conjunct is bound to
+pub data Part : Type 0 where
+  -- a condition on a row in reach
+  Own : Bound → Part
+  -- within a subquery: one on a row outside with a row of its own, and the key pair that it may be
+  Linked : Option Pair → Bound → Part
+  -- rows of a subquery are to match, or with `true` none of them
+  Matched : Bool → Rel → List Pair → Option Expr → Part
+
+-- the columns outside, which only the subquery of an EXISTS has
+abbrev pub Outside : Type 0
+Outside = Option Scope
+
+abbrev pub own_part : Scope → Tree → Checked Part
+own_part own x = bound_over own x >>= λ a. Ok (Own a)
+
+abbrev pub linked_part : Scope → Scope → Tree → Checked Part
+linked_part outside own x =
+    bound_by (find_linked outside own) x >>= λ a. Ok (Linked (pair_of (length outside) (find_linked outside own) x) a)
+
+abbrev pub within_part : Scope → Scope → Tree → Checked Part
+within_part outside own x = cond (looks_outside own x) (linked_part outside own x) (own_part own x)
+
+abbrev pub plain_part : Outside → Scope → Tree → Checked Part
+plain_part None own x = own_part own x
+plain_part (Some outside) own x = within_part outside own x
+
+-- conditions are BOOLEAN
+abbrev pub is_test : Part → Bool
+is_test (Own a) = is_truths a.column.ty
+is_test (Linked pair a) = is_truths a.column.ty
+is_test (Matched anti right pairs rest) = true
+
+abbrev pub tests : List Part → Checked (List Part)
+tests ps = cond (list_all is_test ps) (Ok ps) (Err TypeMismatch)
+
+abbrev pub owns : List Part → List Bound
+owns [] = []
+owns (Own a ∷ ps) = a ∷ owns ps
+owns (Linked pair a ∷ ps) = owns ps
+owns (Matched anti right pairs rest ∷ ps) = owns ps
+
+abbrev pub links : List Part → List Pair
+links [] = []
+links (Own a ∷ ps) = links ps
+links (Linked pair a ∷ ps) = with_pair pair (links ps)
+links (Matched anti right pairs rest ∷ ps) = links ps
+
+-- what is linked and no key pair
+abbrev pub unless_link : Option Pair → Bound → List Bound → List Bound
+unless_link None a others = a ∷ others
+unless_link (Some pair) a others = others
+
+abbrev pub rests : List Part → List Bound
+rests [] = []
+rests (Own a ∷ ps) = rests ps
+rests (Linked pair a ∷ ps) = unless_link pair a (rests ps)
+rests (Matched anti right pairs rest ∷ ps) = rests ps
+
+-- each subquery in the order written
+abbrev pub all_matched : List Part → Rel → Rel
+all_matched [] input = input
+all_matched (Own a ∷ ps) input = all_matched ps input
+all_matched (Linked pair a ∷ ps) input = all_matched ps input
+all_matched (Matched anti right pairs rest ∷ ps) input = all_matched ps (r.Semi input right anti pairs rest)
+
+-- the rows in reach that all conjuncts keep, but for those that are linked
+abbrev pub kept : List Part → Relation → Relation
+kept ps x = record { rel = all_matched ps (where_all (owns ps) x.rel); scope = x.scope }
+
+abbrev pub exists_part : Bool → List Part → Relation → Part
+exists_part anti ps x = Matched anti (kept ps x).rel (links ps) (all_if (rests ps))
+
+-- the subquery of an EXISTS is one select without DISTINCT, aggregates, GROUP BY and HAVING
+abbrev pub item_calls : t.Item → List Call
+item_calls t.All = []
+item_calls (t.AllOf source) = []
+item_calls (t.One x name) = calls x
+
+abbrev pub items_have_calls : t.Items → Bool
+items_have_calls t.no_items = false
+items_have_calls (t.item_and x xs) = not (length (item_calls x) == 0) || items_have_calls xs
+
+abbrev pub has_groups : t.Trees → Bool
+has_groups t.no_trees = false
+has_groups (t.tree_and x xs) = true
+
+abbrev pub is_simple : t.Select → Bool
+is_simple (t.select_of distinct items from joins condition groups having) = not (distinct || (items_have_calls items || (has_groups groups || has_tree having)))
+
+abbrev pub is_one : t.Selects → Bool
+is_one t.no_selects = true
+is_one (t.select_and x xs) = false
+
+-- a query of one column is asked for its column; a tree that looks outside isn't
+abbrev pub only_column : Scope → Checked ColTy
+only_column (c ∷ []) = Ok c.ty
+only_column _ = Err Unsupported
+
+abbrev pub own_value : Part → Checked Bound
+own_value (Own a) = Ok a
+own_value _ = Err Unsupported
+
+abbrev pub matched_by : Option Pair → Rel → Bound → Part
+matched_by None right equal = Matched false right [] (Some equal.expr)
+matched_by (Some pair) right equal = Matched false right (pair ∷ []) None
+
+-- a tree equals the column of a query
+abbrev pub member_part : Scope → Tree → Bound → Relation → Checked Part
+member_part own x a q =
+    only_column q.scope >>= λ ty. compare Eq a (column (length own) ty) >>= λ equal.
+    Ok (matched_by (pair_found (length own) (plain_column (find own) x) (At (length own) ty)) q.rel equal)
+
+-- a single one
+abbrev pub alone : Part → Checked (List Part)
+alone p = Ok (p ∷ [])
+
 -- ---- a select, and UNION ALL
 
 -- DISTINCT is a Group of all columns
@@ -219,8 +348,8 @@ module _ (sources : List TableDef) where
 
     pub select_bound : t.Select → Checked Relation
     select_bound (t.select_of distinct items from joins condition groups having) =
-        source_bound from >>= joins_bound joins >>= filtered condition >>= λ x.
-        selected distinct (entries x.scope items) (listed_trees groups) having x
+        source_bound from >>= joins_bound joins >>= λ x. where_bound None x.scope condition >>= λ ps.
+        selected distinct (entries x.scope items) (listed_trees groups) having (kept ps x)
 
     pub source_bound : t.Source → Checked Relation
     source_bound (t.Table name alias) = read alias (find_source 0 sources name)
@@ -230,3 +359,39 @@ module _ (sources : List TableDef) where
     pub joins_bound : t.JoinItems → Relation → Checked Relation
     joins_bound t.no_joins x = Ok x
     joins_bound (t.join_and (t.join_of word source on) js) x = source_bound source >>= λ y. joined (kind_of word) x y on >>= joins_bound js
+
+    -- the conjuncts of a WHERE: the operands of an AND are walked first, and then have to be BOOLEAN
+    pub where_bound : Outside → Scope → t.OptionalTree → Checked (List Part)
+    where_bound outside own t.no_tree = Ok []
+    where_bound outside own (t.some_tree x) = parts_bound outside own x >>= tests
+
+    pub parts_bound : Outside → Scope → Tree → Checked (List Part)
+    parts_bound outside own (t.And xs) = all_parts_bound outside own xs >>= tests
+    parts_bound outside own (t.Paren x) = parts_bound outside own x
+    parts_bound outside own (t.Exists q) = exists_bound false own q >>= alone
+    parts_bound outside own (t.Not x) = denied_bound outside own (t.Not x) x >>= alone
+    parts_bound outside own (t.InQuery x q false) =
+        plain_part outside own x >>= own_value >>= λ a. query_bound q >>= member_part own x a >>= alone
+    parts_bound outside own x = plain_part outside own x >>= alone
+
+    pub all_parts_bound : Outside → Scope → t.Trees → Checked (List Part)
+    all_parts_bound outside own t.no_trees = Ok []
+    all_parts_bound outside own (t.tree_and x xs) = parts_bound outside own x >>= λ ps. all_parts_bound outside own xs >>= λ qs. Ok (ps ++ qs)
+
+    -- the whole conjunct, of which this is denied
+    pub denied_bound : Outside → Scope → Tree → Tree → Checked Part
+    denied_bound outside own whole (t.Paren x) = denied_bound outside own whole x
+    denied_bound outside own whole (t.Exists q) = exists_bound true own q
+    denied_bound outside own whole _ = plain_part outside own whole
+
+    -- a query of another form is refused where it stands
+    pub exists_bound : Bool → Scope → t.Query → Checked Part
+    exists_bound anti outside (t.query_of t.no_selects order limit) = Err Unsupported
+    exists_bound anti outside (t.query_of (t.select_and x xs) order limit) =
+        cond (is_simple x && (is_one xs && is_plain order limit)) (inside_bound anti outside x) (Err Unsupported)
+
+    -- its select list is bound, though nothing is made of it
+    pub inside_bound : Bool → Scope → t.Select → Checked Part
+    inside_bound anti outside (t.select_of distinct items from joins condition groups having) =
+        source_bound from >>= joins_bound joins >>= λ x. where_bound (Some outside) x.scope condition >>= λ ps.
+        list_bound (plain_listed x.scope) (entries x.scope items) >>= λ listed. Ok (exists_part anti ps x)

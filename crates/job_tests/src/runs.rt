@@ -2,10 +2,10 @@
 use crate::files::{calls, files, files_of, filled, texts, usual_words};
 use crate::scripts::{
     ANY_SPELLING, BAD_TOKEN_LATER, BATCHES_WITHOUT_GROUP, BEHIND_INSERT, COUNT_ALL, COUNT_APPEND,
-    COUNT_RETRACT, COUNT_SECOND, DISTINCT_OF_TWO, FULL_JOIN, GROUP_IN_BATCHES, INTO_APPEND,
-    LEFT_JOIN, MAX_BY_WORD, MEAN_BY_WORD, MORE_TABLES, NO_INSERT, ONE_HOUR, OPEN_END, RIGHT_JOIN,
-    SELECT_APPEND, SELECT_NULLABLE, SELECT_RETRACT, SELECT_TWO, SELECT_UPSERT, SUM_BY_WORD,
-    THIRTY_TWO_DEEP, TOO_DEEP, WITH_CONDITION,
+    COUNT_RETRACT, COUNT_SECOND, DISTINCT_OF_TWO, EXISTS_RETRACT, FULL_JOIN, GROUP_IN_BATCHES,
+    IN_QUERY, INTO_APPEND, LEFT_JOIN, MAX_BY_WORD, MEAN_BY_WORD, MORE_TABLES, NO_INSERT,
+    NOT_EXISTS, ONE_HOUR, OPEN_END, RIGHT_JOIN, SELECT_APPEND, SELECT_NULLABLE, SELECT_RETRACT,
+    SELECT_TWO, SELECT_UPSERT, SUM_BY_WORD, THIRTY_TWO_DEEP, TOO_DEEP, WITH_CONDITION,
 };
 use ct_io::{Calls, Files, MemShelf, MemSink, SureShelf, SureSink};
 use ct_value::{Memory, Text};
@@ -58,7 +58,7 @@ fn usually_leaves(alloc: Global, files: Files, left: &Left) -> bool {
 // A script, a change file, and what the run over them leaves.
 type Run = (&'static str, &'static str, Left);
 
-const WORKED: [Run; 30] = [
+const WORKED: [Run; 34] = [
     (SELECT_APPEND, "", ("=,0\n", "", 0)),
     (
         SELECT_APPEND,
@@ -185,12 +185,32 @@ const WORKED: [Run; 30] = [
         "a,+I,\\N\nb,+I,\\N\n",
         ("+I,\\N,1,\\N,\\N\n+I,\\N,\\N,\\N,1\n=,2\n", "", 0),
     ),
+    (
+        EXISTS_RETRACT,
+        "a,+I,1,5\nb,+I,5\nb,-D,5\n",
+        ("+I,1\n-D,1\n=,3\n", "", 0),
+    ),
+    (
+        EXISTS_RETRACT,
+        "a,+I,1,5\nb,+I,5\nb,+I,5\n",
+        ("+I,1\n=,3\n", "", 0),
+    ),
+    (
+        NOT_EXISTS,
+        "a,+I,1,5\na,+I,2,\\N\nb,+I,5\nb,+I,\\N\nb,-D,5\n",
+        ("+I,1\n+I,2\n-D,1\n+I,1\n=,5\n", "", 0),
+    ),
+    (
+        IN_QUERY,
+        "a,+I,1,5\na,+I,2,\\N\nb,+I,5\nb,+I,5\nb,+I,\\N\nb,+I,\\N\nb,-D,5\n",
+        ("+I,1\n-D,1\n=,7\n", "", 0),
+    ),
 ];
 
 // Words behind those of a run, a script, a change file, and what the answer over them leaves.
 type Answer = (&'static [&'static str], &'static str, &'static str, Left);
 
-const ANSWERS: [Answer; 6] = [
+const ANSWERS: [Answer; 7] = [
     (&[], COUNT_APPEND, "t,+I,a\nt,+I,a\n", ("a,2\n", "", 0)),
     (
         &["--first", "1"],
@@ -221,6 +241,12 @@ const ANSWERS: [Answer; 6] = [
         RIGHT_JOIN,
         "orders,+I,7,1\norders,+I,8,\\N\ncustomers,+I,1,Rome\ncustomers,+I,\\N,Oslo\n",
         ("\\N,Oslo\n7,Rome\n", "", 0),
+    ),
+    (
+        &["--first", "4"],
+        IN_QUERY,
+        "a,+I,1,5\na,+I,2,\\N\nb,+I,5\nb,+I,5\nb,-D,5\n",
+        ("1\n", "", 0),
     ),
 ];
 

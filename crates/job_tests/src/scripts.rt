@@ -167,3 +167,21 @@ pub const RIGHT_JOIN: &str =
 /// A sink of another mode, which isn't run yet.
 pub const INTO_APPEND: &str = "CREATE TABLE t (word STRING NOT NULL);\
     CREATE TABLE out_t (word STRING); INSERT INTO out_t SELECT word FROM t;";
+
+/// The rows of one table that have a row of another, which takes its rows back.
+pub const EXISTS_RETRACT: &str =
+    "CREATE TABLE a (id INT, k INT); CREATE TABLE b (k INT) WITH ('changelog' = 'retract');\
+    CREATE TABLE out_t (id INT) WITH ('changelog' = 'retract');\
+    INSERT INTO out_t SELECT id FROM a WHERE EXISTS (SELECT 1 FROM b WHERE b.k = a.k);";
+
+/// The rows that have none.
+pub const NOT_EXISTS: &str =
+    "CREATE TABLE a (id INT, k INT); CREATE TABLE b (k INT) WITH ('changelog' = 'retract');\
+    CREATE TABLE out_t (id INT) WITH ('changelog' = 'retract');\
+    INSERT INTO out_t SELECT id FROM a WHERE NOT EXISTS (SELECT 1 FROM b WHERE b.k = a.k);";
+
+/// The rows whose number is one of a query's.
+pub const IN_QUERY: &str =
+    "CREATE TABLE a (id INT, k INT); CREATE TABLE b (k INT) WITH ('changelog' = 'retract');\
+    CREATE TABLE out_t (id INT) WITH ('changelog' = 'retract');\
+    INSERT INTO out_t SELECT id FROM a WHERE k IN (SELECT k FROM b GROUP BY k HAVING COUNT(*) > 1);";

@@ -3,7 +3,11 @@
 #![tactic(auto)]
 
 #[cfg(test)]
+mod checks;
+#[cfg(test)]
 mod columns;
+#[cfg(test)]
+mod drafts;
 #[cfg(test)]
 mod plans;
 #[cfg(test)]

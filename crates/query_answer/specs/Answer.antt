@@ -1,17 +1,19 @@
 -- The answer of a query on its tree, with its names: clause by clause, each a function from bags, and from what its expressions are,
 -- to a bag or out of range.
-use Rattle.std.specs.Prelude.{ℕ, suc, Bool, true, false, cond, not, ◌==◌, List, [], ◌∷◌, ◌++◌, map, flat_map, length, slice_get, Option, Some, None, option_map, option_and_then}
+use Rattle.std.specs.Prelude.{ℕ, suc, Bool, true, false, cond, not, ◌==◌, List, [], ◌∷◌, ◌++◌, map, filter, flat_map, length, slice_get, Option, Some, None, option_map, option_and_then}
 use Rattle.std.specs.Option.{unwrap_or}
 use Rattle.std.specs.Str.{bytes_eq}
 use Rattle.ct_value.specs.Bag.{none}
 use Rattle.ct_value.specs.declared.ty.ColTy.{ColTy}
 use Rattle.ct_value.specs.declared.ty.Ty.TheVariants.{Bool as Truths}
+use Rattle.ct_value.specs.declared.value.CompareOp.TheVariants.{Eq}
 use Rattle.ct_change.specs.Changelog.{Rows}
 use Rattle.ct_expr.specs.Types.{col, both_of}
 use Rattle.ct_catalog.specs.declared.table.TableDef.{TableDef}
 use Rattle.rel_clauses.specs.Clauses.{Meaning, filter_rows, project_rows}
 use Rattle.rel_clauses.specs.declared.join.JoinKind.{JoinKind}
-use Rattle.rel_clauses.specs.Joins.{matching, join_rows}
+use Rattle.rel_clauses.specs.declared.join.Pair.{Pair}
+use Rattle.rel_clauses.specs.Joins.{Matching, matching, join_rows, semi_join}
 use Rattle.rel_clauses.specs.Sums.{distinct, plus}
 use Rattle.rel_algebra.specs.Types.{common_columns}
 use Rattle.sql_syntax.specs.Tree.{Tree, Text}
@@ -21,11 +23,12 @@ use Rattle.query_answer.specs.declared.scope.Found.{Found}
 use Rattle.query_answer.specs.declared.scope.ScopeColumn.{ScopeColumn}
 use Rattle.query_answer.specs.Calls.{Call, calls, call_at, arguments, filters}
 use Rattle.query_answer.specs.Groups.{grouped_rows, called, key_at, meanings}
-use Rattle.query_answer.specs.Joins.{kind_of, pairs_of, rest_of, join_scope}
-use Rattle.query_answer.specs.Names.{Scope, find, named, column_at, is_called}
+use Rattle.query_answer.specs.Joins.{kind_of, plain_column, pair_found, pairs_of, rest_of, join_scope}
+use Rattle.query_answer.specs.Names.{Scope, Lookup, find, find_linked, named, column_at, is_called}
+use Rattle.query_answer.specs.Outside.{looks_outside}
 use Rattle.query_answer.specs.Shapes.{shape, place_of, column_shape}
 use Rattle.query_answer.specs.Stands.{Leaf, stands, or_else}
-use Rattle.query_answer.specs.Table.{Typed, nothing, conjunction}
+use Rattle.query_answer.specs.Table.{Typed, nothing, compare, conjunction}
 
 -- a declared table with its rows
 pub record TableRows : Type 0 where
@@ -65,7 +68,7 @@ renamed_scope alias scope = map (λ c. under alias c.name c.ty) scope
 abbrev pub renamed : Option Text → Reach → Reach
 renamed alias r = record { scope = renamed_scope alias r.scope; rows = r.rows }
 
--- ---- WHERE
+-- ---- conditions
 
 -- the top-level conjuncts
 abbrev mutual
@@ -78,36 +81,97 @@ abbrev mutual
   all_conjuncts t.no_trees = []
   all_conjuncts (t.tree_and x xs) = conjuncts x ++ all_conjuncts xs
 
+-- a tree at each row, whose columns names stand for by this look-up
+abbrev pub by : Lookup → Tree → Typed
+by look x = stands (named look) x
+
 -- a tree over the rows of the columns in reach
 abbrev pub over : Scope → Tree → Typed
-over scope x = stands (named (find scope)) x
+over scope x = by (find scope) x
 
--- the rows on which all conjuncts are TRUE; every one is evaluated on every row
-abbrev pub where_rows : Scope → t.OptionalTree → Rows → Option Rows
-where_rows scope t.no_tree rows = Some rows
-where_rows scope (t.some_tree x) rows = filter_rows (conjunction (map (over scope) (conjuncts x))).value rows
+-- the condition on the pairs of rows that agree
+abbrev pub rest_meaning : Lookup → List Tree → Option Meaning
+rest_meaning look [] = None
+rest_meaning look (x ∷ xs) = Some (conjunction (map (by look) (x ∷ xs))).value
 
-abbrev pub filtered : t.OptionalTree → Reach → Reach
-filtered condition r = record { scope = r.scope; rows = option_and_then (where_rows r.scope condition) r.rows }
+-- when a row of so many columns and one of another side match, by these conjuncts: each pair of rows is tested for the key pairs first,
+-- and only on those that agree is the rest evaluated
+abbrev pub match_by : ℕ → Lookup → List Tree → Matching
+match_by width look cs = matching (pairs_of width look cs) (rest_meaning look (rest_of width look cs))
 
 -- ---- joins
 
--- the condition on the pairs of rows that agree
-abbrev pub rest_meaning : Scope → List Tree → Option Meaning
-rest_meaning scope [] = None
-rest_meaning scope (x ∷ xs) = Some (conjunction (map (over scope) (x ∷ xs))).value
-
--- the next source of FROM, joined by the conjuncts of its ON: each pair of rows is tested for its key pairs first, and only on those
--- that agree is the rest evaluated
+-- the next source of FROM, joined by the conjuncts of its ON
 abbrev pub joined : JoinKind → Reach → Reach → Tree → Reach
-joined kind left right on =
-    let both = left.scope ++ right.scope in
-    let width = length left.scope in
-    let cs = conjuncts on in
-    record {
-      scope = join_scope kind left.scope right.scope;
-      rows = both_of (join_rows kind width (length right.scope) (matching (pairs_of width (find both) cs) (rest_meaning both (rest_of width (find both) cs)))) left.rows right.rows;
-    }
+joined kind left right on = record {
+  scope = join_scope kind left.scope right.scope;
+  rows = both_of (join_rows kind (length left.scope) (length right.scope) (match_by (length left.scope) (find (left.scope ++ right.scope)) (conjuncts on))) left.rows right.rows;
+}
+
+-- ---- WHERE
+
+-- the subquery of an EXISTS: the rows of its sources that its own conjuncts keep, and the conjuncts that look outside
+pub record Inside : Type 0 where
+  pub reach : Reach
+  pub linked : List Tree
+
+-- a top-level conjunct: a condition on a row, EXISTS or with `true` NOT EXISTS, or IN over a query
+pub data Part : Type 0 where
+  Plain : Tree → Part
+  Exists : Bool → Inside → Part
+  Member : Tree → Reach → Part
+
+-- the conjuncts without a subquery
+abbrev pub plain_parts : List Part → List Tree
+plain_parts [] = []
+plain_parts (Plain x ∷ ps) = x ∷ plain_parts ps
+plain_parts (Exists anti q ∷ ps) = plain_parts ps
+plain_parts (Member x q ∷ ps) = plain_parts ps
+
+-- the rows on which all of them are TRUE; every one is evaluated on every row
+abbrev pub where_rows : Scope → List Tree → Rows → Option Rows
+where_rows scope [] rows = Some rows
+where_rows scope (x ∷ xs) rows = filter_rows (conjunction (map (over scope) (x ∷ xs))).value rows
+
+-- when a row outside and one of an EXISTS's subquery match
+abbrev pub inside_match : Scope → Inside → Matching
+inside_match scope q = match_by (length scope) (find_linked scope q.reach.scope) q.linked
+
+-- when a row and one of a query of one column match: the tree equals that column, which is a key pair or the rest, as in an ON
+abbrev pub equal_by : Option Pair → Typed → Matching
+equal_by None equal = matching [] (Some equal.value)
+equal_by (Some pair) equal = matching (pair ∷ []) None
+
+abbrev pub member_match : Scope → Tree → Scope → Matching
+member_match scope x [] left right = Some false
+member_match scope x (c ∷ cs) left right =
+    let found = At (length scope) c.ty in
+    equal_by (pair_found (length scope) (plain_column (find scope) x) found) (compare Eq (over scope x) (column_at found)) left right
+
+-- the rows that a conjunct with a subquery keeps
+abbrev pub met : Scope → Part → Option Rows → Option Rows
+met scope (Plain x) rows = rows
+met scope (Exists anti q) rows = both_of (semi_join anti (inside_match scope q)) rows q.reach.rows
+met scope (Member x q) rows = both_of (semi_join false (member_match scope x q.scope)) rows q.rows
+
+-- one after the other
+abbrev pub all_met : Scope → List Part → Option Rows → Option Rows
+all_met scope [] rows = rows
+all_met scope (p ∷ ps) rows = all_met scope ps (met scope p rows)
+
+-- the conjuncts without a subquery come first
+abbrev pub filtered : List Part → Reach → Reach
+filtered ps r = record { scope = r.scope; rows = all_met r.scope ps (option_and_then (where_rows r.scope (plain_parts ps)) r.rows) }
+
+-- the conjuncts of a subquery that don't look outside
+abbrev pub own_parts : Scope → List Part → List Part
+own_parts scope [] = []
+own_parts scope (Plain x ∷ ps) = cond (looks_outside scope x) (own_parts scope ps) (Plain x ∷ own_parts scope ps)
+own_parts scope (Exists anti q ∷ ps) = Exists anti q ∷ own_parts scope ps
+own_parts scope (Member x q ∷ ps) = Member x q ∷ own_parts scope ps
+
+abbrev pub within : List Part → Reach → Inside
+within ps r = record { reach = filtered (own_parts r.scope ps) r; linked = filter (looks_outside r.scope) (plain_parts ps) }
 
 -- ---- the select list
 
@@ -291,7 +355,7 @@ module _ (tables : List TableRows) where
 
     pub answer_select : t.Select → Reach
     answer_select (t.select_of distinct items from joins condition groups having) =
-        let r = filtered condition (from_joins (answer_source from) joins) in
+        let r = filtered (where_parts condition) (from_joins (answer_source from) joins) in
         selected distinct (entries r.scope items) (listed_trees groups) having r
 
     pub answer_source : t.Source → Reach
@@ -302,3 +366,32 @@ module _ (tables : List TableRows) where
     pub from_joins : Reach → t.JoinItems → Reach
     from_joins r t.no_joins = r
     from_joins r (t.join_and (t.join_of word source on) js) = from_joins (joined (kind_of word) r (answer_source source) on) js
+
+    -- the conjuncts of a WHERE
+    pub where_parts : t.OptionalTree → List Part
+    where_parts t.no_tree = []
+    where_parts (t.some_tree x) = parts x
+
+    pub parts : Tree → List Part
+    parts (t.And xs) = all_parts xs
+    parts (t.Paren x) = parts x
+    parts (t.Exists q) = Exists false (inside q) ∷ []
+    parts (t.Not x) = denied (t.Not x) x ∷ []
+    parts (t.InQuery x q false) = Member x (answer q) ∷ []
+    parts x = Plain x ∷ []
+
+    pub all_parts : t.Trees → List Part
+    all_parts t.no_trees = []
+    all_parts (t.tree_and x xs) = parts x ++ all_parts xs
+
+    -- the whole conjunct, of which this is denied
+    pub denied : Tree → Tree → Part
+    denied whole (t.Paren x) = denied whole x
+    denied whole (t.Exists q) = Exists true (inside q)
+    denied whole _ = Plain whole
+
+    -- its select list is not evaluated
+    pub inside : t.Query → Inside
+    inside (t.query_of t.no_selects order limit) = record { reach = no_reach; linked = [] }
+    inside (t.query_of (t.select_and (t.select_of distinct items from joins condition groups having) xs) order limit) =
+        within (where_parts condition) (from_joins (answer_source from) joins)

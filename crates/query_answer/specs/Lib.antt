@@ -5,6 +5,7 @@ pub mod Groups
 pub mod Joins
 pub mod Literals
 pub mod Names
+pub mod Outside
 pub mod Shapes
 pub mod Stands
 pub mod Table

@@ -1,5 +1,5 @@
 -- What names stand for: the columns in reach, and the look-up of a name among them.
-use Rattle.std.specs.Prelude.{ℕ, suc, Bool, false, cond, ◌&&◌, List, [], ◌∷◌, Option, Some, None}
+use Rattle.std.specs.Prelude.{ℕ, suc, Bool, false, cond, ◌&&◌, List, [], ◌∷◌, length, Option, Some, None}
 use Rattle.std.specs.Str.{bytes_eq}
 use Rattle.ct_value.specs.declared.ty.ColTy.{ColTy}
 use Rattle.ct_field.specs.Typed.{cell}
@@ -40,6 +40,17 @@ find_from n (column ∷ scope) of name = cond (is_named of name column) (also n 
 -- the one column of that name among those in reach
 abbrev pub find : Scope → Lookup
 find scope = find_from 0 scope
+
+-- what is found among a subquery's own columns hides what is found outside
+abbrev pub or_outside : Found → Found → Found
+or_outside Absent outside = outside
+or_outside (At n ty) outside = At n ty
+or_outside Several outside = Several
+
+-- within a subquery of a WHERE: the one column of that name among its own, or else among those outside, which stand before them in a
+-- row of both
+abbrev pub find_linked : Scope → Scope → Lookup
+find_linked outside own of name = or_outside (find_from (length outside) own of name) (find outside of name)
 
 -- a column at each row
 abbrev pub column_at : Found → Typed

@@ -83,6 +83,28 @@ answered =
     -- the rest is evaluated only on rows that agree on the pairs
     over_both (codes "SELECT x FROM t JOIN u ON t.a = u.a AND b + 2147483620 > 0") (Some ((w (codes "x") ∷ []) ∷ (w (codes "x") ∷ []) ∷ [])) ∷
     over_both (codes "SELECT x FROM t JOIN u ON t.a > u.a AND b + 2147483620 > 0") None ∷
+    -- EXISTS, NOT EXISTS and IN: NULL equals nothing here either
+    over_both (codes "SELECT b FROM t WHERE EXISTS (SELECT 1 FROM u WHERE u.a = t.a)") (Some ((n 10 ∷ []) ∷ (n 20 ∷ []) ∷ [])) ∷
+    over_both (codes "SELECT b FROM t WHERE NOT EXISTS (SELECT 1 FROM u WHERE u.a = t.a)") (Some ((n 30 ∷ []) ∷ (n 40 ∷ []) ∷ (n 40 ∷ []) ∷ [])) ∷
+    over_both (codes "SELECT b FROM t WHERE (NOT ((EXISTS (SELECT * FROM u WHERE x = s))))") (Some ((n 30 ∷ []) ∷ (n 40 ∷ []) ∷ (n 40 ∷ []) ∷ [])) ∷
+    over_both (codes "SELECT b FROM t WHERE a IN (SELECT a FROM u)") (Some ((n 10 ∷ []) ∷ (n 20 ∷ []) ∷ [])) ∷
+    over_both (codes "SELECT b FROM t WHERE g IN (SELECT a FROM u)") (Some ((n 10 ∷ []) ∷ (n 30 ∷ []) ∷ [])) ∷
+    over_both (codes "SELECT b FROM t WHERE d IN (SELECT a FROM u)") (Some ((n 40 ∷ []) ∷ (n 40 ∷ []) ∷ [])) ∷
+    -- a subquery's own columns hide those outside
+    over_both (codes "SELECT b FROM t WHERE EXISTS (SELECT 1 FROM u WHERE a = 3)") (Some ((n 10 ∷ []) ∷ (n 20 ∷ []) ∷ (n 30 ∷ []) ∷ (n 40 ∷ []) ∷ (n 40 ∷ []) ∷ [])) ∷
+    over_both (codes "SELECT b FROM t WHERE NOT EXISTS (SELECT 1 FROM u AS t WHERE t.a = 1 AND t.b = 20)") (Some ((n 10 ∷ []) ∷ (n 30 ∷ []) ∷ (n 40 ∷ []) ∷ (n 40 ∷ []) ∷ [])) ∷
+    -- one within another
+    over_both (codes "SELECT x FROM u WHERE EXISTS (SELECT 1 FROM t WHERE t.a = u.a AND EXISTS (SELECT 1 FROM u AS v WHERE v.x = t.s))") (Some ((w (codes "x") ∷ []) ∷ [])) ∷
+    -- what looks outside is evaluated as in an ON; what doesn't, once, also where there are no rows outside; the select list never
+    over_both (codes "SELECT b FROM t WHERE EXISTS (SELECT 1 FROM u WHERE u.a = t.a AND b + 2147483620 > 0)") (Some ((n 10 ∷ []) ∷ (n 20 ∷ []) ∷ [])) ∷
+    over_both (codes "SELECT b FROM t WHERE EXISTS (SELECT 1 FROM u WHERE u.a > t.a AND b + 2147483620 > 0)") None ∷
+    record { text = codes "SELECT b FROM t WHERE EXISTS (SELECT 1 FROM u WHERE a + 2147483647 > 0)"; of_t = []; of_u = u_rows; rows = None } ∷
+    over_both (codes "SELECT x FROM u WHERE EXISTS (SELECT b + 2147483647 FROM t)") (Some ((w (codes "x") ∷ []) ∷ (w (codes "z") ∷ []) ∷ [])) ∷
+    -- the other conjuncts come first, and then the subqueries in their order, each on the rows that are left
+    over_both (codes "SELECT b FROM t WHERE b + 2147483617 IN (SELECT a FROM u)") None ∷
+    over_both (codes "SELECT b FROM t WHERE b + 2147483617 IN (SELECT a FROM u) AND b < 40") (Some []) ∷
+    over_both (codes "SELECT b FROM t WHERE a IN (SELECT a FROM u) AND b + 2147483620 IN (SELECT a FROM u)") (Some []) ∷
+    over_both (codes "SELECT b FROM t WHERE b + 2147483620 IN (SELECT a FROM u) AND a IN (SELECT a FROM u)") None ∷
     -- DISTINCT and UNION ALL
     over_both (codes "SELECT DISTINCT a FROM t") (Some ((Null ∷ []) ∷ (n 1 ∷ []) ∷ (n 2 ∷ []) ∷ [])) ∷
     over_both (codes "SELECT a FROM u UNION ALL SELECT g FROM t WHERE a = 1 UNION ALL SELECT a FROM u") (Some ((n 1 ∷ []) ∷ (n 1 ∷ []) ∷ (n 1 ∷ []) ∷ (n 2 ∷ []) ∷ (n 3 ∷ []) ∷ (n 3 ∷ []) ∷ [])) ∷

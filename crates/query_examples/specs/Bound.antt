@@ -12,7 +12,7 @@ use Rattle.rel_clauses.specs.declared.agg.AggCall.{AggCall}
 use Rattle.rel_clauses.specs.declared.agg.AggCall.TheVariants.{CountAll, Count, CountDistinct, Sum, Max}
 use Rattle.rel_clauses.specs.declared.join.JoinKind.TheVariants.{Inner, Left, Right}
 use Rattle.rel_clauses.specs.declared.join.Pair.{Pair}
-use Rattle.rel_algebra.specs.Rel.{Rel, Scan, Filter, Project, Union, Group, Join, rels}
+use Rattle.rel_algebra.specs.Rel.{Rel, Scan, Filter, Project, Union, Group, Join, Semi, rels}
 use Rattle.sql_syntax.specs.Tree.{Text}
 
 abbrev a : Expr
@@ -50,6 +50,11 @@ bound =
     (codes "SELECT * FROM u WHERE (a = 1)", Filter (Scan 1) (Compare Eq a (int 1))) ∷
     (codes "SELECT * FROM t WHERE f AND (a = 1 AND NOT f)", Filter (Scan 0) (And (exprs (f ∷ Compare Eq a (int 1) ∷ Not f ∷ [])))) ∷
     (codes "SELECT * FROM u WHERE a BETWEEN 1 AND 2", Filter (Scan 1) (And (exprs (Compare Ge a (int 1) ∷ Compare Le a (int 2) ∷ [])))) ∷
+    -- a subquery's conjuncts that look outside are the pairs and the rest of a Semi; the others stay inside
+    (codes "SELECT * FROM u WHERE EXISTS (SELECT 1 FROM t WHERE t.a = u.a AND f AND t.b > u.a)", Semi (Scan 1) (Filter (Scan 0) f) false (pair 0 0 ∷ []) (Some (Compare Gt (Column 3 Int) a))) ∷
+    (codes "SELECT * FROM u WHERE NOT EXISTS (SELECT * FROM t)", Semi (Scan 1) (Scan 0) true [] None) ∷
+    (codes "SELECT * FROM u WHERE a IN (SELECT b FROM t) AND a > 1 AND NOT EXISTS (SELECT 1 FROM t WHERE s = x)", Semi (Semi (Filter (Scan 1) (Compare Gt a (int 1))) (Project (Scan 0) (b ∷ [])) false (pair 0 0 ∷ []) None) (Scan 0) true (pair 1 2 ∷ []) None) ∷
+    (codes "SELECT * FROM u WHERE a + 1 IN (SELECT b FROM t)", Semi (Scan 1) (Project (Scan 0) (b ∷ [])) false [] (Some (Compare Eq (Arith Add a (int 1)) (Column 2 Int)))) ∷
     -- chains are pairs from the left
     (codes "SELECT a + b - a FROM t", Project (Scan 0) (Arith Sub (Arith Add a b) a ∷ [])) ∷
     -- a NULL is of the type of the other results

@@ -11,7 +11,9 @@ unknown_tables =
     codes "SELECT a FROM T" ∷
     codes "SELECT a FROM (SELECT a FROM nosuch) AS x" ∷
     codes "SELECT RAND() FROM nosuch" ∷
-    codes "SELECT a FROM t UNION ALL SELECT a FROM nosuch" ∷ []
+    codes "SELECT a FROM t UNION ALL SELECT a FROM nosuch" ∷
+    codes "SELECT a FROM t WHERE EXISTS (SELECT 1 FROM nosuch)" ∷
+    codes "SELECT a FROM t WHERE a IN (SELECT a FROM nosuch)" ∷ []
 
 -- S4
 abbrev pub unknown_columns : List Text
@@ -35,7 +37,14 @@ unknown_columns =
     codes "SELECT a FROM t WHERE SUM(nosuch) = 1" ∷
     codes "SELECT COUNT(*) FILTER (WHERE nosuch) FROM t" ∷
     codes "SELECT `NOW` FROM t" ∷
-    codes "SELECT t.NOW FROM t" ∷ []
+    codes "SELECT t.NOW FROM t" ∷
+    -- columns outside are in reach in the WHERE of an EXISTS's subquery alone, one level up
+    codes "SELECT b FROM t WHERE EXISTS (SELECT b FROM u)" ∷
+    codes "SELECT b FROM t WHERE EXISTS (SELECT 1 FROM u JOIN o ON n = b)" ∷
+    codes "SELECT b FROM t WHERE EXISTS (SELECT 1 FROM u WHERE EXISTS (SELECT 1 FROM o WHERE w = s))" ∷
+    codes "SELECT b FROM t WHERE EXISTS (SELECT 1 FROM (SELECT b FROM u) AS x)" ∷
+    codes "SELECT b FROM t WHERE a IN (SELECT a FROM u WHERE b = 1)" ∷
+    codes "SELECT b FROM t WHERE EXISTS (SELECT 1 FROM u WHERE t.x = 1)" ∷ []
 
 -- S5
 abbrev pub ambiguous : List Text
@@ -45,7 +54,9 @@ ambiguous =
     codes "SELECT b FROM t JOIN u ON a = 1" ∷
     codes "SELECT t.b FROM t JOIN u AS t ON RAND() = 1" ∷
     codes "SELECT x.a FROM (SELECT a, b a FROM t) AS x" ∷
-    codes "SELECT COUNT(*) FROM (SELECT a, a FROM t) GROUP BY a" ∷ []
+    codes "SELECT COUNT(*) FROM (SELECT a, a FROM t) GROUP BY a" ∷
+    codes "SELECT b FROM t WHERE EXISTS (SELECT 1 FROM u JOIN u ON TRUE)" ∷
+    codes "SELECT x FROM u WHERE EXISTS (SELECT 1 FROM t JOIN u AS v ON TRUE WHERE a = 1)" ∷ []
 
 -- S7
 abbrev pub mismatched : List Text
@@ -99,7 +110,13 @@ mismatched =
     -- UNION ALL
     codes "SELECT a FROM t UNION ALL SELECT s FROM t" ∷
     codes "SELECT a FROM t UNION ALL SELECT a, b FROM t" ∷
-    codes "SELECT d FROM t UNION ALL SELECT a FROM t" ∷ []
+    codes "SELECT d FROM t UNION ALL SELECT a FROM t" ∷
+    -- subqueries
+    codes "SELECT b FROM t WHERE s IN (SELECT a FROM u)" ∷
+    codes "SELECT b FROM t WHERE NULL IN (SELECT a FROM u)" ∷
+    codes "SELECT b FROM t WHERE EXISTS (SELECT 1 FROM u) AND b" ∷
+    codes "SELECT b FROM t WHERE EXISTS (SELECT 1 FROM u WHERE b)" ∷
+    codes "SELECT b FROM t WHERE EXISTS (SELECT 1 FROM u WHERE u.a)" ∷ []
 
 -- S8
 abbrev pub ungrouped : List Text
@@ -117,7 +134,9 @@ ungrouped =
     codes "SELECT a + 01 FROM t GROUP BY a + 1" ∷
     codes "SELECT a + b + 1 FROM t GROUP BY a + b" ∷
     codes "SELECT b + a FROM t GROUP BY a + b" ∷
-    codes "SELECT a <= b FROM t GROUP BY a < b" ∷ []
+    codes "SELECT a <= b FROM t GROUP BY a < b" ∷
+    codes "SELECT b FROM t WHERE EXISTS (SELECT 1 FROM u WHERE COUNT(*) = b)" ∷
+    codes "SELECT b FROM t WHERE COUNT(*) IN (SELECT a FROM u)" ∷ []
 
 -- S9
 abbrev pub nondeterministic : List Text
@@ -128,7 +147,8 @@ nondeterministic =
     codes "SELECT a FROM t WHERE CURRENT_DATE = s" ∷
     codes "SELECT a FROM t GROUP BY a HAVING PROCTIME() = a" ∷
     codes "SELECT SUM(RAND_INTEGER(10)) FROM t" ∷
-    codes "SELECT NOW FROM (SELECT a AS now FROM t)" ∷ []
+    codes "SELECT NOW FROM (SELECT a AS now FROM t)" ∷
+    codes "SELECT b FROM t WHERE EXISTS (SELECT 1 FROM u WHERE CURRENT_DATE = x)" ∷ []
 
 -- S18
 abbrev pub unsupported : List Text
@@ -153,7 +173,24 @@ unsupported =
     codes "SELECT a IN (SELECT a FROM t) FROM t" ∷
     codes "SELECT a FROM t ORDER BY a" ∷
     codes "SELECT a FROM t LIMIT 1" ∷
-    codes "SELECT a FROM (SELECT a FROM t ORDER BY a)" ∷ []
+    codes "SELECT a FROM (SELECT a FROM t ORDER BY a)" ∷
+    -- subqueries that are no conjuncts of a WHERE, or have another form
+    codes "SELECT a FROM t WHERE b = (SELECT a FROM u)" ∷
+    codes "SELECT a FROM t WHERE f OR EXISTS (SELECT 1 FROM u)" ∷
+    codes "SELECT a FROM t WHERE NOT (NOT EXISTS (SELECT 1 FROM u))" ∷
+    codes "SELECT a FROM t WHERE a NOT IN (SELECT a FROM u)" ∷
+    codes "SELECT a FROM t WHERE NOT (a IN (SELECT a FROM u))" ∷
+    codes "SELECT t.a FROM t JOIN u ON EXISTS (SELECT 1 FROM u)" ∷
+    codes "SELECT a FROM t GROUP BY a HAVING EXISTS (SELECT 1 FROM u)" ∷
+    codes "SELECT a FROM t WHERE EXISTS (SELECT DISTINCT a FROM u)" ∷
+    codes "SELECT a FROM t WHERE EXISTS (SELECT COUNT(*) FROM u)" ∷
+    codes "SELECT a FROM t WHERE EXISTS (SELECT a FROM u GROUP BY a)" ∷
+    codes "SELECT a FROM t WHERE EXISTS (SELECT a FROM u HAVING TRUE)" ∷
+    codes "SELECT a FROM t WHERE EXISTS (SELECT a FROM u UNION ALL SELECT a FROM u)" ∷
+    codes "SELECT a FROM t WHERE EXISTS (SELECT a FROM u ORDER BY a)" ∷
+    codes "SELECT a FROM t WHERE EXISTS (SELECT a FROM u LIMIT 1)" ∷
+    codes "SELECT a FROM t WHERE a IN (SELECT a, x FROM u)" ∷
+    codes "SELECT a FROM t WHERE EXISTS (SELECT 1 FROM u WHERE t.a IN (SELECT n FROM o))" ∷ []
 
 -- which of several refusals counts: the first that is met on the walk
 abbrev pub walks : List (Text × ScriptCode)
@@ -189,7 +226,16 @@ walks =
     (codes "SELECT a FROM t WHERE SUM(s) = 1", NotGrouped) ∷
     -- selects of a UNION ALL as pairs, and what stands behind them last
     (codes "SELECT a FROM t UNION ALL SELECT s FROM t UNION ALL SELECT RAND() FROM t", TypeMismatch) ∷
-    (codes "SELECT a FROM t UNION ALL SELECT RAND() FROM t ORDER BY a", Nondeterministic) ∷ []
+    (codes "SELECT a FROM t UNION ALL SELECT RAND() FROM t ORDER BY a", Nondeterministic) ∷
+    -- a subquery of another form where it stands, and one of that form in the order of its clauses
+    (codes "SELECT nosuch FROM t WHERE f AND EXISTS (SELECT DISTINCT nosuch FROM nosuch) AND RAND() = 1", Unsupported) ∷
+    (codes "SELECT nosuch FROM t WHERE EXISTS (SELECT RAND() FROM u WHERE x = 1 AND nosuch = 1)", TypeMismatch) ∷
+    (codes "SELECT a FROM t WHERE EXISTS (SELECT RAND() FROM u WHERE nosuch = 1)", UnknownColumn) ∷
+    (codes "SELECT a FROM t WHERE EXISTS (SELECT RAND() FROM u WHERE a) AND nosuch", TypeMismatch) ∷
+    (codes "SELECT a FROM t WHERE a AND EXISTS (SELECT RAND() FROM u)", Nondeterministic) ∷
+    (codes "SELECT a FROM t WHERE nosuch IN (SELECT RAND() FROM u)", UnknownColumn) ∷
+    (codes "SELECT a FROM t WHERE s IN (SELECT RAND() FROM u)", Nondeterministic) ∷
+    (codes "SELECT a FROM t WHERE s IN (SELECT a, nosuch FROM u)", UnknownColumn) ∷ []
 
 -- ---- long chains, and many columns
 

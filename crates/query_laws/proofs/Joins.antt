@@ -22,53 +22,44 @@ use Rattle.sql_syntax.specs.Tree.{Tree}
 use Rattle.sql_syntax.specs.Tree as t
 use Rattle.query_answer.specs.declared.scope.Found.{Found}
 use Rattle.query_answer.specs.declared.scope.Found.TheVariants.{Absent, At, Several}
-use Rattle.query_answer.specs.Answer.{Reach, over, conjuncts, rest_meaning, types}
+use Rattle.query_answer.specs.Answer.{Reach, by, over, conjuncts, rest_meaning, types}
 use Rattle.query_answer.specs.Answer as a
 use Rattle.query_answer.specs.Joins.{plain_column, pair_at, or_pair, pair_found, pair_of, with_pair, pairs_of, rest_of, nullable_scope, join_scope}
-use Rattle.query_answer.specs.Names.{Scope, find}
+use Rattle.query_answer.specs.Names.{Scope, Lookup, find}
 use Rattle.binding.specs.Checked.{◌>>=◌}
 use Rattle.binding.specs.Expressions.{each_bound, conditions, conjuncts_bound}
 use Rattle.binding.specs.Queries.{Relation, all_of, rest_bound, on_bound, share_source}
+use Rattle.binding.specs.Nodes.{Bound}
 use Rattle.binding.specs.Queries as b
 use Rattle.query_laws.proofs.Clauses.{Fine}
 use Rattle.query_laws.proofs.Lists.{map_length, slice_before, slice_past, both_true}
-use Rattle.query_laws.proofs.Names.{Stands, found_stands, AllAre, AreTruths, each_means, conditions_are, all_of_holds, all_of_boolean}
+use Rattle.query_laws.proofs.Names.{SameRow, IsThere, LooksUp, finds, IsTruths, all_hold, all_boolean, AllAre, AreTruths, each_means, conditions_are}
+use Rattle.query_laws.proofs.Nodes as k
 use Rattle.query_laws.proofs.Options.{bind, then, tested, map_append}
 use Rattle.query_laws.proofs.Selects.{reach, FineAt}
 
 -- ---- key pairs are columns of both sides with a common type
 
-module _ (left right : Scope) where
-  abbrev both : Scope
-  both = left ++ right
-
+-- names being found in a row of both
+module _ (left right : List ColTy) (look : Lookup) (there : LooksUp (left ++ right) look) where
   abbrev width : ℕ
   width = length left
 
   abbrev PairFits : Option Pair → Type 0
   PairFits None = Unit {0}
-  PairFits (Some pair) = pair_fits (types left) (types right) pair ≡ true
+  PairFits (Some pair) = pair_fits left right pair ≡ true
 
-  plain_stands : (x : Tree) → Stands 0 both (plain_column (find both) x)
-  plain_stands (t.Name of name quoted) = found_stands 0 both of name
-  plain_stands (t.Paren x) = plain_stands x
-  plain_stands _ = tt
-
-  left_width : length (types left) ≡ width
-  left_width = map_length (λ c. c.ty) left
-
-  both_types : types both ≡ types left ++ types right
-  both_types = map_append (λ c. c.ty) left right
+  pub plain_there : (x : Tree) → IsThere (left ++ right) (plain_column look x)
+  plain_there (t.Name of name quoted) = there of name
+  plain_there (t.Paren x) = plain_there x
+  plain_there _ = tt
 
   -- a column of the left, and one of the right
-  left_there : (m : ℕ) (s : ColTy) → slice_get (types both) m ≡ Some s → m < width → slice_get (types left) m ≡ Some s
-  left_there m s e l = sym (slice_before (types left) (types right) m (let q = left_width in omega arith)) ∙ ap (λ cs. slice_get cs m) (sym both_types) ∙ e
+  left_there : (m : ℕ) (s : ColTy) → slice_get (left ++ right) m ≡ Some s → m < width → slice_get left m ≡ Some s
+  left_there m s e l = sym (slice_before left right m l) ∙ e
 
-  right_there : (n : ℕ) (u : ColTy) → slice_get (types both) n ≡ Some u → width ≤ n → slice_get (types right) (n - width) ≡ Some u
-  right_there n u e l =
-      sym (slice_past (types left) (types right) (n - width))
-      ∙ ap (λ m. slice_get (types left ++ types right) m) (let q = left_width in let p : length (types left) + (n - width) ≡ n = omega arith in p)
-      ∙ ap (λ cs. slice_get cs n) (sym both_types) ∙ e
+  right_there : (n : ℕ) (u : ColTy) → slice_get (left ++ right) n ≡ Some u → width ≤ n → slice_get right (n - width) ≡ Some u
+  right_there n u e l = sym (slice_past left right (n - width)) ∙ ap (λ m. slice_get (left ++ right) m) (let p : length left + (n - width) ≡ n = omega arith in p) ∙ e
 
   abbrev with_null : ColTy → ColTy → Ty → ColTy
   with_null s u ty = record { ty = ty; nullable = s.nullable || u.nullable }
@@ -80,7 +71,7 @@ module _ (left right : Scope) where
       go None e = absurd (cc)
       go (Some ty) e = refl
 
-  at_fits : (m : ℕ) (s : ColTy) (n : ℕ) (u : ColTy) → slice_get (types both) m ≡ Some s → slice_get (types both) n ≡ Some u → PairFits (pair_at width m s n u)
+  at_fits : (m : ℕ) (s : ColTy) (n : ℕ) (u : ColTy) → slice_get (left ++ right) m ≡ Some s → slice_get (left ++ right) n ≡ Some u → PairFits (pair_at width m s n u)
   at_fits m s n u p q = go ((nat_lt m width && nat_le width n) && is_some (common_ty s.ty u.ty)) refl
     where
       go : (t : Bool) → ((nat_lt m width && nat_le width n) && is_some (common_ty s.ty u.ty)) ≡ t → PairFits (cond t (Some (record { left = m; right = n - width })) None)
@@ -94,43 +85,48 @@ module _ (left right : Scope) where
   or_fits None p h k = k
   or_fits (Some pair) p h k = h
 
-  found_fits : (f g : Found) → Stands 0 both f → Stands 0 both g → PairFits (pair_found width f g)
-  found_fits (At m s) (At n u) h k =
-      let p : slice_get (types both) m ≡ Some s = (let e : h.0 ≡ m = (let q : m ≡ 0 + h.0 = h.1 in omega arith) in subst (λ i. slice_get (types both) i ≡ Some s) e h.2) in
-      let q : slice_get (types both) n ≡ Some u = (let e : k.0 ≡ n = (let q : n ≡ 0 + k.0 = k.1 in omega arith) in subst (λ i. slice_get (types both) i ≡ Some u) e k.2) in
-      or_fits (pair_at width m s n u) (pair_at width n u m s) (at_fits m s n u p q) (at_fits n u m s q p)
+  pub found_fits : (f g : Found) → IsThere (left ++ right) f → IsThere (left ++ right) g → PairFits (pair_found width f g)
+  found_fits (At m s) (At n u) h k = or_fits (pair_at width m s n u) (pair_at width n u m s) (at_fits m s n u h k) (at_fits n u m s k h)
   found_fits (At m s) Absent h k = tt
   found_fits (At m s) Several h k = tt
   found_fits Absent g h k = tt
   found_fits Several g h k = tt
 
-  pair_right : (c : Tree) → PairFits (pair_of width (find both) c)
-  pair_right (t.Compare Eq x y) = found_fits (plain_column (find both) x) (plain_column (find both) y) (plain_stands x) (plain_stands y)
+  pub pair_right : (c : Tree) → PairFits (pair_of width look c)
+  pair_right (t.Compare Eq x y) = found_fits (plain_column look x) (plain_column look y) (plain_there x) (plain_there y)
   pair_right _ = tt
 
-  pub pairs_right : (cs : List Tree) → pairs_fit (types left) (types right) (pairs_of width (find both) cs) ≡ true
+  pub pairs_right : (cs : List Tree) → pairs_fit left right (pairs_of width look cs) ≡ true
   pairs_right [] = refl
-  pairs_right (c ∷ cs) = more (pair_of width (find both) c) (pair_right c) (pairs_right cs)
+  pairs_right (c ∷ cs) = more (pair_of width look c) (pair_right c) (pairs_right cs)
     where
-      more : (o : Option Pair) → PairFits o → pairs_fit (types left) (types right) (pairs_of width (find both) cs) ≡ true → pairs_fit (types left) (types right) (with_pair o (pairs_of width (find both) cs)) ≡ true
+      more : (o : Option Pair) → PairFits o → pairs_fit left right (pairs_of width look cs) ≡ true → pairs_fit left right (with_pair o (pairs_of width look cs)) ≡ true
       more None h k = k
       more (Some pair) h k = λ i. h i && k i
 
 -- ---- the rest
 
 -- what the rest is bound to
-abbrev pub RestIs : Scope → List Tree → Option Expr → Type 0
-RestIs scope cs rest = (◌≡◌ {A = (List Pair → Matching)} (λ pairs. matching pairs (option_map eval rest)) (λ pairs. matching pairs (rest_meaning scope cs))) × (is_condition_if (types scope) rest ≡ true)
+abbrev pub RestIs : List ColTy → Lookup → List Tree → Option Expr → Type 0
+RestIs cols look cs rest = (◌≡◌ {A = (List Pair → Matching)} (λ pairs. matching pairs (option_map eval rest)) (λ pairs. matching pairs (rest_meaning look cs))) × (is_condition_if cols rest ≡ true)
 
-pub rest_means : (scope : Scope) (cs : List Tree) → IfOk (rest_bound scope cs) (RestIs scope cs)
+-- one condition or more
+pub rest_is : (cols : List ColTy) (look : Lookup) (c : Tree) (cs : List Tree) (y : Bound) (ys : List Bound) → k.AllAre cols SameRow (y ∷ ys) (map (by look) (c ∷ cs)) → IsTruths cols (y ∷ ys) → RestIs cols look (c ∷ cs) (Some (all_of (y ∷ ys)))
+rest_is cols look c cs y ys h l = (
+  (λ i pairs left right. cond (agree pairs left right) (all_hold cols (y ∷ ys) (map (by look) (c ∷ cs)) h i (left ++ right)) (Some false)),
+  all_boolean cols (y ∷ ys) (map (by look) (c ∷ cs)) h l,
+)
+
+pub rest_means : (scope : Scope) (cs : List Tree) → IfOk (rest_bound scope cs) (RestIs (types scope) (find scope) cs)
 rest_means scope [] = (refl, refl)
 rest_means scope (x ∷ xs) =
     let zs = map (over scope) (x ∷ xs) in
     bind (each_bound scope (x ∷ xs) >>= conditions) _ (λ ys. AllAre scope ys zs × AreTruths scope ys) _
-    (bind (each_bound scope (x ∷ xs)) conditions (λ ys. AllAre scope ys zs) (λ ys. AllAre scope ys zs × AreTruths scope ys) (each_means scope (x ∷ xs)) (λ ys p. conditions_are scope ys (λ ws. AllAre scope ws zs) p)) (λ ys p. (
-      (λ i pairs left right. cond (agree pairs left right) (all_of_holds scope ys (map (over scope) (x ∷ xs)) p.0 i (left ++ right)) (Some false)),
-      all_of_boolean scope ys (map (over scope) (x ∷ xs)) p.0 p.1,
-    ))
+    (bind (each_bound scope (x ∷ xs)) conditions (λ ys. AllAre scope ys zs) (λ ys. AllAre scope ys zs × AreTruths scope ys) (each_means scope (x ∷ xs)) (λ ys p. conditions_are scope ys (λ ws. AllAre scope ws zs) p)) (λ ys p. bound ys p.0 p.1)
+  where
+    bound : (ys : List Bound) → AllAre scope ys (map (over scope) (x ∷ xs)) → AreTruths scope ys → RestIs (types scope) (find scope) (x ∷ xs) (Some (all_of ys))
+    bound [] h l = absurd h
+    bound (y ∷ ys) h l = rest_is (types scope) (find scope) x xs y ys h l
 
 -- ---- the columns of a join
 
@@ -188,13 +184,18 @@ module _ (tables : List Table) where
       let P : Relation → Type 0 = λ z. (reach tables z ≡ a.joined kind (reach tables x) (reach tables y) on) × FineAt tables z in
       tested (share_source x.scope y.scope) AmbiguousColumn (on_bound kind x y on) P
       (then (conjuncts_bound both on >>= conditions) _ P (λ all e.
-      bind (rest_bound both (rest_of (length x.scope) (find both) cs)) _ (RestIs both (rest_of (length x.scope) (find both) cs)) P (rest_means both (rest_of (length x.scope) (find both) cs)) (λ rest p. (
+      bind (rest_bound both (rest_of (length x.scope) (find both) cs)) _ (RestIs (types both) (find both) (rest_of (length x.scope) (find both) cs)) P (rest_means both (rest_of (length x.scope) (find both) cs)) (λ rest p. (
         λ i. record {
           scope = join_scope kind x.scope y.scope;
           rows = both_of (join_rows kind (widths x f i) (widths y h i) (p.0 i (pairs_of (length x.scope) (find (x.scope ++ y.scope)) (conjuncts on)))) (answer tables x.rel) (answer tables y.rel);
         },
-        join_fine kind x y (pairs_of (length x.scope) (find both) cs) rest f h (pairs_right x.scope y.scope cs) p.1,
+        join_fine kind x y (pairs_of (length x.scope) (find both) cs) rest f h (pairs_both x.scope y.scope cs) p.1,
       ))))
     where
       widths : (z : Relation) → FineAt tables z → length (columns_in tables z.rel) ≡ length z.scope
       widths z g = ap (λ o. length (unwrap_or o [])) g.typed ∙ map_length (λ c. c.ty) z.scope
+
+      pairs_both : (left right : Scope) (cs : List Tree) → pairs_fit (types left) (types right) (pairs_of (length left) (find (left ++ right)) cs) ≡ true
+      pairs_both left right cs =
+          subst (λ n. pairs_fit (types left) (types right) (pairs_of n (find (left ++ right)) cs) ≡ true) (map_length (λ c. c.ty) left)
+          (pairs_right (types left) (types right) (find (left ++ right)) (subst (λ cols. LooksUp cols (find (left ++ right))) (map_append (λ c. c.ty) left right) (finds (left ++ right))) cs)

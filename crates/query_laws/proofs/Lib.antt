@@ -12,6 +12,7 @@ pub mod Lists
 pub mod Names
 pub mod Nodes
 pub mod Options
+pub mod Parts
 pub mod Queries
 pub mod Selects
 pub mod Sources

@@ -1,5 +1,5 @@
 -- Trees over the columns in reach are bound to what they stand for.
-use Rattle.std.proofs.Common.{◌≡◌, ℕ, suc, ◌+◌, Bool, true, false, List, [], ◌∷◌, ◌++◌, map, Option, Some, None, cond, Ok, IfOk, refl, sym, ap, ◌∙◌, subst, option_and_then, option_map, slice_get, arith}
+use Rattle.std.proofs.Common.{◌≡◌, ℕ, suc, ◌+◌, Bool, true, false, List, [], ◌∷◌, ◌++◌, map, Option, Some, None, cond, Ok, IfOk, refl, sym, ap, ◌∙◌, subst, option_and_then, option_map, slice_get, length, arith, append-nil}
 use Rattle.ct_value.specs.declared.row.Row.{Row}
 use Rattle.ct_value.specs.declared.ty.ColTy.{ColTy}
 use Rattle.ct_value.specs.declared.ty.Ty.TheVariants.{Bool as Truths}
@@ -18,19 +18,20 @@ use Rattle.sql_syntax.specs.Tree as t
 use Rattle.query_answer.specs.declared.scope.Found.{Found}
 use Rattle.query_answer.specs.declared.scope.Found.TheVariants.{Absent, At, Several}
 use Rattle.query_answer.specs.declared.scope.ScopeColumn.{ScopeColumn}
-use Rattle.query_answer.specs.Answer.{over, conjuncts, all_conjuncts, types}
+use Rattle.query_answer.specs.Answer.{by, over, types}
 use Rattle.query_answer.specs.Calls.{Call, calls}
-use Rattle.query_answer.specs.Names.{Scope, find, find_from, is_named, also, named, column_at}
+use Rattle.query_answer.specs.Names.{Scope, Lookup, find, find_from, find_linked, or_outside, is_named, also, named, column_at}
 use Rattle.query_answer.specs.Stands.{args_stand}
 use Rattle.query_answer.specs.Table.{Typed, conjunction}
 use Rattle.binding.specs.Checked.{◌>>=◌}
-use Rattle.binding.specs.Expressions.{bound_over, each_bound, names, column, found_column, may_change, args_bound, conditions, truths, conjuncts_bound, all_conjuncts_bound}
+use Rattle.binding.specs.Expressions.{bound_by, bound_over, each_bound, names, names_by, column, found_column, may_change, args_bound, conditions, truths}
 use Rattle.binding.specs.Nodes.{Bound, operands}
 use Rattle.binding.specs.Nodes as node_of
 use Rattle.binding.specs.Queries.{all_of}
 use Rattle.query_laws.proofs.Bound.{Known, bound_means, args_mean}
+use Rattle.query_laws.proofs.Lists.{map_length, slice_before, slice_past, slice_there}
 use Rattle.query_laws.proofs.Nodes as k
-use Rattle.query_laws.proofs.Options.{bind, weaker, map_append, cond_true}
+use Rattle.query_laws.proofs.Options.{bind, cond_true}
 use Rattle.query_laws.proofs.Types.{same_itself, all_truths_are}
 
 -- ---- look-up
@@ -63,6 +64,80 @@ found_stands n (c ∷ scope) of name = which n c scope (is_named of name c) (fin
 pub column_typed : (cols : List ColTy) (n : ℕ) (ty : ColTy) → slice_get cols n ≡ Some ty → type_of (e.Column n ty.ty) cols ≡ Some ty
 column_typed cols n ty h = ap (option_and_then (λ c. cond (same_ty c.ty ty.ty) (Some c) None)) h ∙ ap (λ b. cond b (Some ty) None) (same_itself ty.ty)
 
+-- ---- trees whose names stand for columns by a look-up
+
+abbrev pub SameRow : Row → Row → Type 0
+SameRow r g = r ≡ g
+
+-- what is found is a column that is there, of its type
+abbrev pub IsThere : List ColTy → Found → Type 0
+IsThere cols Absent = Unit {0}
+IsThere cols (At n ty) = slice_get cols n ≡ Some ty
+IsThere cols Several = Unit {0}
+
+abbrev pub LooksUp : List ColTy → Lookup → Type 0
+LooksUp cols look = (of : Option t.Text) (name : t.Text) → IsThere cols (look of name)
+
+at_place : (scope : Scope) (more : List ColTy) (f : Found) → Stands 0 scope f → IsThere (types scope ++ more) f
+at_place scope more Absent h = tt
+at_place scope more (At n ty) h =
+    let q : n ≡ 0 + h.0 = h.1 in
+    let p : h.0 ≡ n = omega arith in
+    let there : slice_get (types scope) n ≡ Some ty = subst (λ m. slice_get (types scope) m ≡ Some ty) p h.2 in
+    slice_before (types scope) more n (slice_there (types scope) n ty there) ∙ there
+at_place scope more Several h = tt
+
+-- more columns may stand behind those in reach
+pub finds_before : (scope : Scope) (more : List ColTy) → LooksUp (types scope ++ more) (find scope)
+finds_before scope more of name = at_place scope more (find scope of name) (found_stands 0 scope of name)
+
+pub finds : (scope : Scope) → LooksUp (types scope) (find scope)
+finds scope = subst (λ cols. LooksUp cols (find scope)) (append-nil (types scope)) (finds_before scope [])
+
+behind : (outside own : Scope) (f : Found) → Stands (length outside) own f → IsThere (types outside ++ types own) f
+behind outside own Absent h = tt
+behind outside own (At n ty) h =
+    ap (slice_get (types outside ++ types own)) (let q : n ≡ length outside + h.0 = h.1 in let w = map_length (λ c. c.ty) outside in let p : n ≡ length (types outside) + h.0 = omega arith in p)
+    ∙ slice_past (types outside) (types own) h.0 ∙ h.2
+behind outside own Several h = tt
+
+either : (cols : List ColTy) (f g : Found) → IsThere cols f → IsThere cols g → IsThere cols (or_outside f g)
+either cols Absent g h k = k
+either cols (At n ty) g h k = h
+either cols Several g h k = tt
+
+pub finds_linked : (outside own : Scope) → LooksUp (types outside ++ types own) (find_linked outside own)
+finds_linked outside own of name =
+    either (types outside ++ types own) (find_from (length outside) own of name) (find outside of name)
+    (behind outside own (find_from (length outside) own of name) (found_stands (length outside) own of name)) (finds_before outside (types own) of name)
+
+pub column_there : (cols : List ColTy) (n : ℕ) (ty : ColTy) → slice_get cols n ≡ Some ty → k.Is cols SameRow (column n ty) (column_at (At n ty))
+column_there cols n ty h = (refl, column_typed cols n ty h, λ r g q i. Some (cell n (q i)))
+
+module _ (cols : List ColTy) (look : Lookup) (there : LooksUp cols look) where
+  name_is : (changing : Bool) (f : Found) → IsThere cols f → IfOk (found_column changing f >>= λ x. Ok (Some x)) (λ o. k.MayBe cols SameRow o (Some (column_at f)))
+  name_is true Absent h = tt
+  name_is false Absent h = tt
+  name_is changing (At n ty) h = column_there cols n ty h
+  name_is changing Several h = tt
+
+  names_fit : (n : ℕ) (x : Tree) → IfOk (names_by look n x) (λ o. k.MayBe cols SameRow o (named look x))
+  names_fit n (t.Name of name quoted) = name_is (may_change of name quoted) (look of name) (there of name)
+  names_fit n _ = tt
+
+  abbrev Nothing : ℕ → Call → Type 0
+  Nothing n c = Unit {0}
+
+  none_known : (n : ℕ) (cs : List Call) → Known cols SameRow (named look) (names_by look) Nothing n cs
+  none_known n [] = tt
+  none_known n (c ∷ cs) = (tt, none_known (suc n) cs)
+
+  pub by_means : (x : Tree) → IfOk (bound_by look x) (λ y. k.Is cols SameRow y (by look x))
+  by_means x = bound_means cols SameRow (named look) (names_by look) Nothing (λ n y h. names_fit n y) x 0 (none_known 0 (calls x))
+
+  pub args_by : (args : t.Args) → IfOk (args_bound (names_by look) 0 args) (λ ys. k.AllAre cols SameRow ys (args_stand (named look) args))
+  args_by args = args_mean cols SameRow (named look) (names_by look) Nothing (λ n y h. names_fit n y) args 0 (none_known 0 _)
+
 module _ (scope : Scope) where
   -- over rows of the columns in reach
   abbrev pub Same : Row → Row → Type 0
@@ -78,30 +153,13 @@ module _ (scope : Scope) where
   MayBe = k.MayBe (types scope) Same
 
   pub column_is : (n : ℕ) (ty : ColTy) → slice_get (types scope) n ≡ Some ty → Is (column n ty) (column_at (At n ty))
-  column_is n ty h = (refl, column_typed (types scope) n ty h, λ r g q i. Some (cell n (q i)))
-
-  name_is : (changing : Bool) (f : Found) → Stands 0 scope f → IfOk (found_column changing f >>= λ x. Ok (Some x)) (λ o. MayBe o (Some (column_at f)))
-  name_is true Absent h = tt
-  name_is false Absent h = tt
-  name_is changing (At n ty) h = let q : n ≡ 0 + h.0 = h.1 in let p : h.0 ≡ n = omega arith in column_is n ty (subst (λ m. slice_get (types scope) m ≡ Some ty) p h.2)
-  name_is changing Several h = tt
-
-  names_fit : (n : ℕ) (x : Tree) → IfOk (names scope n x) (λ o. MayBe o (named (find scope) x))
-  names_fit n (t.Name of name quoted) = name_is (may_change of name quoted) (find scope of name) (found_stands 0 scope of name)
-  names_fit n _ = tt
-
-  abbrev Nothing : ℕ → Call → Type 0
-  Nothing n c = Unit {0}
-
-  none_known : (n : ℕ) (cs : List Call) → Known (types scope) Same (named (find scope)) (names scope) Nothing n cs
-  none_known n [] = tt
-  none_known n (c ∷ cs) = (tt, none_known (suc n) cs)
+  column_is n ty h = column_there (types scope) n ty h
 
   pub over_means : (x : Tree) → IfOk (bound_over scope x) (λ y. Is y (over scope x))
-  over_means x = bound_means (types scope) Same (named (find scope)) (names scope) Nothing (λ n y h. names_fit n y) x 0 (none_known 0 (calls x))
+  over_means x = by_means (types scope) (find scope) (finds scope) x
 
   pub args_over : (args : t.Args) → IfOk (args_bound (names scope) 0 args) (λ ys. AllAre ys (args_stand (named (find scope)) args))
-  args_over args = args_mean (types scope) Same (named (find scope)) (names scope) Nothing (λ n y h. names_fit n y) args 0 (none_known 0 _)
+  args_over args = args_by (types scope) (find scope) (finds scope) args
 
   pub each_means : (xs : List Tree) → IfOk (each_bound scope xs) (λ ys. AllAre ys (map (over scope) xs))
   each_means [] = tt
@@ -128,47 +186,9 @@ module _ (scope : Scope) where
       go None q = tt
       go (Some c) q = (h, (c, q))
 
-  -- one conjunct
-  single : (x : Tree) → IfOk (bound_over scope x >>= λ a. Ok (a ∷ [])) (λ ys. AllAre ys (over scope x ∷ []))
-  single x = bind (bound_over scope x) _ (λ y. Is y (over scope x)) _ (over_means x) (λ y p. (p, tt))
+-- ---- conditions as one
 
-  mutual
-    pub conjuncts_mean : (x : Tree) → IfOk (conjuncts_bound scope x) (λ ys. AllAre ys (map (over scope) (conjuncts x)))
-    conjuncts_mean (t.And xs) =
-        bind (all_conjuncts_bound scope xs) _ (λ ys. AllAre ys (map (over scope) (all_conjuncts xs))) _ (all_conjuncts_mean xs) (λ ys p.
-        weaker (conditions ys) _ _ (conditions_are ys (λ zs. AllAre zs (map (over scope) (all_conjuncts xs))) p) (λ zs q. q.0))
-    conjuncts_mean (t.Paren x) = conjuncts_mean x
-    conjuncts_mean (t.Or xs) = single (t.Or xs)
-    conjuncts_mean (t.Not x) = single (t.Not x)
-    conjuncts_mean (t.Exists q) = single (t.Exists q)
-    conjuncts_mean (t.Compare op x y) = single (t.Compare op x y)
-    conjuncts_mean (t.IsNull x negated) = single (t.IsNull x negated)
-    conjuncts_mean (t.Between x low high negated) = single (t.Between x low high negated)
-    conjuncts_mean (t.InList x xs negated) = single (t.InList x xs negated)
-    conjuncts_mean (t.InQuery x q negated) = single (t.InQuery x q negated)
-    conjuncts_mean (t.Like x y negated) = single (t.Like x y negated)
-    conjuncts_mean (t.Sum x xs) = single (t.Sum x xs)
-    conjuncts_mean (t.Product x xs) = single (t.Product x xs)
-    conjuncts_mean (t.Sign minus x) = single (t.Sign minus x)
-    conjuncts_mean (t.Number text) = single (t.Number text)
-    conjuncts_mean (t.Str text) = single (t.Str text)
-    conjuncts_mean (t.Truth truth) = single (t.Truth truth)
-    conjuncts_mean t.Null = single t.Null
-    conjuncts_mean (t.Name of name quoted) = single (t.Name of name quoted)
-    conjuncts_mean (t.Call name args filter o) = single (t.Call name args filter o)
-    conjuncts_mean (t.Cast x ty) = single (t.Cast x ty)
-    conjuncts_mean (t.Sub q) = single (t.Sub q)
-    conjuncts_mean (t.Case whens otherwise) = single (t.Case whens otherwise)
-
-    pub all_conjuncts_mean : (xs : t.Trees) → IfOk (all_conjuncts_bound scope xs) (λ ys. AllAre ys (map (over scope) (all_conjuncts xs)))
-    all_conjuncts_mean t.no_trees = tt
-    all_conjuncts_mean (t.tree_and x xs) =
-        bind (conjuncts_bound scope x) _ (λ ys. AllAre ys (map (over scope) (conjuncts x))) _ (conjuncts_mean x) (λ ys p.
-        bind (all_conjuncts_bound scope xs) _ (λ zs. AllAre zs (map (over scope) (all_conjuncts xs))) _ (all_conjuncts_mean xs) (λ zs q.
-        subst (λ (ws : List Typed). AllAre (ys ++ zs) ws) (sym (map_append (over scope) (conjuncts x) (all_conjuncts xs))) (all_append ys zs (map (over scope) (conjuncts x)) (map (over scope) (all_conjuncts xs)) p q)))
-
-  -- ---- conditions as one
-
+module _ (cols : List ColTy) where
   true_of : (w : Value) → is_true w ≡ is_true (v.and_of (Truth true) w)
   true_of Null = refl
   true_of (Truth true) = refl
@@ -181,23 +201,33 @@ module _ (scope : Scope) where
   alone (Some w) = ap Some (true_of w)
 
   -- the condition of a Filter keeps what all conjuncts keep
-  pub all_of_holds : (ys : List Bound) (zs : List Typed) → AllAre ys zs → holds (eval (all_of ys)) ≡ holds (conjunction zs).value
-  all_of_holds [] [] h = refl
-  all_of_holds [] (z ∷ zs) h = absurd h
-  all_of_holds (y ∷ ys) [] h = absurd h
-  all_of_holds (y ∷ []) (z ∷ []) h = λ i row. (ap (option_map is_true) (h.0.2 row row refl) ∙ alone (z.value row)) i
-  all_of_holds (y ∷ []) (z ∷ w ∷ zs) h = absurd h.1
-  all_of_holds (y ∷ x ∷ ys) (z ∷ []) h = absurd h.1
-  all_of_holds (y ∷ x ∷ ys) (z ∷ w ∷ zs) h = λ i row. option_map is_true (v.conjunction (k.evals_are (types scope) Same (y ∷ x ∷ ys) (z ∷ w ∷ zs) h row row refl i))
+  pub all_hold : (ys : List Bound) (zs : List Typed) → k.AllAre cols SameRow ys zs → holds (eval (all_of ys)) ≡ holds (conjunction zs).value
+  all_hold [] [] h = refl
+  all_hold [] (z ∷ zs) h = absurd h
+  all_hold (y ∷ ys) [] h = absurd h
+  all_hold (y ∷ []) (z ∷ []) h = λ i row. (ap (option_map is_true) (h.0.2 row row refl) ∙ alone (z.value row)) i
+  all_hold (y ∷ []) (z ∷ w ∷ zs) h = absurd h.1
+  all_hold (y ∷ x ∷ ys) (z ∷ []) h = absurd h.1
+  all_hold (y ∷ x ∷ ys) (z ∷ w ∷ zs) h = λ i row. option_map is_true (v.conjunction (k.evals_are cols SameRow (y ∷ x ∷ ys) (z ∷ w ∷ zs) h row row refl i))
 
   -- and it is BOOLEAN
+  abbrev pub IsTruths : List Bound → Type 0
+  IsTruths ys = (c : ColTy) × (all_truths (node_of.columns ys) ≡ Some c)
+
   boolean_of : (c : ColTy) → c.ty ≡ Truths → is_truths c.ty ≡ true
   boolean_of c q = ap is_truths q
 
-  pub all_of_boolean : (ys : List Bound) (zs : List Typed) → AllAre ys zs → AreTruths ys → is_condition (types scope) (all_of ys) ≡ true
-  all_of_boolean [] [] h l = let q : None ≡ Some l.0 = l.1 in absurd (cc)
-  all_of_boolean [] (z ∷ zs) h l = absurd h
-  all_of_boolean (y ∷ []) [] h l = absurd h
-  all_of_boolean (y ∷ []) (z ∷ zs) h l = ap is_boolean h.0.1 ∙ cond_true (is_truths y.column.ty) (col Truths y.column.nullable) l.0 l.1
-  all_of_boolean (y ∷ x ∷ ys) zs h l =
-      ap is_boolean (ap all_truths (k.types_are (types scope) Same (y ∷ x ∷ ys) zs h) ∙ l.1) ∙ boolean_of l.0 (all_truths_are (node_of.columns (y ∷ x ∷ ys)) l.0 l.1)
+  pub all_boolean : (ys : List Bound) (zs : List Typed) → k.AllAre cols SameRow ys zs → IsTruths ys → is_condition cols (all_of ys) ≡ true
+  all_boolean [] [] h l = let q : None ≡ Some l.0 = l.1 in absurd (cc)
+  all_boolean [] (z ∷ zs) h l = absurd h
+  all_boolean (y ∷ []) [] h l = absurd h
+  all_boolean (y ∷ []) (z ∷ zs) h l = ap is_boolean h.0.1 ∙ cond_true (is_truths y.column.ty) (col Truths y.column.nullable) l.0 l.1
+  all_boolean (y ∷ x ∷ ys) zs h l =
+      ap is_boolean (ap all_truths (k.types_are cols SameRow (y ∷ x ∷ ys) zs h) ∙ l.1) ∙ boolean_of l.0 (all_truths_are (node_of.columns (y ∷ x ∷ ys)) l.0 l.1)
+
+-- over the columns in reach
+pub all_of_holds : (scope : Scope) (ys : List Bound) (zs : List Typed) → AllAre scope ys zs → holds (eval (all_of ys)) ≡ holds (conjunction zs).value
+all_of_holds scope = all_hold (types scope)
+
+pub all_of_boolean : (scope : Scope) (ys : List Bound) (zs : List Typed) → AllAre scope ys zs → AreTruths scope ys → is_condition (types scope) (all_of ys) ≡ true
+all_of_boolean scope = all_boolean (types scope)

@@ -1,5 +1,6 @@
 -- What a query is bound to has the query's answer: one induction over the tree, a clause a step.
 use Rattle.std.proofs.Common.{◌≡◌, ℕ, zero, suc, ◌+◌, Bool, true, false, ◌&&◌, ◌||◌, List, [], ◌∷◌, map, length, Option, Some, None, cond, Ok, IfOk, refl, sym, ap, ◌∙◌, subst, option_map, slice_get, unwrap_or, arith}
+use Rattle.std.specs.List.{list_all}
 use Rattle.std.specs.Str.{bytes_eq}
 use Rattle.ct_value.specs.Bag.{none}
 use Rattle.ct_value.specs.Order.{row_total, row_exact}
@@ -23,7 +24,7 @@ use Rattle.query_answer.specs.Answer as a
 use Rattle.query_answer.specs.Joins.{kind_of}
 use Rattle.query_answer.specs.Names.{Scope}
 use Rattle.binding.specs.Checked.{Checked, ◌>>=◌, or_code}
-use Rattle.binding.specs.Queries.{Relation, query_bound, selects_bound, select_bound, source_bound, find_source, union_of, united, is_plain}
+use Rattle.binding.specs.Queries.{Relation, Outside, query_bound, selects_bound, select_bound, source_bound, find_source, union_of, united, is_plain, is_test, tests, plain_part, own_value, member_part, alone}
 use Rattle.binding.specs.Queries as b
 use Rattle.query_laws.specs.Statement.{tables_of, table_of, all_have_full_unions, any_has_idle_project}
 use Rattle.query_laws.proofs.Bags.{each_map}
@@ -31,8 +32,9 @@ use Rattle.query_laws.proofs.Clauses.{Fine}
 use Rattle.query_laws.proofs.GroupRight.{grouped_right}
 use Rattle.query_laws.proofs.Joins.{joined_right}
 use Rattle.query_laws.proofs.Lists.{slice_map}
-use Rattle.query_laws.proofs.Options.{bind, weaker, tested_else, map_map, both_parts, some_is}
-use Rattle.query_laws.proofs.Selects.{reach, FineAt, Selected, where_right, plain_right, once_right}
+use Rattle.query_laws.proofs.Options.{bind, then, weaker, tested_else, map_map, both_parts, some_is}
+use Rattle.query_laws.proofs.Parts.{PartIs, PartsAre, ValueIs, parts_append, plain_means, kept_right, exists_right, value_means, member_right, tests_pass}
+use Rattle.query_laws.proofs.Selects.{reach, FineAt, Selected, plain_right, once_right}
 
 -- ---- FROM
 
@@ -215,6 +217,22 @@ module _ (tables : List TableRows) (fit : AreTyped (tables_of tables)) where
       go None q = tt
       go (Some cs) q = (cs, q, refl)
 
+  -- ---- conjuncts of a WHERE
+
+  plain_right_part : (outside : Outside) (own : Scope) (c : t.Tree) → IfOk (plain_part outside own c >>= alone) (λ ps. PartsAre T outside own ps (a.Plain c ∷ []))
+  plain_right_part outside own c = bind (plain_part outside own c) alone (λ p. PartIs T outside own p (a.Plain c)) _ (plain_means T outside own c) (λ p h. (h, tt))
+
+  alone_part : (outside : Outside) (own : Scope) (o : Checked b.Part) (q : a.Part) → IfOk o (λ p. PartIs T outside own p q) → IfOk (o >>= alone) (λ ps. PartsAre T outside own ps (q ∷ []))
+  alone_part outside own o q h = bind o alone (λ p. PartIs T outside own p q) _ h (λ p k. (k, tt))
+
+  one_part : (outside : Outside) (own : Scope) (o : Checked b.Part) (q : a.Part) → IfOk o (λ p. (outside : Outside) → PartIs T outside own p q) → IfOk (o >>= alone) (λ ps. PartsAre T outside own ps (q ∷ []))
+  one_part outside own o q h = bind o alone (λ p. (outside : Outside) → PartIs T outside own p q) _ h (λ p k. (k outside, tt))
+
+  -- sources, joined from the left
+  sources_right : (from : t.Source) (joins : t.JoinItems) → IfOk (source_bound D from) (λ x. Right x (a.answer_source tables from)) → ((x : Relation) (w : Reach) → Right x w → IfOk (b.joins_bound D joins x) (λ y. Right y (a.from_joins tables w joins)))
+      → IfOk (source_bound D from >>= b.joins_bound D joins) (λ x. Right x (a.from_joins tables (a.answer_source tables from) joins))
+  sources_right from joins h k = bind (source_bound D from) (b.joins_bound D joins) (λ x. Right x (a.answer_source tables from)) _ h (λ x l. k x (a.answer_source tables from) l)
+
   mutual
     pub query_right : (q : t.Query) → IfOk (query_bound (map (λ x. x.table) tables) q) (λ x. Right x (a.answer tables q))
     query_right (t.query_of t.no_selects order limit) = tt
@@ -233,14 +251,98 @@ module _ (tables : List TableRows) (fit : AreTyped (tables_of tables)) where
 
     pub select_right : (x : t.Select) → IfOk (select_bound D x) (λ y. Right y (a.answer_select tables x))
     select_right (t.select_of distinct items from joins condition groups having) =
-        let source = a.answer_source tables from in
-        let joined = a.from_joins tables source joins in
-        bind (source_bound D from >>= b.joins_bound D joins >>= b.filtered condition) _ (λ x. Right x (a.filtered condition joined)) _
-        (bind (source_bound D from >>= b.joins_bound D joins) (b.filtered condition) (λ x. Right x joined) (λ x. Right x (a.filtered condition joined))
-        (bind (source_bound D from) (b.joins_bound D joins) (λ x. Right x source) (λ x. Right x joined) (source_right from) (λ x h. joins_right joins x source h))
-        (λ x h. weaker (b.filtered condition x) _ _ (where_right T condition x h.1) (λ y k. (k.0 ∙ ap (a.filtered condition) h.0, k.1))))
-        (λ x h. weaker (b.selected distinct (entries x.scope items) (listed_trees groups) having x) _ _ (selected_right distinct (entries x.scope items) groups having x h.1)
-        (λ y k. (k.0 ∙ ap (λ w. a.selected distinct (entries w.scope items) (listed_trees groups) having w) h.0, k.1)))
+        let joined = a.from_joins tables (a.answer_source tables from) joins in
+        let C = a.where_parts tables condition in
+        let W = a.filtered C joined in
+        bind (source_bound D from >>= b.joins_bound D joins) _ (λ x. Right x joined) _ (sources_right from joins (source_right from) (joins_right joins)) (λ x h.
+        bind (b.where_bound D None x.scope condition) _ (λ ps. PartsAre T None x.scope ps C × (list_all is_test ps ≡ true)) _ (where_parts_right None x.scope condition) (λ ps w.
+        let y = b.kept ps x in
+        let kept = kept_right T None x ps C w.0 w.1 h.1 in
+        let same : R y ≡ W = kept.0 ∙ ap (a.filtered C) h.0 in
+        weaker (b.selected distinct (entries x.scope items) (listed_trees groups) having y) _ _ (selected_right distinct (entries x.scope items) groups having y kept.1)
+        (λ z k. (k.0 ∙ ap (λ v. a.selected distinct (entries v.scope items) (listed_trees groups) having v) same, k.1))))
+
+    where_parts_right : (outside : Outside) (own : Scope) (c : t.OptionalTree) → IfOk (b.where_bound D outside own c) (λ ps. PartsAre T outside own ps (a.where_parts tables c) × (list_all is_test ps ≡ true))
+    where_parts_right outside own t.no_tree = (tt, refl)
+    where_parts_right outside own (t.some_tree x) =
+        bind (b.parts_bound D outside own x) tests (λ ps. PartsAre T outside own ps (a.parts tables x)) _ (parts_right outside own x) (λ ps h. tests_pass ps (λ qs. PartsAre T outside own qs (a.parts tables x)) h)
+
+    parts_right : (outside : Outside) (own : Scope) (x : t.Tree) → IfOk (b.parts_bound D outside own x) (λ ps. PartsAre T outside own ps (a.parts tables x))
+    parts_right outside own (t.And xs) =
+        bind (b.all_parts_bound D outside own xs) tests (λ ps. PartsAre T outside own ps (a.all_parts tables xs)) _ (all_parts_right outside own xs) (λ ps h.
+        weaker (tests ps) _ _ (tests_pass ps (λ qs. PartsAre T outside own qs (a.all_parts tables xs)) h) (λ qs k. k.0))
+    parts_right outside own (t.Paren x) = parts_right outside own x
+    parts_right outside own (t.Exists q) = one_part outside own (b.exists_bound D false own q) (a.Exists false (a.inside tables q)) (exists_query_right false own q)
+    parts_right outside own (t.Not x) = alone_part outside own (b.denied_bound D outside own (t.Not x) x) (a.denied tables (t.Not x) x) (denied_right outside own (t.Not x) x)
+    parts_right outside own (t.InQuery x q false) =
+        bind (plain_part outside own x >>= own_value) _ (ValueIs T own x) _ (value_means T outside own x) (λ v h.
+        alone_part outside own (query_bound D q >>= member_part own x v) (a.Member x (a.answer tables q))
+        (bind (query_bound D q) (member_part own x v) (λ y. Right y (a.answer tables q)) _ (query_right q) (λ y k.
+        weaker (member_part own x v y) _ _ (member_right T own x v y (a.answer tables q) h k.0 k.1) (λ p l. l outside))))
+    parts_right outside own (t.InQuery x q true) = plain_right_part outside own (t.InQuery x q true)
+    parts_right outside own (t.Or xs) = plain_right_part outside own (t.Or xs)
+    parts_right outside own (t.Compare op x y) = plain_right_part outside own (t.Compare op x y)
+    parts_right outside own (t.IsNull x negated) = plain_right_part outside own (t.IsNull x negated)
+    parts_right outside own (t.Between x low high negated) = plain_right_part outside own (t.Between x low high negated)
+    parts_right outside own (t.InList x xs negated) = plain_right_part outside own (t.InList x xs negated)
+    parts_right outside own (t.Like x y negated) = plain_right_part outside own (t.Like x y negated)
+    parts_right outside own (t.Sum x xs) = plain_right_part outside own (t.Sum x xs)
+    parts_right outside own (t.Product x xs) = plain_right_part outside own (t.Product x xs)
+    parts_right outside own (t.Sign minus x) = plain_right_part outside own (t.Sign minus x)
+    parts_right outside own (t.Number text) = plain_right_part outside own (t.Number text)
+    parts_right outside own (t.Str text) = plain_right_part outside own (t.Str text)
+    parts_right outside own (t.Truth truth) = plain_right_part outside own (t.Truth truth)
+    parts_right outside own t.Null = plain_right_part outside own t.Null
+    parts_right outside own (t.Name of name quoted) = plain_right_part outside own (t.Name of name quoted)
+    parts_right outside own (t.Call name args filter o) = plain_right_part outside own (t.Call name args filter o)
+    parts_right outside own (t.Cast x ty) = plain_right_part outside own (t.Cast x ty)
+    parts_right outside own (t.Sub q) = plain_right_part outside own (t.Sub q)
+    parts_right outside own (t.Case whens otherwise) = plain_right_part outside own (t.Case whens otherwise)
+
+    all_parts_right : (outside : Outside) (own : Scope) (xs : t.Trees) → IfOk (b.all_parts_bound D outside own xs) (λ ps. PartsAre T outside own ps (a.all_parts tables xs))
+    all_parts_right outside own t.no_trees = tt
+    all_parts_right outside own (t.tree_and x xs) =
+        bind (b.parts_bound D outside own x) _ (λ ps. PartsAre T outside own ps (a.parts tables x)) _ (parts_right outside own x) (λ ps h.
+        bind (b.all_parts_bound D outside own xs) _ (λ qs. PartsAre T outside own qs (a.all_parts tables xs)) _ (all_parts_right outside own xs) (λ qs k.
+        parts_append T outside own ps qs (a.parts tables x) (a.all_parts tables xs) h k))
+
+    denied_right : (outside : Outside) (own : Scope) (whole x : t.Tree) → IfOk (b.denied_bound D outside own whole x) (λ p. PartIs T outside own p (a.denied tables whole x))
+    denied_right outside own whole (t.Paren x) = denied_right outside own whole x
+    denied_right outside own whole (t.Exists q) = weaker (b.exists_bound D true own q) _ _ (exists_query_right true own q) (λ p h. h outside)
+    denied_right outside own whole (t.And xs) = plain_means T outside own whole
+    denied_right outside own whole (t.Or xs) = plain_means T outside own whole
+    denied_right outside own whole (t.Not x) = plain_means T outside own whole
+    denied_right outside own whole (t.InQuery x q negated) = plain_means T outside own whole
+    denied_right outside own whole (t.Compare op x y) = plain_means T outside own whole
+    denied_right outside own whole (t.IsNull x negated) = plain_means T outside own whole
+    denied_right outside own whole (t.Between x low high negated) = plain_means T outside own whole
+    denied_right outside own whole (t.InList x xs negated) = plain_means T outside own whole
+    denied_right outside own whole (t.Like x y negated) = plain_means T outside own whole
+    denied_right outside own whole (t.Sum x xs) = plain_means T outside own whole
+    denied_right outside own whole (t.Product x xs) = plain_means T outside own whole
+    denied_right outside own whole (t.Sign minus x) = plain_means T outside own whole
+    denied_right outside own whole (t.Number text) = plain_means T outside own whole
+    denied_right outside own whole (t.Str text) = plain_means T outside own whole
+    denied_right outside own whole (t.Truth truth) = plain_means T outside own whole
+    denied_right outside own whole t.Null = plain_means T outside own whole
+    denied_right outside own whole (t.Name of name quoted) = plain_means T outside own whole
+    denied_right outside own whole (t.Call name args filter o) = plain_means T outside own whole
+    denied_right outside own whole (t.Cast x ty) = plain_means T outside own whole
+    denied_right outside own whole (t.Sub q) = plain_means T outside own whole
+    denied_right outside own whole (t.Case whens otherwise) = plain_means T outside own whole
+
+    exists_query_right : (anti : Bool) (own : Scope) (q : t.Query) → IfOk (b.exists_bound D anti own q) (λ p. (outside : Outside) → PartIs T outside own p (a.Exists anti (a.inside tables q)))
+    exists_query_right anti own (t.query_of t.no_selects order limit) = tt
+    exists_query_right anti own (t.query_of (t.select_and x xs) order limit) =
+        tested_else (b.is_simple x && (b.is_one xs && is_plain order limit)) (b.inside_bound D anti own x) Unsupported _ (λ e. inside_right anti own x xs order limit)
+
+    inside_right : (anti : Bool) (own : Scope) (x : t.Select) (xs : t.Selects) (order : t.SortList) (limit : Option Text) → IfOk (b.inside_bound D anti own x) (λ p. (outside : Outside) → PartIs T outside own p (a.Exists anti (a.inside tables (t.query_of (t.select_and x xs) order limit))))
+    inside_right anti own (t.select_of distinct items from joins condition groups having) xs order limit =
+        let joined = a.from_joins tables (a.answer_source tables from) joins in
+        bind (source_bound D from >>= b.joins_bound D joins) _ (λ x. Right x joined) _ (sources_right from joins (source_right from) (joins_right joins)) (λ x h.
+        bind (b.where_bound D (Some own) x.scope condition) _ (λ ps. PartsAre T (Some own) x.scope ps (a.where_parts tables condition) × (list_all is_test ps ≡ true)) _ (where_parts_right (Some own) x.scope condition) (λ ps w.
+        then (b.list_bound (b.plain_listed x.scope) (entries x.scope items)) _ _ (λ listed e outside.
+        exists_right T anti own x joined ps (a.where_parts tables condition) h.0 h.1 w.0 w.1)))
 
     pub source_right : (from : t.Source) → IfOk (source_bound D from) (λ x. Right x (a.answer_source tables from))
     source_right (t.Table name alias) = read_right alias (find_source 0 D name) (find_table tables name) (found_at 0 tables name)

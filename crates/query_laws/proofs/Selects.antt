@@ -21,7 +21,7 @@ use Rattle.rel_algebra.specs.Rel as r
 use Rattle.rel_algebra.specs.Types.{columns_if, is_condition}
 use Rattle.sql_syntax.specs.Tree as t
 use Rattle.query_answer.specs.declared.scope.ScopeColumn.{ScopeColumn}
-use Rattle.query_answer.specs.Answer.{Reach, Listed, Placed, Written, NoSource, Entry, over, conjuncts, listed_over, found_at, listed_calls, types, under, some_column}
+use Rattle.query_answer.specs.Answer.{Reach, Listed, Placed, Written, NoSource, Entry, listed_over, found_at, listed_calls, types, under, some_column}
 use Rattle.query_answer.specs.Answer as a
 use Rattle.query_answer.specs.Calls.{Call}
 use Rattle.query_answer.specs.Groups.{meanings}
@@ -29,15 +29,15 @@ use Rattle.query_answer.specs.Names.{Scope, column_at}
 use Rattle.query_answer.specs.Stands as s
 use Rattle.query_answer.specs.Table.{Typed}
 use Rattle.binding.specs.Checked.{◌>>=◌, or_code}
-use Rattle.binding.specs.Expressions.{Leaf, column, conditions, conjuncts_bound}
+use Rattle.binding.specs.Expressions.{Leaf, column}
 use Rattle.binding.specs.Nodes.{Bound, expr_list}
-use Rattle.binding.specs.Queries.{Relation, Lister, all_of, projected, in_turn, few, list_bound, plain_listed}
+use Rattle.binding.specs.Queries.{Relation, Lister, projected, in_turn, few, list_bound, plain_listed}
 use Rattle.binding.specs.Queries as b
 use Rattle.query_laws.proofs.Bags.{made_all, mapped_itself, each_map, each_any}
 use Rattle.query_laws.proofs.Bound.{Known, front, back}
 use Rattle.query_laws.proofs.Clauses.{AllTyped, tys, Fine, projected_rows}
 use Rattle.query_laws.proofs.Lists.{map_length, slice_map, take_whole}
-use Rattle.query_laws.proofs.Names.{Same, Is, AllAre, AreTruths, column_is, over_means, conjuncts_mean, conditions_are, all_of_holds, all_of_boolean}
+use Rattle.query_laws.proofs.Names.{Same, Is, AllAre, column_is, over_means}
 use Rattle.query_laws.proofs.Nodes as k
 use Rattle.query_laws.proofs.Options.{bind, tested}
 
@@ -132,20 +132,6 @@ module _ (tables : List Table) where
       kept : (o : Option Rows) → answer tables rel ≡ o → (rows : Rows) → option_and_then (filter_rows (eval condition)) o ≡ Some rows → Each (λ row. length row ≡ length columns) rows
       kept None i rows q = absurd (cc)
       kept (Some all) i rows q = each-rows_where (λ row. length row ≡ length columns) (holds (eval condition)) all rows (f.wide all i) q
-
-  pub where_right : (c : t.OptionalTree) (x : Relation) → FineAt x → IfOk (b.filtered c x) (λ y. (reach y ≡ a.filtered c (reach x)) × FineAt y)
-  where_right t.no_tree x f = ((λ i. record { scope = x.scope; rows = same (answer tables x.rel) i }), f)
-    where
-      same : (o : Option Rows) → o ≡ option_and_then (λ rows. Some rows) o
-      same None = refl
-      same (Some rows) = refl
-  where_right (t.some_tree c) x f =
-      let zs = map (over x.scope) (conjuncts c) in
-      bind (conjuncts_bound x.scope c >>= conditions) _ (λ ys. AllAre x.scope ys zs × AreTruths x.scope ys) _
-      (bind (conjuncts_bound x.scope c) conditions (λ ys. AllAre x.scope ys zs) (λ ys. AllAre x.scope ys zs × AreTruths x.scope ys) (conjuncts_mean x.scope c) (λ ys p. conditions_are x.scope ys (λ ws. AllAre x.scope ws zs) p)) (λ ys p. (
-        λ i. record { scope = x.scope; rows = option_and_then (λ rows. rows_where (all_of_holds x.scope ys (map (over x.scope) (conjuncts c)) p.0 i) rows) (answer tables x.rel) },
-        filter_fine x.rel (types x.scope) (all_of ys) f (all_of_boolean x.scope ys (map (over x.scope) (conjuncts c)) p.0 p.1),
-      ))
 
   -- ---- a select without groups
 

@@ -14,10 +14,10 @@ use Rattle.query_answer.specs.Answer.{conjuncts, all_conjuncts}
 use Rattle.query_answer.specs.Calls.{calls, when_calls, args_calls}
 use Rattle.query_answer.specs.Functions.{function_of}
 use Rattle.query_answer.specs.Literals.{number_of, is_null, is_short}
-use Rattle.query_answer.specs.Names.{Scope, find}
+use Rattle.query_answer.specs.Names.{Scope, Lookup, find}
 use Rattle.arithmetic.specs.Arithmetic.{is_sum_or_avg, in_tree, in_trees, in_when, in_whens, in_args, in_optional}
 use Rattle.binding.specs.Checked.{Checked, ◌>>=◌}
-use Rattle.binding.specs.Expressions.{Leaf, or_else, unless_null, form_of, bound, all_bound, whens_bound, otherwise_bound, optional_bound, args_bound, may_change, found_column, names, bound_over, each_bound, truths, conditions, conjuncts_bound, all_conjuncts_bound}
+use Rattle.binding.specs.Expressions.{Leaf, or_else, unless_null, form_of, bound, all_bound, whens_bound, otherwise_bound, optional_bound, args_bound, may_change, found_column, names, names_by, bound_by, bound_over, each_bound, truths, conditions}
 use Rattle.binding.specs.Nodes.{Bound, columns}
 use Rattle.binding.specs.Nodes as node_of
 use Rattle.ct_expr.specs.Types.{all_truths}
@@ -165,12 +165,18 @@ found_tame false Absent = tt
 found_tame changing (At n ty) = refl
 found_tame changing Several = tt
 
+pub names_by_tame : (look : Lookup) (n : ℕ) (x : Tree) → IfOk (names_by look n x) MayBe
+names_by_tame look n (t.Name of name quoted) = bind (found_column (may_change of name quoted) (look of name)) _ Tame _ (found_tame (may_change of name quoted) (look of name)) (λ y p. p)
+names_by_tame look n x = tt
+
 pub names_tame : (scope : Scope) (n : ℕ) (x : Tree) → IfOk (names scope n x) MayBe
-names_tame scope n (t.Name of name quoted) = bind (found_column (may_change of name quoted) (find scope of name)) _ Tame _ (found_tame (may_change of name quoted) (find scope of name)) (λ y p. p)
-names_tame scope n x = tt
+names_tame scope = names_by_tame (find scope)
+
+pub by_tame : (look : Lookup) (x : Tree) → IsFree x → IfOk (bound_by look x) Tame
+by_tame look x f = bound_tame (names_by look) (names_by_tame look) x 0 f
 
 pub over_tame : (scope : Scope) (x : Tree) → IsFree x → IfOk (bound_over scope x) Tame
-over_tame scope x f = bound_tame (names scope) (names_tame scope) x 0 f
+over_tame scope x f = by_tame (find scope) x f
 
 pub each_tame : (scope : Scope) (xs : List Tree) → AllFree xs → IfOk (each_bound scope xs) AllTame
 each_tame scope [] f = tt
@@ -187,25 +193,6 @@ conditions_tame xs h = go (all_truths (columns xs))
     go : (o : Option ColTy) → IfOk (truths xs o) AllTame
     go None = tt
     go (Some c) = h
-
-one_tame : (scope : Scope) (x : Tree) → IsFree x → IfOk (bound_over scope x >>= λ y. Ok (y ∷ [])) AllTame
-one_tame scope x f = bind (bound_over scope x) _ Tame AllTame (over_tame scope x f) (λ y p. (p, tt))
-
-mutual
-  unfolding in_tree in_trees
-
-  pub conjuncts_tame : (scope : Scope) (x : Tree) → IsFree x → IfOk (conjuncts_bound scope x) AllTame
-  conjuncts_tame scope (t.And xs) f = bind (all_conjuncts_bound scope xs) conditions AllTame AllTame (all_conjuncts_tame scope xs f) conditions_tame
-  conjuncts_tame scope (t.Paren x) f = conjuncts_tame scope x f
-  conjuncts_tame scope x f = one_tame scope x f
-
-  pub all_conjuncts_tame : (scope : Scope) (xs : t.Trees) → in_trees xs ≡ false → IfOk (all_conjuncts_bound scope xs) AllTame
-  all_conjuncts_tame scope t.no_trees f = tt
-  all_conjuncts_tame scope (t.tree_and x xs) f =
-      let g = neither (in_tree x) (in_trees xs) f in
-      bind (conjuncts_bound scope x) _ AllTame _ (conjuncts_tame scope x g.0) (λ ys p.
-      bind (all_conjuncts_bound scope xs) _ AllTame _ (all_conjuncts_tame scope xs g.1) (λ zs q.
-      tame_append ys zs p q))
 
 -- the conjuncts themselves
 mutual

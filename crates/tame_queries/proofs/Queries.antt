@@ -1,5 +1,5 @@
 -- A query without arithmetic is bound to a tree that calculates nothing, and so is the query of an INSERT: one induction over queries.
-use Rattle.std.proofs.Common.{◌≡◌, true, false, ◌&&◌, ◌||◌, not, List, [], ◌∷◌, ◌++◌, length, Ok, IfOk, refl, find}
+use Rattle.std.proofs.Common.{◌≡◌, Bool, true, false, ◌&&◌, ◌||◌, not, List, [], ◌∷◌, ◌++◌, length, Some, None, Ok, IfOk, refl, find}
 use Rattle.ct_value.specs.declared.codes.ScriptCode.TheVariants.{UnknownTable, SinkShape, Unsupported}
 use Rattle.ct_catalog.specs.declared.table.TableDef.{TableDef}
 use Rattle.rel_algebra.specs.Rel.{Rel, Rels, no_rels, rel_and}
@@ -12,10 +12,11 @@ use Rattle.arithmetic.specs.Arithmetic.{in_query, in_select, in_source, in_join,
 use Rattle.arithmetic.specs.Tame.{is_tame_rel, are_tame_rels}
 use Rattle.binding.specs.Checked.{◌>>=◌, or_code}
 use Rattle.binding.specs.Inserts.{Inserted, insert_bound, into_sink, is_table, sources_for, scans, go_into, column_types}
-use Rattle.binding.specs.Queries.{Relation, find_source, filtered, joined, united, union_of, is_plain, query_bound, selects_bound, select_bound, source_bound, joins_bound}
+use Rattle.binding.specs.Queries.{Relation, Outside, find_source, joined, united, union_of, is_plain, is_simple, is_one, tests, kept, own_value, plain_part, member_part, alone, list_bound, plain_listed, query_bound, selects_bound, select_bound, source_bound, joins_bound, where_bound, parts_bound, all_parts_bound, denied_bound, exists_bound, inside_bound}
 use Rattle.tame_queries.specs.Statement.{QueriesAreTame, InsertsAreTame}
 use Rattle.tame_queries.proofs.Checked.{bind, then, tested, tested_else, of_ok, neither}
-use Rattle.tame_queries.proofs.Selects.{TameRel, read_tame, filtered_tame, joined_tame, entries_free, selected_tame}
+use Rattle.tame_queries.proofs.Nodes.{Tame}
+use Rattle.tame_queries.proofs.Selects.{TameRel, TamePart, TameParts, parts_append, plain_part_tame, tests_tame, kept_tame, exists_tame, value_tame, member_tame, alone_tame, read_tame, joined_tame, entries_free, selected_tame}
 
 abbrev TameRels : Rels × Scope → Type 0
 TameRels others = are_tame_rels others.0 ≡ true
@@ -25,8 +26,11 @@ union_tame x no_rels h k = h
 union_tame x (rel_and y ys) h k = λ i. h i && k i
 
 module _ (sources : List TableDef) where
+  sources_tame : (from : t.Source) (joins : t.JoinItems) → IfOk (source_bound sources from) TameRel → ((x : Relation) → TameRel x → IfOk (joins_bound sources joins x) TameRel) → IfOk (source_bound sources from >>= joins_bound sources joins) TameRel
+  sources_tame from joins h k = bind (source_bound sources from) (joins_bound sources joins) TameRel TameRel h k
+
   mutual
-    unfolding in_query in_selects in_select in_source in_joins in_join
+    unfolding in_query in_selects in_select in_source in_joins in_join in_optional in_tree in_trees
 
     pub query_tame : (q : Query) → in_query q ≡ false → IfOk (query_bound sources q) TameRel
     query_tame (t.query_of t.no_selects order limit) f = tt
@@ -53,11 +57,55 @@ module _ (sources : List TableDef) where
         let of_joins = neither (in_joins joins) _ of_from.1 in
         let of_condition = neither (in_optional condition) _ of_joins.1 in
         let of_groups = neither (in_trees groups) (in_optional having) of_condition.1 in
-        bind (source_bound sources from >>= joins_bound sources joins >>= filtered condition) _ TameRel TameRel
-        (bind (source_bound sources from >>= joins_bound sources joins) (filtered condition) TameRel TameRel
-        (bind (source_bound sources from) (joins_bound sources joins) TameRel TameRel (source_tame from of_from.0) (λ x h. joins_tame joins x of_joins.0 h))
-        (λ x h. filtered_tame condition x of_condition.0 h))
-        (λ x h. selected_tame distinct (entries x.scope items) groups having x (entries_free x.scope items of_items.0) of_groups.0 of_groups.1 h)
+        bind (source_bound sources from >>= joins_bound sources joins) _ TameRel TameRel (sources_tame from joins (source_tame from of_from.0) (λ x h. joins_tame joins x of_joins.0 h)) (λ x h.
+        bind (where_bound sources None x.scope condition) _ TameParts TameRel (where_parts_tame None x.scope condition of_condition.0) (λ ps w.
+        selected_tame distinct (entries x.scope items) groups having (kept ps x) (entries_free x.scope items of_items.0) of_groups.0 of_groups.1 (kept_tame ps x w h)))
+
+    where_parts_tame : (outside : Outside) (own : Scope) (c : t.OptionalTree) → in_optional c ≡ false → IfOk (where_bound sources outside own c) TameParts
+    where_parts_tame outside own t.no_tree f = tt
+    where_parts_tame outside own (t.some_tree x) f = bind (parts_bound sources outside own x) tests TameParts TameParts (parts_tame outside own x f) tests_tame
+
+    parts_tame : (outside : Outside) (own : Scope) (x : t.Tree) → in_tree x ≡ false → IfOk (parts_bound sources outside own x) TameParts
+    parts_tame outside own (t.And xs) f = bind (all_parts_bound sources outside own xs) tests TameParts TameParts (all_parts_tame outside own xs f) tests_tame
+    parts_tame outside own (t.Paren x) f = parts_tame outside own x f
+    parts_tame outside own (t.Exists q) f = bind (exists_bound sources false own q) alone TamePart TameParts (exists_query_tame false own q f) alone_tame
+    parts_tame outside own (t.Not x) f = bind (denied_bound sources outside own (t.Not x) x) alone TamePart TameParts (denied_tame outside own (t.Not x) x f f) alone_tame
+    parts_tame outside own (t.InQuery x q false) f =
+        let g = neither (in_tree x) (in_query q) f in
+        bind (plain_part outside own x >>= own_value) _ Tame TameParts (bind (plain_part outside own x) own_value TamePart Tame (plain_part_tame outside own x g.0) value_tame) (λ a h.
+        bind (query_bound sources q >>= member_part own x a) alone TamePart TameParts
+        (bind (query_bound sources q) (member_part own x a) TameRel TamePart (query_tame q g.1) (λ y k. member_tame own x a y h k)) alone_tame)
+    parts_tame outside own x f = bind (plain_part outside own x) alone TamePart TameParts (plain_part_tame outside own x f) alone_tame
+
+    all_parts_tame : (outside : Outside) (own : Scope) (xs : t.Trees) → in_trees xs ≡ false → IfOk (all_parts_bound sources outside own xs) TameParts
+    all_parts_tame outside own t.no_trees f = tt
+    all_parts_tame outside own (t.tree_and x xs) f =
+        let g = neither (in_tree x) (in_trees xs) f in
+        bind (parts_bound sources outside own x) _ TameParts TameParts (parts_tame outside own x g.0) (λ ps h.
+        bind (all_parts_bound sources outside own xs) _ TameParts TameParts (all_parts_tame outside own xs g.1) (λ qs k.
+        parts_append ps qs h k))
+
+    denied_tame : (outside : Outside) (own : Scope) (whole x : t.Tree) → in_tree whole ≡ false → in_tree x ≡ false → IfOk (denied_bound sources outside own whole x) TamePart
+    denied_tame outside own whole (t.Paren x) w f = denied_tame outside own whole x w f
+    denied_tame outside own whole (t.Exists q) w f = exists_query_tame true own q f
+    denied_tame outside own whole x w f = plain_part_tame outside own whole w
+
+    exists_query_tame : (anti : Bool) (own : Scope) (q : Query) → in_query q ≡ false → IfOk (exists_bound sources anti own q) TamePart
+    exists_query_tame anti own (t.query_of t.no_selects order limit) f = tt
+    exists_query_tame anti own (t.query_of (t.select_and x xs) order limit) f =
+        let g = neither _ (in_sorts order) f in
+        let k = neither (in_select x) (in_selects xs) g.0 in
+        tested_else (is_simple x && (is_one xs && is_plain order limit)) (inside_bound sources anti own x) Unsupported TamePart (inside_tame anti own x k.0)
+
+    inside_tame : (anti : Bool) (own : Scope) (x : t.Select) → in_select x ≡ false → IfOk (inside_bound sources anti own x) TamePart
+    inside_tame anti own (t.select_of distinct items from joins condition groups having) f =
+        let of_items = neither (in_items items) _ f in
+        let of_from = neither (in_source from) _ of_items.1 in
+        let of_joins = neither (in_joins joins) _ of_from.1 in
+        let of_condition = neither (in_optional condition) _ of_joins.1 in
+        bind (source_bound sources from >>= joins_bound sources joins) _ TameRel TamePart (sources_tame from joins (source_tame from of_from.0) (λ x h. joins_tame joins x of_joins.0 h)) (λ x h.
+        bind (where_bound sources (Some own) x.scope condition) _ TameParts TamePart (where_parts_tame (Some own) x.scope condition of_condition.0) (λ ps w.
+        then (list_bound (plain_listed x.scope) (entries x.scope items)) _ TamePart (λ listed. exists_tame anti ps x w h)))
 
     source_tame : (from : t.Source) → in_source from ≡ false → IfOk (source_bound sources from) TameRel
     source_tame (t.Table name alias) f = read_tame alias (find_source 0 sources name)

@@ -3,6 +3,7 @@ use Rattle.std.proofs.Common.{◌≡◌, ℕ, suc, ◌+◌, Bool, true, false, �
 use Rattle.std.specs.Prelude.{flat_map, nat_lt}
 use Rattle.std.specs.List.{list_all}
 use Rattle.ct_value.specs.declared.codes.ScriptCode.TheVariants.{AmbiguousColumn, UnknownColumn, TypeMismatch, NotGrouped, TooManyColumns}
+use Rattle.ct_value.specs.declared.value.CompareOp.TheVariants.{Eq}
 use Rattle.ct_catalog.specs.declared.table.TableDef.{TableDef}
 use Rattle.rel_clauses.specs.declared.join.JoinKind.{JoinKind}
 use Rattle.rel_clauses.specs.declared.join.Pair.{Pair}
@@ -14,21 +15,23 @@ use Rattle.sql_syntax.specs.Tree as t
 use Rattle.query_answer.specs.declared.scope.ScopeColumn.{ScopeColumn}
 use Rattle.query_answer.specs.Answer.{conjuncts, Listed, Placed, Written, NoSource, Entry, placed_from, placed_of, or_no_source, entries_of, entries, listed_calls, having_calls, select_calls, is_grouped, listed_trees}
 use Rattle.query_answer.specs.Calls.{Call}
-use Rattle.query_answer.specs.Joins.{pair_of, rest_of, unless_pair}
-use Rattle.query_answer.specs.Names.{Scope, Lookup, find, is_called}
+use Rattle.query_answer.specs.declared.scope.Found.TheVariants.{At}
+use Rattle.query_answer.specs.Joins.{plain_column, pair_found, pair_of, rest_of, unless_pair}
+use Rattle.query_answer.specs.Names.{Scope, Lookup, find, find_linked, is_called}
+use Rattle.query_answer.specs.Outside.{looks_outside}
 use Rattle.query_answer.specs.Shapes.{column_shape, place_of}
 use Rattle.arithmetic.specs.Arithmetic.{in_tree, in_trees, in_optional, in_item, in_items}
 use Rattle.arithmetic.specs.Tame.{is_tame, rest_is_tame, is_tame_rel}
 use Rattle.binding.specs.Checked.{◌>>=◌, or_code}
-use Rattle.binding.specs.Expressions.{Leaf, bound, each_bound, conditions, conjuncts_bound, column}
+use Rattle.binding.specs.Expressions.{Leaf, bound, bound_by, bound_over, each_bound, conditions, conjuncts_bound, column}
 use Rattle.binding.specs.InGroups.{in_group, key_for, has_no_keys, calls_bound, bound_arguments, bound_filters}
-use Rattle.binding.specs.Nodes.{Bound, expr_list}
-use Rattle.binding.specs.Queries.{Relation, read, all_of, filtered, share_source, rest_bound, on_bound, joined, is_in_place, projected, Lister, in_turn, few, list_bound, plain_listed, plain_select, group_listed, condition, having_bound, filter_if, group_rel, grouped_select, once, selected}
-use Rattle.tame_queries.proofs.Bound.{IsFree, AllFree, tame_append, bound_tame, over_tame, each_tame, conditions_tame, conjuncts_tame, conjuncts_free}
+use Rattle.binding.specs.Nodes.{Bound, expr_list, compare}
+use Rattle.binding.specs.Queries.{Relation, Part, Own, Linked, Matched, Outside, own_part, linked_part, plain_part, is_test, tests, owns, rests, all_if, where_all, all_matched, kept, exists_part, own_value, only_column, matched_by, member_part, alone, read, all_of, share_source, rest_bound, on_bound, joined, is_in_place, projected, Lister, in_turn, few, list_bound, plain_listed, plain_select, group_listed, condition, having_bound, filter_if, group_rel, grouped_select, once, selected}
+use Rattle.tame_queries.proofs.Bound.{IsFree, AllFree, tame_append, bound_tame, by_tame, over_tame, each_tame, conditions_tame, conjuncts_free}
 use Rattle.tame_queries.proofs.Calls.{AreCounts, counts_append, calls_count, aggs_count}
 use Rattle.tame_queries.proofs.Checked.{bind, then, tested, tested_else, neither}
 use Rattle.tame_queries.proofs.InGroups.{key_tame, in_group_tame, TameCalls, calls_tame, arguments_tame, filters_tame}
-use Rattle.tame_queries.proofs.Nodes.{Tame, AllTame, MayBe, operands_tame}
+use Rattle.tame_queries.proofs.Nodes.{Tame, AllTame, MayBe, operands_tame, compare_tame}
 
 abbrev pub TameRel : Relation → Type 0
 TameRel x = is_tame_rel x.rel ≡ true
@@ -44,13 +47,84 @@ all_of_tame [] h = refl
 all_of_tame (x ∷ []) h = h.0
 all_of_tame (x ∷ y ∷ xs) h = operands_tame (x ∷ y ∷ xs) h
 
-pub filtered_tame : (o : t.OptionalTree) (x : Relation) → in_optional o ≡ false → TameRel x → IfOk (filtered o x) TameRel
-unfolding in_optional
-filtered_tame t.no_tree x f h = h
-filtered_tame (t.some_tree c) x f h =
-    bind (conjuncts_bound x.scope c >>= conditions) _ AllTame TameRel
-    (bind (conjuncts_bound x.scope c) conditions AllTame AllTame (conjuncts_tame x.scope c f) conditions_tame)
-    (λ ys p i. h i && all_of_tame ys p i)
+-- ---- WHERE
+
+abbrev pub TamePart : Part → Type 0
+TamePart (Own a) = Tame a
+TamePart (Linked pair a) = Tame a
+TamePart (Matched anti right pairs rest) = (is_tame_rel right ≡ true) × (rest_is_tame rest ≡ true)
+
+abbrev pub TameParts : List Part → Type 0
+TameParts [] = Unit {0}
+TameParts (p ∷ ps) = TamePart p × TameParts ps
+
+pub parts_append : (ps qs : List Part) → TameParts ps → TameParts qs → TameParts (ps ++ qs)
+parts_append [] qs h k = k
+parts_append (p ∷ ps) qs h k = (h.0, parts_append ps qs h.1 k)
+
+own_tame : (own : Scope) (x : Tree) → IsFree x → IfOk (own_part own x) TamePart
+own_tame own x f = bind (bound_over own x) _ Tame TamePart (over_tame own x f) (λ a h. h)
+
+pub plain_part_tame : (outside : Outside) (own : Scope) (x : Tree) → IsFree x → IfOk (plain_part outside own x) TamePart
+plain_part_tame None own x f = own_tame own x f
+plain_part_tame (Some outside) own x f = go (looks_outside own x)
+  where
+    go : (b : Bool) → IfOk (cond b (linked_part outside own x) (own_part own x)) TamePart
+    go true = bind (bound_by (find_linked outside own) x) _ Tame TamePart (by_tame (find_linked outside own) x f) (λ a h. h)
+    go false = own_tame own x f
+
+pub tests_tame : (ps : List Part) → TameParts ps → IfOk (tests ps) TameParts
+tests_tame ps h = tested_else (list_all is_test ps) (Ok ps) TypeMismatch TameParts h
+
+owns_tame : (ps : List Part) → TameParts ps → AllTame (owns ps)
+owns_tame [] h = tt
+owns_tame (Own a ∷ ps) h = (h.0, owns_tame ps h.1)
+owns_tame (Linked pair a ∷ ps) h = owns_tame ps h.1
+owns_tame (Matched anti right pairs rest ∷ ps) h = owns_tame ps h.1
+
+rests_tame : (ps : List Part) → TameParts ps → AllTame (rests ps)
+rests_tame [] h = tt
+rests_tame (Own a ∷ ps) h = rests_tame ps h.1
+rests_tame (Linked None a ∷ ps) h = (h.0, rests_tame ps h.1)
+rests_tame (Linked (Some pair) a ∷ ps) h = rests_tame ps h.1
+rests_tame (Matched anti right pairs rest ∷ ps) h = rests_tame ps h.1
+
+all_if_tame : (xs : List Bound) → AllTame xs → rest_is_tame (all_if xs) ≡ true
+all_if_tame [] h = refl
+all_if_tame (x ∷ xs) h = all_of_tame (x ∷ xs) h
+
+where_tame : (xs : List Bound) (input : Rel) → AllTame xs → is_tame_rel input ≡ true → is_tame_rel (where_all xs input) ≡ true
+where_tame [] input h k = k
+where_tame (x ∷ xs) input h k = λ i. k i && all_of_tame (x ∷ xs) h i
+
+matched_tame : (ps : List Part) (input : Rel) → TameParts ps → is_tame_rel input ≡ true → is_tame_rel (all_matched ps input) ≡ true
+matched_tame [] input h k = k
+matched_tame (Own a ∷ ps) input h k = matched_tame ps input h.1 k
+matched_tame (Linked pair a ∷ ps) input h k = matched_tame ps input h.1 k
+matched_tame (Matched anti right pairs rest ∷ ps) input h k = matched_tame ps (r.Semi input right anti pairs rest) h.1 (λ i. k i && (h.0.0 i && h.0.1 i))
+
+pub kept_tame : (ps : List Part) (x : Relation) → TameParts ps → TameRel x → TameRel (kept ps x)
+kept_tame ps x h k = matched_tame ps (where_all (owns ps) x.rel) h (where_tame (owns ps) x.rel (owns_tame ps h) k)
+
+pub exists_tame : (anti : Bool) (ps : List Part) (x : Relation) → TameParts ps → TameRel x → TamePart (exists_part anti ps x)
+exists_tame anti ps x h k = (kept_tame ps x h k, all_if_tame (rests ps) (rests_tame ps h))
+
+pub value_tame : (p : Part) → TamePart p → IfOk (own_value p) Tame
+value_tame (Own a) h = h
+value_tame (Linked pair a) h = tt
+value_tame (Matched anti right pairs rest) h = tt
+
+pub member_tame : (own : Scope) (x : Tree) (a : Bound) (q : Relation) → Tame a → TameRel q → IfOk (member_part own x a q) TamePart
+member_tame own x a q h k = then (only_column q.scope) _ TamePart (λ ty.
+    bind (compare Eq a (column (length own) ty)) _ Tame TamePart (compare_tame Eq a (column (length own) ty) h refl) (λ equal l.
+    go equal l (pair_found (length own) (plain_column (find own) x) (At (length own) ty))))
+  where
+    go : (equal : Bound) → Tame equal → (o : Option Pair) → TamePart (matched_by o q.rel equal)
+    go equal l None = (k, l)
+    go equal l (Some pair) = (k, refl)
+
+pub alone_tame : (p : Part) → TamePart p → IfOk (alone p) TameParts
+alone_tame p h = (h, tt)
 
 -- ---- joins
 
@@ -135,7 +209,7 @@ in_turn_tame list h n (e ∷ es) f =
     bind (in_turn list (n + length (listed_calls e.listed)) es) _ AllTame _ (in_turn_tame list h (n + length (listed_calls e.listed)) es f.1) (λ xs q.
     (p, q)))
 
-list_tame : (list : Lister) → TameLister list → (es : List Entry) → FreeEntries es → IfOk (list_bound list es) AllTame
+pub list_tame : (list : Lister) → TameLister list → (es : List Entry) → FreeEntries es → IfOk (list_bound list es) AllTame
 list_tame list h es f = bind (in_turn list 0 es) few AllTame AllTame (in_turn_tame list h 0 es f) (λ xs p. tested (nat_lt 64 (length xs)) TooManyColumns (Ok xs) AllTame p)
 
 exprs_tame : (xs : List Bound) → AllTame xs → list_all is_tame (expr_list xs) ≡ true

@@ -7,15 +7,17 @@ use Rattle.sql_syntax.specs.laws.Views.{tree_or, tree_and, tree_not, tree_compar
 use Rattle.query_answer.specs.Calls.{aggregate_of, calls, args_calls, when_calls}
 use Rattle.query_answer.specs.Functions.{function_of}
 use Rattle.binding.specs.Nodes.{added, multiplied, null_test, between, in_list, like, cast_to, call, case, compare, conjunction, disjunction, negation, negated_if, signed}
-use Rattle.binding.specs.Expressions.{bound, all_bound, sum_bound, product_bound, whens_bound, otherwise_bound, optional_bound, args_bound, names, unless_null, is_long}
+use Rattle.binding.specs.Expressions.{bound, all_bound, sum_bound, product_bound, whens_bound, otherwise_bound, optional_bound, args_bound, names_by, unless_null, is_long}
 use Rattle.binding.specs.InGroups.{call_column, has_no_keys}
+use Rattle.bind_names.specs.declared.names.Lookup.TheVariants as l
+use Rattle.bind_names.specs.Lookups.{lookup_of}
 use Rattle.bind_nodes.specs.declared.cases.Branch.{Branch}
 use Rattle.bind_nodes.specs.Views.{bound_view, bounds_view, branch_view, branches_view, form_view}
 use Rattle.bind_expressions.specs.declared.reach.Reach.TheVariants as r
 use Rattle.bind_expressions.specs.Reach.{leaf_of, group_leaf}
 use Rattle.bind_expressions.specs.Walk.{node}
 use Rattle.bind_expressions.proofs.Exits.{Long, ok_as, or_1, or_2, and_1, and_2, not_1, not_2, compare_1, compare_2, compare_3, is_null_1, is_null_2, is_null_3, between_1, between_2, between_3, between_4, between_5, in_list_1, in_list_2, in_list_3, in_list_4, like_1, like_2, like_3, like_4, sum_long, sum_1, sum_2, product_long, product_1, product_2, sign_1, sign_2, call_1, call_2, call_3, cast_1, cast_2, case_1, case_2, case_3}
-use Rattle.bind_expressions.proofs.Leaves.{args_failed, at_number, column_is, filter_failed, rows_leaf}
+use Rattle.bind_expressions.proofs.Leaves.{args_failed, at_number, column_is, filter_failed, own_leaf, rows_leaf}
 use Rattle.bind_expressions.proofs.Lists.{sum_length_is, product_length_is, sums_failed, sums_refused, sums_turn, products_failed, products_refused, products_turn, whens_failed, whens_refused, whens_turn}
 use Rattle.bind_expressions.proofs.walk.+bind.Goals as goal
 
@@ -657,13 +659,13 @@ bind_whens-loop-when-preserved u c =
 pub whole-returns-in-Rows-clause-ok : goal.whole-returns-in-Rows-clause-ok
 whole-returns-in-Rows-clause-ok u c =
     let x = view c.args.tree.now in
-    let e : leaf_of c.args.reach.now c.args.number x ≡ names c.in-Rows.scope.now c.args.number x = ap (λ r. leaf_of r c.args.number x) c.in-Rows.is ∙ ap (λ L. L c.args.number x) (rows_leaf c.in-Rows.scope) in
-    at_number c.named.result (names c.in-Rows.scope.now) c.args.number (leaf_of c.args.reach.now c.args.number x) x e c.named.ensures.ok
+    let e : leaf_of c.args.reach.now c.args.number x ≡ names_by (lookup_of c.in-Rows.look) c.args.number x = ap (λ r. leaf_of r c.args.number x) c.in-Rows.is ∙ ap (λ L. L c.args.number x) (rows_leaf c.in-Rows.look) in
+    at_number c.named.result (names_by (lookup_of c.in-Rows.look)) c.args.number (leaf_of c.args.reach.now c.args.number x) x e c.named.ensures.ok
 
 pub whole-returns-in-Rows-clause-refused : goal.whole-returns-in-Rows-clause-refused
 whole-returns-in-Rows-clause-refused u c = λ code r.
     let x = view c.args.tree.now in
-    ap (λ r. leaf_of r c.args.number x) c.in-Rows.is ∙ ap (λ L. L c.args.number x) (rows_leaf c.in-Rows.scope) ∙ c.named.ensures.refused code r c.args.number
+    ap (λ r. leaf_of r c.args.number x) c.in-Rows.is ∙ ap (λ L. L c.args.number x) (rows_leaf c.in-Rows.look) ∙ c.named.ensures.refused code r c.args.number
 
 pub in_group-returns-in_err-operands-in-Some-clause-refused : goal.in_group-returns-in_err-operands-in-Some-clause-refused
 in_group-returns-in_err-operands-in-Some-clause-refused u c = λ code e.
@@ -672,9 +674,9 @@ in_group-returns-in_err-operands-in-Some-clause-refused u c = λ code e.
     let filter = t.optional_tree (option_map (λ y. view y.value) w.filter) in
     let over = t.optional_over (option_map over_view w.over) in
     let is : aggregate_of (function_of w.name) over ≡ Some c.in-Some.call = search rules in
-    let h : args_bound (leaf_of (r.Rows g.scope)) 0 (args_view w.args) ≡ Err code = search rules in
+    let h : args_bound (leaf_of (r.Rows (l.Own g.scope))) 0 (args_view w.args) ≡ Err code = search rules in
     ap (group_leaf g c.args.number) (ap view w.is ∙ tree_call w.name w.args w.filter w.over)
-    ∙ args_failed g.scope.now (trees_view g.trees.now) (bounds_view g.keys) c.args.number w.name (args_view w.args) filter over c.in-Some.call is code (ap (λ L. args_bound L 0 (args_view w.args)) (sym (rows_leaf g.scope)) ∙ h)
+    ∙ args_failed g.scope.now (trees_view g.trees.now) (bounds_view g.keys) c.args.number w.name (args_view w.args) filter over c.in-Some.call is code (ap (λ L. args_bound L 0 (args_view w.args)) (sym (own_leaf g.scope)) ∙ h)
 
 pub in_group-returns-in_err-filter-in-Some-clause-refused : goal.in_group-returns-in_err-filter-in-Some-clause-refused
 in_group-returns-in_err-filter-in-Some-clause-refused u c = λ code e.
@@ -683,11 +685,11 @@ in_group-returns-in_err-filter-in-Some-clause-refused u c = λ code e.
     let filter = t.optional_tree (option_map (λ y. view y.value) w.filter) in
     let over = t.optional_over (option_map over_view w.over) in
     let is : aggregate_of (function_of w.name) over ≡ Some c.in-Some.call = search rules in
-    let one : args_bound (leaf_of (r.Rows g.scope)) 0 (args_view w.args) ≡ Ok (bounds_view c.in_ok-operands-in-Some.operands) = search rules in
-    let h : optional_bound (leaf_of (r.Rows g.scope)) 0 filter ≡ Err code = search rules in
+    let one : args_bound (leaf_of (r.Rows (l.Own g.scope))) 0 (args_view w.args) ≡ Ok (bounds_view c.in_ok-operands-in-Some.operands) = search rules in
+    let h : optional_bound (leaf_of (r.Rows (l.Own g.scope))) 0 filter ≡ Err code = search rules in
     ap (group_leaf g c.args.number) (ap view w.is ∙ tree_call w.name w.args w.filter w.over)
     ∙ filter_failed g.scope.now (trees_view g.trees.now) (bounds_view g.keys) c.args.number w.name (args_view w.args) filter over c.in-Some.call is (bounds_view c.in_ok-operands-in-Some.operands) code
-    (ap (λ L. args_bound L 0 (args_view w.args)) (sym (rows_leaf g.scope)) ∙ one) (ap (λ L. optional_bound L 0 filter) (sym (rows_leaf g.scope)) ∙ h)
+    (ap (λ L. args_bound L 0 (args_view w.args)) (sym (own_leaf g.scope)) ∙ one) (ap (λ L. optional_bound L 0 filter) (sym (own_leaf g.scope)) ∙ h)
 
 pub in_group-returns-in_err-column-in-Some-clause-refused : goal.in_group-returns-in_err-column-in-Some-clause-refused
 in_group-returns-in_err-column-in-Some-clause-refused u c = λ code e.
@@ -699,12 +701,12 @@ in_group-returns-in_err-column-in-Some-clause-refused u c = λ code e.
     let xs = bounds_view c.in_ok-operands-in-Some.operands in
     let o = option_map bound_view c.in_ok-filter-in-Some.filter in
     let is : aggregate_of (function_of w.name) over ≡ Some c.in-Some.call = search rules in
-    let one : args_bound (leaf_of (r.Rows g.scope)) 0 (args_view w.args) ≡ Ok xs = search rules in
-    let two : optional_bound (leaf_of (r.Rows g.scope)) 0 filter ≡ Ok o = search rules in
+    let one : args_bound (leaf_of (r.Rows (l.Own g.scope))) 0 (args_view w.args) ≡ Ok xs = search rules in
+    let two : optional_bound (leaf_of (r.Rows (l.Own g.scope))) 0 filter ≡ Ok o = search rules in
     let h : call_column (has_no_keys K) (length K + c.args.number) c.in-Some.call (args_view w.args) xs o ≡ Err code = search rules in
     ap (group_leaf g c.args.number) (ap view w.is ∙ tree_call w.name w.args w.filter w.over)
     ∙ column_is g.scope.now (trees_view g.trees.now) K c.args.number w.name (args_view w.args) filter over c.in-Some.call is xs o (Err code)
-    (ap (λ L. args_bound L 0 (args_view w.args)) (sym (rows_leaf g.scope)) ∙ one) (ap (λ L. optional_bound L 0 filter) (sym (rows_leaf g.scope)) ∙ two) h
+    (ap (λ L. args_bound L 0 (args_view w.args)) (sym (own_leaf g.scope)) ∙ one) (ap (λ L. optional_bound L 0 filter) (sym (own_leaf g.scope)) ∙ two) h
 
 pub in_group-returns-in_ok-column-in-Some-clause-ok : goal.in_group-returns-in_ok-column-in-Some-clause-ok
 in_group-returns-in_ok-column-in-Some-clause-ok u c =
@@ -716,9 +718,9 @@ in_group-returns-in_ok-column-in-Some-clause-ok u c =
     let xs = bounds_view c.in_ok-operands-in-Some.operands in
     let o = option_map bound_view c.in_ok-filter-in-Some.filter in
     let is : aggregate_of (function_of w.name) over ≡ Some c.in-Some.call = search rules in
-    let one : args_bound (leaf_of (r.Rows g.scope)) 0 (args_view w.args) ≡ Ok xs = search rules in
-    let two : optional_bound (leaf_of (r.Rows g.scope)) 0 filter ≡ Ok o = search rules in
+    let one : args_bound (leaf_of (r.Rows (l.Own g.scope))) 0 (args_view w.args) ≡ Ok xs = search rules in
+    let two : optional_bound (leaf_of (r.Rows (l.Own g.scope))) 0 filter ≡ Ok o = search rules in
     let h : call_column (has_no_keys K) (length K + c.args.number) c.in-Some.call (args_view w.args) xs o ≡ Ok (bound_view c.in_ok-column-in-Some.column) = search rules in
     ap (group_leaf g c.args.number) (ap view w.is ∙ tree_call w.name w.args w.filter w.over)
     ∙ column_is g.scope.now (trees_view g.trees.now) K c.args.number w.name (args_view w.args) filter over c.in-Some.call is xs o (Ok (bound_view c.in_ok-column-in-Some.column))
-    (ap (λ L. args_bound L 0 (args_view w.args)) (sym (rows_leaf g.scope)) ∙ one) (ap (λ L. optional_bound L 0 filter) (sym (rows_leaf g.scope)) ∙ two) h
+    (ap (λ L. args_bound L 0 (args_view w.args)) (sym (own_leaf g.scope)) ∙ one) (ap (λ L. optional_bound L 0 filter) (sym (own_leaf g.scope)) ∙ two) h

@@ -15,16 +15,16 @@ abbrev pub invariant-any_join_waits-loop-join : goal.invariant-any_join_waits-lo
 invariant-any_join_waits-loop-join l = u.joins_wait (t.joins (joins_view l.fn.joins)) ≡ u.joins_wait (t.joins (joins_view (drop l.join-index l.join-items)))
 
 abbrev pub invariant-any_waits-loop-tree : goal.invariant-any_waits-loop-tree
-invariant-any_waits-loop-tree l = u.trees_wait l.within (t.trees (trees_view l.fn.trees)) ≡ u.trees_wait l.within (t.trees (trees_view (drop l.tree-index l.tree-items)))
+invariant-any_waits-loop-tree l = u.trees_wait (t.trees (trees_view l.fn.trees)) ≡ u.trees_wait (t.trees (trees_view (drop l.tree-index l.tree-items)))
 
 abbrev pub invariant-any_term_waits-loop-tail : goal.invariant-any_term_waits-loop-tail
-invariant-any_term_waits-loop-tail l = sums_from l.within l.fn.tails ≡ sums_from l.within (drop l.tail-index l.tail-items)
+invariant-any_term_waits-loop-tail l = sums_from l.fn.tails ≡ sums_from (drop l.tail-index l.tail-items)
 
 abbrev pub invariant-any_factor_waits-loop-tail : goal.invariant-any_factor_waits-loop-tail
-invariant-any_factor_waits-loop-tail l = products_from l.within l.fn.tails ≡ products_from l.within (drop l.tail-index l.tail-items)
+invariant-any_factor_waits-loop-tail l = products_from l.fn.tails ≡ products_from (drop l.tail-index l.tail-items)
 
 abbrev pub invariant-any_when_waits-loop-when : goal.invariant-any_when_waits-loop-when
-invariant-any_when_waits-loop-when l = whens_from l.within l.fn.whens ≡ whens_from l.within (drop l.when-index l.when-items)
+invariant-any_when_waits-loop-when l = whens_from l.fn.whens ≡ whens_from (drop l.when-index l.when-items)
 
 abbrev pub invariant-any_sort_waits-loop-sort : goal.invariant-any_sort_waits-loop-sort
-invariant-any_sort_waits-loop-sort l = sorts_from l.within l.fn.sorts ≡ sorts_from l.within (drop l.sort-index l.sort-items)
+invariant-any_sort_waits-loop-sort l = sorts_from l.fn.sorts ≡ sorts_from (drop l.sort-index l.sort-items)

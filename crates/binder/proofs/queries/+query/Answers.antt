@@ -8,12 +8,14 @@ use Rattle.query_answer.specs.Joins.{kind_of}
 use Rattle.rel_algebra.specs.View.{rel_view, rels_view}
 use Rattle.sql_syntax.specs.View.{select_view, selects_view, sorts_view, source_view, view}
 use Rattle.binding.specs.Checked.{Checked, ◌>>=◌}
-use Rattle.binding.specs.Queries.{Relation, is_plain, joined, select_bound, source_bound}
+use Rattle.binding.specs.Queries.{Relation, is_plain, joined, parts_bound, select_bound, source_bound}
 use Rattle.bind_clauses.specs.Views.{relation_view}
 use Rattle.binder.specs.Steps.{all_bound, common_scope, union_of_rest, unless_ordered, whole_union}
 use Rattle.binder.proofs.BySelects.{by_query, Ordered}
 use Rattle.binder.proofs.Joins.{join_refused, join_turn, source_refused}
+use Rattle.bind_subqueries.specs.Views.{outside_view, part_view, parts_view}
 use Rattle.binder.proofs.Unions.{rest_end, rest_failed, rest_refused, rest_turn}
+use Rattle.binder.proofs.Wheres.{parts_turn}
 use Rattle.binder.proofs.queries.+query.Goals as goal
 
 pub bind_query-returns-in_err-relation-clause-refused : goal.bind_query-returns-in_err-relation-clause-refused
@@ -107,3 +109,15 @@ joined_all-loop-join-preserved u c =
     let k : source_bound c.args.sources.now (source_view x.source) ≡ Ok y = search rules in
     let h : joined (kind_of x.kind) (relation_view c.loop-join.all) y (view x.on) ≡ Ok (relation_view c.in_ok-all.all) = search rules in
     join_turn c.args.sources.now _ xs c.loop-join.join-index (relation_view c.loop-join.all) c.loop-join.invariant x y (relation_view c.in_ok-all.all) (omega arith) c.join-item.is k h
+
+pub bind_all_parts-loop-tree-preserved : goal.bind_all_parts-loop-tree-preserved
+bind_all_parts-loop-tree-preserved u c =
+    let xs = c.as_slice-tree-items.result.now in
+    let more = c.in_ok-bind_parts.field-0 in
+    let S = c.args.sources.now in
+    let O = outside_view c.args.outside in
+    let own = c.args.own.now in
+    let one : parts_bound S O own (view c.tree-item.result) ≡ Ok (parts_view more) = search rules in
+    let appended : c.append.new.self ≡ c.loop-tree.parts ++ more = search rules in
+    parts_turn S O own _ xs c.loop-tree.tree-index (parts_view c.loop-tree.parts) c.loop-tree.invariant c.tree-item.result (parts_view more) (parts_view c.append.new.self) (omega arith)
+    c.tree-item.is one (ap parts_view appended ∙ map-append part_view c.loop-tree.parts more)
