@@ -63,7 +63,6 @@ fn is_plain(order: &SortList, limit: &Option<Text>) -> bool
 
 // One select alone, or the UNION ALL of several.
 #[cycle(query)]
-#[tactic(auto, using(crate::proofs::Unions::two_or_more))]
 fn bind_selects(alloc: Global, sources: &Sources, selects: &Selects) -> Result<Relation, BindFault>
     ensures ok { IfOk result (λ x. all_bound sources.now (select_list (selects_view selects.now)) ≡ Ok (relation_view x)) }
     ensures refused { (code : ScriptCode) → IsErrOf result (f.Refused code) → all_bound sources.now (select_list (selects_view selects.now)) ≡ Err code }

@@ -7,8 +7,6 @@ mod checks;
 #[cfg(test)]
 mod columns;
 #[cfg(test)]
-mod drafts;
-#[cfg(test)]
 mod plans;
 #[cfg(test)]
 mod trees;

@@ -1,4 +1,4 @@
-use Rattle.std.proofs.Common.{rules, ◌≡◌, ◌++◌, ◌∷◌, [], true, None, Ok, Err, ap, sym, subst, ◌∙◌, arith}
+use Rattle.std.proofs.Common.{rules, ◌≡◌, ◌≤◌, ◌++◌, ◌∷◌, [], length, true, None, Ok, Err, ap, sym, subst, ◌∙◌, arith}
 use Rattle.std.specs.Prelude.{cond, IfOk}
 use Rattle.std.proofs.lemmas.List.{map-append}
 use Rattle.ct_value.specs.declared.codes.ScriptCode.TheVariants.{Unsupported}
@@ -14,7 +14,7 @@ use Rattle.binder.specs.Steps.{all_bound, common_scope, union_of_rest, unless_or
 use Rattle.binder.proofs.BySelects.{by_query, Ordered}
 use Rattle.binder.proofs.Joins.{join_refused, join_turn, source_refused}
 use Rattle.bind_subqueries.specs.Views.{outside_view, part_view, parts_view}
-use Rattle.binder.proofs.Unions.{rest_end, rest_failed, rest_refused, rest_turn}
+use Rattle.binder.proofs.Unions.{rest_end, rest_failed, rest_refused, rest_turn, two_or_more}
 use Rattle.binder.proofs.Wheres.{parts_turn}
 use Rattle.binder.proofs.queries.+query.Goals as goal
 
@@ -39,6 +39,16 @@ bind_query-returns-clause-ok u c =
     let h : all_bound c.args.sources.now (t.selects (selects_view x.selects)) ≡ Ok a = search rules in
     let plain : is_plain (t.sort_list (sorts_view x.order)) x.limit ≡ true = search rules in
     by_query c.args.sources.now c.args.query.now ∙ ap (λ r. r >>= unless_ordered (t.sort_list (sorts_view x.order)) x.limit) h ∙ ap (λ b. cond b (Ok a) (Err Unsupported)) plain
+
+pub bind_selects-returns-in-len2-up-clause-refused : goal.bind_selects-returns-in-len2-up-clause-refused
+bind_selects-returns-in-len2-up-clause-refused u c = λ code e.
+    let several : 2 ≤ length c.args.selects.now = omega (arith, ap length c.as_slice.ensures, c.in-len2-up.len_at_least) in
+    two_or_more c.args.sources.now c.args.selects.now several ∙ c.bind_union.ensures.refused code e
+
+pub bind_selects-returns-in-len2-up-clause-ok : goal.bind_selects-returns-in-len2-up-clause-ok
+bind_selects-returns-in-len2-up-clause-ok u c =
+    let several : 2 ≤ length c.args.selects.now = omega (arith, ap length c.as_slice.ensures, c.in-len2-up.len_at_least) in
+    subst (λ (v : Checked Relation). IfOk c.bind_union.result (λ x. v ≡ Ok (relation_view x))) (sym (two_or_more c.args.sources.now c.args.selects.now several)) c.bind_union.ensures.ok
 
 pub bind_union-returns-in_err-relation-clause-refused : goal.bind_union-returns-in_err-relation-clause-refused
 bind_union-returns-in_err-relation-clause-refused u c = λ code e.
