@@ -1,5 +1,5 @@
 -- The plan of a tree that was made is the one by which the script runs, and it can be run.
-use Rattle.std.specs.Prelude.{◌≡◌, ℕ, ◌+◌, ◌≤◌, ◌&&◌, ◌||◌, nat_le, Bool, not, cond, List, ◌++◌, map, filter, length, Option, Result, Ok, Err, IfOk, OnOk}
+use Rattle.std.specs.Prelude.{◌≡◌, ℕ, ◌+◌, ◌≤◌, ◌&&◌, ◌||◌, nat_le, Bool, not, cond, List, ◌++◌, map, filter, length, Option, Result, Ok, Err, IfOk}
 use Rattle.std.proofs.Common.{true, false, [], ◌∷◌, refl, sym, ap, subst, ◌∙◌, arith, Some, None}
 use Rattle.std.specs.List.{All, AllByRecursion, find}
 use Rattle.std.proofs.lemmas.Bool.{and_parts, le-leb, leb-false, leb-true}
@@ -25,9 +25,9 @@ use Rattle.phys_plan.specs.declared.plan.Plan.{Plan}
 use Rattle.plan_maker.specs.Laid.{IsPlanOf}
 use Rattle.plan_laws.specs.Trees.{types_of}
 use Rattle.plan_build.specs.declared.fault.PlanFault.{PlanFault}
-use Rattle.plan_build.specs.declared.fault.PlanFault.TheVariants.{Unbuilt, NoTable, TooMany, Memory}
+use Rattle.plan_build.specs.declared.fault.PlanFault.TheVariants.{NoTable, TooMany, Memory}
 use Rattle.plan_build.specs.Laying.{IsNarrow}
-use Rattle.plan_build.specs.Faults.{Says, has_unbuilt, lacks_table, most_nodes, nodes_of}
+use Rattle.plan_build.specs.Faults.{Says, lacks_table, most_nodes, nodes_of}
 use Rattle.plan_rules.specs.Doings.{network}
 use Rattle.plan_trees.specs.Laws.{TreesHaveNodes, TreesHavePlans}
 use Rattle.plan_trees.specs.Trees.{plan_of_tree}
@@ -37,7 +37,7 @@ use Rattle.job_judgement.specs.Judged.{IsBound, IsJudged}
 use Rattle.job_judgement.specs.Judgement.{Accepted}
 use Rattle.job_stream.specs.Stream.{CanRun}
 use Rattle.job_plan.specs.Laws.{RunnableScriptsCanRun}
-use Rattle.job_plan.specs.Runnable.{RunsAs, is_built, is_retract, is_told, runnable}
+use Rattle.job_plan.specs.Runnable.{RunsAs, is_small, is_retract, is_told, runnable}
 use Rattle.job_plan.specs.Waits.{WaitsBy}
 
 -- ---- tests
@@ -53,20 +53,9 @@ told_retracts script told = retract_is script.inserted.sink.mode (and_parts _ _ 
 small_is : (n : ℕ) → n + 1 ≤ most_nodes → nat_le most_nodes n ≡ false
 small_is n few = elim (nat_le most_nodes n) as (λ t. nat_le most_nodes n ≡ t → t ≡ false) [ true ↦ λ e. absurd (let l = leb-true most_nodes n e in omega (arith, few, l)) | false ↦ λ e. refl ] refl
 
-off : (a b : Bool) → a ≡ false → b ≡ false → not (a || b) ≡ true
-off a b p q = ap (λ t. not (t || b)) p ∙ ap not q
-
-first_on : (a b : Bool) → a ≡ true → not (a || b) ≡ false
-first_on a b p = ap (λ t. not (t || b)) p
-
-second_on : (a b : Bool) → b ≡ true → not (a || b) ≡ false
-second_on true b q = refl
-second_on false b q = ap not q
-
-not_or : (a b : Bool) → not (a || b) ≡ true → (a ≡ false) × (b ≡ false)
-not_or true b e = absurd (cc (e))
-not_or false true e = absurd (cc (e))
-not_or false false e = (refl, refl)
+not_on : (b : Bool) → not b ≡ true → b ≡ false
+not_on true e = absurd (cc (e))
+not_on false e = refl
 
 -- ---- the tables of an INSERT
 
@@ -140,32 +129,32 @@ module _ (script : Accepted) (bound : IsBound script) where
   abbrev own : Plan
   own = plan_of_tree sources script.inserted.sink script.catalogue.settings.parallelism rel
 
-  pub runs_by : TreesHaveOneNetwork → is_told script ≡ true → (plan : Plan) → IsMade plan → has_unbuilt rel ≡ false → length plan.nodes ≡ nodes_of sources rel + 1 → length plan.nodes ≤ most_nodes
+  pub runs_by : TreesHaveOneNetwork → is_told script ≡ true → (plan : Plan) → IsMade plan → length plan.nodes ≡ nodes_of sources rel + 1 → length plan.nodes ≤ most_nodes
       → (told : Plan) × (runnable script ≡ Ok told) × RunsAs plan told
-  runs_by one told plan made built count few =
+  runs_by one told plan made count few =
       let s = made.1 in
       let k = made.2 in
       let p = made.3 in
       let small : nat_le most_nodes (nodes_of sources rel) ≡ false = small_is (nodes_of sources rel) (omega (arith, count, few)) in (
         own,
-        ap (λ t. cond (t && is_built script) (Ok own) (refused Unsupported script.statement)) told
-            ∙ ap (λ t. cond t (Ok own) (refused Unsupported script.statement)) (off (has_unbuilt rel) (nat_le most_nodes (nodes_of sources rel)) built small),
+        ap (λ t. cond (t && is_small script) (Ok own) (refused Unsupported script.statement)) told
+            ∙ ap (λ t. cond t (Ok own) (refused Unsupported script.statement)) (ap not small),
         record { network_is = one plan rel made.0 ∙ (λ i. network (plan_of_tree (s i) (k i) (p i) rel)); sources_are = s; sink_is = k },
       )
 
-  refused_unless : is_told script ≡ true → is_built script ≡ false → runnable script ≡ refused Unsupported script.statement
+  refused_unless : is_told script ≡ true → is_small script ≡ false → runnable script ≡ refused Unsupported script.statement
   refused_unless told e =
-      ap (λ t. cond (t && is_built script) (Ok own) (refused Unsupported script.statement)) told
+      ap (λ t. cond (t && is_small script) (Ok own) (refused Unsupported script.statement)) told
       ∙ ap (λ t. cond t (Ok own) (refused Unsupported script.statement)) e
 
-  runs_only : (t : Bool) → (is_told script && is_built script) ≡ t → (plan : Plan)
+  runs_only : (t : Bool) → (is_told script && is_small script) ≡ t → (plan : Plan)
       → cond t (Ok own) (refused Unsupported script.statement) ≡ Ok plan
-      → ((is_told script && is_built script) ≡ true) × (own ≡ plan)
+      → ((is_told script && is_small script) ≡ true) × (own ≡ plan)
   runs_only true is plan e = (is, cc (e))
   runs_only false is plan e = absurd (cc (e))
 
   pub untold : is_told script ≡ false → runnable script ≡ refused Unsupported script.statement
-  untold e = ap (λ t. cond (t && is_built script) (Ok own) (refused Unsupported script.statement)) e
+  untold e = ap (λ t. cond (t && is_small script) (Ok own) (refused Unsupported script.statement)) e
 
   abbrev AreTyped : Type 0
   AreTyped = (all : List TableDef) (name : Text) (q : Query) → IfOk (insert_bound all name q) (λ b. columns_of (map column_types b.sources) b.query.rel ≡ Some (types b.query.scope))
@@ -175,9 +164,8 @@ module _ (script : Accepted) (bound : IsBound script) where
 
   pub waits : AreTyped → ((all : List TableDef) (r : Rel) (cols : List ColTy) → columns_of (map column_types all) r ≡ Some cols → lacks_table all r ≡ false) → is_told script ≡ true
       → (fault : PlanFault) → Says sources rel fault → WaitsBy fault script
-  waits typed have told Unbuilt says = refused_unless told (first_on (has_unbuilt rel) (nat_le most_nodes (nodes_of sources rel)) says)
   waits typed have told NoTable says = absurd (let lacks = have sources rel (types script.inserted.query.scope) (columns typed) in cc (says, lacks))
-  waits typed have told TooMany says = refused_unless told (second_on (has_unbuilt rel) (nat_le most_nodes (nodes_of sources rel)) (le-leb most_nodes (nodes_of sources rel) says))
+  waits typed have told TooMany says = refused_unless told (ap not (le-leb most_nodes (nodes_of sources rel) says))
   waits typed have told Memory says = tt
 
   module _ (typed : AreTyped) (plans : InsertsHaveTypedPlans) (few : SubtasksAreFew) (declared : (text : List ℕ) (asked : Asked) → asked_of text ≡ Ok asked → AllByRecursion HasTypes asked.catalogue.tables)
@@ -225,11 +213,11 @@ module _ (script : Accepted) (bound : IsBound script) where
       is_made plan answer = (subst (IsPlanOf plan) x_is answer.0, answer.1 ∙ s, answer.2 ∙ k, answer.3 ∙ m)
 
       pub answers_run : {E : Type 0} (r : Result Plan E) → TreesHaveOneNetwork → is_told script ≡ true
-          → IfOk r (IsAnswered x given into_table many) → IfOk r (HasSize x given) → OnOk r ((has_unbuilt x ≡ false) × (lacks_table given x ≡ false)) → IfOk r (λ plan. (told : Plan) × (runnable script ≡ Ok told) × RunsAs plan told)
-      answers_run (Ok plan) one told answer size built =
+          → IfOk r (IsAnswered x given into_table many) → IfOk r (HasSize x given) → IfOk r (λ plan. (told : Plan) × (runnable script ≡ Ok told) × RunsAs plan told)
+      answers_run (Ok plan) one told answer size =
           let count : length plan.nodes ≡ nodes_of sources rel + 1 = size.0 ∙ (λ i. nodes_of (s i) (x_is i) + 1) in
-          runs_by one told plan (is_made plan answer) (sym (ap has_unbuilt x_is) ∙ built.0) count size.1
-      answers_run (Err fault) one told answer size built = tt
+          runs_by one told plan (is_made plan answer) count size.1
+      answers_run (Err fault) one told answer size = tt
 
       pub answers_can_run : {E : Type 0} (r : Result Plan E) → IfOk r (IsAnswered x given into_table many) → IfOk r (HasSize x given) → IfOk r (λ plan. CanRun plan rel)
       answers_can_run (Ok plan) answer size = can_run plan (is_made plan answer) size.1
@@ -240,14 +228,13 @@ module _ (script : Accepted) (bound : IsBound script) where
 
     pub runnable_can : TreesHavePlans → TreesHaveNodes → ((all : List TableDef) (r : Rel) (cols : List ColTy) → columns_of (map column_types all) r ≡ Some cols → lacks_table all r ≡ false) → (plan : Plan) → runnable script ≡ Ok plan → CanRun plan rel
     runnable_can trees nodes have plan e =
-        let r = runs_only (is_told script && is_built script) refl plan e in
+        let r = runs_only (is_told script && is_small script) refl plan e in
         let told = and_parts _ _ r.0 in
-        let built = not_or (has_unbuilt rel) (nat_le most_nodes (nodes_of sources rel)) told.1 in
         let lacks = have_tables have in
         let parallelism = script.catalogue.settings.parallelism in
-        let of = trees sources script.inserted.sink parallelism rel (told_retracts script told.0) built.0 lacks in
+        let of = trees sources script.inserted.sink parallelism rel (told_retracts script told.0) lacks in
         let count = nodes sources script.inserted.sink parallelism rel in
-        let small = leb-false most_nodes (nodes_of sources rel) built.1 in
+        let small = leb-false most_nodes (nodes_of sources rel) (not_on (nat_le most_nodes (nodes_of sources rel)) told.1) in
         subst (λ (p : Plan). CanRun p rel) r.1 (can_run own (of, refl, refl, refl) (omega (arith, count, small)))
 
 -- ---- the law

@@ -7,7 +7,7 @@ use Rattle.rel_algebra.specs.Rel.{Rel, Rels, no_rels, rel_and}
 use Rattle.rel_algebra.specs.Rel as r
 use Rattle.judge.specs.Judgement.{Judged, refused}
 use Rattle.phys_plan.specs.declared.plan.Plan.{Plan}
-use Rattle.plan_build.specs.Faults.{has_unbuilt, most_nodes, nodes_of}
+use Rattle.plan_build.specs.Faults.{most_nodes, nodes_of}
 use Rattle.plan_rules.specs.Doings.{network}
 use Rattle.plan_trees.specs.Trees.{plan_of_tree}
 use Rattle.job_judgement.specs.Judgement.{Accepted}
@@ -37,14 +37,14 @@ abbrev mutual
 abbrev pub is_told : Accepted → Bool
 is_told script = is_retract script.inserted.sink.mode && not (script.catalogue.settings.batching && has_keyed_group script.inserted.query.rel)
 
--- all nodes of its plan are built, and they are few
-abbrev pub is_built : Accepted → Bool
-is_built script = not (has_unbuilt script.inserted.query.rel || nat_le most_nodes (nodes_of script.inserted.sources script.inserted.query.rel))
+-- the nodes of its plan are few
+abbrev pub is_small : Accepted → Bool
+is_small script = not (nat_le most_nodes (nodes_of script.inserted.sources script.inserted.query.rel))
 
 -- the plan of what the script's query is bound to; what waits for what isn't built is refused at the script's statement
 abbrev pub runnable : Accepted → Judged Plan
 runnable script =
-    cond (is_told script && is_built script)
+    cond (is_told script && is_small script)
     (Ok (plan_of_tree script.inserted.sources script.inserted.sink script.catalogue.settings.parallelism script.inserted.query.rel))
     (refused Unsupported script.statement)
 

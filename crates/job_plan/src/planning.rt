@@ -64,9 +64,7 @@ fn plan_of_script(alloc: Global, script: &Accepted) -> Result<Plan, Halt>
     match plan_over_sources(alloc, script) {
         Ok(plan) => Ok(plan),
         Err(PlanFault::Memory) => Err(Halt::Memory),
-        Err(PlanFault::Unbuilt | PlanFault::NoTable | PlanFault::TooMany) => {
-            Err(unsupported(script))
-        }
+        Err(PlanFault::NoTable | PlanFault::TooMany) => Err(unsupported(script)),
     }
 }
 

@@ -6,23 +6,7 @@ use Rattle.ct_catalog.specs.declared.table.TableDef.{TableDef}
 use Rattle.rel_algebra.specs.Rel.{Rel, Rels, no_rels, rel_and}
 use Rattle.rel_algebra.specs.Rel as r
 use Rattle.plan_build.specs.declared.fault.PlanFault.{PlanFault}
-use Rattle.plan_build.specs.declared.fault.PlanFault.TheVariants.{Unbuilt, NoTable, TooMany, Memory}
-
-abbrev mutual
-  -- a part of the tree is a rank: these aren't built yet
-  pub has_unbuilt : Rel → Bool
-  has_unbuilt (r.Scan source) = false
-  has_unbuilt (r.Filter input condition) = has_unbuilt input
-  has_unbuilt (r.Project input items) = has_unbuilt input
-  has_unbuilt (r.Union inputs) = any_unbuilt inputs
-  has_unbuilt (r.Group input keys aggs) = has_unbuilt input
-  has_unbuilt (r.Join left right kind pairs rest) = has_unbuilt left || has_unbuilt right
-  has_unbuilt (r.Semi left right anti pairs rest) = has_unbuilt left || has_unbuilt right
-  has_unbuilt (r.Rank input partition order bound ranked) = true
-
-  pub any_unbuilt : Rels → Bool
-  any_unbuilt no_rels = false
-  any_unbuilt (rel_and input inputs) = has_unbuilt input || any_unbuilt inputs
+use Rattle.plan_build.specs.declared.fault.PlanFault.TheVariants.{NoTable, TooMany, Memory}
 
 -- over these tables
 module _ (sources : List TableDef) where
@@ -54,7 +38,7 @@ scan_nodes (Some table) = table_nodes table.mode
 
 module _ (sources : List TableDef) where
   abbrev mutual
-    -- how many nodes the plan of a tree has without its sink, what isn't built being left out
+    -- how many nodes the plan of a tree has without its sink
     pub nodes_of : Rel → ℕ
     nodes_of (r.Scan source) = scan_nodes (slice_get sources source)
     nodes_of (r.Filter input condition) = nodes_of input + 1
@@ -63,7 +47,7 @@ module _ (sources : List TableDef) where
     nodes_of (r.Group input keys aggs) = nodes_of input + 1
     nodes_of (r.Join left right kind pairs rest) = nodes_of left + nodes_of right + 1
     nodes_of (r.Semi left right anti pairs rest) = nodes_of left + nodes_of right + 1
-    nodes_of (r.Rank input partition order bound ranked) = 0
+    nodes_of (r.Rank input partition order bound ranked) = nodes_of input + 1
 
     pub nodes_of_all : Rels → ℕ
     nodes_of_all no_rels = 0
@@ -75,7 +59,6 @@ most_nodes = 998
 
 -- what a fault says of a tree
 abbrev pub Says : List TableDef → Rel → PlanFault → Type 0
-Says sources rel Unbuilt = has_unbuilt rel ≡ true
 Says sources rel NoTable = lacks_table sources rel ≡ true
 Says sources rel TooMany = most_nodes ≤ nodes_of sources rel
 Says sources rel Memory = ⊤

@@ -13,9 +13,9 @@ use Rattle.phys_plan.specs.declared.node.Node.{Node}
 use Rattle.phys_plan.specs.declared.plan.Plan.{Plan}
 use Rattle.plan_maker.specs.Laid.{no_keys, IsLaid, AreLaid}
 use Rattle.plan_build.specs.declared.fault.PlanFault.{PlanFault}
-use Rattle.plan_build.specs.declared.fault.PlanFault.TheVariants.{Unbuilt, NoTable, TooMany, Memory}
+use Rattle.plan_build.specs.declared.fault.PlanFault.TheVariants.{NoTable, TooMany, Memory}
 use Rattle.plan_build.specs.declared.laying.Laying.{Laying}
-use Rattle.plan_build.specs.Faults.{has_unbuilt, any_unbuilt, lacks_table, any_lacks, nodes_of, nodes_of_all, most_nodes}
+use Rattle.plan_build.specs.Faults.{lacks_table, any_lacks, nodes_of, nodes_of_all, most_nodes}
 
 -- few inputs, for which 32 bits have room
 abbrev pub IsNarrow : Node → Type 0
@@ -49,7 +49,6 @@ PushedAs old new IsOp inputs exchange number = (o : Op) × IsOp o × Pushed old 
 
 -- there is no room for a node more, or memory was wanting
 abbrev pub IsFull : Laying → PlanFault → Type 0
-IsFull l Unbuilt = ⊥
 IsFull l NoTable = ⊥
 IsFull l TooMany = most_nodes ≤ length l.nodes
 IsFull l Memory = ⊤
@@ -62,7 +61,6 @@ pub record Lays (old new : Laying) (exchange : Exchange) (rel : Rel) (root : ℕ
   pub sources : new.sources ≡ old.sources
   pub extends : (plan : Plan) → Extends plan new → Extends plan old
   pub laid : (plan : Plan) → Extends plan new → IsLaid plan (length old.nodes) exchange rel root
-  pub built : has_unbuilt rel ≡ false
   pub tables : lacks_table old.sources rel ≡ false
   pub count : length new.nodes ≡ length old.nodes + nodes_of old.sources rel
 
@@ -73,20 +71,17 @@ pub record LaysAll (old new : Laying) (inputs : Rels) (roots : List ℕ) : Type 
   pub sources : new.sources ≡ old.sources
   pub extends : (plan : Plan) → Extends plan new → Extends plan old
   pub laid : (plan : Plan) → Extends plan new → AreLaid plan (length old.nodes) inputs roots (length new.nodes)
-  pub built : any_unbuilt inputs ≡ false
   pub tables : any_lacks old.sources inputs ≡ false
   pub count : length new.nodes ≡ length old.nodes + nodes_of_all old.sources inputs
 
 -- why a tree isn't laid behind what was laid
 abbrev pub Fails : Laying → Rel → PlanFault → Type 0
-Fails l rel Unbuilt = has_unbuilt rel ≡ true
 Fails l rel NoTable = lacks_table l.sources rel ≡ true
 Fails l rel TooMany = most_nodes < length l.nodes + nodes_of l.sources rel
 Fails l rel Memory = ⊤
 
 -- the same of several trees
 abbrev pub FailsAll : Laying → Rels → PlanFault → Type 0
-FailsAll l inputs Unbuilt = any_unbuilt inputs ≡ true
 FailsAll l inputs NoTable = any_lacks l.sources inputs ≡ true
 FailsAll l inputs TooMany = most_nodes < length l.nodes + nodes_of_all l.sources inputs
 FailsAll l inputs Memory = ⊤

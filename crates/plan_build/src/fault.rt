@@ -2,11 +2,10 @@
 
 use ct_value::Memory;
 
-/// Why no plan is made: a part of the tree isn't built yet, or scans a table that isn't there; the plan would have more than 998
-/// nodes; or memory was wanting.
+/// Why no plan is made: a part of the tree scans a table that isn't there; the plan would have more than 998 nodes; or memory was
+/// wanting.
 #[derive(Clone, Copy, Debug, PartialEq, Eq)]
 pub enum PlanFault {
-    Unbuilt,
     NoTable,
     TooMany,
     Memory,

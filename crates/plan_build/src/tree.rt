@@ -12,10 +12,10 @@ use crate::fault::PlanFault;
 use crate::laying::Laying;
 use crate::parts::{first_columns, left_columns, right_columns};
 use ct_expr::{Expr, Exprs, dup_exprs};
-use ct_value::Numbers;
+use ct_value::{Cols, Numbers};
 use phys_plan::{Exchange, Op};
 use rel_algebra::Rel;
-use rel_clauses::{Aggs, Pairs};
+use rel_clauses::{Aggs, Pairs, Sorts};
 
 impl Laying {
     /// Lays the nodes of a tree whose consumer asks for this exchange, and answers the number of its root.
@@ -54,7 +54,13 @@ impl Laying {
                 let second = self.lay_right(right, on)?;
                 self.push_semi(first, second, *anti, on, rest, exchange)
             }
-            Rel::Rank { .. } => Err(PlanFault::Unbuilt),
+            Rel::Rank {
+                input,
+                partition,
+                order,
+                bound,
+                ranked,
+            } => self.lay_rank(input, partition, order, *bound, *ranked, exchange),
         }
     }
 
@@ -101,6 +107,33 @@ impl Laying {
         let below = self.lay(input, Exchange::Hash(columns))?;
         let aggs = aggs.dup()?;
         self.push_over(below, Op::Group { keys, aggs }, exchange)
+    }
+
+    #[cycle(tree)]
+    fn lay_rank(
+        &mut self,
+        input: &Rel,
+        partition: &Cols,
+        order: &Sorts,
+        bound: u32,
+        ranked: bool,
+        exchange: Exchange,
+    ) -> Result<u32, PlanFault>
+        requires fine { IsFine self.old }
+        ensures laid { IfOk result (λ root. Lays self.old self.new exchange (r.Rank (rel_view input.now) partition.now order.now bound ranked) root) }
+        ensures fails { IfErr result (λ fault. Fails self.old (r.Rank (rel_view input.now) partition.now order.now bound ranked) fault) }
+    {
+        let columns = partition.dup()?;
+        let below = self.lay(input, Exchange::Hash(columns))?;
+        let partition = partition.dup()?;
+        let order = order.dup()?;
+        let op = Op::TopN {
+            partition,
+            order,
+            bound,
+            ranked,
+        };
+        self.push_over(below, op, exchange)
     }
 
     // The left side of a join, hashed by its columns of the pairs.

@@ -5,8 +5,7 @@ use Rattle.ct_value.specs.declared.ty.ColTy.{ColTy}
 use Rattle.ct_catalog.specs.declared.table.TableDef.{TableDef}
 use Rattle.ct_expr.specs.Types.{both_of, common_ty}
 use Rattle.rel_clauses.specs.Groups.{group_columns}
-use Rattle.rel_clauses.specs.Ranks.{rank_columns}
-use Rattle.rel_algebra.specs.Types.{columns_if, is_column, rank_fits}
+use Rattle.rel_algebra.specs.Types.{columns_if, is_column}
 use Rattle.binding.specs.Inserts.{go_into}
 use Rattle.phys_plan.specs.declared.node.Op.{Op}
 use Rattle.phys_plan.specs.declared.node.Op.TheVariants as op
@@ -49,7 +48,6 @@ types_by sources (op.Normalize key) inputs = option_and_then (keyed_columns key)
 types_by sources (op.Materialize key) inputs = option_and_then (keyed_columns key) (only inputs)
 types_by sources (op.BatchGroup keys aggs) inputs = option_and_then (λ columns. group_columns keys columns aggs) (only inputs)
 types_by sources (op.LocalGroup keys aggs) inputs = option_and_then (λ columns. partial_columns keys columns aggs) (only inputs)
-types_by sources (op.TopN partition order bound ranked) inputs = option_and_then (λ columns. columns_if (rank_fits columns partition order bound) (rank_columns ranked columns)) (only inputs)
 types_by sources (op.MultiJoin on) inputs = chain_columns on inputs
 types_by sources (op.SetOp except all) inputs = of_two (set_columns except) inputs
 types_by sources operator inputs = columns_by sources operator inputs

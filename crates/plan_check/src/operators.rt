@@ -1,8 +1,6 @@
 //! The columns of a node by its operator, from those of its inputs.
-ghost use Rattle.std.specs.Prelude.{◌≡◌, nat_lt, option_and_then, option_copied, IfOk};
-ghost use Rattle.std.specs.List.{list_all};
+ghost use Rattle.std.specs.Prelude.{◌≡◌, option_and_then, option_copied, IfOk};
 ghost use Rattle.rel_algebra.specs.Types as r;
-ghost use Rattle.rel_clauses.specs.Ranks.{rank_columns};
 ghost use Rattle.plan_check.specs.Types as t;
 
 use crate::chains::chain_columns;
@@ -11,11 +9,7 @@ use crate::sets::set_joined;
 use ct_catalog::Sources;
 use ct_value::{ColTys, Cols, Memory};
 use phys_plan::{Node, Nodes, Op};
-use plan_columns::{NodeColumns, next_columns, only_input};
-use rel_clauses::Sorts;
-use rel_columns::rank_columns;
-
-const LARGEST_BOUND: u32 = 10000;
+use plan_columns::{NodeColumns, are_columns, next_columns, only_input};
 
 /// The columns of a node behind these.
 pub(crate) fn next_types(
@@ -33,18 +27,6 @@ pub(crate) fn next_types(
             merged(*keys, aggs, summed_input(nodes, done, &node.inputs))
         }
         Op::LocalGroup { keys, aggs } => partial(*keys, aggs, only_input(done, &node.inputs)),
-        Op::TopN {
-            partition,
-            order,
-            bound,
-            ranked: with_rank,
-        } => ranked(
-            partition,
-            order,
-            *bound,
-            *with_rank,
-            only_input(done, &node.inputs),
-        ),
         Op::MultiJoin { on } => chain_columns(on, done, &node.inputs),
         Op::SetOp { except, .. } => set_joined(*except, done, &node.inputs),
         _ => next_columns(sources, done, node),
@@ -70,50 +52,4 @@ fn kept_if(test: bool, columns: &ColTys) -> Result<Option<ColTys>, Memory>
     } else {
         Ok(None)
     }
-}
-
-// Whether all are places among so many columns.
-fn are_columns(places: &[u32], many: usize) -> bool
-    ensures { result ≡ list_all (λ place. nat_lt place many) places.now }
-{
-    places.iter().all(|place| (*place as usize) < many)
-}
-
-// The columns of ranked rows.
-fn ranked(
-    partition: &Cols,
-    order: &Sorts,
-    bound: u32,
-    with_rank: bool,
-    input: Option<&ColTys>,
-) -> Result<Option<ColTys>, Memory>
-    ensures { IfOk result (λ made. made ≡ option_and_then (λ columns. r.columns_if (r.rank_fits columns partition.now order.now bound) (rank_columns with_rank columns)) (option_copied input.entry)) }
-{
-    let Some(columns) = input else {
-        return Ok(None);
-    };
-    if rank_fits(columns, partition, order, bound) {
-        Ok(Some(rank_columns(with_rank, columns.dup()?)?))
-    } else {
-        Ok(None)
-    }
-}
-
-// Whether the columns of the partition and of the order are there, and the bound is one that rows are kept to.
-fn rank_fits(columns: &ColTys, partition: &Cols, order: &Sorts, bound: u32) -> bool
-    ensures { result ≡ r.rank_fits columns.now partition.now order.now bound }
-{
-    are_columns(partition.as_slice(), columns.len())
-        && are_sorts(order, columns.len())
-        && 1 <= bound
-        && bound <= LARGEST_BOUND
-}
-
-fn are_sorts(order: &Sorts, many: usize) -> bool
-    ensures { result ≡ list_all (λ sort. nat_lt sort.col many) order.now }
-{
-    order
-        .as_slice()
-        .iter()
-        .all(|sort| (sort.col as usize) < many)
 }

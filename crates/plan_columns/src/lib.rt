@@ -9,8 +9,10 @@ mod inputs;
 mod joins;
 mod listed;
 mod nodes;
+mod ranks;
 
 pub use inputs::{NodeColumns, numbered_columns, only_input, same_columns};
 pub use joins::pairs_fit;
 pub use listed::columns_of;
 pub use nodes::next_columns;
+pub use ranks::are_columns;

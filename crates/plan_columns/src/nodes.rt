@@ -8,6 +8,7 @@ ghost use Rattle.rel_clauses.specs.Groups as g;
 
 use crate::inputs::{NodeColumns, common_input, only_input, same_columns};
 use crate::joins::{joined, semi_joined};
+use crate::ranks::ranked;
 use ct_catalog::Sources;
 use ct_expr::{Expr, Exprs};
 use ct_value::{ColTys, Memory};
@@ -32,6 +33,18 @@ pub fn next_columns(
         Op::Group { keys, aggs } => grouped(*keys, aggs, only_input(done, &node.inputs)),
         Op::Join { kind, on, rest } => joined(*kind, on, rest, done, &node.inputs),
         Op::Semi { on, rest, .. } => semi_joined(on, rest, done, &node.inputs),
+        Op::TopN {
+            partition,
+            order,
+            bound,
+            ranked: with_rank,
+        } => ranked(
+            partition,
+            order,
+            *bound,
+            *with_rank,
+            only_input(done, &node.inputs),
+        ),
         Op::Sink => same_columns(only_input(done, &node.inputs)),
         _ => Ok(None),
     }

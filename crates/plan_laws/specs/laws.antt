@@ -6,6 +6,7 @@ pub mod Made
 pub mod Nodes
 pub mod Numbers
 pub mod Printing
+pub mod Ranks
 pub mod Segments
 pub mod Trees
 pub mod Wider

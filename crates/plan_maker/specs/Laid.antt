@@ -95,8 +95,8 @@ module _ (plan : Plan) where
     IsLaid n exchange (r.Semi left right anti pairs rest) root =
         (first : ℕ) × (second : ℕ) × IsLaid n (Hash (left_pairs pairs)) left first × IsLaid first (Hash (right_pairs pairs)) right second
         × (root ≡ second + 1) × HasNode root (IsSemi anti pairs rest) (first ∷ (second ∷ [])) × CarriesAll root exchange
-    -- not built yet
-    IsLaid n exchange (r.Rank input partition order bound ranked) root = ⊥
+    IsLaid n exchange (r.Rank input partition order bound ranked) root =
+        (below : ℕ) × IsLaid n (Hash partition) input below × (root ≡ below + 1) × HasNode root (λ o. o ≡ op.TopN partition order bound ranked) (below ∷ []) × CarriesAll root exchange
 
     -- several trees behind one another, with their roots, up to the last
     pub AreLaid : ℕ → Rels → List ℕ → ℕ → Type 0

@@ -18,10 +18,11 @@ use Rattle.ct_expr.specs.Types.{both_of}
 use Rattle.rel_clauses.specs.declared.join.Pair.{Pair}
 use Rattle.rel_clauses.specs.Groups.{group_columns}
 use Rattle.rel_clauses.specs.Joins.{join_columns}
+use Rattle.rel_clauses.specs.Ranks.{rank_columns}
 use Rattle.rel_clauses.specs.laws.Fits as both
 use Rattle.rel_algebra.specs.Rel.{Rel, Rels, no_rels, rel_and}
 use Rattle.rel_algebra.specs.Rel as r
-use Rattle.rel_algebra.specs.Types.{columns_if, is_condition, is_condition_if, pair_fits, pairs_fit, match_fits, item_columns, common_column, common_columns, columns_of, common_from}
+use Rattle.rel_algebra.specs.Types.{columns_if, is_condition, is_condition_if, pair_fits, pairs_fit, match_fits, item_columns, common_column, common_columns, rank_fits, columns_of, common_from}
 use Rattle.group_rules.specs.Fits.{GroupsStand, GroupsTake, first_columns}
 use Rattle.join_rules.specs.Joining.{Shape, joins, matched}
 use Rattle.join_rules.specs.Fits.{left_pairs, right_pairs}
@@ -38,6 +39,7 @@ use Rattle.stream_model.specs.Scans.{ScansStand}
 use Rattle.plan_network.specs.Plans.{bundle_of, column_types, columns_from, numbered, scan_of, spread_of}
 use Rattle.plan_rules.specs.Columns.{columns_at, columns_by, node_columns}
 use Rattle.plan_rules.specs.Doings.{Around, around_of, update_in}
+use Rattle.plan_rules.specs.laws.Ranks.{partition_within}
 use Rattle.plan_maker.specs.Laid.{IsFilter, IsProject, IsJoin, IsSemi, HasEdge, HasNode, CarriesAll, ScanLaid, SourceLaid, IsLaid, AreLaid}
 use Rattle.plan_laws.specs.Trees.{IsMade, IsPlanOfTyped, PlansAreWired, PlansMeetFacts, PortsTake, types_of}
 use Rattle.plan_laws.specs.laws.Numbers.{the_same, then_parts, all_at, within, numbered_within, side}
@@ -310,7 +312,17 @@ module _ (plan : Plan) (made : AllByRecursion IsMade plan.sources) (parallel : 0
         join_known plan n laid.0 laid.1 root x (matched anti) pairs f.0 p.0 p.1 columns (IsSemi anti pairs rest) laid.5 f.1 laid.6 next a b typed routes
         (known left n (Hash (left_pairs pairs)) laid.0 laid.2 lower p.0 p.2 (routable p.0 (left_pairs pairs) sides.0 (types_exist types exist left p.0 p.2)))
         (known right laid.0 (Hash (right_pairs pairs)) laid.1 laid.3 low p.1 p.3 (routable p.1 (right_pairs pairs) sides.1 (types_exist types exist right p.1 p.3)))
-    known (r.Rank input partition order bound ranked) n x root laid high columns t routes = absurd laid
+    known (r.Rank input partition order bound ranked) n x root laid high columns t routes =
+        let p = then_parts (λ c. columns_if (rank_fits c partition order bound) (rank_columns ranked c)) (columns_of types input) columns t in
+        let next = laid.2 in
+        let low : laid.0 < length plan.nodes = omega (arith, next, high) in
+        let b = tree plan made parallel scans_stand groups_stand groups_take input n (Hash partition) laid.0 laid.1 low p.0 p.1 in
+        let typed = (tree plan made parallel scans_stand groups_stand groups_take (r.Rank input partition order bound ranked) n x root laid high columns t).columns_are in
+        let fits = if_fits (rank_fits p.0 partition order bound) (rank_columns ranked p.0) columns p.2 in
+        let spread = routable p.0 partition (partition_within p.0 partition order bound fits) (types_exist types exist input p.0 p.1) in
+        one_known plan n laid.0 root (known input n (Hash partition) laid.0 laid.1 low p.0 p.1 spread) next
+        (over plan root laid.0 (λ o. o ≡ op.TopN partition order bound ranked) (op.TopN partition order bound ranked) x Both (kinds_of retract) columns laid.3 laid.3.is_op laid.4 next typed routes
+        (subst IsWhole (sym b.update) tt, whole_edge plan root x laid.4, ap (λ (c : List ColTy). rank_fits c partition order bound) (ap (λ o. unwrap_or o []) b.columns_are) ∙ fits) refl refl)
 
     several : (inputs : Rels) (n : ℕ) (roots : List ℕ) (last : ℕ) → AreLaid plan n inputs roots last → last < length plan.nodes → (start : Option (List ColTy)) (columns : List ColTy) → common_from types start inputs ≡ Some columns
         → AllKnown plan n last × (n + length roots ≤ last)

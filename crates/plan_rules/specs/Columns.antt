@@ -8,7 +8,8 @@ use Rattle.rel_clauses.specs.declared.join.Pair.{Pair}
 use Rattle.ct_expr.specs.Expr.{Expr}
 use Rattle.rel_clauses.specs.Groups.{group_columns}
 use Rattle.rel_clauses.specs.Joins.{join_columns}
-use Rattle.rel_algebra.specs.Types.{columns_if, is_condition, match_fits, item_columns, common_columns}
+use Rattle.rel_clauses.specs.Ranks.{rank_columns}
+use Rattle.rel_algebra.specs.Types.{columns_if, is_condition, match_fits, item_columns, common_columns, rank_fits}
 use Rattle.phys_plan.specs.declared.node.Op.{Op}
 use Rattle.phys_plan.specs.declared.node.Op.TheVariants as op
 use Rattle.phys_plan.specs.declared.node.Node.{Node}
@@ -43,6 +44,7 @@ columns_by sources (op.Normalize key) inputs = only inputs
 columns_by sources (op.Group keys aggs) inputs = option_and_then (λ columns. group_columns keys columns aggs) (only inputs)
 columns_by sources (op.Join kind on rest) inputs = matched_columns on (option_map expr_view rest) (join_columns kind) inputs
 columns_by sources (op.Semi anti on rest) inputs = matched_columns on (option_map expr_view rest) (λ left right. left) inputs
+columns_by sources (op.TopN partition order bound ranked) inputs = option_and_then (λ columns. columns_if (rank_fits columns partition order bound) (rank_columns ranked columns)) (only inputs)
 columns_by sources op.Sink inputs = only inputs
 columns_by sources _ inputs = None
 

@@ -1,5 +1,5 @@
 -- What each node of a plan does, by the rule of its operator.
-use Rattle.std.specs.Prelude.{ℕ, List, [], ◌∷◌, ◌++◌, length, take, map, Option, Some, None, option_map, Ok}
+use Rattle.std.specs.Prelude.{ℕ, Bool, List, [], ◌∷◌, ◌++◌, length, take, map, Option, Some, None, option_map, Ok}
 use Rattle.ct_value.specs.declared.ty.ColTy.{ColTy}
 use Rattle.ct_change.specs.Changelog.{Mode, retract, upsert, Rows}
 use Rattle.ct_change.specs.declared.kind.Declared.{Declared}
@@ -7,6 +7,8 @@ use Rattle.ct_expr.specs.Expr.{Expr}
 use Rattle.ct_expr.specs.View.{expr_view}
 use Rattle.rel_clauses.specs.declared.agg.Agg.{Agg}
 use Rattle.rel_clauses.specs.declared.join.Pair.{Pair}
+use Rattle.rel_clauses.specs.declared.sort.SortCol.{SortCol}
+use Rattle.rel_clauses.specs.Ranks.{rank_rows}
 use Rattle.rel_algebra.specs.Batch.{filter_answer, project_answer}
 use Rattle.op_rules.specs.Rules.{Rule}
 use Rattle.row_rules.specs.Filter.{Filter, filter_rule}
@@ -17,6 +19,7 @@ use Rattle.row_rules.specs.Sink.{Sink, sink_rule}
 use Rattle.group_rules.specs.Grouping.{Grouping, group_rule}
 use Rattle.group_rules.specs.Fits.{part, batch}
 use Rattle.join_rules.specs.Joining.{Shape, joins, matched, Joining, joined_answer, join_rule}
+use Rattle.topn_rules.specs.Ranking.{Ranking, topn_rule}
 use Rattle.phys_plan.specs.declared.edge.Edge.{Edge as PlanEdge}
 use Rattle.phys_plan.specs.declared.edge.Update.{Update}
 use Rattle.phys_plan.specs.declared.edge.Update.TheVariants.{Absent, After, Both}
@@ -105,6 +108,20 @@ joining_of shape on rest around = record {
 abbrev pub joined_alike : Joining → Doing
 joined_alike j = alike (join_rule j) (j.left_columns ++ j.right_columns) (λ rows. joined_answer j (rows 0) (rows 1))
 
+abbrev pub ranking_of : List ℕ → List SortCol → ℕ → Bool → Around → Ranking
+ranking_of partition order bound ranked around = record {
+  partition = partition;
+  order = order;
+  bound = bound;
+  ranked = ranked;
+  columns = around.columns;
+  input = mode_told around.input;
+  output = mode_told around.own;
+}
+
+abbrev pub ranked_alike : Ranking → Doing
+ranked_alike r = alike (topn_rule r) r.columns (λ rows. rank_rows r.partition r.order r.bound r.ranked (rows 0))
+
 abbrev pub sink_of : Around → Sink
 sink_of around = record { declared = around.declared; after = after_key around.input }
 
@@ -117,6 +134,7 @@ rule_by (op.Normalize key) around = normalize_rule (normalize_of key around)
 rule_by (op.Group keys aggs) around = group_rule (grouping_of keys aggs around)
 rule_by (op.Join kind on rest) around = join_rule (joining_of (joins kind) on (option_map expr_view rest) around)
 rule_by (op.Semi anti on rest) around = join_rule (joining_of (matched anti) on (option_map expr_view rest) around)
+rule_by (op.TopN partition order bound ranked) around = topn_rule (ranking_of partition order bound ranked around)
 rule_by op.Sink around = sink_rule (sink_of around)
 rule_by _ around = union_rule (union_of around)
 
@@ -129,6 +147,7 @@ doing_by (op.Normalize key) around = alike (normalize_rule (normalize_of key aro
 doing_by (op.Group keys aggs) around = ruled (group_rule (grouping_of keys aggs around)) (take keys around.columns) (part (grouping_of keys aggs around)) (batch (grouping_of keys aggs around))
 doing_by (op.Join kind on rest) around = joined_alike (joining_of (joins kind) on (option_map expr_view rest) around)
 doing_by (op.Semi anti on rest) around = joined_alike (joining_of (matched anti) on (option_map expr_view rest) around)
+doing_by (op.TopN partition order bound ranked) around = ranked_alike (ranking_of partition order bound ranked around)
 doing_by op.Sink around = alike (sink_rule (sink_of around)) around.columns (λ rows. Some (rows 0))
 doing_by _ around = idle
 

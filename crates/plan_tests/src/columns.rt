@@ -1,12 +1,13 @@
 use crate::plans::planned;
-use crate::trees::both;
-use ct_value::{ColTys, List, Ty};
+use crate::trees::{both, ranked};
+use ct_value::{ColTys, List, Memory, Ty};
 use plan_build::PlanFault;
 use plan_columns::columns_of;
+use rel_algebra::Rel;
 use std::alloc::Global;
 
-fn listed(alloc: Global) -> Result<List<ColTys>, PlanFault> {
-    let plan = planned(alloc, both(alloc))?;
+fn listed(alloc: Global, rel: Result<Rel, Memory>) -> Result<List<ColTys>, PlanFault> {
+    let plan = planned(alloc, rel)?;
     Ok(columns_of(alloc, &plan)?)
 }
 
@@ -43,7 +44,16 @@ fn are_listed(listed: Result<List<ColTys>, PlanFault>) -> bool {
     }
 }
 
+fn have_ranks(listed: Result<List<ColTys>, PlanFault>) -> bool {
+    match listed {
+        Ok(columns) => columns.len() == 4 && are_typed(&columns, 3, &[Ty::Text, Ty::BigInt]),
+        Err(_) => false,
+    }
+}
+
 #[test]
 fn the_nodes_of_a_plan_have_columns(rt: HostRuntime) {
-    assert!(rt; are_listed(listed(rt.alloc())));
+    let alloc = rt.alloc();
+    assert!(rt; are_listed(listed(alloc, both(alloc))));
+    assert!(rt; have_ranks(listed(alloc, ranked(alloc))));
 }

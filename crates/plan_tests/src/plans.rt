@@ -21,6 +21,7 @@ fn letter(op: &Op) -> u8 {
         Op::Union => b'u',
         Op::Normalize { .. } => b'n',
         Op::Group { .. } => b'g',
+        Op::TopN { .. } => b't',
         Op::Sink => b'k',
         _ => b'?',
     }
@@ -70,6 +71,15 @@ fn is_planned(planned: Result<Plan, PlanFault>) -> bool {
     }
 }
 
+fn is_ranked(planned: Result<Plan, PlanFault>) -> bool {
+    match planned {
+        Ok(plan) => {
+            has_nodes(&plan, b"stk") && is_fed(&plan, 1, &[1]) && is_hashed(&plan, 0, false)
+        }
+        Err(_) => false,
+    }
+}
+
 fn has_fault(planned: Result<Plan, PlanFault>, wanted: PlanFault) -> bool {
     match planned {
         Ok(_) => false,
@@ -81,13 +91,13 @@ fn has_fault(planned: Result<Plan, PlanFault>, wanted: PlanFault) -> bool {
 fn a_tree_has_its_plan(rt: HostRuntime) {
     let alloc = rt.alloc();
     assert!(rt; is_planned(planned(alloc, both(alloc))));
+    assert!(rt; is_ranked(planned(alloc, ranked(alloc))));
     assert!(rt; planned(alloc, repeated(alloc, 996)).is_ok());
 }
 
 #[test]
 fn other_trees_have_none(rt: HostRuntime) {
     let alloc = rt.alloc();
-    assert!(rt; has_fault(planned(alloc, ranked(alloc)), PlanFault::Unbuilt));
     assert!(rt;
         has_fault(
             planned(alloc, Ok(Rel::Scan { source: 2 })),

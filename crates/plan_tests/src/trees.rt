@@ -85,14 +85,16 @@ pub fn both(alloc: Global) -> Result<Rel, Memory> {
     counted(alloc, Rel::Union { inputs })
 }
 
-// The first row of a table.
+// The first row of each word of a table, with its rank.
 pub fn ranked(alloc: Global) -> Result<Rel, Memory> {
+    let mut partition = Cols::new(alloc);
+    partition.push(0)?;
     Ok(Rel::Rank {
         input: Box::new(alloc, Rel::Scan { source: 0 })?,
-        partition: Cols::new(alloc),
+        partition,
         order: Sorts::new(alloc),
         bound: 1,
-        ranked: false,
+        ranked: true,
     })
 }
 

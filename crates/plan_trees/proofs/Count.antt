@@ -49,7 +49,7 @@ module _ (sources : List TableDef) where
         let mid : ℕ = n + length (pieces_of sources n (Hash (left_pairs pairs)) left) in
         of_both (pieces_of sources n (Hash (left_pairs pairs)) left) (pieces_of sources mid (Hash (right_pairs pairs)) right) _ (nodes_of sources left) (nodes_of sources right)
         (of_tree n (Hash (left_pairs pairs)) left) (of_tree mid (Hash (right_pairs pairs)) right)
-    of_tree n x (r.Rank input partition order bound ranked) = refl
+    of_tree n x (r.Rank input partition order bound ranked) = longer (pieces_of sources n (Hash partition) input) _ (nodes_of sources input) (of_tree n (Hash partition) input)
 
     of_trees : (n : ℕ) (inputs : Rels) → length (pieces_of_all sources n inputs) ≡ nodes_of_all sources inputs
     of_trees n no_rels = refl

@@ -24,7 +24,7 @@ use Rattle.phys_plan.specs.declared.node.Op.TheVariants as op
 use Rattle.phys_plan.specs.declared.plan.Plan.{Plan}
 use Rattle.plan_network.specs.Plans.{numbered}
 use Rattle.plan_maker.specs.Laid.{IsFilter, IsProject, IsJoin, IsSemi, HasNode, HasEdge, ScanLaid, SourceLaid, IsLaid, AreLaid, IsPlanOf}
-use Rattle.plan_build.specs.Faults.{has_unbuilt, any_unbuilt, lacks_table, any_lacks}
+use Rattle.plan_build.specs.Faults.{lacks_table, any_lacks}
 use Rattle.plan_trees.specs.Trees.{Piece, node_of, edge_of, piece, full_piece, topped_both, scan_pieces, source_pieces, pieces_of, pieces_of_all, roots_of, with_sink, plan_of_tree}
 use Rattle.plan_trees.proofs.Places.{one_longer, Stand, front_stands, back_stands, stand_alone}
 
@@ -115,89 +115,97 @@ module _ (plan : Plan) where
         )
 
   mutual
-    laid : (n : ℕ) (x : Exchange) (rel : Rel) → has_unbuilt rel ≡ false → lacks_table plan.sources rel ≡ false → Placed n (pieces_of plan.sources n x rel)
+    laid : (n : ℕ) (x : Exchange) (rel : Rel) → lacks_table plan.sources rel ≡ false → Placed n (pieces_of plan.sources n x rel)
         → IsLaid plan n x rel (n + length (pieces_of plan.sources n x rel))
-    laid n x (r.Scan source) built tables s = source_laid n x source (slice_get plan.sources source) tables s
-    laid n x (r.Filter input condition) built tables s =
+    laid n x (r.Scan source) tables s = source_laid n x source (slice_get plan.sources source) tables s
+    laid n x (r.Filter input condition) tables s =
         let ps = pieces_of plan.sources n Forward input in
         let o = op.Filter (expr_of condition) in (
           n + length ps,
-          laid n Forward input built tables (front_stands plan.nodes plan.edges n ps (full_piece o ((n + length ps) ∷ []) x ∷ []) s),
+          laid n Forward input tables (front_stands plan.nodes plan.edges n ps (full_piece o ((n + length ps) ∷ []) x ∷ []) s),
           last_number n ps o ((n + length ps) ∷ []) x (kinds_of retract) Both s,
           last_has n ps o ((n + length ps) ∷ []) x (kinds_of retract) Both s (IsFilter condition) (seen condition),
           last_told n ps o ((n + length ps) ∷ []) x (kinds_of retract) Both s,
         )
-    laid n x (r.Project input items) built tables s =
+    laid n x (r.Project input items) tables s =
         let ps = pieces_of plan.sources n Forward input in
         let o = op.Project (map expr_of items) in (
           n + length ps,
-          laid n Forward input built tables (front_stands plan.nodes plan.edges n ps (full_piece o ((n + length ps) ∷ []) x ∷ []) s),
+          laid n Forward input tables (front_stands plan.nodes plan.edges n ps (full_piece o ((n + length ps) ∷ []) x ∷ []) s),
           last_number n ps o ((n + length ps) ∷ []) x (kinds_of retract) Both s,
           last_has n ps o ((n + length ps) ∷ []) x (kinds_of retract) Both s (IsProject items) (each_seen items),
           last_told n ps o ((n + length ps) ∷ []) x (kinds_of retract) Both s,
         )
-    laid n x (r.Union inputs) built tables s =
+    laid n x (r.Union inputs) tables s =
         let ps = pieces_of_all plan.sources n inputs in
         let roots = roots_of plan.sources n inputs in (
           roots,
           n + length ps,
-          all_laid n inputs built tables (front_stands plan.nodes plan.edges n ps (full_piece op.Union roots x ∷ []) s),
+          all_laid n inputs tables (front_stands plan.nodes plan.edges n ps (full_piece op.Union roots x ∷ []) s),
           last_number n ps op.Union roots x (kinds_of retract) Both s,
           last_has n ps op.Union roots x (kinds_of retract) Both s (λ o. o ≡ op.Union) refl,
           last_told n ps op.Union roots x (kinds_of retract) Both s,
         )
-    laid n x (r.Group input keys aggs) built tables s =
+    laid n x (r.Group input keys aggs) tables s =
         let ps = pieces_of plan.sources n (Hash (first_columns keys)) input in
         let o = op.Group keys aggs in (
           n + length ps,
-          laid n (Hash (first_columns keys)) input built tables (front_stands plan.nodes plan.edges n ps (full_piece o ((n + length ps) ∷ []) x ∷ []) s),
+          laid n (Hash (first_columns keys)) input tables (front_stands plan.nodes plan.edges n ps (full_piece o ((n + length ps) ∷ []) x ∷ []) s),
           last_number n ps o ((n + length ps) ∷ []) x (kinds_of retract) Both s,
           last_has n ps o ((n + length ps) ∷ []) x (kinds_of retract) Both s (λ q. q ≡ op.Group keys aggs) refl,
           last_told n ps o ((n + length ps) ∷ []) x (kinds_of retract) Both s,
         )
-    laid n x (r.Join left right kind pairs rest) built tables s =
+    laid n x (r.Join left right kind pairs rest) tables s =
         let mid : ℕ = n + length (pieces_of plan.sources n (Hash (left_pairs pairs)) left) in
         let ps = pieces_of plan.sources n (Hash (left_pairs pairs)) left in
         let qs = pieces_of plan.sources (n + length (pieces_of plan.sources n (Hash (left_pairs pairs)) left)) (Hash (right_pairs pairs)) right in
         let o = op.Join kind pairs (option_map expr_of rest) in
         both_laid n x (Hash (left_pairs pairs)) (Hash (right_pairs pairs)) left right ps qs o s (IsJoin kind pairs rest) (refl, refl, rest_seen rest)
-        (laid n (Hash (left_pairs pairs)) left (left_not (has_unbuilt left) (has_unbuilt right) built) (left_not (lacks_table plan.sources left) (lacks_table plan.sources right) tables)
+        (laid n (Hash (left_pairs pairs)) left (left_not (lacks_table plan.sources left) (lacks_table plan.sources right) tables)
         (left_placed n x (Hash (left_pairs pairs)) (Hash (right_pairs pairs)) left right ps qs o s))
-        (laid mid (Hash (right_pairs pairs)) right (right_not (has_unbuilt left) (has_unbuilt right) built) (right_not (lacks_table plan.sources left) (lacks_table plan.sources right) tables)
+        (laid mid (Hash (right_pairs pairs)) right (right_not (lacks_table plan.sources left) (lacks_table plan.sources right) tables)
         (right_placed n x (Hash (left_pairs pairs)) (Hash (right_pairs pairs)) left right ps qs o s))
-    laid n x (r.Semi left right anti pairs rest) built tables s =
+    laid n x (r.Semi left right anti pairs rest) tables s =
         let mid : ℕ = n + length (pieces_of plan.sources n (Hash (left_pairs pairs)) left) in
         let ps = pieces_of plan.sources n (Hash (left_pairs pairs)) left in
         let qs = pieces_of plan.sources (n + length (pieces_of plan.sources n (Hash (left_pairs pairs)) left)) (Hash (right_pairs pairs)) right in
         let o = op.Semi anti pairs (option_map expr_of rest) in
         both_laid n x (Hash (left_pairs pairs)) (Hash (right_pairs pairs)) left right ps qs o s (IsSemi anti pairs rest) (refl, refl, rest_seen rest)
-        (laid n (Hash (left_pairs pairs)) left (left_not (has_unbuilt left) (has_unbuilt right) built) (left_not (lacks_table plan.sources left) (lacks_table plan.sources right) tables)
+        (laid n (Hash (left_pairs pairs)) left (left_not (lacks_table plan.sources left) (lacks_table plan.sources right) tables)
         (left_placed n x (Hash (left_pairs pairs)) (Hash (right_pairs pairs)) left right ps qs o s))
-        (laid mid (Hash (right_pairs pairs)) right (right_not (has_unbuilt left) (has_unbuilt right) built) (right_not (lacks_table plan.sources left) (lacks_table plan.sources right) tables)
+        (laid mid (Hash (right_pairs pairs)) right (right_not (lacks_table plan.sources left) (lacks_table plan.sources right) tables)
         (right_placed n x (Hash (left_pairs pairs)) (Hash (right_pairs pairs)) left right ps qs o s))
-    laid n x (r.Rank input partition order bound ranked) built tables s = absurd (cc)
+    laid n x (r.Rank input partition order bound ranked) tables s =
+        let ps = pieces_of plan.sources n (Hash partition) input in
+        let o = op.TopN partition order bound ranked in (
+          n + length ps,
+          laid n (Hash partition) input tables (front_stands plan.nodes plan.edges n ps (full_piece o ((n + length ps) ∷ []) x ∷ []) s),
+          last_number n ps o ((n + length ps) ∷ []) x (kinds_of retract) Both s,
+          last_has n ps o ((n + length ps) ∷ []) x (kinds_of retract) Both s (λ q. q ≡ op.TopN partition order bound ranked) refl,
+          last_told n ps o ((n + length ps) ∷ []) x (kinds_of retract) Both s,
+        )
 
-    all_laid : (n : ℕ) (inputs : Rels) → any_unbuilt inputs ≡ false → any_lacks plan.sources inputs ≡ false → Placed n (pieces_of_all plan.sources n inputs)
+    all_laid : (n : ℕ) (inputs : Rels) → any_lacks plan.sources inputs ≡ false → Placed n (pieces_of_all plan.sources n inputs)
         → AreLaid plan n inputs (roots_of plan.sources n inputs) (n + length (pieces_of_all plan.sources n inputs))
-    all_laid n no_rels built tables s = (refl, omega arith)
-    all_laid n (rel_and input inputs) built tables s =
+    all_laid n no_rels tables s = (refl, omega arith)
+    all_laid n (rel_and input inputs) tables s =
         let ps = pieces_of plan.sources n Forward input in
         let mid : ℕ = n + length (pieces_of plan.sources n Forward input) in
         let qs = pieces_of_all plan.sources (n + length (pieces_of plan.sources n Forward input)) inputs in
         let whole : mid + length qs ≡ n + length (ps ++ qs) = omega (arith, length-append ps qs) in (
           mid,
           roots_of plan.sources mid inputs,
-          laid n Forward input (left_not (has_unbuilt input) (any_unbuilt inputs) built) (left_not (lacks_table plan.sources input) (any_lacks plan.sources inputs) tables)
+          laid n Forward input (left_not (lacks_table plan.sources input) (any_lacks plan.sources inputs) tables)
               (front_stands plan.nodes plan.edges n ps qs s),
           subst (λ last. AreLaid plan mid inputs (roots_of plan.sources mid inputs) last) whole
-              (all_laid mid inputs (right_not (has_unbuilt input) (any_unbuilt inputs) built) (right_not (lacks_table plan.sources input) (any_lacks plan.sources inputs) tables)
+              (all_laid mid inputs (right_not (lacks_table plan.sources input) (any_lacks plan.sources inputs) tables)
               (back_stands plan.nodes plan.edges n ps qs s)),
           refl,
         )
 
-pub have_plans : (sources : List TableDef) (sink : TableDef) (parallelism : ℕ) (rel : Rel) → sink.mode ≡ Retract → has_unbuilt rel ≡ false → lacks_table sources rel ≡ false
+pub have_plans : (sources : List TableDef) (sink : TableDef) (parallelism : ℕ) (rel : Rel) → sink.mode ≡ Retract → lacks_table sources rel ≡ false
     → IsPlanOf (plan_of_tree sources sink parallelism rel) rel
-have_plans sources sink parallelism rel into built tables =
+have_plans sources sink parallelism rel into tables =
     let plan = plan_of_tree sources sink parallelism rel in
     let ps = pieces_of sources 0 Forward rel in
     let root : ℕ = 0 + length ps in
@@ -208,7 +216,7 @@ have_plans sources sink parallelism rel into built tables =
     let told = last_told plan 0 ps op.Sink (length ps ∷ []) Forward (kinds_of retract) Absent all in
     record {
       root = root;
-      laid = laid plan 0 Forward rel built tables (front_stands plan.nodes plan.edges 0 ps (piece op.Sink (length ps ∷ []) Forward (kinds_of retract) Absent ∷ []) all);
+      laid = laid plan 0 Forward rel tables (front_stands plan.nodes plan.edges 0 ps (piece op.Sink (length ps ∷ []) Forward (kinds_of retract) Absent ∷ []) all);
       sink_node = subst (λ (inputs : List ℕ). HasNode plan (root + 1) (λ o. o ≡ op.Sink) inputs) (ap (λ m. m ∷ []) root_is) (subst (λ v. HasNode plan v (λ o. o ≡ op.Sink) (length ps ∷ [])) last has);
       sink_edge = subst (λ v. HasEdge plan v Forward (kinds_of retract) Absent) last told;
       nodes = omega (arith, length-map (with_sink ps) (λ p. p.node), last);

@@ -154,7 +154,9 @@ module _ (plan : Plan) where
         let second = laid_placed mid (Hash (right_pairs pairs)) right l.1 (subst (λ k. IsLaid plan k (Hash (right_pairs pairs)) right l.1) first.0 l.3) in
         both_placed n x ps (pieces_of plan.sources (n + length (pieces_of plan.sources n (Hash (left_pairs pairs)) left)) (Hash (right_pairs pairs)) right) (IsSemi anti pairs rest) (op.Semi anti pairs (option_map expr_of rest))
         l.0 l.1 root (semi_as_seen anti pairs rest) first second l.4 l.5 l.6
-    laid_placed n x (r.Rank input partition order bound ranked) root l = absurd l
+    laid_placed n x (r.Rank input partition order bound ranked) root l =
+        let below = laid_placed n (Hash partition) input l.0 l.1 in
+        topped_placed n l.0 root (pieces_of plan.sources n (Hash partition) input) below.0 below.1 l.2 (λ o. o ≡ op.TopN partition order bound ranked) (op.TopN partition order bound ranked) x (λ q e. ap op_as_seen e) l.3 l.4
 
     all_placed : (n : ℕ) (inputs : Rels) (roots : List ℕ) (last : ℕ) → AreLaid plan n inputs roots last
         → (last ≡ n + length (pieces_of_all plan.sources n inputs)) × (roots ≡ roots_of plan.sources n inputs) × Placed n (pieces_of_all plan.sources n inputs)

@@ -5,7 +5,7 @@ use Rattle.ct_catalog.specs.declared.table.TableDef.{TableDef}
 use Rattle.rel_algebra.specs.Rel.{Rel}
 use Rattle.phys_plan.specs.declared.plan.Plan.{Plan}
 use Rattle.plan_maker.specs.Laid.{IsPlanOf}
-use Rattle.plan_build.specs.Faults.{has_unbuilt, lacks_table, nodes_of}
+use Rattle.plan_build.specs.Faults.{lacks_table, nodes_of}
 use Rattle.plan_trees.specs.Trees.{plan_of_tree}
 use Rattle.plan_trees.specs.Seen.{plan_as_seen}
 
@@ -13,10 +13,10 @@ use Rattle.plan_trees.specs.Seen.{plan_as_seen}
 abbrev pub TreesHaveOnePlan : Type 0
 TreesHaveOnePlan = (plan : Plan) (rel : Rel) → IsPlanOf plan rel → plan_as_seen plan ≡ plan_of_tree plan.sources plan.sink plan.parallelism rel
 
--- and that is one of its plans, where all of the tree is built and each table is there
+-- and that is one of its plans, where each table is there
 abbrev pub TreesHavePlans : Type 0
 TreesHavePlans =
-    (sources : List TableDef) (sink : TableDef) (parallelism : ℕ) (rel : Rel) → sink.mode ≡ Retract → has_unbuilt rel ≡ false → lacks_table sources rel ≡ false
+    (sources : List TableDef) (sink : TableDef) (parallelism : ℕ) (rel : Rel) → sink.mode ≡ Retract → lacks_table sources rel ≡ false
     → IsPlanOf (plan_of_tree sources sink parallelism rel) rel
 
 -- it has the tree's nodes and the sink

@@ -77,8 +77,7 @@ module _ (sources : List TableDef) where
     pieces_of n exchange (r.Semi left right anti pairs rest) =
         topped_both n (pieces_of n (Hash (left_pairs pairs)) left) (pieces_of (n + length (pieces_of n (Hash (left_pairs pairs)) left)) (Hash (right_pairs pairs)) right)
         (op.Semi anti pairs (option_map expr_of rest)) exchange
-    -- not built yet
-    pieces_of n exchange (r.Rank input partition order bound ranked) = []
+    pieces_of n exchange (r.Rank input partition order bound ranked) = topped n (pieces_of n (Hash partition) input) (op.TopN partition order bound ranked) exchange
 
     -- several trees behind one another
     pub pieces_of_all : ℕ → Rels → List Piece

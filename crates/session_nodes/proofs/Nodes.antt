@@ -35,7 +35,7 @@ by_rule (op.Group keys aggs) around built off = record { emits = refl; opens = r
 by_rule (op.BatchGroup keys aggs) around built off = absurd built
 by_rule (op.Join kind on rest) around built off = record { emits = refl; opens = refl }
 by_rule (op.Semi anti on rest) around built off = record { emits = refl; opens = refl }
-by_rule (op.TopN partition order bound ranked) around built off = absurd built
+by_rule (op.TopN partition order bound ranked) around built off = record { emits = refl; opens = refl }
 by_rule (op.Materialize key) around built off = absurd built
 by_rule op.Sink around built off = record { emits = refl; opens = refl }
 by_rule (op.LocalGroup keys aggs) around built off = absurd built

@@ -1,7 +1,8 @@
 -- For which networks the operators of a plan are made.
-use Rattle.std.specs.Prelude.{◌≡◌, ℕ, ◌<◌, Bool, false, List, [], ◌++◌, length, take, Option, Some, None}
+use Rattle.std.specs.Prelude.{◌≡◌, ℕ, ◌<◌, Bool, true, false, List, [], ◌++◌, length, take, Option, Some, None}
 use Rattle.ct_value.specs.declared.ty.ColTy.{ColTy}
 use Rattle.rel_clauses.specs.Groups.{group_columns}
+use Rattle.rel_algebra.specs.Types.{rank_fits}
 use Rattle.op_rules.specs.History.{Arrival}
 use Rattle.op_rules.specs.Ports.{TakesAll}
 use Rattle.op_rules.specs.Rules.{Rule}
@@ -37,6 +38,7 @@ IsBuilt (op.Normalize key) around = IsWhole around.own
 IsBuilt (op.Group keys aggs) around = IsWhole around.input × IsWhole around.own × (made : List ColTy) × (group_columns keys around.columns aggs ≡ Some made)
 IsBuilt (op.Join kind on rest) around = AreWhole around
 IsBuilt (op.Semi anti on rest) around = AreWhole around
+IsBuilt (op.TopN partition order bound ranked) around = IsWhole around.input × IsWhole around.own × (rank_fits around.columns partition order bound ≡ true)
 IsBuilt op.Sink around = Unit {0}
 IsBuilt _ around = ⊥
 
@@ -50,6 +52,7 @@ range_types_by (op.Filter cond) columns others = columns
 range_types_by (op.Project items) columns others = columns
 range_types_by op.Union columns others = columns
 range_types_by (op.Normalize key) columns others = columns
+range_types_by (op.TopN partition order bound ranked) columns others = columns
 range_types_by op.Sink columns others = columns
 range_types_by (op.Group keys aggs) columns others = take keys columns
 range_types_by (op.Join kind on rest) columns others = columns ++ others

@@ -5,6 +5,7 @@ use op_join::{Join, SemiJoin};
 use op_row::{FilterOp, NormalizeOp, ProjectOp, UnionOp};
 use op_rules::{OpFault, Operator};
 use op_sink::SinkWriter;
+use op_topn::TopN;
 use std::sync::ledger::Ledger;
 
 /// An operator of any of the kinds that a plan has.
@@ -17,11 +18,12 @@ pub enum AnyOperator {
     Group(Group<Retract, Retract>),
     Join(Join<Retract, Retract>),
     Semi(SemiJoin<Retract, Retract>),
+    TopN(TopN<Retract, Retract>),
     Sink(SinkWriter),
 }
 
 impl Operator for AnyOperator {
-    ghost use Rattle.session_nodes.specs.declared.any.AnyOperator.TheVariants.{Filter, Project, Union, Normalize, Group as Grouped, Join as Joined, Semi, Sink};
+    ghost use Rattle.session_nodes.specs.declared.any.AnyOperator.TheVariants.{Filter, Project, Union, Normalize, Group as Grouped, Join as Joined, Semi, TopN as Top, Sink};
 
     ghost rule = { elim [
       | Filter o ↦ ⟦<FilterOp as Operator>⟧.rule o
@@ -31,6 +33,7 @@ impl Operator for AnyOperator {
       | Grouped o ↦ ⟦<Group<Retract, Retract> as Operator>⟧.rule o
       | Joined o ↦ ⟦<Join<Retract, Retract> as Operator>⟧.rule o
       | Semi o ↦ ⟦<SemiJoin<Retract, Retract> as Operator>⟧.rule o
+      | Top o ↦ ⟦<TopN<Retract, Retract> as Operator>⟧.rule o
       | Sink o ↦ ⟦<SinkWriter as Operator>⟧.rule o
     ] };
 
@@ -42,6 +45,7 @@ impl Operator for AnyOperator {
       | Grouped o ↦ ⟦<Group<Retract, Retract> as Operator>⟧.broken o
       | Joined o ↦ ⟦<Join<Retract, Retract> as Operator>⟧.broken o
       | Semi o ↦ ⟦<SemiJoin<Retract, Retract> as Operator>⟧.broken o
+      | Top o ↦ ⟦<TopN<Retract, Retract> as Operator>⟧.broken o
       | Sink o ↦ ⟦<SinkWriter as Operator>⟧.broken o
     ] };
 
@@ -53,6 +57,7 @@ impl Operator for AnyOperator {
       | Grouped o ↦ ⟦<Group<Retract, Retract> as Operator>⟧.stands_for o
       | Joined o ↦ ⟦<Join<Retract, Retract> as Operator>⟧.stands_for o
       | Semi o ↦ ⟦<SemiJoin<Retract, Retract> as Operator>⟧.stands_for o
+      | Top o ↦ ⟦<TopN<Retract, Retract> as Operator>⟧.stands_for o
       | Sink o ↦ ⟦<SinkWriter as Operator>⟧.stands_for o
     ] };
 
@@ -65,6 +70,7 @@ impl Operator for AnyOperator {
             AnyOperator::Group(o) => o.opening(subtask),
             AnyOperator::Join(o) => o.opening(subtask),
             AnyOperator::Semi(o) => o.opening(subtask),
+            AnyOperator::TopN(o) => o.opening(subtask),
             AnyOperator::Sink(o) => o.opening(subtask),
         }
     }
@@ -83,6 +89,7 @@ impl Operator for AnyOperator {
             AnyOperator::Group(o) => o.consume(port, change, steps),
             AnyOperator::Join(o) => o.consume(port, change, steps),
             AnyOperator::Semi(o) => o.consume(port, change, steps),
+            AnyOperator::TopN(o) => o.consume(port, change, steps),
             AnyOperator::Sink(o) => o.consume(port, change, steps),
         }
     }
@@ -96,6 +103,7 @@ impl Operator for AnyOperator {
             AnyOperator::Group(o) => o.is_broken(),
             AnyOperator::Join(o) => o.is_broken(),
             AnyOperator::Semi(o) => o.is_broken(),
+            AnyOperator::TopN(o) => o.is_broken(),
             AnyOperator::Sink(o) => o.is_broken(),
         }
     }

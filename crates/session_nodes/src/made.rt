@@ -1,8 +1,9 @@
-ghost use Rattle.std.specs.Prelude.{◌≡◌, ℕ, [], ◌++◌, List as Seq, Some, None, get_or, length, option_copied, option_map, take, IfOk};
+ghost use Rattle.std.specs.Prelude.{◌≡◌, ℕ, [], ◌++◌, List as Seq, Some, None, true, get_or, length, option_copied, option_map, take, IfOk};
 ghost use Rattle.ct_value.specs.declared.ty.ColTy.{ColTy};
 ghost use Rattle.ct_change.specs.Changelog.{retract};
 ghost use Rattle.ct_expr.specs.View.{expr_view, exprs_view};
 ghost use Rattle.rel_clauses.specs.Groups.{group_columns};
+ghost use Rattle.rel_algebra.specs.Types.{rank_fits};
 ghost use Rattle.row_rules.specs.Filter.{filter_rule};
 ghost use Rattle.row_rules.specs.Project.{project_rule};
 ghost use Rattle.row_rules.specs.Union.{union_rule};
@@ -10,6 +11,7 @@ ghost use Rattle.row_rules.specs.Normalize.{normalize_rule};
 ghost use Rattle.row_rules.specs.Sink.{sink_rule};
 ghost use Rattle.group_rules.specs.Grouping.{group_rule};
 ghost use Rattle.join_rules.specs.Joining.{joins, matched, join_rule};
+ghost use Rattle.topn_rules.specs.Ranking.{topn_rule};
 ghost use Rattle.plan_network.specs.Plans.{numbered};
 ghost use Rattle.plan_rules.specs.Doings.{after_key, around_of, first_input, second, update_in};
 ghost use Rattle.session_nodes.specs.Running.{IsBuilt, IsBuiltPlan, IsNew, IsOperatorOf, range_types_by, second_input};
@@ -23,8 +25,9 @@ use op_join::{Join, SemiJoin};
 use op_row::{FilterOp, NormalizeOp, ProjectOp, UnionOp};
 use op_rules::Operator;
 use op_sink::SinkWriter;
+use op_topn::TopN;
 use phys_plan::{Edge, Node, Op, Plan, Update};
-use rel_clauses::{Aggs, JoinKind, Pairs};
+use rel_clauses::{Aggs, JoinKind, Pairs, Sorts};
 use session_open::PlanOperator;
 use std::alloc::Global;
 
@@ -88,6 +91,15 @@ fn operator_of(
         Op::Semi { anti, on, rest } => {
             let types = both_types(alloc, columns, &node.inputs)?;
             Ok(Some(semi_by(alloc, types, *anti, on, rest)?))
+        }
+        Op::TopN {
+            partition,
+            order,
+            bound,
+            ranked,
+        } => {
+            let types = input_types(alloc, columns, &node.inputs)?;
+            Ok(Some(top_by(alloc, types, partition, order, *bound, *ranked)?))
         }
         Op::Sink => Ok(Some(sink_of(alloc, plan, &node.inputs)?)),
         _ => unreachable!(),
@@ -163,6 +175,25 @@ fn semi_by(
     let (on, rest) = (on.dup()?, dup_rest(rest)?);
     let made = SemiJoin::new(alloc, anti, on, rest, left, right, Retract, Retract)?;
     Ok(AnyOperator::Semi(made))
+}
+
+#[tactic(auto, using(plan_rules::specs::laws::Ranks::ranking_sound))]
+fn top_by(
+    alloc: Global,
+    types: ColTys,
+    partition: &Cols,
+    order: &Sorts,
+    bound: u32,
+    ranked: bool,
+) -> Result<AnyOperator, Memory>
+    requires { rank_fits types partition.now order.now bound ≡ true }
+    ensures { IfOk result (λ made. IsNew ⟦<AnyOperator as Operator>⟧.rule ⟦<AnyOperator as Operator>⟧.broken ⟦<AnyOperator as Operator>⟧.stands_for made (topn_rule (record { partition = partition.now; order = order.now; bound = bound; ranked = ranked; columns = types; input = retract; output = retract }))) }
+{
+    let (partition, order) = (partition.dup()?, order.dup()?);
+    let made = TopN::new(
+        alloc, partition, order, bound, ranked, types, Retract, Retract,
+    )?;
+    Ok(AnyOperator::TopN(made))
 }
 
 // An equal condition, if there is one.
@@ -268,6 +299,7 @@ fn range_types_of(alloc: Global, columns: &List<ColTys>, node: &Node) -> Result<
         Op::Project { .. } => input_types(alloc, columns, &node.inputs),
         Op::Union => input_types(alloc, columns, &node.inputs),
         Op::Normalize { .. } => input_types(alloc, columns, &node.inputs),
+        Op::TopN { .. } => input_types(alloc, columns, &node.inputs),
         Op::Sink => input_types(alloc, columns, &node.inputs),
         Op::Group { keys, .. } => first_types(alloc, columns, node, *keys),
         Op::Join { .. } => joined_types(alloc, columns, &node.inputs),

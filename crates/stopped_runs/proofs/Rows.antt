@@ -206,6 +206,7 @@ module _ (plan : Plan) (rel : Rel) (is : IsPlanOfTyped plan rel) (takes : PortsT
         group_outs (grouping_of keys aggs around) (fit_first (one_port (op.Group keys aggs) own refl refl)) (fold (grouping_of keys aggs around).input (at_port 0 before))
     op_outs (op.Join kind on rest) own = both_out (joining_of (joins kind) on (option_map expr_view rest) around) (both_fit (two_ports (op.Join kind on rest) own refl refl))
     op_outs (op.Semi anti on rest) own = both_out (joining_of (matched anti) on (option_map expr_view rest) around) (both_fit (two_ports (op.Semi anti on rest) own refl refl))
+    op_outs (op.TopN partition order bound ranked) own = λ row e. not_err _ row e
     op_outs op.Sink own =
         outs_each (Fit around.columns) (sink_change (sink_of around)) (changes_of piece) (all_any (λ change. OutsAt (Fit around.columns) (sink_change (sink_of around) change)) (λ change row e. not_err _ row e) (changes_of piece))
     op_outs _ own = λ row e. not_err [] row e

@@ -11,9 +11,10 @@ use Rattle.ct_catalog.specs.declared.table.TableDef.{TableDef}
 use Rattle.ct_expr.specs.Types.{both_of}
 use Rattle.rel_algebra.specs.Rel.{Rel, Rels, no_rels, rel_and}
 use Rattle.rel_algebra.specs.Rel as r
-use Rattle.rel_algebra.specs.Types.{columns_if, is_condition, match_fits, item_columns, common_columns, columns_of, common_from}
+use Rattle.rel_algebra.specs.Types.{columns_if, is_condition, match_fits, item_columns, common_columns, rank_fits, columns_of, common_from}
 use Rattle.rel_clauses.specs.Groups.{group_columns}
 use Rattle.rel_clauses.specs.Joins.{join_columns}
+use Rattle.rel_clauses.specs.Ranks.{rank_columns}
 use Rattle.group_rules.specs.Fits.{GroupsStand, GroupsTake, first_columns}
 use Rattle.join_rules.specs.Fits.{left_pairs, right_pairs}
 use Rattle.phys_plan.specs.declared.edge.Exchange.{Exchange}
@@ -137,7 +138,11 @@ module _ (plan : Plan) (made : AllByRecursion IsMade plan.sources) (parallel : 0
         let lower : laid.0 < length plan.nodes = omega (arith, before, low) in
         one_known n laid.1 root (both_known n laid.0 laid.1 (tree_known left n (Hash (left_pairs pairs)) laid.0 laid.2 lower p.0 p.2) (tree_known right laid.0 (Hash (right_pairs pairs)) laid.1 laid.3 low p.1 p.3)) next
         (root_known (r.Semi left right anti pairs rest) n x root laid high columns t)
-    tree_known (r.Rank input partition order bound ranked) n x root laid high columns t = absurd laid
+    tree_known (r.Rank input partition order bound ranked) n x root laid high columns t =
+        let p = then_parts (λ c. columns_if (rank_fits c partition order bound) (rank_columns ranked c)) (columns_of types input) columns t in
+        let next = laid.2 in
+        let low : laid.0 < length plan.nodes = omega (arith, next, high) in
+        one_known n laid.0 root (tree_known input n (Hash partition) laid.0 laid.1 low p.0 p.1) next (root_known (r.Rank input partition order bound ranked) n x root laid high columns t)
 
     several : (inputs : Rels) (n : ℕ) (roots : List ℕ) (last : ℕ) → AreLaid plan n inputs roots last → last < length plan.nodes → (start : Option (List ColTy)) (columns : List ColTy) → common_from types start inputs ≡ Some columns
         → AllKnown n last × (n ≤ last)
@@ -202,6 +207,7 @@ module _ (scans_stand : ScansStand) (groups_stand : GroupsStand) (groups_take : 
     op_types (op.Group keys aggs) around h k = all_first _ keys around.columns h
     op_types (op.Join kind on rest) around h k = all_both _ around.columns (second around).columns h k
     op_types (op.Semi anti on rest) around h k = all_both _ around.columns (second around).columns h k
+    op_types (op.TopN partition order bound ranked) around h k = h
     op_types op.Sink around h k = h
     op_types _ around h k = tt
 

@@ -14,6 +14,7 @@ use Rattle.row_rules.specs.Normalize.{Normalize, normalize_rule}
 use Rattle.row_rules.specs.Sink.{Sink, sink_rule}
 use Rattle.group_rules.specs.Grouping.{Grouping, group_rule}
 use Rattle.join_rules.specs.Joining.{Joining, join_rule}
+use Rattle.topn_rules.specs.Ranking.{Ranking, topn_rule}
 
 -- the texts of a row are short
 abbrev pub IsShortRow : Row → Type 0
@@ -63,3 +64,6 @@ GroupsStayInRange = (g : Grouping) → list_all (λ agg. only_counts agg.call) g
 
 abbrev pub JoinsStayInRange : Type 0
 JoinsStayInRange = (j : Joining) → rest_is_tame j.rest ≡ true → RuleStaysInRange (join_rule j)
+
+abbrev pub TopNsStayInRange : Type 0
+TopNsStayInRange = (r : Ranking) → RuleStaysInRange (topn_rule r)

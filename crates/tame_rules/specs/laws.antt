@@ -5,3 +5,4 @@ pub mod Answers
 pub mod Rows
 pub mod Groups
 pub mod Joins
+pub mod Ranks

@@ -1,11 +1,11 @@
 //! Rules of nodes that calculate nothing.
 //!
-//! Promised: a filter, a project, a union, a normalize, a sink, a group and a join whose expressions and calls calculate nothing are never
-//! out of range, over texts as short as a field's and fewer changes than a BIGINT counts, and they hand on short texts. It stands on the rules of
+//! Promised: a filter, a project, a union, a normalize, a sink, a group, a join and a Top-N whose expressions and calls calculate nothing are
+//! never out of range, over texts as short as a field's and fewer changes than a BIGINT counts, and they hand on short texts. It stands on the rules of
 //! operators, on what expressions and aggregates are, and on what calculates nothing; it has no code.
 #![tactic(auto)]
 
-ghost use Rattle.tame_rules.specs.Ranges.{FiltersStayInRange, GroupsStayInRange, JoinsStayInRange, NormalizesStayInRange, ProjectsStayInRange, SinksStayInRange, UnionsStayInRange};
+ghost use Rattle.tame_rules.specs.Ranges.{FiltersStayInRange, GroupsStayInRange, JoinsStayInRange, NormalizesStayInRange, ProjectsStayInRange, SinksStayInRange, TopNsStayInRange, UnionsStayInRange};
 
 /// A filter whose condition calculates nothing.
 pub fn filters_stay_in_range()
@@ -40,4 +40,9 @@ pub fn groups_stay_in_range()
 /// A join, a semi join or an anti join whose rest calculates nothing.
 pub fn joins_stay_in_range()
     ensures { JoinsStayInRange }
+{}
+
+/// A Top-N.
+pub fn topns_stay_in_range()
+    ensures { TopNsStayInRange }
 {}

@@ -11,7 +11,7 @@ use source_laws::taken_lines_fit;
 use stream_model::runs_are_safe;
 use tame_rules::{
     filters_stay_in_range, groups_stay_in_range, joins_stay_in_range, normalizes_stay_in_range,
-    projects_stay_in_range, sinks_stay_in_range, unions_stay_in_range,
+    projects_stay_in_range, sinks_stay_in_range, topns_stay_in_range, unions_stay_in_range,
 };
 
 /// A run over the plan of a tree that calculates nothing never stops by a value that leaves the range of its type.
@@ -25,6 +25,7 @@ pub fn runs_stay_in_range()
     sinks_stay_in_range();
     groups_stay_in_range();
     joins_stay_in_range();
+    topns_stay_in_range();
     taken_lines_fit();
     plans_are_wired();
     plans_meet_facts();

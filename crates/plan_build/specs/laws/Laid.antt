@@ -1,5 +1,5 @@
 -- How trees are laid, one part behind the other.
-use Rattle.std.specs.Prelude.{◌≡◌, ℕ, ◌+◌, ◌<◌, ◌≤◌, List, ◌++◌, is_none, length, map, slice_get, Option, unwrap_or}
+use Rattle.std.specs.Prelude.{◌≡◌, ℕ, ◌+◌, ◌<◌, ◌≤◌, Bool, List, ◌++◌, is_none, length, map, slice_get, Option, unwrap_or}
 use Rattle.std.proofs.Common.{zero, suc, false, [], ◌∷◌, refl, sym, ap, subst, ◌∙◌, arith, Some, None}
 use Rattle.std.specs.List.{All}
 use Rattle.std.proofs.lemmas.List.Elements.{All-append}
@@ -12,6 +12,7 @@ use Rattle.ct_expr.specs.declared.expr.Expr.{Expr as CodeExpr}
 use Rattle.ct_expr.specs.Expr.{Expr}
 use Rattle.ct_expr.specs.View.{expr_view}
 use Rattle.rel_clauses.specs.declared.agg.Agg.{Agg}
+use Rattle.rel_clauses.specs.declared.sort.SortCol.{SortCol}
 use Rattle.rel_algebra.specs.Rel.{Rel, Rels, no_rels, rel_and, rels}
 use Rattle.rel_algebra.specs.Rel as r
 use Rattle.group_rules.specs.Fits.{first_columns}
@@ -27,9 +28,9 @@ use Rattle.phys_plan.specs.declared.plan.Plan.{Plan}
 use Rattle.plan_network.specs.Plans.{numbered}
 use Rattle.plan_maker.specs.Laid.{IsFilter, IsProject, no_keys, HasNode, HasEdge, ScanLaid, SourceLaid, IsLaid, IsPlanOf}
 use Rattle.plan_build.specs.declared.fault.PlanFault.{PlanFault}
-use Rattle.plan_build.specs.declared.fault.PlanFault.TheVariants.{Unbuilt, NoTable, TooMany, Memory}
+use Rattle.plan_build.specs.declared.fault.PlanFault.TheVariants.{NoTable, TooMany, Memory}
 use Rattle.plan_build.specs.declared.laying.Laying.{Laying}
-use Rattle.plan_build.specs.Faults.{has_unbuilt, lacks_table, table_nodes, scan_nodes, nodes_of, most_nodes, Says}
+use Rattle.plan_build.specs.Faults.{lacks_table, table_nodes, scan_nodes, nodes_of, most_nodes, Says}
 use Rattle.plan_build.specs.Laying.{IsNarrow, IsFine, Extends, Pushed, IsFull, Lays, LaysAll, Fails, FailsAll}
 
 joined_behind : {A : Type 0} (xs : List A) (y : A) (zs : List A) → (xs ++ y ∷ []) ++ zs ≡ xs ++ y ∷ zs
@@ -113,7 +114,6 @@ Whole old new o inputs x v = Pushed old new o inputs x (kinds_of retract) Both v
 
 -- a tree of one node more
 pub record IsOver (sources : List TableDef) (rel input : Rel) : Type 0 where
-  pub built : has_unbuilt rel ≡ has_unbuilt input
   pub tables : lacks_table sources rel ≡ lacks_table sources input
   pub count : nodes_of sources rel ≡ nodes_of sources input + 1
 
@@ -134,31 +134,31 @@ module _ (old mid new : Laying) (y x : Exchange) (input : Rel) (below root : ℕ
         laid = λ plan e.
             so plan (l.laid plan (pushed_extends mid new o (below ∷ []) x (kinds_of retract) Both root p plan e)) (p.number_is ∙ ap (λ n. n + 1) (sym l.root_is))
             (pushed_node mid new o (below ∷ []) x (kinds_of retract) Both root p plan e) (pushed_edge mid new o (below ∷ []) x (kinds_of retract) Both root p plan e l.fine.even);
-        built = one.built ∙ l.built;
         tables = one.tables ∙ l.tables;
         count = omega arith;
       }
 
 pub over_fails : (l : Laying) (rel input : Rel) (fault : PlanFault) → IsOver l.sources rel input → Fails l input fault → Fails l rel fault
-over_fails l rel input Unbuilt one f = one.built ∙ f
 over_fails l rel input NoTable one f = one.tables ∙ f
 over_fails l rel input TooMany one f = let more = one.count in omega (arith, f)
 over_fails l rel input Memory one f = tt
 
 pub over_full : (old mid : Laying) (y : Exchange) (rel input : Rel) (below : ℕ) (fault : PlanFault) → IsOver old.sources rel input → Lays old mid y input below → IsFull mid fault → Fails old rel fault
-over_full old mid y rel input below Unbuilt one l f = absurd f
 over_full old mid y rel input below NoTable one l f = absurd f
 over_full old mid y rel input below TooMany one l f = let more = one.count in let count = l.count in omega (arith, f)
 over_full old mid y rel input below Memory one l f = tt
 
 pub filter_over : (sources : List TableDef) (input : Rel) (condition : Expr) → IsOver sources (r.Filter input condition) input
-filter_over sources input condition = record { built = refl; tables = refl; count = refl }
+filter_over sources input condition = record { tables = refl; count = refl }
 
 pub project_over : (sources : List TableDef) (input : Rel) (items : List Expr) → IsOver sources (r.Project input items) input
-project_over sources input items = record { built = refl; tables = refl; count = refl }
+project_over sources input items = record { tables = refl; count = refl }
 
 pub group_over : (sources : List TableDef) (input : Rel) (keys : ℕ) (aggs : List Agg) → IsOver sources (r.Group input keys aggs) input
-group_over sources input keys aggs = record { built = refl; tables = refl; count = refl }
+group_over sources input keys aggs = record { tables = refl; count = refl }
+
+pub rank_over : (sources : List TableDef) (input : Rel) (partition : List ℕ) (order : List SortCol) (bound : ℕ) (ranked : Bool) → IsOver sources (r.Rank input partition order bound ranked) input
+rank_over sources input partition order bound ranked = record { tables = refl; count = refl }
 
 pub filter_lays : (old mid new : Laying) (x : Exchange) (input : Rel) (condition : Expr) (cond : CodeExpr) (below root : ℕ) → Lays old mid Forward input below
     → Pushed mid new (op.Filter cond) (below ∷ []) x (kinds_of retract) Both root → expr_view cond ≡ condition → Lays old new x (r.Filter input condition) root
@@ -179,6 +179,13 @@ group_lays old mid new x input keys aggs own columns below root c a l p =
     (over old mid new (Hash columns) x input below root (op.Group keys own) l p (r.Group input keys own) (group_over old.sources input keys own)
     (λ plan laid next has told. (below, subst (λ k. IsLaid plan (length old.nodes) (Hash k) input below) c laid, next, has, told)))
 
+pub rank_lays : (old mid new : Laying) (x : Exchange) (input : Rel) (partition columns own : List ℕ) (order sorts : List SortCol) (bound : ℕ) (ranked : Bool) (below root : ℕ) → columns ≡ partition → own ≡ partition → sorts ≡ order
+    → Lays old mid (Hash columns) input below → Pushed mid new (op.TopN own sorts bound ranked) (below ∷ []) x (kinds_of retract) Both root → Lays old new x (r.Rank input partition order bound ranked) root
+rank_lays old mid new x input partition columns own order sorts bound ranked below root c a s l p =
+    let same : op.TopN own sorts bound ranked ≡ op.TopN partition order bound ranked = λ i. op.TopN (a i) (s i) bound ranked in
+    over old mid new (Hash columns) x input below root (op.TopN own sorts bound ranked) l p (r.Rank input partition order bound ranked) (rank_over old.sources input partition order bound ranked)
+    (λ plan laid next has told. (below, subst (λ k. IsLaid plan (length old.nodes) (Hash k) input below) c laid, next, subst (λ (o : Op). HasNode plan root (λ q. q ≡ o) (below ∷ [])) same has, told))
+
 -- ---- unions
 
 pub none_lays : (l : Laying) → IsFine l → LaysAll l l no_rels []
@@ -188,7 +195,6 @@ none_lays l fine = record {
   sources = refl;
   extends = λ plan e. e;
   laid = λ plan e. (refl, refl);
-  built = refl;
   tables = refl;
   count = omega arith;
 }
@@ -209,19 +215,16 @@ union_lays old mid new x inputs roots root all p =
       laid = λ plan e.
           let f = pushed_extends mid new op.Union roots x (kinds_of retract) Both root p plan e in
           (roots, length mid.nodes, all.laid plan f, p.number_is, pushed_node mid new op.Union roots x (kinds_of retract) Both root p plan e, pushed_edge mid new op.Union roots x (kinds_of retract) Both root p plan e all.fine.even);
-      built = all.built;
       tables = all.tables;
       count = omega arith;
     }
 
 pub union_fails : (l : Laying) (inputs : Rels) (fault : PlanFault) → FailsAll l inputs fault → Fails l (r.Union inputs) fault
-union_fails l inputs Unbuilt f = f
 union_fails l inputs NoTable f = f
 union_fails l inputs TooMany f = omega (arith, f)
 union_fails l inputs Memory f = tt
 
 pub union_full : (old mid : Laying) (inputs : Rels) (roots : List ℕ) (fault : PlanFault) → LaysAll old mid inputs roots → IsFull mid fault → Fails old (r.Union inputs) fault
-union_full old mid inputs roots Unbuilt all f = absurd f
 union_full old mid inputs roots NoTable all f = absurd f
 union_full old mid inputs roots TooMany all f = let count = all.count in omega (arith, f)
 union_full old mid inputs roots Memory all f = tt
@@ -259,7 +262,6 @@ plain_lays old new x source root table fine is plain p =
       laid = λ plan e.
           of_source plan old (length old.nodes) x source root table (e.sources ∙ p.sources) is
           (by_mode plan (pushed_node old new (op.Scan source) [] x (kinds_of retract) Both root p plan e) (pushed_edge old new (op.Scan source) [] x (kinds_of retract) Both root p plan e fine.even) table.mode plain);
-      built = refl;
       tables = has_table old source table is;
       count = omega arith;
     }
@@ -285,7 +287,6 @@ upsert_lays old mid new x source below root key table fine is mode key_is p q =
           of_source plan old (length old.nodes) x source root table (e.sources ∙ q.sources ∙ p.sources) is
           (subst (λ m. ScanLaid plan (length old.nodes) x source m (unwrap_or table.key []) root) (sym mode)
           (subst (λ k. ScanLaid plan (length old.nodes) x source Upsert k root) (sym key_is) (laid plan e)));
-      built = refl;
       tables = has_table old source table is;
       count = omega arith;
     }
@@ -317,7 +318,6 @@ pub no_table : (l : Laying) (source : ℕ) → slice_get l.sources source ≡ No
 no_table l source none = ap is_none none
 
 pub plain_full : (l : Laying) (source : ℕ) (table : TableDef) (fault : PlanFault) → slice_get l.sources source ≡ Some table → IsFull l fault → Fails l (r.Scan source) fault
-plain_full l source table Unbuilt is f = absurd f
 plain_full l source table NoTable is f = absurd f
 plain_full l source table TooMany is f = let some = some_nodes table.mode in let count = table_count l source table is in omega (arith, f)
   where
@@ -329,7 +329,6 @@ plain_full l source table Memory is f = tt
 
 pub upsert_full : (old mid : Laying) (source below : ℕ) (key : List ℕ) (table : TableDef) (fault : PlanFault) → slice_get old.sources source ≡ Some table → table.mode ≡ Upsert
     → Pushed old mid (op.Scan source) [] (Hash key) (kinds_of (upsert key)) (After key) below → IsFull mid fault → Fails old (r.Scan source) fault
-upsert_full old mid source below key table Unbuilt is mode p f = absurd f
 upsert_full old mid source below key table NoTable is mode p f = absurd f
 upsert_full old mid source below key table TooMany is mode p f =
     let first = pushed_count old mid (op.Scan source) [] (Hash key) (kinds_of (upsert key)) (After key) below p in
@@ -363,13 +362,11 @@ plan_is start mid new plan rel root v none l p sources nodes edges into batches 
     }
 
 pub plan_fails : (start : Laying) (rel : Rel) (fault : PlanFault) → start.nodes ≡ [] → Fails start rel fault → Says start.sources rel fault
-plan_fails start rel Unbuilt none f = f
 plan_fails start rel NoTable none f = f
 plan_fails start rel TooMany none f = let empty : length start.nodes ≡ 0 = ap length none in omega (arith, f)
 plan_fails start rel Memory none f = tt
 
 pub plan_full : (start mid : Laying) (rel : Rel) (root : ℕ) (fault : PlanFault) → start.nodes ≡ [] → Lays start mid Forward rel root → IsFull mid fault → Says start.sources rel fault
-plan_full start mid rel root Unbuilt none l f = absurd f
 plan_full start mid rel root NoTable none l f = absurd f
 plan_full start mid rel root TooMany none l f = let empty : length start.nodes ≡ 0 = ap length none in let count = l.count in omega (arith, f)
 plan_full start mid rel root Memory none l f = tt

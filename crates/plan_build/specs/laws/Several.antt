@@ -10,9 +10,9 @@ use Rattle.phys_plan.specs.declared.edge.Exchange.TheVariants.{Forward}
 use Rattle.phys_plan.specs.declared.plan.Plan.{Plan}
 use Rattle.plan_maker.specs.Laid.{IsLaid, AreLaid}
 use Rattle.plan_build.specs.declared.fault.PlanFault.{PlanFault}
-use Rattle.plan_build.specs.declared.fault.PlanFault.TheVariants.{Unbuilt, NoTable, TooMany, Memory}
+use Rattle.plan_build.specs.declared.fault.PlanFault.TheVariants.{NoTable, TooMany, Memory}
 use Rattle.plan_build.specs.declared.laying.Laying.{Laying}
-use Rattle.plan_build.specs.Faults.{has_unbuilt, any_unbuilt, lacks_table, any_lacks, nodes_of, nodes_of_all}
+use Rattle.plan_build.specs.Faults.{lacks_table, any_lacks, nodes_of, nodes_of_all}
 use Rattle.plan_build.specs.Laying.{Lays, LaysAll, Fails, FailsAll}
 
 -- ---- one tree more
@@ -27,12 +27,6 @@ left_not false b e = refl
 right_not : (a b : Bool) → (a || b) ≡ false → b ≡ false
 right_not true b e = absurd (cc)
 right_not false b e = e
-
-built_behind : (xs : List Rel) (x : Rel) → any_unbuilt (rels xs) ≡ false → has_unbuilt x ≡ false → any_unbuilt (rels (xs ++ x ∷ [])) ≡ false
-built_behind [] x all one = or_not (has_unbuilt x) false one refl
-built_behind (y ∷ xs) x all one =
-    or_not (has_unbuilt y) (any_unbuilt (rels (xs ++ x ∷ []))) (left_not (has_unbuilt y) (any_unbuilt (rels xs)) all)
-    (built_behind xs x (right_not (has_unbuilt y) (any_unbuilt (rels xs)) all) one)
 
 tables_behind : (sources : List TableDef) (xs : List Rel) (x : Rel) → any_lacks sources (rels xs) ≡ false → lacks_table sources x ≡ false → any_lacks sources (rels (xs ++ x ∷ [])) ≡ false
 tables_behind sources [] x all one = or_not (lacks_table sources x) false one refl
@@ -71,7 +65,6 @@ one_more_lays old mid new xs x roots root all l =
       laid = λ plan e.
           subst (λ m. AreLaid plan (length old.nodes) (rels (xs ++ x ∷ [])) (roots ++ root ∷ []) m) l.root_is
           (more_laid plan x (length mid.nodes) root (l.laid plan e) xs (length old.nodes) roots (all.laid plan (l.extends plan e)));
-      built = built_behind xs x all.built l.built;
       tables = tables_behind old.sources xs x all.tables (subst (λ (s : List TableDef). lacks_table s x ≡ false) all.sources l.tables);
       count = omega arith;
     }
@@ -86,11 +79,6 @@ or_left : (a b : Bool) → a ≡ true → (a || b) ≡ true
 or_left true b e = refl
 or_left false b e = absurd (cc)
 
-unbuilt_at : (xs : List Rel) (p : ℕ) (x : Rel) → slice_get xs p ≡ Some x → has_unbuilt x ≡ true → any_unbuilt (rels xs) ≡ true
-unbuilt_at [] p x e f = absurd (cc)
-unbuilt_at (y ∷ xs) zero x e f = let same : y ≡ x = cc in or_left (has_unbuilt y) (any_unbuilt (rels xs)) (ap has_unbuilt same ∙ f)
-unbuilt_at (y ∷ xs) (suc p) x e f = or_right (has_unbuilt y) (any_unbuilt (rels xs)) (unbuilt_at xs p x e f)
-
 lacks_at : (sources : List TableDef) (xs : List Rel) (p : ℕ) (x : Rel) → slice_get xs p ≡ Some x → lacks_table sources x ≡ true → any_lacks sources (rels xs) ≡ true
 lacks_at sources [] p x e f = absurd (cc)
 lacks_at sources (y ∷ xs) zero x e f = let same : y ≡ x = cc in or_left (lacks_table sources y) (any_lacks sources (rels xs)) (ap (lacks_table sources) same ∙ f)
@@ -102,7 +90,6 @@ count_at sources (y ∷ xs) zero x e = let same : y ≡ x = cc in let one = ap (
 count_at sources (y ∷ xs) (suc p) x e = omega (arith, count_at sources xs p x e)
 
 one_fails : (old mid : Laying) (xs : List Rel) (p : ℕ) (x : Rel) (roots : List ℕ) (fault : PlanFault) → slice_get xs p ≡ Some x → LaysAll old mid (rels (take p xs)) roots → Fails mid x fault → FailsAll old (rels xs) fault
-one_fails old mid xs p x roots Unbuilt e all f = unbuilt_at xs p x e f
 one_fails old mid xs p x roots NoTable e all f = lacks_at old.sources xs p x e (subst (λ (s : List TableDef). lacks_table s x ≡ true) all.sources f)
 one_fails old mid xs p x roots TooMany e all f =
     let same : nodes_of mid.sources x ≡ nodes_of old.sources x = ap (λ (s : List TableDef). nodes_of s x) all.sources in

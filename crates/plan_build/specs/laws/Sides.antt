@@ -16,9 +16,9 @@ use Rattle.phys_plan.specs.declared.node.Op.{Op}
 use Rattle.phys_plan.specs.declared.plan.Plan.{Plan}
 use Rattle.plan_maker.specs.Laid.{IsJoin, IsSemi, HasNode, HasEdge, IsLaid}
 use Rattle.plan_build.specs.declared.fault.PlanFault.{PlanFault}
-use Rattle.plan_build.specs.declared.fault.PlanFault.TheVariants.{Unbuilt, NoTable, TooMany, Memory}
+use Rattle.plan_build.specs.declared.fault.PlanFault.TheVariants.{NoTable, TooMany, Memory}
 use Rattle.plan_build.specs.declared.laying.Laying.{Laying}
-use Rattle.plan_build.specs.Faults.{has_unbuilt, lacks_table, nodes_of, most_nodes}
+use Rattle.plan_build.specs.Faults.{lacks_table, nodes_of, most_nodes}
 use Rattle.plan_build.specs.Laying.{IsFine, Extends, Pushed, PushedAs, IsFull, Lays, Fails}
 use Rattle.plan_build.specs.laws.Laid.{pushed_count, pushed_number, pushed_fine, pushed_extends, pushed_node, pushed_edge, as_op}
 
@@ -44,13 +44,11 @@ record LaysBoth (old new : Laying) (left right : Rel) (on : List Pair) (roots : 
   pub extends : (plan : Plan) → Extends plan new → Extends plan old
   pub laid : (plan : Plan) → Extends plan new
       → (first : ℕ) × IsLaid plan (length old.nodes) (Hash (left_pairs on)) left first × IsLaid plan first (Hash (right_pairs on)) right (length new.nodes) × (roots ≡ first ∷ (length new.nodes ∷ []))
-  pub built : (has_unbuilt left || has_unbuilt right) ≡ false
   pub tables : (lacks_table old.sources left || lacks_table old.sources right) ≡ false
   pub count : length new.nodes ≡ length old.nodes + (nodes_of old.sources left + nodes_of old.sources right)
 
 -- why they aren't
 abbrev FailsBoth : Laying → Rel → Rel → PlanFault → Type 0
-FailsBoth l left right Unbuilt = (has_unbuilt left || has_unbuilt right) ≡ true
 FailsBoth l left right NoTable = (lacks_table l.sources left || lacks_table l.sources right) ≡ true
 FailsBoth l left right TooMany = most_nodes < length l.nodes + (nodes_of l.sources left + nodes_of l.sources right)
 FailsBoth l left right Memory = ⊤
@@ -76,19 +74,16 @@ both_lay old mid new left right on first second l m =
             (subst (λ n. IsLaid plan (length mid.nodes) (Hash (right_pairs on)) right n) m.root_is (m.laid plan e)),
         ap (λ n. first ∷ (n ∷ [])) m.root_is,
       );
-      built = or_not (has_unbuilt left) (has_unbuilt right) l.built m.built;
       tables = or_not (lacks_table old.sources left) (lacks_table old.sources right) l.tables (subst (λ (s : List TableDef). lacks_table s right ≡ false) l.sources m.tables);
       count = omega arith;
     }
 
 left_fails : (l : Laying) (left right : Rel) (fault : PlanFault) → Fails l left fault → FailsBoth l left right fault
-left_fails l left right Unbuilt f = or_left (has_unbuilt left) (has_unbuilt right) f
 left_fails l left right NoTable f = or_left (lacks_table l.sources left) (lacks_table l.sources right) f
 left_fails l left right TooMany f = omega (arith, f)
 left_fails l left right Memory f = tt
 
 right_fails : (old mid : Laying) (x : Exchange) (left right : Rel) (first : ℕ) (fault : PlanFault) → Lays old mid x left first → Fails mid right fault → FailsBoth old left right fault
-right_fails old mid x left right first Unbuilt l f = or_right (has_unbuilt left) (has_unbuilt right) f
 right_fails old mid x left right first NoTable l f = or_right (lacks_table old.sources left) (lacks_table old.sources right) (subst (λ (s : List TableDef). lacks_table s right ≡ true) l.sources f)
 right_fails old mid x left right first TooMany l f =
     let same : nodes_of mid.sources right ≡ nodes_of old.sources right = ap (λ (s : List TableDef). nodes_of s right) l.sources in
@@ -100,15 +95,14 @@ right_fails old mid x left right first Memory l f = tt
 
 -- a tree of one node more than two others
 record IsOverBoth (sources : List TableDef) (rel left right : Rel) : Type 0 where
-  pub built : has_unbuilt rel ≡ (has_unbuilt left || has_unbuilt right)
   pub tables : lacks_table sources rel ≡ (lacks_table sources left || lacks_table sources right)
   pub count : nodes_of sources rel ≡ nodes_of sources left + nodes_of sources right + 1
 
 join_over : (sources : List TableDef) (left right : Rel) (kind : JoinKind) (on : List Pair) (rest : Option Expr) → IsOverBoth sources (r.Join left right kind on rest) left right
-join_over sources left right kind on rest = record { built = refl; tables = refl; count = refl }
+join_over sources left right kind on rest = record { tables = refl; count = refl }
 
 semi_over : (sources : List TableDef) (left right : Rel) (anti : Bool) (on : List Pair) (rest : Option Expr) → IsOverBoth sources (r.Semi left right anti on rest) left right
-semi_over sources left right anti on rest = record { built = refl; tables = refl; count = refl }
+semi_over sources left right anti on rest = record { tables = refl; count = refl }
 
 module _ (old mid new : Laying) (x : Exchange) (left right : Rel) (on : List Pair) (roots : List ℕ) (root : ℕ) (o : Op) (l : LaysBoth old mid left right on roots) (p : Pushed mid new o roots x (kinds_of retract) Both root) where
   over_both : (rel : Rel) → IsOverBoth old.sources rel left right
@@ -131,19 +125,16 @@ module _ (old mid new : Laying) (x : Exchange) (left right : Rel) (on : List Pai
             let below = l.laid plan (pushed_extends mid new o roots x (kinds_of retract) Both root p plan e) in
             so plan below.0 (length mid.nodes) below.1 below.2 p.number_is
             (subst (λ (ro : List ℕ). HasNode plan root (λ q. q ≡ o) ro) below.3 (pushed_node mid new o roots x (kinds_of retract) Both root p plan e)) (pushed_edge mid new o roots x (kinds_of retract) Both root p plan e l.fine.even);
-        built = one.built ∙ l.built;
         tables = one.tables ∙ l.tables;
         count = omega arith;
       }
 
 both_fail : (l : Laying) (rel left right : Rel) (fault : PlanFault) → IsOverBoth l.sources rel left right → FailsBoth l left right fault → Fails l rel fault
-both_fail l rel left right Unbuilt one f = one.built ∙ f
 both_fail l rel left right NoTable one f = one.tables ∙ f
 both_fail l rel left right TooMany one f = let more = one.count in omega (arith, f)
 both_fail l rel left right Memory one f = tt
 
 both_full : (old mid : Laying) (rel left right : Rel) (on : List Pair) (roots : List ℕ) (fault : PlanFault) → IsOverBoth old.sources rel left right → LaysBoth old mid left right on roots → IsFull mid fault → Fails old rel fault
-both_full old mid rel left right on roots Unbuilt one l f = absurd f
 both_full old mid rel left right on roots NoTable one l f = absurd f
 both_full old mid rel left right on roots TooMany one l f = let more = one.count in let count = l.count in omega (arith, f)
 both_full old mid rel left right on roots Memory one l f = tt

@@ -12,10 +12,11 @@ use Rattle.rel_clauses.specs.Sums.{plus}
 use Rattle.rel_clauses.specs.Clauses.{union_rows}
 use Rattle.rel_clauses.specs.Groups.{group_columns}
 use Rattle.rel_clauses.specs.Joins.{join_columns}
+use Rattle.rel_clauses.specs.Ranks.{rank_rows, rank_columns}
 use Rattle.rel_algebra.specs.Rel.{Rel, Rels, no_rels, rel_and}
 use Rattle.rel_algebra.specs.Rel as r
 use Rattle.rel_algebra.specs.Batch.{filter_answer, project_answer, group_answer, join_answer, semi_answer}
-use Rattle.rel_algebra.specs.Types.{columns_if, is_condition, match_fits, item_columns, common_columns, columns_of, common_from}
+use Rattle.rel_algebra.specs.Types.{columns_if, is_condition, match_fits, item_columns, common_columns, rank_fits, columns_of, common_from}
 use Rattle.rel_algebra.specs.Answer.{Table, types_in, rows_in, columns_in, answer, answers}
 use Rattle.row_rules.specs.Union.{rows_of_ports}
 use Rattle.group_rules.specs.Fits.{GroupsStand, GroupsTake, first_columns}
@@ -172,7 +173,13 @@ module _ (plan : Plan) (made : AllByRecursion IsMade plan.sources) (parallel : 0
         let own = tree_answer left n (Hash (left_pairs pairs)) laid.0 laid.2 lower p.0 p.2 (c.whole 0) (c.each 0 (omega arith)) in
         let other = tree_answer right laid.0 (Hash (right_pairs pairs)) laid.1 laid.3 low p.1 p.3 (c.whole 1) (c.each 1 (omega arith)) in
         (λ i. both_of (semi_answer anti pairs (sym f.2 i)) (own i) (other i)) ∙ c.is_result
-    tree_answer (r.Rank input partition order bound ranked) n x root laid high columns t result a = absurd laid
+    tree_answer (r.Rank input partition order bound ranked) n x root laid high columns t result a =
+        let p = then_parts (λ c. columns_if (rank_fits c partition order bound) (rank_columns ranked c)) (columns_of (types_of plan.sources) input) columns t in
+        let next = laid.2 in
+        let low : laid.0 < length plan.nodes = omega arith in
+        let c = by_operator plan rows root (op.TopN partition order bound ranked) (laid.0 ∷ []) result laid.3 refl a in
+        let below = tree_answer input n (Hash partition) laid.0 laid.1 low p.0 p.1 (c.whole 0) (c.each 0 (omega arith)) in
+        ap (option_and_then (rank_rows partition order bound ranked)) below ∙ c.is_result
 
     pub tree_answers : (inputs : Rels) (n : ℕ) (roots : List ℕ) (last : ℕ) → AreLaid plan n inputs roots last → last < length plan.nodes → (start : Option (List ColTy)) (columns : List ColTy) → common_from (types_of plan.sources) start inputs ≡ Some columns
         → (whole : ℕ → Rows) → ((p : ℕ) → p < length roots → IsAnswer (network plan) rows (slice_index_or roots p 0) (whole p))

@@ -15,8 +15,10 @@ use Rattle.ct_expr.specs.View.{expr_view}
 use Rattle.rel_clauses.specs.declared.agg.Agg.{Agg}
 use Rattle.rel_clauses.specs.declared.join.JoinKind.{JoinKind}
 use Rattle.rel_clauses.specs.declared.join.Pair.{Pair}
+use Rattle.rel_clauses.specs.declared.sort.SortCol.{SortCol}
 use Rattle.rel_clauses.specs.Groups.{group_columns}
-use Rattle.rel_algebra.specs.Types.{columns_if, match_fits, pairs_fit, item_columns}
+use Rattle.rel_clauses.specs.Ranks.{rank_columns}
+use Rattle.rel_algebra.specs.Types.{columns_if, match_fits, pairs_fit, item_columns, rank_fits}
 use Rattle.op_rules.specs.Edges.{Edge, Meaning, meaning_of, forward, IsKeyedBy}
 use Rattle.op_rules.specs.Tasks.{Task, Facts}
 use Rattle.op_rules.specs.Ports.{TakesAll}
@@ -35,6 +37,9 @@ use Rattle.group_rules.specs.Fits.{GroupFits, GroupsStand, GroupsTake, group_tas
 use Rattle.join_rules.specs.Joining.{Shape, joins, matched}
 use Rattle.join_rules.specs.Fits.{left_pairs, right_pairs, columns_by as joined_columns}
 use Rattle.join_rules.specs.laws.Nodes.{joins_stand, joins_take}
+use Rattle.topn_rules.specs.Ranking.{topn_rule}
+use Rattle.topn_rules.specs.Fits.{TopNFits, topn_task}
+use Rattle.topn_rules.specs.laws.Facts.{topn_stands, topn_takes}
 use Rattle.phys_plan.specs.declared.edge.Edge.{Edge as PlanEdge}
 use Rattle.phys_plan.specs.declared.edge.Exchange.{Exchange}
 use Rattle.phys_plan.specs.declared.edge.Exchange.TheVariants.{Forward, Hash}
@@ -50,11 +55,13 @@ use Rattle.stream_model.specs.Scans.{ScansStand}
 use Rattle.plan_network.specs.Plans.{column_types, numbered, inputs_in, scan_of, exchange_of, exchange_in, route_by, meaning_by, meaning_in, kinds_in, keys_in, table_mode, table_of}
 use Rattle.plan_rules.specs.Columns.{columns_by, node_columns}
 use Rattle.plan_rules.specs.Doings.{Side, Around, update_in, side_of, around_of, rule_by, doing_by, doing_in, network}
+use Rattle.plan_rules.specs.laws.Ranks.{ranking_all}
 use Rattle.plan_maker.specs.Laid.{IsFilter, IsProject, IsJoin, IsSemi, HasNode, HasEdge}
 use Rattle.plan_laws.specs.Trees.{IsMade}
 use Rattle.plan_laws.specs.laws.Numbers.{below_is_not, columns_made}
 use Rattle.plan_laws.specs.laws.Inputs.{facts_of_ports, takes_of_ports}
 use Rattle.plan_laws.specs.laws.Joins.{joining_all, join_fits}
+use Rattle.plan_laws.specs.laws.Ranks.{topn_fits}
 use Rattle.plan_laws.specs.laws.Between.{carried, carries_all, carries_last, filter_fits, project_fits, sink_fits, normalize_fits, group_all, group_fits, scan_carries, scan_fits}
 
 -- ---- operators
@@ -337,6 +344,18 @@ module _ (plan : Plan) where
       let j = joining_all (matched anti) on (option_map expr_view rest) left right in
       let fits = join_fits plan.parallelism parallel (matched anti) on (option_map expr_view rest) left right x from (edge_at v) typed p q r in
       (joins_stand plan.parallelism j from (edge_at v) fits, joins_take plan.parallelism j from (edge_at v) fits)
+
+  pub rank_stands : 0 < plan.parallelism → (v below : ℕ) (partition : List ℕ) (order : List SortCol) (bound : ℕ) (ranked : Bool) (columns : List ColTy) (x : Exchange) (inputs : ℕ) → rank_fits columns partition order bound ≡ true
+      → edge_at below ≡ carries_all plan.parallelism columns (Hash partition) → edge_at v ≡ carries_all plan.parallelism (rank_columns ranked columns) x
+      → Stands (op.TopN partition order bound ranked) (around_as Both Both columns [] inputs) (task_as v (below ∷ []) (op.TopN partition order bound ranked) (around_as Both Both columns [] inputs))
+  rank_stands parallel v below partition order bound ranked columns x inputs typed p q =
+      let r = ranking_all partition order bound ranked columns in
+      let fits = between (TopNFits plan.parallelism r) (edge_at below) (edge_at v) (carries_all plan.parallelism columns (Hash partition)) (carries_all plan.parallelism (rank_columns ranked columns) x) p q
+      (topn_fits plan.parallelism parallel partition order bound ranked columns x typed) in
+      let t = topn_task plan.parallelism r (edge_at below) (edge_at v) in (
+        facts_of_ports t (inputs_of (below ∷ [])) (one_port below) (topn_stands plan.parallelism r (edge_at below) (edge_at v) fits),
+        takes_of_ports t (inputs_of (below ∷ [])) (one_port below) (topn_rule r) (topn_takes plan.parallelism r (edge_at below) (edge_at v) fits),
+      )
 
   pub sink_stands : (v below : ℕ) (columns : List ColTy) (inputs : ℕ) → plan.sink.mode ≡ Retract
       → edge_at below ≡ carries_all plan.parallelism columns Forward → edge_at v ≡ carried plan.parallelism columns Forward (kinds_of retract) Absent

@@ -15,12 +15,14 @@ use Rattle.ct_expr.specs.Types.{both_of}
 use Rattle.rel_clauses.specs.declared.agg.Agg.{Agg}
 use Rattle.rel_clauses.specs.Clauses.{Fits}
 use Rattle.rel_clauses.specs.declared.join.Pair.{Pair}
+use Rattle.rel_clauses.specs.declared.sort.SortCol.{SortCol}
 use Rattle.rel_clauses.specs.Groups.{group_columns}
 use Rattle.rel_clauses.specs.Joins.{join_columns}
+use Rattle.rel_clauses.specs.Ranks.{rank_columns}
 use Rattle.rel_clauses.specs.laws.Fits.{first as first_holds}
 use Rattle.rel_algebra.specs.Rel.{Rel, Rels, no_rels, rel_and}
 use Rattle.rel_algebra.specs.Rel as r
-use Rattle.rel_algebra.specs.Types.{columns_if, is_condition, is_condition_if, pairs_fit, match_fits, item_columns, common_columns, columns_of, common_from}
+use Rattle.rel_algebra.specs.Types.{columns_if, is_condition, is_condition_if, pairs_fit, match_fits, item_columns, common_columns, rank_fits, columns_of, common_from}
 use Rattle.op_rules.specs.Edges.{Edge}
 use Rattle.row_rules.specs.Union.{InputFits, UnionFits}
 use Rattle.group_rules.specs.Fits.{GroupsStand, GroupsTake, first_columns}
@@ -43,7 +45,7 @@ use Rattle.plan_laws.specs.laws.Numbers.{the_same, then_parts, all_at, index_at}
 use Rattle.plan_laws.specs.laws.Wider.{both_parts, all_wider}
 use Rattle.plan_laws.specs.laws.Between.{carries_all, scan_carries, input_fits}
 use Rattle.plan_laws.specs.laws.Segments.{Segment, nothing, both, more}
-use Rattle.plan_laws.specs.laws.Nodes.{filter_is, project_is, op_by, join_is, semi_is, join_no_scan, columns_by_shape, around_both, both_around, join_stands, between, edge_at, columns_of_node, renamed, carried_is, columns_from, around_as, around_is, task_as, Stands, NodeStands, keyed_at, worker, scan_node, filter_stands, project_stands, normalize_stands, group_stands, union_stands}
+use Rattle.plan_laws.specs.laws.Nodes.{filter_is, project_is, op_by, join_is, semi_is, join_no_scan, columns_by_shape, around_both, both_around, join_stands, between, edge_at, columns_of_node, renamed, carried_is, columns_from, around_as, around_is, task_as, Stands, NodeStands, keyed_at, worker, scan_node, filter_stands, project_stands, normalize_stands, group_stands, union_stands, rank_stands}
 
 pub get-map : {A B : Type 0} (f : A → B) (xs : List A) (n : ℕ) → slice_get (map f xs) n ≡ option_map f (slice_get xs n)
 get-map f [] n = refl
@@ -194,6 +196,15 @@ module _ (plan : Plan) where
   group_tree stand takes parallel n below root x keys aggs own columns next has carries high typed b =
       with_one n below root Both x (op.Group keys aggs) own columns b.part b.columns_are b.update next has carries high refl typed
       (λ e. group_stands plan stand takes parallel root below keys aggs own columns x 1 typed b.edge e)
+
+  rank_tree : 0 < plan.parallelism → (n below root : ℕ) (x : Exchange) (partition : List ℕ) (order : List SortCol) (bound : ℕ) (ranked : Bool) (own columns : List ColTy) → root ≡ below + 1
+      → HasNode plan root (λ o. o ≡ op.TopN partition order bound ranked) (below ∷ []) → CarriesAll plan root x → root < length plan.nodes
+      → columns_if (rank_fits own partition order bound) (rank_columns ranked own) ≡ Some columns → Planned n (Hash partition) below own → Planned n x root columns
+  rank_tree parallel n below root x partition order bound ranked own columns next has carries high typed b =
+      let fits = when_some (rank_fits own partition order bound) (rank_columns ranked own) columns typed in
+      let same : rank_columns ranked own ≡ columns = if_some (rank_fits own partition order bound) (rank_columns ranked own) columns typed in
+      with_one n below root Both x (op.TopN partition order bound ranked) own columns b.part b.columns_are b.update next has carries high refl typed
+      (λ e. rank_stands plan parallel root below partition order bound ranked own x 1 fits b.edge (e ∙ ap (λ c. carries_all plan.parallelism c x) (sym same)))
 
   -- ---- joins
 
@@ -348,7 +359,11 @@ module _ (plan : Plan) (made : AllByRecursion IsMade plan.sources) (parallel : 0
         let f = semi_is anti pairs rest laid.5.node.op laid.5.is_op in
         join_tree plan parallel n laid.0 laid.1 root x (matched anti) pairs rest f.0 p.0 p.1 columns f.2 next (renamed plan root (IsSemi anti pairs rest) (laid.0 ∷ (laid.1 ∷ [])) (op_by (matched anti) pairs f.0) laid.5 f.1) laid.6 high p.4
         (tree left n (Hash (left_pairs pairs)) laid.0 laid.2 lower p.0 p.2) b
-    tree (r.Rank input partition order bound ranked) n x root laid high columns t = absurd laid
+    tree (r.Rank input partition order bound ranked) n x root laid high columns t =
+        let p = then_parts (λ c. columns_if (rank_fits c partition order bound) (rank_columns ranked c)) (columns_of (types_of plan.sources) input) columns t in
+        let next = laid.2 in
+        let low : laid.0 < length plan.nodes = omega arith in
+        rank_tree plan parallel n laid.0 root x partition order bound ranked p.0 columns next laid.3 laid.4 high p.2 (tree input n (Hash partition) laid.0 laid.1 low p.0 p.1)
 
     pub several : (inputs : Rels) (n : ℕ) (roots : List ℕ) (last : ℕ) → AreLaid plan n inputs roots last → last < length plan.nodes → (start : Option (List ColTy)) (columns : List ColTy) → common_from (types_of plan.sources) start inputs ≡ Some columns
         → Several plan n last roots start (Some columns)

@@ -11,4 +11,5 @@ returns c =
       sinks = c.sinks_stay_in_range.ensures;
       groups = c.groups_stay_in_range.ensures;
       joins = c.joins_stay_in_range.ensures;
+      topns = c.topns_stay_in_range.ensures;
     }) c.taken_lines_fit.ensures c.plans_are_wired.ensures c.plans_meet_facts.ensures.facts c.runs_are_safe.ensures

@@ -23,11 +23,11 @@ use Rattle.phys_plan.specs.declared.node.Op.TheVariants as op
 use Rattle.phys_plan.specs.declared.node.Node.{Node}
 use Rattle.phys_plan.specs.declared.plan.Plan.{Plan}
 use Rattle.plan_network.specs.Plans.{numbered}
-use Rattle.plan_rules.specs.Doings.{Around, filter_of, project_of, union_of, normalize_of, grouping_of, joining_of, sink_of, around_of, doing_by, doing_in, network}
+use Rattle.plan_rules.specs.Doings.{Around, filter_of, project_of, union_of, normalize_of, grouping_of, joining_of, ranking_of, sink_of, around_of, doing_by, doing_in, network}
 use Rattle.plan_maker.specs.Laid.{IsFilter, IsProject, IsJoin, IsSemi, HasNode, ScanLaid, SourceLaid, IsLaid, AreLaid, IsPlanOf}
 use Rattle.plan_laws.specs.laws.Nodes.{filter_is, project_is, join_is, semi_is}
 use Rattle.plan_laws.specs.laws.Numbers.{the_same, side, numbered_within}
-use Rattle.tame_rules.specs.Ranges.{StaysInRange, FiltersStayInRange, ProjectsStayInRange, UnionsStayInRange, NormalizesStayInRange, SinksStayInRange, GroupsStayInRange, JoinsStayInRange}
+use Rattle.tame_rules.specs.Ranges.{StaysInRange, FiltersStayInRange, ProjectsStayInRange, UnionsStayInRange, NormalizesStayInRange, SinksStayInRange, GroupsStayInRange, JoinsStayInRange, TopNsStayInRange}
 
 -- ---- operators
 
@@ -49,6 +49,7 @@ pub record Rules : Type 0 where
   pub sinks : SinksStayInRange
   pub groups : GroupsStayInRange
   pub joins : JoinsStayInRange
+  pub topns : TopNsStayInRange
 
 -- nothing is sent
 idles : StaysInRange (λ subtask. []) (λ before piece. Ok [])
@@ -63,6 +64,7 @@ module _ (rules : Rules) where
   does (op.Group keys aggs) around tame = rules.groups (grouping_of keys aggs around) tame
   does (op.Join kind on rest) around tame = rules.joins (joining_of (joins kind) on (option_map expr_view rest) around) tame
   does (op.Semi anti on rest) around tame = rules.joins (joining_of (matched anti) on (option_map expr_view rest) around) tame
+  does (op.TopN partition order bound ranked) around tame = rules.topns (ranking_of partition order bound ranked around)
   does op.Sink around tame = rules.sinks (sink_of around)
   does _ around tame = idles
 
@@ -161,7 +163,9 @@ module _ (plan : Plan) where
         let q = and_parts _ _ p.1 in
         more n laid.1 root (both n laid.0 laid.1 (tree_tame left p.0 n (Hash (left_pairs pairs)) laid.0 laid.2) (tree_tame right q.0 laid.0 (Hash (right_pairs pairs)) laid.1 laid.3)) laid.4
         (at_node root (IsSemi anti pairs rest) (laid.0 ∷ (laid.1 ∷ [])) laid.5 (semi_tame anti pairs rest q.1))
-    tree_tame (r.Rank input partition order bound ranked) tame n x root laid = absurd laid
+    tree_tame (r.Rank input partition order bound ranked) tame n x root laid =
+        more n laid.0 root (tree_tame input tame n (Hash partition) laid.0 laid.1) laid.2
+        (at_node root (λ o. o ≡ op.TopN partition order bound ranked) (laid.0 ∷ []) laid.3 (is_op (op.TopN partition order bound ranked) tt))
 
     trees_tame : (inputs : Rels) → are_tame_rels inputs ≡ true → (n : ℕ) (roots : List ℕ) (last : ℕ) → AreLaid plan n inputs roots last → AreTame n last
     trees_tame no_rels tame n roots last laid = subst (AreTame n) (sym laid.1) (nothing n)

@@ -5,7 +5,7 @@ use Rattle.rel_algebra.specs.Rel as r
 use Rattle.rel_algebra.specs.View.{rel_view}
 use Rattle.rel_algebra.specs.laws.Views.{view_join, view_semi}
 use Rattle.plan_build.specs.Laying.{Lays, Fails}
-use Rattle.plan_build.specs.laws.Laid.{filter_lays, project_lays, group_lays, union_lays}
+use Rattle.plan_build.specs.laws.Laid.{filter_lays, project_lays, group_lays, rank_lays, union_lays}
 use Rattle.plan_build.specs.laws.Several.{turn_lays, turn_fails}
 use Rattle.plan_build.specs.laws.Sides.{join_lays, semi_lays}
 use Rattle.plan_build.proofs.Answered.{if_ok, if_err}
@@ -19,6 +19,10 @@ lay_project-returns-clause-laid t c = if_ok _ _ _ (λ root p. project_lays _ _ _
 
 pub lay_group-returns-clause-laid : goal.lay_group-returns-clause-laid
 lay_group-returns-clause-laid t c = if_ok _ _ _ (λ root p. group_lays _ _ _ _ _ _ _ _ _ _ root c.in_ok-columns.ensures c.in_ok-aggs.ensures c.in_ok-below.ensures.laid p) c.push_over.ensures.pushed
+
+pub lay_rank-returns-clause-laid : goal.lay_rank-returns-clause-laid
+lay_rank-returns-clause-laid t c =
+    if_ok _ _ _ (λ root p. rank_lays _ _ _ _ _ _ _ _ _ _ _ _ _ root c.in_ok-columns.ensures c.in_ok-partition.ensures c.in_ok-order.ensures c.in_ok-below.ensures.laid p) c.push_over.ensures.pushed
 
 pub lay_union-returns-clause-laid : goal.lay_union-returns-clause-laid
 lay_union-returns-clause-laid t c = if_ok _ _ _ (λ root p. union_lays _ _ _ _ _ _ root c.in_ok-roots.ensures.laid p) c.push_whole.ensures.pushed

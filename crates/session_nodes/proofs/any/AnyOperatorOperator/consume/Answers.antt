@@ -69,6 +69,15 @@ returns-in-Semi-clause-range g c = rw c.in-Semi.is c.consume-in-Semi.ensures.ran
 pub returns-in-Semi-clause-cost : goal.returns-in-Semi-clause-cost
 returns-in-Semi-clause-cost g c = rw c.in-Semi.is c.consume-in-Semi.ensures.cost
 
+pub returns-in-TopN-clause-ok : goal.returns-in-TopN-clause-ok
+returns-in-TopN-clause-ok g c = rw c.in-TopN.is c.consume-in-TopN.ensures.ok
+
+pub returns-in-TopN-clause-range : goal.returns-in-TopN-clause-range
+returns-in-TopN-clause-range g c = rw c.in-TopN.is c.consume-in-TopN.ensures.range
+
+pub returns-in-TopN-clause-cost : goal.returns-in-TopN-clause-cost
+returns-in-TopN-clause-cost g c = rw c.in-TopN.is c.consume-in-TopN.ensures.cost
+
 pub returns-in-Sink-clause-ok : goal.returns-in-Sink-clause-ok
 returns-in-Sink-clause-ok g c = rw c.in-Sink.is c.consume-in-Sink.ensures.ok
 
