@@ -58,14 +58,15 @@ fn takes_after(
     Ok(false)
 }
 
-fn is_input(number: u32, inputs: &[u32]) -> bool
+/// Whether a number stands among a node's inputs.
+pub fn is_input(number: u32, inputs: &[u32]) -> bool
     ensures { result ≡ u.is_input number inputs.now }
 {
     inputs.iter().any(|input| *input == number)
 }
 
-// The first place of a number.
-fn port_of(number: u32, inputs: &[u32]) -> usize
+/// The port that a node's input of this number feeds: its first place among the inputs, or their number where it isn't there.
+pub fn port_of(number: u32, inputs: &[u32]) -> usize
     ensures { result ≡ u.port_of number inputs.now }
 {
     for port in 0..inputs.len() {

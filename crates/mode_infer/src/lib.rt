@@ -12,8 +12,8 @@ mod modes;
 mod row_keys;
 mod updates;
 
-pub use consumers::takes;
+pub use consumers::{is_input, port_of, takes};
 pub use exchanges::asked;
 pub use kinds::{Flow, flows};
 pub use modes::{EdgeMode, infer_modes, set_modes};
-pub use row_keys::update_keys;
+pub use row_keys::{update_keys, width_at};

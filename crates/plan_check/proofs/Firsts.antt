@@ -4,8 +4,7 @@ use Rattle.std.proofs.Math.Nat.{eq-or-lt_of_le}
 use Rattle.phys_plan.specs.declared.plan.Plan.{Plan}
 use Rattle.phys_plan.specs.declared.plan.Rule.{Rule}
 use Rattle.phys_plan.specs.declared.plan.Rule.TheVariants as rule
-use Rattle.plan_check.specs.Sound.{first_failing, IsFirstBroken, IsSound, Meets, looked_at, meets, place}
-use Rattle.plan_check.specs.Faults.{FirstToFail}
+use Rattle.plan_check.specs.Sound.{first_failing, IsFirstBroken, IsSound, Meets, MeetsFirst, looked_at, meets, place}
 
 either : {P : Type 0} (b : Bool) → (b ≡ true → P) → (b ≡ false → P) → P
 either true t f = t refl
@@ -59,43 +58,54 @@ found_here test from n i h t =
     let e : n - i ≡ suc (n - (i + 1)) = omega arith in
     ap (first_failing test (from + i)) e ∙ ap (λ b. cond b (first_failing test (from + i + 1) (n - (i + 1))) (Some (from + i))) t
 
--- ---- one rule
+-- at the turn of a loop over the nodes of a plan, which looks at the one behind so many
+module _ (plan : Plan) (r : Rule) (i : ℕ) (low : i < looked_at plan) where
+  same : i + 1 ≡ 1 + i
+  same = omega arith
 
-pub met : (plan : Plan) (r : Rule) → first_failing (meets r plan) 1 (looked_at plan) ≡ None → Meets r plan
-met plan r e v p q = passes (meets r plan) 1 (looked_at plan) e v p (omega arith)
+  pub met_here : meets r plan (i + 1) ≡ true → first_failing (meets r plan) (1 + i) (looked_at plan - i) ≡ first_failing (meets r plan) (1 + (i + 1)) (looked_at plan - (i + 1))
+  met_here t = one_further (meets r plan) 1 (looked_at plan) i low (subst (λ n. meets r plan n ≡ true) same t)
 
-pub broken : (plan : Plan) (r : Rule) (v : ℕ) → first_failing (meets r plan) 1 (looked_at plan) ≡ Some v → FirstToFail plan r r v
-broken plan r v e =
+  pub broken_here : meets r plan (i + 1) ≡ false → first_failing (meets r plan) (1 + i) (looked_at plan - i) ≡ Some (i + 1)
+  broken_here t = found_here (meets r plan) 1 (looked_at plan) i low (subst (λ n. meets r plan n ≡ false) same t) ∙ ap (λ n. Some n) (sym same)
+
+-- ---- one rule behind the other
+
+pub none_met : (plan : Plan) → MeetsFirst 0 plan
+none_met plan r h = absurd (omega arith)
+
+same_place : (q r : Rule) → place q ≡ place r → q ≡ r
+same_place rule.Shape rule.Shape e = refl
+same_place rule.Types rule.Types e = refl
+same_place rule.Keys rule.Keys e = refl
+same_place rule.Kinds rule.Kinds e = refl
+same_place rule.UpdateKind rule.UpdateKind e = refl
+same_place rule.Exchanged rule.Exchanged e = refl
+same_place rule.SinkKey rule.SinkKey e = refl
+same_place q r e = absurd (omega arith)
+
+pub one_more : (plan : Plan) (r : Rule) → MeetsFirst (place r) plan → first_failing (meets r plan) 1 (looked_at plan) ≡ None → MeetsFirst (suc (place r)) plan
+one_more plan r first e q h =
+    ⊎_elim
+    (λ same. subst (λ p. Meets p plan) (sym (same_place q r same)) (λ v p k. passes (meets r plan) 1 (looked_at plan) e v p (omega arith)))
+    (λ (lower : place q < place r). first q lower)
+    (eq-or-lt_of_le (omega (arith, h)))
+
+pub broken : (plan : Plan) (r : Rule) (v : ℕ) → MeetsFirst (place r) plan → first_failing (meets r plan) 1 (looked_at plan) ≡ Some v → IsFirstBroken plan r v
+broken plan r v first e =
     let h = fails (meets r plan) 1 (looked_at plan) v e in
     let high = h.high in
     record {
-      rule_is = refl;
       first = record { positive = h.low; here = h.here; before = h.before };
       looked = omega arith;
+      earlier = first;
     }
 
--- ---- all rules
-
-pub all_met : (plan : Plan) → Meets rule.Shape plan → Meets rule.Types plan → IsSound plan
-all_met plan a b rule.Shape = a
-all_met plan a b rule.Types = b
-all_met plan a b rule.Keys = λ v p q. refl
-all_met plan a b rule.Kinds = λ v p q. refl
-all_met plan a b rule.UpdateKind = λ v p q. refl
-all_met plan a b rule.Exchanged = λ v p q. refl
-all_met plan a b rule.SinkKey = λ v p q. refl
-
-pub shape_broken : (plan : Plan) (q : Rule) (v : ℕ) → FirstToFail plan rule.Shape q v → IsFirstBroken plan q v
-shape_broken plan q v f = subst (λ r. IsFirstBroken plan r v) (sym f.rule_is) (record { first = f.first; looked = f.looked; earlier = λ r h. absurd (omega arith) })
-
-pub types_broken : (plan : Plan) (q : Rule) (v : ℕ) → Meets rule.Shape plan → FirstToFail plan rule.Types q v → IsFirstBroken plan q v
-types_broken plan q v a f = subst (λ r. IsFirstBroken plan r v) (sym f.rule_is) (record { first = f.first; looked = f.looked; earlier = before })
-  where
-    before : (r : Rule) → place r < 1 → Meets r plan
-    before rule.Shape h = a
-    before rule.Types h = absurd (omega arith)
-    before rule.Keys h = absurd (omega arith)
-    before rule.Kinds h = absurd (omega arith)
-    before rule.UpdateKind h = absurd (omega arith)
-    before rule.Exchanged h = absurd (omega arith)
-    before rule.SinkKey h = absurd (omega arith)
+pub all_met : (plan : Plan) → MeetsFirst 7 plan → IsSound plan
+all_met plan first rule.Shape = first rule.Shape (omega arith)
+all_met plan first rule.Types = first rule.Types (omega arith)
+all_met plan first rule.Keys = first rule.Keys (omega arith)
+all_met plan first rule.Kinds = first rule.Kinds (omega arith)
+all_met plan first rule.UpdateKind = first rule.UpdateKind (omega arith)
+all_met plan first rule.Exchanged = first rule.Exchanged (omega arith)
+all_met plan first rule.SinkKey = first rule.SinkKey (omega arith)

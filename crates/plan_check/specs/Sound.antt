@@ -1,16 +1,35 @@
--- Sound plans: rules, each met or broken by each node. So far the rules Shape and Types are told here; each node meets the others.
-use Rattle.std.specs.Prelude.{◌≡◌, ℕ, zero, suc, ◌+◌, ◌<◌, ◌≤◌, max, Bool, true, false, cond, length, Option, Some, None}
+-- Sound plans: rules, each met or broken by each node.
+use Rattle.std.specs.Prelude.{◌≡◌, ℕ, zero, suc, ◌+◌, ◌<◌, ◌≤◌, max, Bool, true, false, cond, List, [], ◌∷◌, map, length, Option, Some, None, unwrap_or}
+use Rattle.ct_value.specs.declared.ty.ColTy.{ColTy}
 use Rattle.phys_plan.specs.declared.plan.Plan.{Plan}
 use Rattle.phys_plan.specs.declared.plan.Rule.{Rule}
 use Rattle.phys_plan.specs.declared.plan.Rule.TheVariants as rule
 use Rattle.plan_shape.specs.Shape.{has_shape}
-use Rattle.plan_check.specs.Types.{has_types}
+use Rattle.plan_inferred.specs.declared.inferred.Inferred.{Inferred}
+use Rattle.plan_inferred.specs.Inferred.{inferred}
+use Rattle.plan_inferred.specs.Rules.{has_keys, has_kinds, has_update, is_exchanged, suits_sink}
+use Rattle.plan_check.specs.Types.{all_types, has_types}
+
+-- the columns that each node sends, by its number, with none at 0; a node that isn't well-typed counts as one without columns
+abbrev pub columns_or_none : Option (List ColTy) → List ColTy
+columns_or_none columns = unwrap_or columns []
+
+abbrev pub sent_columns : List (Option (List ColTy)) → List (List ColTy)
+sent_columns types = [] ∷ map columns_or_none types
+
+-- what is inferred of a plan
+abbrev pub inferred_of : Plan → Inferred
+inferred_of plan = inferred (sent_columns (all_types plan.sources plan.nodes)) plan
 
 -- whether a node meets a rule, by its number, from 1
 abbrev pub meets : Rule → Plan → ℕ → Bool
 meets rule.Shape plan v = has_shape plan v
 meets rule.Types plan v = has_types plan v
-meets _ plan v = true
+meets rule.Keys plan v = has_keys (inferred_of plan) plan v
+meets rule.Kinds plan v = has_kinds (inferred_of plan) plan v
+meets rule.UpdateKind plan v = has_update (inferred_of plan) plan v
+meets rule.Exchanged plan v = is_exchanged (inferred_of plan) plan v
+meets rule.SinkKey plan v = suits_sink (inferred_of plan) plan v
 
 -- how many numbers are looked at: at least one, as what Shape says of the whole plan counts at node 1
 abbrev pub looked_at : Plan → ℕ
@@ -44,6 +63,10 @@ pub record IsFirstBroken (plan : Plan) (r : Rule) (v : ℕ) : Type 0 where
   pub first : FailsFirst (meets r plan) v
   pub looked : v ≤ looked_at plan
   pub earlier : (q : Rule) → place q < place r → Meets q plan
+
+-- each node meets the first rules, so many
+abbrev pub MeetsFirst : ℕ → Plan → Type 0
+MeetsFirst many plan = (r : Rule) → place r < many → Meets r plan
 
 -- the first number from which a test fails, of so many
 abbrev pub first_failing : (ℕ → Bool) → ℕ → ℕ → Option ℕ

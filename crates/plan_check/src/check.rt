@@ -1,15 +1,17 @@
 //! The check of a plan.
-ghost use Rattle.std.specs.Prelude.{◌≡◌, true, IfOk, IfErr, OnOk};
+ghost use Rattle.std.specs.Prelude.{◌≡◌, true, suc, IfOk, IfErr, OnOk};
+ghost use Rattle.phys_plan.specs.declared.plan.Rule.TheVariants as r;
 ghost use Rattle.plan_shape.specs.Shape.{is_whole};
 ghost use Rattle.plan_check.specs.Checked.{plan_in};
-ghost use Rattle.plan_check.specs.Faults.{AreKnown, FailsAt, IsFault};
-ghost use Rattle.plan_check.specs.Sound.{IsSound, Meets, first_failing, looked_at, meets};
+ghost use Rattle.plan_check.specs.Faults.{IsFault, Suffices};
+ghost use Rattle.plan_check.specs.Sound.{IsSound, MeetsFirst, first_failing, looked_at, meets, place};
 
 use crate::CheckedPlan;
-use crate::nodes::{has_types, plan_types};
+use crate::known::{Known, all_known, nothing_known, types_known};
+use crate::nodes::has_types;
 use ct_value::Memory;
 use phys_plan::{Plan, Rule};
-use plan_columns::NodeColumns;
+use plan_inferred::{has_keys, has_kinds, has_update, is_exchanged, suits_sink};
 use plan_shape::{has_shape, is_whole};
 use std::alloc::Global;
 
@@ -54,49 +56,79 @@ fn test_plan(alloc: Global, plan: &Plan) -> Result<(), PlanFault>
             node: 1,
         });
     }
-    require(Rule::Shape, plan, &NodeColumns::new(alloc))?;
-    let types = plan_types(alloc, plan)?;
-    require(Rule::Types, plan, &types)?;
+    let known = nothing_known(alloc);
+    require(alloc, Rule::Shape, plan, &known)?;
+    let known = types_known(alloc, plan)?;
+    require(alloc, Rule::Types, plan, &known)?;
+    test_inferred(alloc, plan, known)
+}
+
+// Whether each node of a plan is what is inferred of it.
+fn test_inferred(alloc: Global, plan: &Plan, known: Known) -> Result<(), PlanFault>
+    requires whole { is_whole plan.now ≡ true }
+    requires types { Suffices r.Types plan.now known }
+    requires earlier { MeetsFirst 2 plan.now }
+    ensures sound { OnOk result (IsSound plan.now) }
+    ensures refused { IfErr result (λ fault. IsFault plan.now fault) }
+{
+    let known = all_known(alloc, plan, known)?;
+    require(alloc, Rule::Keys, plan, &known)?;
+    require(alloc, Rule::Kinds, plan, &known)?;
+    require(alloc, Rule::UpdateKind, plan, &known)?;
+    require(alloc, Rule::Exchanged, plan, &known)?;
+    require(alloc, Rule::SinkKey, plan, &known)?;
     Ok(())
 }
 
-// A rule that each node has to meet.
-fn require(rule: Rule, plan: &Plan, types: &NodeColumns) -> Result<(), PlanFault>
+// A rule that each node has to meet, behind those before it.
+fn require(alloc: Global, rule: Rule, plan: &Plan, known: &Known) -> Result<(), PlanFault>
     requires whole { is_whole plan.now ≡ true }
-    requires known { AreKnown rule plan.now types.now }
-    ensures met { OnOk result (Meets rule plan.now) }
-    ensures broken { IfErr result (λ fault. FailsAt plan.now rule fault) }
+    requires suffices { Suffices rule plan.now known.now }
+    requires earlier { MeetsFirst (place rule) plan.now }
+    ensures met { OnOk result (MeetsFirst (suc (place rule)) plan.now) }
+    ensures broken { IfErr result (λ fault. IsFault plan.now fault) }
 {
-    match first_broken(rule, plan, types) {
+    match first_broken(alloc, rule, plan, known)? {
         None => Ok(()),
         Some(node) => Err(PlanFault::Broken { rule, node }),
     }
 }
 
 // The first node that breaks a rule.
-fn first_broken(rule: Rule, plan: &Plan, types: &NodeColumns) -> Option<u32>
+#[tactic(auto, using(crate::proofs::Firsts::broken_here, crate::proofs::Firsts::met_here))]
+fn first_broken(
+    alloc: Global,
+    rule: Rule,
+    plan: &Plan,
+    known: &Known,
+) -> Result<Option<u32>, Memory>
     requires whole { is_whole plan.now ≡ true }
-    requires known { AreKnown rule plan.now types.now }
-    ensures { result ≡ first_failing (meets rule plan.now) 1 (looked_at plan.now) }
+    requires suffices { Suffices rule plan.now known.now }
+    ensures { IfOk result (λ first. first ≡ first_failing (meets rule plan.now) 1 (looked_at plan.now)) }
 {
     for i in 0..plan.nodes.len() {
         let number = i as u32 + 1;
-        if !meets(rule, plan, types, number) {
-            return Some(number);
+        let met = meets(alloc, rule, plan, known, number)?;
+        if !met {
+            return Ok(Some(number));
         }
     }
-    None
+    Ok(None)
 }
 
-// Whether a node meets a rule, by the columns of all nodes.
-fn meets(rule: Rule, plan: &Plan, types: &NodeColumns, number: u32) -> bool
+// Whether a node meets a rule.
+fn meets(alloc: Global, rule: Rule, plan: &Plan, known: &Known, number: u32) -> Result<bool, Memory>
     requires whole { is_whole plan.now ≡ true }
-    requires known { AreKnown rule plan.now types.now }
-    ensures { result ≡ meets rule plan.now number }
+    requires suffices { Suffices rule plan.now known.now }
+    ensures { IfOk result (λ met. met ≡ meets rule plan.now number) }
 {
     match rule {
-        Rule::Shape => has_shape(plan, number),
-        Rule::Types => has_types(plan, types, number),
-        _ => true,
+        Rule::Shape => Ok(has_shape(plan, number)),
+        Rule::Types => Ok(has_types(plan, &known.types, number)),
+        Rule::Keys => Ok(has_keys(&known.inferred, plan, number)),
+        Rule::Kinds => Ok(has_kinds(&known.inferred, plan, number)),
+        Rule::UpdateKind => Ok(has_update(&known.inferred, plan, number)),
+        Rule::Exchanged => is_exchanged(alloc, &known.inferred, plan, number),
+        Rule::SinkKey => suits_sink(alloc, &known.inferred, plan, number),
     }
 }

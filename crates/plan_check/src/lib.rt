@@ -1,8 +1,8 @@
 //! Plans that were checked.
 //!
-//! Promised: `check_plan` accepts exactly the plans whose nodes all meet the rules that `specs/Sound` tells, so far Shape and Types, and
-//! names the first rule that a node breaks and the first such node; a `CheckedPlan` keeps to them. `node_types` answers the columns of a
-//! node, for all operators. It stands on `plan_shape` and on the columns of clauses and nodes.
+//! Promised: `check_plan` accepts exactly the plans whose nodes all meet the seven rules that `specs/Sound` tells, and names the first
+//! rule that a node breaks and the first such node; a `CheckedPlan` keeps to them. `node_types` answers the columns of a node, for all
+//! operators. It stands on `plan_shape`, on the columns of clauses and nodes, and on what is inferred of a plan.
 #![tactic(auto)]
 
 mod chains;
@@ -10,6 +10,7 @@ mod check;
 mod checked;
 mod edges;
 mod groups;
+mod known;
 mod nodes;
 mod operators;
 mod sets;
