@@ -1,0 +1,4 @@
+pub mod Entries
+pub mod Lefts
+pub mod Places
+pub mod Tops
