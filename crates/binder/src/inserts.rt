@@ -68,8 +68,8 @@ fn sources_for(alloc: Global, tables: &Sources, sink: &Text) -> Result<Sources, 
     Ok(sources)
 }
 
-// First with free ranks, so that a rank without a bound is refused behind all else.
-#[tactic(auto, using(crate::proofs::IntoSinks::first_refused, crate::proofs::IntoSinks::again))]
+// While the query is bound the sink stands behind the sources, so that a query that reads it is told from one that reads no table.
+#[tactic(auto, using(crate::proofs::IntoSinks::not_bound, crate::proofs::IntoSinks::too_wide, crate::proofs::IntoSinks::fits, crate::proofs::Pops::last_same))]
 fn into_sink(
     alloc: Global,
     sources: Sources,
@@ -79,25 +79,9 @@ fn into_sink(
     ensures ok { IfOk result (λ x. i.into_sink sources (query_view query.now) sink ≡ Ok (inserted_view x)) }
     ensures refused { (code : ScriptCode) → IsErrOf result (f.Refused code) → i.into_sink sources (query_view query.now) sink ≡ Err code }
 {
-    let bound = sunk(alloc, true, sources, query, sink)?;
-    sunk(alloc, false, bound.sources, query, bound.sink)
-}
-
-// While the query is bound the sink stands behind the sources, so that a query that reads it is told from one that reads no table.
-#[tactic(auto, using(crate::proofs::IntoSinks::not_bound, crate::proofs::IntoSinks::too_wide, crate::proofs::IntoSinks::fits, crate::proofs::Pops::last_same))]
-fn sunk(
-    alloc: Global,
-    free: bool,
-    sources: Sources,
-    query: &Query,
-    sink: TableDef,
-) -> Result<Inserted, BindFault>
-    ensures ok { IfOk result (λ x. i.sunk free sources (query_view query.now) sink ≡ Ok (inserted_view x)) }
-    ensures refused { (code : ScriptCode) → IsErrOf result (f.Refused code) → i.sunk free sources (query_view query.now) sink ≡ Err code }
-{
     let mut tables = sources;
     tables.push(sink)?;
-    let relation = bind_query(alloc, free, &tables, query)?;
+    let relation = bind_query(alloc, &tables, query)?;
     let Some(sink) = tables.pop() else {
         unreachable!()
     };

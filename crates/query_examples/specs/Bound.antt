@@ -15,22 +15,22 @@ use Rattle.rel_clauses.specs.declared.join.Pair.{Pair}
 use Rattle.rel_algebra.specs.Rel.{Rel, Scan, Filter, Project, Union, Group, Join, Semi, rels}
 use Rattle.sql_syntax.specs.Tree.{Text}
 
-abbrev pub a : Expr
+abbrev a : Expr
 a = Column 0 Int
 
-abbrev pub b : Expr
+abbrev b : Expr
 b = Column 1 Int
 
 abbrev f : Expr
 f = Column 4 Truths
 
-abbrev pub int : ℕ → Expr
+abbrev int : ℕ → Expr
 int n = Literal (Num (pos n)) Int
 
-abbrev pub agg : AggCall → Option ℕ → Option ℕ → Agg
+abbrev agg : AggCall → Option ℕ → Option ℕ → Agg
 agg call arg filter = record { call = call; arg = arg; filter = filter }
 
-abbrev pub pair : ℕ → ℕ → Pair
+abbrev pair : ℕ → ℕ → Pair
 pair left right = record { left = left; right = right }
 
 abbrev pub bound : List (Text × Rel)

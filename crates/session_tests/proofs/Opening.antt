@@ -1,4 +1,4 @@
--- The plan of a tree over a table of words can be opened, and takes words.
+-- The plan of a grouped count of words can be opened, and takes words.
 use Rattle.std.proofs.Common.{◌≡◌, ℕ, ◌<◌, ◌≤◌, ◌+◌, true, false, List, [], ◌∷◌, length, Option, Some, None, refl, sym, ap, subst, ◌∙◌, arith}
 use Rattle.std.specs.Prelude.{option_map, slice_get}
 use Rattle.std.specs.List.{AllByRecursion}
@@ -10,7 +10,7 @@ use Rattle.ct_change.specs.declared.change.Change.{Change}
 use Rattle.ct_catalog.specs.declared.table.TableDef.{TableDef}
 use Rattle.rel_clauses.specs.declared.agg.Agg.{Agg}
 use Rattle.rel_clauses.specs.declared.agg.AggCall.TheVariants.{CountAll}
-use Rattle.rel_algebra.specs.Rel.{Rel, Group, Rank, Scan}
+use Rattle.rel_algebra.specs.Rel.{Rel, Group, Scan}
 use Rattle.rel_algebra.specs.Types.{columns_of}
 use Rattle.phys_plan.specs.declared.plan.Plan.{Plan}
 use Rattle.plan_network.specs.Plans.{column_types, table_of}
@@ -19,20 +19,13 @@ use Rattle.plan_laws.specs.Trees.{IsMade, types_of}
 use Rattle.plan_rules.specs.Doings.{network}
 use Rattle.type_laws.specs.Exist.{Exist}
 use Rattle.stream_model.specs.Tables.{Table}
-use Rattle.session_tests.specs.Standing.{IsOfWords, IsWord, IsWords, OpensOverWords, TakesWords}
+use Rattle.session_tests.specs.Standing.{CountsWords, IsWord, IsWords, TakesWords}
 
 abbrev word : ColTy
 word = record { ty = Texts; nullable = false }
 
--- the columns of a number behind each word: its count, or its rank
-abbrev numbered : List ColTy
-numbered = word ∷ record { ty = BigInt; nullable = false } ∷ []
-
-pub counted_is : (rel : Rel) → rel ≡ Group (Scan 0) 1 (record { call = CountAll; arg = None; filter = None } ∷ []) → IsOfWords rel
-counted_is rel e = (numbered, ap (columns_of ((word ∷ []) ∷ [])) e)
-
-pub ranked_is : (rel : Rel) → rel ≡ Rank (Scan 0) (0 ∷ []) [] 2 true → IsOfWords rel
-ranked_is rel e = (numbered, ap (columns_of ((word ∷ []) ∷ [])) e)
+abbrev pub tree : Rel
+tree = Group (Scan 0) 1 (record { call = CountAll; arg = None; filter = None } ∷ [])
 
 is_made : (source : TableDef) → IsWords source → IsMade source
 is_made source w = record {
@@ -41,8 +34,8 @@ is_made source w = record {
 }
 
 module _ (plan : Plan) (source : TableDef) (w : IsWords source) (are : plan.sources ≡ source ∷ []) where
-  typed : (rel : Rel) (tree : IsOfWords rel) → columns_of (types_of plan.sources) rel ≡ Some tree.0
-  typed rel tree = ap (λ (s : List TableDef). columns_of (types_of s) rel) are ∙ ap (λ (ts : List ColTy). columns_of (ts ∷ []) rel) w.columns_are ∙ tree.1
+  typed : columns_of (types_of plan.sources) tree ≡ Some (word ∷ record { ty = BigInt; nullable = false } ∷ [])
+  typed = ap (λ (s : List TableDef). columns_of (types_of s) tree) are ∙ ap (λ (ts : List ColTy). columns_of (ts ∷ []) tree) w.columns_are
 
   exist : AllByRecursion Exist (types_of plan.sources)
   exist = subst (λ (s : List TableDef). AllByRecursion Exist (types_of s)) (sym are) (subst (λ (ts : List ColTy). AllByRecursion Exist (ts ∷ [])) (sym w.columns_are) ((refl, tt), tt))
@@ -56,11 +49,11 @@ module _ (plan : Plan) (source : TableDef) (w : IsWords source) (are : plan.sour
       let h : table_of plan.parallelism source ≡ t = cc in
       subst (λ (u : Table). u.fits change ≡ true) h (ap (λ (ts : List ColTy). row_fits ts change.row) w.columns_are ∙ ap (λ (r : List Value). row_fits (word ∷ []) r) is.1)
 
-  pub opens : (rel : Rel) → IsOfWords rel → IsPlanOf plan rel → plan.parallelism ≡ 1 → length plan.nodes ≤ 998 → OpensOverWords plan
-  opens rel tree laid one few = record {
+  pub counts : (rel : Rel) → rel ≡ tree → IsPlanOf plan rel → plan.parallelism ≡ 1 → length plan.nodes ≤ 998 → CountsWords plan
+  counts rel e laid one few = record {
     rel = rel;
     small = λ columns same many. record {
-      plan_of = record { plan_of = laid; columns = tree.0; typed = typed rel tree; made = made; parallel = omega (arith, one) };
+      plan_of = record { plan_of = laid; columns = word ∷ record { ty = BigInt; nullable = false } ∷ []; typed = ap (columns_of (types_of plan.sources)) e ∙ typed; made = made; parallel = omega (arith, one) };
       exist = exist;
       few = omega (arith, few);
       narrow = omega (arith, one);

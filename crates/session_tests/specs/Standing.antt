@@ -1,5 +1,5 @@
 -- What a session over a table of words has to keep to, so that a test can go on with it.
-use Rattle.std.specs.Prelude.{◌≡◌, ℕ, ◌+◌, Bool, false, List, [], ◌∷◌, length, Option, Some, None}
+use Rattle.std.specs.Prelude.{◌≡◌, ℕ, ◌+◌, Bool, false, List, [], ◌∷◌, length, Option, None}
 use Rattle.ct_value.specs.declared.ty.ColTy.{ColTy}
 use Rattle.ct_value.specs.declared.ty.Ty.TheVariants.{Text as Texts}
 use Rattle.ct_value.specs.declared.value.Value.TheVariants.{Text as IsText}
@@ -8,7 +8,6 @@ use Rattle.ct_change.specs.declared.kind.Declared.{Declared}
 use Rattle.ct_change.specs.declared.kind.Declared.TheVariants.{Append}
 use Rattle.ct_catalog.specs.declared.table.TableDef.{TableDef}
 use Rattle.rel_algebra.specs.Rel.{Rel}
-use Rattle.rel_algebra.specs.Types.{columns_of}
 use Rattle.op_rules.specs.History.{Arrival}
 use Rattle.op_rules.specs.Rules.{Rule}
 use Rattle.phys_plan.specs.declared.plan.Plan.{Plan}
@@ -39,12 +38,8 @@ pub record IsWords (table : TableDef) : Type 0 where
   pub keyless : table.key ≡ None
   pub columns_are : column_types table ≡ record { ty = Texts; nullable = false } ∷ []
 
--- a tree that is well-typed over such a table
-abbrev pub IsOfWords : Rel → Type 0
-IsOfWords rel = (columns : List ColTy) × (columns_of ((record { ty = Texts; nullable = false } ∷ []) ∷ []) rel ≡ Some columns)
-
 -- a plan that can be opened, over such a table
-pub record OpensOverWords (plan : Plan) : Type 0 where
+pub record CountsWords (plan : Plan) : Type 0 where
   pub rel : Rel
   pub small : (columns : List (List ColTy)) → AreColumns columns (columns_at plan.sources plan.nodes) → length columns ≡ length plan.nodes + 1 → IsSmallPlan plan rel columns
   pub takes : TakesWords (network plan)

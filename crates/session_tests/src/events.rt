@@ -1,6 +1,6 @@
 //! A session over a table of words, driven event by event, with a log of what it prints at each.
 ghost use Rattle.std.specs.Prelude.{◌≡◌, ◌<◌, IfOk};
-ghost use Rattle.session_tests.specs.Standing.{OpensOverWords, StandsForWords};
+ghost use Rattle.session_tests.specs.Standing.{CountsWords, StandsForWords};
 
 use crate::rows::comes;
 use ct_change::{Change, Kind, Steps};
@@ -40,7 +40,7 @@ pub(crate) fn driven<L: Ledger>(
     requires name { blank.name ≡ L.name }
     requires parts { blank.parts ≡ L.parts }
     requires some { 0 < L.parts }
-    requires opens { OpensOverWords plan.now }
+    requires counts { CountsWords plan.now }
 {
     plans_open();
     let columns = columns_of(alloc, plan)?;

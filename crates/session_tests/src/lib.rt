@@ -4,10 +4,10 @@
 
 #[cfg(test)]
 mod channels;
+mod counts;
 mod events;
 #[cfg(test)]
 mod orders;
-mod plans;
 mod rows;
 #[cfg(test)]
 mod tables;

@@ -1,12 +1,7 @@
-//! Worked runs of a grouped count and of a Top-N, each order by itself.
-ghost use Rattle.std.specs.Prelude.{IfOk};
-ghost use Rattle.session_tests.specs.Standing.{OpensOverWords};
-
+// Worked runs of a grouped count, each order by itself.
+use crate::counts::counting_plan;
 use crate::events::{Order, driven};
-use crate::plans::{counting_plan, ranking_plan};
 use ct_value::{Bytes, OrderCode};
-use phys_plan::Plan;
-use plan_build::PlanFault;
 use std::alloc::Global;
 use std::marker::Brand;
 use std::sync::ledger::Blank;
@@ -14,40 +9,25 @@ use stream_model::StepFault;
 
 const MOST_SENT: u32 = 4294967295;
 
-// How a plan goes along these orders.
-fn ran(
-    alloc: Global,
-    plan: Result<Plan, PlanFault>,
-    limit: u32,
-    orders: &[Order],
-    log: &mut Bytes,
-) -> Result<(), StepFault>
-    requires { IfOk plan (λ plan. OpensOverWords plan) }
-{
-    let Ok(plan) = plan else {
+// How a grouped count of words goes along these orders.
+fn counted(alloc: Global, limit: u32, orders: &[Order], log: &mut Bytes) -> Result<(), StepFault> {
+    let Ok(plan) = counting_plan(alloc) else {
         return Err(StepFault::Memory);
     };
     driven::<Brand>(alloc, &plan, limit, orders, log, Blank::new(1))
 }
 
-// Whether a plan goes to their end and prints this.
-fn prints(alloc: Global, plan: Result<Plan, PlanFault>, orders: &[Order], wanted: &str) -> bool
-    requires { IfOk plan (λ plan. OpensOverWords plan) }
-{
+// Whether it goes to their end and prints this.
+fn prints(alloc: Global, orders: &[Order], wanted: &str) -> bool {
     let mut log = Bytes::new(alloc);
-    let end = ran(alloc, plan, MOST_SENT, orders, &mut log);
-    end.is_ok() && log.is(wanted.as_bytes())
+    let ran = counted(alloc, MOST_SENT, orders, &mut log);
+    ran.is_ok() && log.is(wanted.as_bytes())
 }
 
-// Whether a grouped count of words does.
-fn counts(alloc: Global, orders: &[Order], wanted: &str) -> bool {
-    prints(alloc, counting_plan(alloc), orders, wanted)
-}
-
-// Why a grouped count stops, where it has printed this before.
+// Why it stops, where it has printed this before.
 fn stop_of(alloc: Global, limit: u32, orders: &[Order], before: &str) -> Option<StepFault> {
     let mut log = Bytes::new(alloc);
-    match ran(alloc, counting_plan(alloc), limit, orders, &mut log) {
+    match counted(alloc, limit, orders, &mut log) {
         Ok(()) => None,
         Err(cause) => {
             if log.is(before.as_bytes()) {
@@ -73,7 +53,7 @@ fn two_equal_words_are_told_event_by_event(rt: HostRuntime) {
         Order::Drain,
     ];
     let wanted = "||||+I a 1|-U a 1|+U a 2|=2|";
-    assert!(rt; counts(rt.alloc(), &orders, wanted));
+    assert!(rt; prints(rt.alloc(), &orders, wanted));
 }
 
 // Three changes are taken and two moved; the drain brings the third.
@@ -88,25 +68,7 @@ fn a_drain_brings_what_was_not_moved(rt: HostRuntime) {
         Order::Drain,
     ];
     let wanted = "|||||+I a 1-U a 1+U a 2-U a 2+U a 3=3|";
-    assert!(rt; counts(rt.alloc(), &orders, wanted));
-}
-
-// The nodes are the scan, the Top-N and the sink. Of three equal words the first two are told, with their ranks.
-#[test]
-fn the_first_of_equal_words_are_told(rt: HostRuntime) {
-    let orders = [
-        Order::Take,
-        Order::Take,
-        Order::Take,
-        Order::Move(1),
-        Order::Move(1),
-        Order::Move(1),
-        Order::Move(2),
-        Order::Drain,
-    ];
-    let wanted = "||||||+I a 1|+I a 2=3|";
-    let alloc = rt.alloc();
-    assert!(rt; prints(alloc, ranking_plan(alloc), &orders, wanted));
+    assert!(rt; prints(rt.alloc(), &orders, wanted));
 }
 
 // Two changes may be sent, and each line sends one.

@@ -7,23 +7,23 @@ use Rattle.session_tests.proofs.events.driven.Goals as goal
 pub open_job-requires-clause-may : goal.open_job-requires-clause-may
 open_job-requires-clause-may g c =
     let plan = c.args.plan.now in
-    let opens = c.requires.opens in
-    (c.plans_open.ensures plan opens.rel c.in_ok-columns.columns (opens.small c.in_ok-columns.columns c.in_ok-columns.ensures.columns c.in_ok-columns.ensures.many)).may
+    let counts = c.requires.counts in
+    (c.plans_open.ensures plan counts.rel c.in_ok-columns.columns (counts.small c.in_ok-columns.columns c.in_ok-columns.ensures.columns c.in_ok-columns.ensures.many)).may
 
 pub open_job-requires-clause-ready : goal.open_job-requires-clause-ready
 open_job-requires-clause-ready g c =
     let plan = c.args.plan.now in
-    let opens = c.requires.opens in (
+    let counts = c.requires.counts in (
       columns_at plan.sources plan.nodes,
       λ v. doing_in plan v (numbered plan.nodes v),
-      (c.plans_open.ensures plan opens.rel c.in_ok-columns.columns (opens.small c.in_ok-columns.columns c.in_ok-columns.ensures.columns c.in_ok-columns.ensures.many)).openable,
+      (c.plans_open.ensures plan counts.rel c.in_ok-columns.columns (counts.small c.in_ok-columns.columns c.in_ok-columns.ensures.columns c.in_ok-columns.ensures.many)).openable,
     )
 
 pub play-requires : goal.play-requires
 play-requires g c =
     let plan = c.args.plan.now in
-    let opens = c.requires.opens in
-    let opening = (c.plans_open.ensures plan opens.rel c.in_ok-columns.columns (opens.small c.in_ok-columns.columns c.in_ok-columns.ensures.columns c.in_ok-columns.ensures.many)).openable in
+    let counts = c.requires.counts in
+    let opening = (c.plans_open.ensures plan counts.rel c.in_ok-columns.columns (counts.small c.in_ok-columns.columns c.in_ok-columns.ensures.columns c.in_ok-columns.ensures.many)).openable in
     record {
       ready = record {
         of = network plan;
@@ -31,6 +31,6 @@ play-requires g c =
         handed = [];
         items = [];
         stands_for = c.in-Ok.ensures.ok (columns_at plan.sources plan.nodes) (λ v. doing_in plan v (numbered plan.nodes v)) opening;
-        takes = opens.takes;
+        takes = counts.takes;
       };
     }

@@ -1,4 +1,0 @@
-pub mod Entries
-pub mod Lefts
-pub mod Places
-pub mod Tops
