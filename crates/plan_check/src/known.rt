@@ -48,6 +48,15 @@ pub(crate) fn all_known(alloc: Global, plan: &Plan, known: Known) -> Result<Know
     })
 }
 
+/// What is inferred of a plan, whose nodes need not be well-typed: one that isn't counts as a node without columns.
+pub fn infer_plan(alloc: Global, plan: &Plan) -> Result<Inferred, Memory>
+    ensures { IfOk result (λ made. made ≡ inferred_of plan.now) }
+{
+    let known = types_known(alloc, plan)?;
+    let all = all_known(alloc, plan, known)?;
+    Ok(all.inferred)
+}
+
 fn nothing_inferred(alloc: Global) -> Inferred {
     Inferred {
         columns: List::new(alloc),

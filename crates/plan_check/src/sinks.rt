@@ -63,8 +63,8 @@ fn widens(ty: Ty, sink: Ty) -> bool
     }
 }
 
-// Whether NULL may stand in the sink's columns where it may in these.
-fn keep_nulls(columns: &[ColTy], sink: &[ColDef]) -> bool
+/// Whether NULL may stand in the sink's columns wherever it may in these, column by column.
+pub fn keep_nulls(columns: &[ColTy], sink: &[ColDef]) -> bool
     ensures { result ≡ t.keep_nulls columns.now (map (λ c. c.ty) sink.now) }
 {
     match columns {

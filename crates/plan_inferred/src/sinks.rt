@@ -41,7 +41,8 @@ fn fills(
     }
 }
 
-fn first_input(inputs: &Numbers) -> u32
+/// The number of the first input; 0, which no node has, where there is none.
+pub fn first_input(inputs: &Numbers) -> u32
     ensures { result ≡ r.first_input inputs.now }
 {
     match inputs.get(0) {
@@ -123,8 +124,9 @@ fn comes_by(
     }
 }
 
-// The way in which a sink with this key takes the changes of a node.
-fn way_at(
+/// The way in which an upsert sink with this key takes the changes of a node, by its number, from 1. `force` tells that the script asks
+/// for a materializer.
+pub fn way_at(
     alloc: Global,
     inferred: &Inferred,
     force: bool,

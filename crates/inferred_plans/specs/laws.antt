@@ -1,0 +1,10 @@
+pub mod Nodes
+pub mod Edges
+pub mod Given
+pub mod Same
+pub mod Shapes
+pub mod Columns
+pub mod Inferences
+pub mod Tables
+pub mod Updates
+pub mod Plans

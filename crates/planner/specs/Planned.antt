@@ -1,0 +1,51 @@
+-- The plan of a script's tree: what is asked of it as it is laid, and what comes of it.
+use Rattle.std.specs.Prelude.{◌≡◌, ℕ, ◌<◌, ◌≤◌, Bool, true, false, List, ◌∷◌, Option, None, Some}
+use Rattle.ct_value.specs.declared.codes.ScriptCode.{ScriptCode}
+use Rattle.ct_value.specs.declared.ty.ColTy.{ColTy}
+use Rattle.ct_catalog.specs.declared.settings.Materialize.{Materialize}
+use Rattle.binding.specs.Inserts.{go_into}
+use Rattle.rel_algebra.specs.Rel.{Rel}
+use Rattle.rel_algebra.specs.Types.{columns_of}
+use Rattle.phys_plan.specs.declared.plan.Plan.{Plan}
+use Rattle.plan_network.specs.Plans.{column_types}
+use Rattle.plan_laws.specs.Trees.{types_of}
+use Rattle.plan_shape.specs.Tables.{are_tables}
+use Rattle.plan_check.specs.Sound.{inferred_of}
+use Rattle.plan_refusals.specs.Refusals.{has_materializer, refusal, sink_way}
+use Rattle.inferred_plans.specs.Inferred.{with_inferred}
+use Rattle.tree_shapes.specs.Shapes.{IsLaidOut, has_full_unions}
+use Rattle.planner.specs.declared.fault.PlannerFault.{PlannerFault}
+use Rattle.planner.specs.declared.fault.PlannerFault.TheVariants as fault
+
+-- the plan that is laid of a well-typed tree, whose unions have two inputs or more and whose columns go into the sink's, over tables that may
+-- be declared, in 1 to 16 subtasks
+pub record IsLaidPlan (laid : Plan) : Type 0 where
+  pub rel : Rel
+  pub laid_out : IsLaidOut laid rel
+  pub columns : List ColTy
+  pub typed : columns_of (types_of laid.sources) rel ≡ Some columns
+  pub unions : has_full_unions rel ≡ true
+  pub goes : go_into columns (column_types laid.sink) ≡ true
+  pub tables : are_tables (laid.sink ∷ laid.sources) ≡ true
+  pub parallel : 0 < laid.parallelism
+  pub narrow : laid.parallelism ≤ 16
+
+-- its first refusal; or it waits for a materializer, which isn't built yet; or it is planned, with what is inferred of it
+pub data Made : Type 0 where
+  Refused : ScriptCode → Made
+  Waits : Made
+  Planned : Plan → Made
+
+abbrev pub made_by : Plan → Option ScriptCode → Bool → Made
+made_by laid (Some code) materialized = Refused code
+made_by laid None true = Waits
+made_by laid None false = Planned (with_inferred laid)
+
+abbrev pub made : Plan → Materialize → Made
+made laid setting = made_by laid (refusal (inferred_of laid) laid setting) (has_materializer (sink_way (inferred_of laid) laid setting))
+
+-- a fault says what comes of the plan; want of memory says nothing
+abbrev pub Says : Made → PlannerFault → Type 0
+Says made (fault.Refused code) = made ≡ Refused code
+Says made fault.Waits = made ≡ Waits
+Says made fault.Memory = Unit {0}

@@ -1,0 +1,94 @@
+//! A plan made and checked.
+ghost use Rattle.std.specs.Prelude.{◌≡◌, false, None, IfOk, IfErr, OnOk};
+ghost use Rattle.inferred_plans.specs.Inferred.{with_inferred};
+ghost use Rattle.plan_check.specs.Checked.{plan_in};
+ghost use Rattle.plan_check.specs.Sound.{IsSound, inferred_of};
+ghost use Rattle.plan_refusals.specs.Refusals as r;
+ghost use Rattle.planner.specs.Planned.{IsLaidPlan, Planned, Says, made};
+
+use crate::PlannerFault;
+use ct_catalog::Materialize;
+use ct_value::Memory;
+use inferred_plans::inferred_plans_are_sound;
+use mode_infer::set_modes;
+use phys_plan::Plan;
+use plan_check::{CheckedPlan, PlanFault, check_plan, infer_plan};
+use plan_inferred::Inferred;
+use plan_refusals::{has_materializer, refusal, sink_way};
+use plan_shape::shaped_plans_have_shape;
+use std::alloc::Global;
+use tree_shapes::laid_plans_have_shape;
+use upsert_keys::set_keys;
+
+/// The plan of a tree, from the nodes and exchanges that are laid of it, by the script's setting for materializers: with the keys that are inferred
+/// of each node, and the kinds and updates of each edge. `Refused` comes with the first refusal (ties, the sink's mode, its key, NULL, a
+/// materializer that is off, too many nodes), and `Waits` where there is none and a materializer is needed.
+pub fn plan(alloc: Global, laid: Plan, setting: Materialize) -> Result<CheckedPlan, PlannerFault>
+    requires { IsLaidPlan laid }
+    ensures planned { IfOk result (λ checked. made laid setting ≡ Planned (plan_in checked)) }
+    ensures refused { IfErr result (λ fault. Says (made laid setting) fault) }
+{
+    laid_plans_have_shape();
+    inferred_plans_are_sound();
+    shaped_plans_have_shape();
+    let inferred = infer_plan(alloc, &laid)?;
+    test_refusals(alloc, &inferred, &laid, setting)?;
+    let plan = with_inferred(laid, &inferred)?;
+    Ok(checked(alloc, plan)?)
+}
+
+// Whether the plan is refused, or waits for a materializer.
+fn test_refusals(
+    alloc: Global,
+    inferred: &Inferred,
+    laid: &Plan,
+    setting: Materialize,
+) -> Result<(), PlannerFault>
+    requires { inferred.now ≡ inferred_of laid.now }
+    ensures accepted { OnOk result (r.refusal (inferred_of laid.now) laid.now setting ≡ None) }
+    ensures bare { OnOk result (r.has_materializer (r.sink_way (inferred_of laid.now) laid.now setting) ≡ false) }
+    ensures refused { IfErr result (λ fault. Says (made laid.now setting) fault) }
+{
+    if let Some(code) = refusal(alloc, inferred, laid, setting)? {
+        return Err(PlannerFault::Refused(code));
+    }
+    let way = sink_way(alloc, inferred, laid, setting)?;
+    if has_materializer(way) {
+        return Err(PlannerFault::Waits);
+    }
+    Ok(())
+}
+
+fn with_inferred(laid: Plan, inferred: &Inferred) -> Result<Plan, Memory>
+    requires { inferred.now ≡ inferred_of laid }
+    ensures { IfOk result (λ plan. plan ≡ with_inferred laid) }
+{
+    let Plan {
+        sources,
+        sink,
+        nodes,
+        edges,
+        parallelism,
+        mini_batch,
+    } = laid;
+    Ok(Plan {
+        sources,
+        sink,
+        nodes: set_keys(nodes, inferred.keys.as_slice())?,
+        edges: set_modes(edges, inferred.modes.as_slice())?,
+        parallelism,
+        mini_batch,
+    })
+}
+
+// A sound plan, checked: no node breaks a rule.
+fn checked(alloc: Global, plan: Plan) -> Result<CheckedPlan, Memory>
+    requires { IsSound plan }
+    ensures { IfOk result (λ checked. plan_in checked ≡ plan) }
+{
+    match check_plan(alloc, plan) {
+        Ok(checked) => Ok(checked),
+        Err(PlanFault::Memory) => Err(Memory),
+        Err(PlanFault::Broken { .. }) => unreachable!(),
+    }
+}

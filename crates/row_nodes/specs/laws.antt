@@ -1,0 +1,12 @@
+pub mod Updates
+pub mod Families
+pub mod Inputs
+pub mod Images
+pub mod Filters
+pub mod Projects
+pub mod Wider
+pub mod Unions
+pub mod Normalizes
+pub mod Groups
+pub mod Sinks
+pub mod Scans

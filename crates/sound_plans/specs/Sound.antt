@@ -1,0 +1,48 @@
+-- Sound plans whose operators have rules, and what is known of them.
+use Rattle.std.specs.Prelude.{◌≡◌, ℕ, ◌<◌, ◌≤◌, Bool, true, false, List, length, None, Some}
+use Rattle.ct_value.specs.declared.ty.ColTy.{ColTy}
+use Rattle.op_rules.specs.Ports.{TakesAll}
+use Rattle.phys_plan.specs.declared.node.Node.{Node}
+use Rattle.phys_plan.specs.declared.node.Op.{Op}
+use Rattle.phys_plan.specs.declared.node.Op.TheVariants as op
+use Rattle.phys_plan.specs.declared.plan.Plan.{Plan}
+use Rattle.stream_model.specs.Machine.{opened}
+use Rattle.stream_model.specs.Network.{task, IsWired, MeetsFacts}
+use Rattle.stream_model.specs.Runs.{Item, after, AreTyped}
+use Rattle.stream_model.specs.Theorem.{PrintsAnswer}
+use Rattle.plan_network.specs.Plans.{numbered, scan_of, table_mode}
+use Rattle.plan_rules.specs.Columns.{node_columns}
+use Rattle.plan_rules.specs.Doings.{around_of, rule_by, network}
+use Rattle.plan_check.specs.Sound.{IsSound}
+
+-- so far no rule is told of these operators
+abbrev pub has_rule : Op → Bool
+has_rule (op.BatchGroup keys aggs) = false
+has_rule (op.Materialize key) = false
+has_rule (op.LocalGroup keys aggs) = false
+has_rule (op.MultiJoin on) = false
+has_rule (op.SetOp except all) = false
+has_rule _ = true
+
+pub record IsRuled (plan : Plan) : Type 0 where
+  pub sound : IsSound plan
+  pub rules : (v : ℕ) (node : Node) → numbered plan.nodes v ≡ Some node → has_rule node.op ≡ true
+
+-- its network is wired, each node has columns and meets its facts, and each port takes what its edge carries
+abbrev pub SoundPlansAreWired : Type 0
+SoundPlansAreWired = (plan : Plan) → IsRuled plan → IsWired (network plan)
+
+abbrev pub SoundPlansMeetFacts : Type 0
+SoundPlansMeetFacts = (plan : Plan) → IsRuled plan → MeetsFacts (network plan)
+
+abbrev pub SoundNodesHaveColumns : Type 0
+SoundNodesHaveColumns = (plan : Plan) → IsRuled plan → (v : ℕ) → 0 < v → v ≤ length plan.nodes → (columns : List ColTy) × (node_columns plan.sources plan.nodes v ≡ Some columns)
+
+abbrev pub SoundPortsTake : Type 0
+SoundPortsTake = (plan : Plan) → IsRuled plan → (v : ℕ) (node : Node) → numbered plan.nodes v ≡ Some node → scan_of node.op ≡ None
+    → TakesAll (rule_by node.op (around_of plan v node.inputs)) (task (network plan) v)
+
+-- so of what a run printed each prefix is a valid changelog of the sink's mode, and at a quiet moment it folds to the sink's batch answer
+abbrev pub SoundPlansPrint : Type 0
+SoundPlansPrint = (plan : Plan) → IsRuled plan → (limit : ℕ) (items : List Item) → AreTyped (network plan) items
+    → PrintsAnswer (network plan) (table_mode plan.sink) (after (network plan) limit (opened (network plan)) items)

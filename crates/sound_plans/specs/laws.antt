@@ -1,0 +1,13 @@
+pub mod Lists
+pub mod Inferences
+pub mod Inferred
+pub mod Consumers
+pub mod Modes
+pub mod Columns
+pub mod Shapes
+pub mod Tables
+pub mod Outputs
+pub mod Local
+pub mod Agreed
+pub mod Stands
+pub mod Wiring

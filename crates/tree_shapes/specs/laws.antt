@@ -1,0 +1,6 @@
+pub mod Uses
+pub mod Types
+pub mod Nodes
+pub mod Parts
+pub mod Trees
+pub mod Plans
