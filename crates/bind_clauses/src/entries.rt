@@ -10,7 +10,7 @@ use crate::from::{dup_name, next};
 use bind_names::is_called;
 use ct_value::{List, Memory, Text};
 use query_answer::{Scope, ScopeColumn};
-use sql_syntax::{Item, Items, Tree};
+use sql_syntax::{Item, Tree};
 use std::alloc::Global;
 
 /// A column by its place, counted from 0, for a star, or what is written.
@@ -33,11 +33,15 @@ pub struct Entry<'a> {
 pub type Entries<'a> = List<Entry<'a>>;
 
 /// What the items of a select list over the columns in reach.
-pub fn entries_of<'a>(alloc: Global, scope: &Scope, items: &'a Items) -> Result<Entries<'a>, Memory>
+pub fn entries_of<'a>(
+    alloc: Global,
+    scope: &Scope,
+    items: &'a [Item],
+) -> Result<Entries<'a>, Memory>
     ensures { IfOk result (λ found. entries_view found ≡ entries scope.now (item_list (items_view items.now))) }
 {
     let mut found = Entries::new(alloc);
-    for item in items.as_slice() {
+    for item in items {
         found.append(item_entries(alloc, scope, item)?)?;
     }
     Ok(found)

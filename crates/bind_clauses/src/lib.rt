@@ -16,6 +16,6 @@ pub use calls::{is_grouped, item_calls, select_calls};
 pub use entries::{Entries, Entry, Listed, entries_of};
 pub use from::{all_of, read, renamed};
 pub use lists::{few, finished, projected};
-pub use plain::{list_plain, plain_select};
+pub use plain::{each_listed, list_plain, plain_select};
 pub use relation::Relation;
 pub use selects::{once, united};

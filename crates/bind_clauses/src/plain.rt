@@ -43,9 +43,9 @@ pub fn list_plain(alloc: Global, scope: &Scope, entries: &Entries<'_>) -> Result
     few(bounds)
 }
 
-// What each entry lists, in order.
+/// What each entry lists, in order.
 #[tactic(auto, using(crate::proofs::InTurn::from_first))]
-fn each_listed(alloc: Global, scope: &Scope, entries: &Entries<'_>) -> Result<Bounds, BindFault>
+pub fn each_listed(alloc: Global, scope: &Scope, entries: &Entries<'_>) -> Result<Bounds, BindFault>
     ensures ok { IfOk result (λ xs. q.in_turn (q.plain_listed scope.now) 0 (entries_view entries.now) ≡ Ok (bounds_view xs)) }
     ensures refused { (code : ScriptCode) → IsErrOf result (f.Refused code) → q.in_turn (q.plain_listed scope.now) 0 (entries_view entries.now) ≡ Err code }
 {

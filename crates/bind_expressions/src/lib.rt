@@ -10,5 +10,5 @@ mod reach;
 mod walk;
 
 pub use conjuncts::{bind_by, bind_conjuncts, bind_each, bind_in_group, bind_over, conditions};
-pub use reach::Reach;
+pub use reach::{Reach, may_change};
 pub use walk::{after, bind};

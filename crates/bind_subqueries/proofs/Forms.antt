@@ -5,7 +5,7 @@ use Rattle.sql_syntax.specs.Tree as t
 use Rattle.sql_syntax.specs.View.{trees_view}
 use Rattle.sql_syntax.specs.declared.tree.Tree.{Tree}
 use Rattle.query_answer.specs.Calls.{Call}
-use Rattle.binding.specs.Queries.{has_groups}
+use Rattle.query_answer.specs.Forms.{has_groups}
 use Rattle.bind_names.specs.declared.calls.CallRef.{CallRef}
 
 some : {A : Type 0} (x : A) (xs : List A) → (length (x ∷ xs) == 0) ≡ false

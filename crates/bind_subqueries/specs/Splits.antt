@@ -1,7 +1,8 @@
 -- Conjuncts by what they are.
 use Rattle.std.specs.Prelude.{Bool, true, false, not, ◌||◌, ◌==◌, List, [], ◌∷◌, length}
 use Rattle.sql_syntax.specs.Tree as t
-use Rattle.binding.specs.Queries.{Part, Own, Linked, Matched, item_calls}
+use Rattle.query_answer.specs.Forms.{item_calls}
+use Rattle.binding.specs.Queries.{Part, Own, Linked, Matched}
 
 -- those with a subquery
 abbrev pub subqueries : List Part → List Part

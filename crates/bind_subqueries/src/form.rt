@@ -3,7 +3,7 @@ ghost use Rattle.std.specs.Prelude.{◌≡◌, option_map, IfOk};
 ghost use Rattle.sql_syntax.specs.Tree.{items as item_list, optional_tree, trees as tree_list};
 ghost use Rattle.sql_syntax.specs.View.{view, item_view, items_view, select_view, trees_view};
 ghost use Rattle.query_answer.specs.Shapes.{has_tree};
-ghost use Rattle.binding.specs.Queries as q;
+ghost use Rattle.query_answer.specs.Forms as q;
 ghost use Rattle.bind_subqueries.specs.Splits.{has_calls};
 
 use bind_names::{CallRefs, push_calls};

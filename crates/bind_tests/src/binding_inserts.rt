@@ -3,7 +3,6 @@ ghost use Rattle.sql_syntax.specs.View.{statement_view};
 ghost use Rattle.ct_catalog.specs.Catalogue.{IsDeclaration};
 
 use bind_names::BindFault;
-use bind_unbuilt::is_unbuilt;
 use binder::bind;
 use ct_catalog::{Catalog, CatalogFault};
 use ct_value::{Bytes, ScriptCode, Text};
@@ -28,7 +27,7 @@ const TABLES: &str =
     CREATE TABLE s (x BIGINT);\
     CREATE TABLE r (x DECIMAL(6, 2), y STRING);";
 
-const INSERTS: [(&str, Outcome); 29] = [
+const INSERTS: [(&str, Outcome); 34] = [
     (
         "INSERT INTO s SELECT DISTINCT x.c FROM t AS x WHERE NOT (a = 1 OR b LIKE 'x%') AND c BETWEEN 1 AND 2 AND a IN (1, 2) \
         AND b IS NOT NULL AND -a + 1 - 2 * 3 > +1 AND CASE WHEN e THEN a ELSE NULL END = 1 AND CAST(a AS STRING) || 'y' <> 'z' \
@@ -61,6 +60,27 @@ const INSERTS: [(&str, Outcome); 29] = [
     ),
     (
         "INSERT INTO s SELECT k FROM u WHERE v NOT IN (SELECT a FROM t);",
+        Outcome::Refused(ScriptCode::Unsupported),
+    ),
+    (
+        "INSERT INTO s SELECT rn FROM (SELECT a AS z, ROW_NUMBER() OVER (PARTITION BY b ORDER BY c DESC, (a)) AS rn, t.* FROM t WHERE e) AS q \
+        WHERE z > 1 AND (q.rn <= 3 AND EXISTS (SELECT 1 FROM u WHERE k = rn));",
+        Outcome::Bound,
+    ),
+    (
+        "INSERT INTO s SELECT COUNT(*) FROM (SELECT ROW_NUMBER() OVER (ORDER BY k) AS rn FROM u) WHERE rn < 5;",
+        Outcome::Bound,
+    ),
+    (
+        "INSERT INTO s SELECT rn FROM (SELECT ROW_NUMBER() OVER (ORDER BY k) AS rn FROM u) WHERE rn < 1;",
+        Outcome::Refused(ScriptCode::RankUnbounded),
+    ),
+    (
+        "INSERT INTO s SELECT k FROM u WHERE EXISTS (SELECT ROW_NUMBER() OVER (ORDER BY a) AS rn FROM t) AND n = 1;",
+        Outcome::Refused(ScriptCode::UnknownColumn),
+    ),
+    (
+        "INSERT INTO s SELECT rn FROM (SELECT ROW_NUMBER() OVER (ORDER BY k + 1) AS rn FROM u) WHERE rn < 5;",
         Outcome::Refused(ScriptCode::Unsupported),
     ),
     ("SET 'pipeline.name' = 'p';", Outcome::NoInsert),
@@ -210,31 +230,5 @@ fn inserts_are_bound_or_refused(rt: HostRuntime) -> Result<(), Fail> {
     for (text, wanted) in &INSERTS {
         assert_eq!(rt; judged(alloc, &catalog, text), *wanted);
     }
-    Ok(())
-}
-
-fn waits(alloc: Global, text: &str) -> Option<bool> {
-    let script = parse(alloc, text)?;
-    match script.statements.get(0) {
-        Some(Statement::Insert { query, .. }) => Some(is_unbuilt(query)),
-        _ => None,
-    }
-}
-
-#[test]
-fn forms_that_are_not_built_are_told(rt: HostRuntime) -> Result<(), Fail> {
-    let alloc = rt.alloc();
-    let joined = waits(alloc, "INSERT INTO s SELECT 1 FROM u JOIN t ON TRUE;");
-    assert!(rt; joined == Some(false));
-    let within = waits(
-        alloc,
-        "INSERT INTO s SELECT k FROM u WHERE EXISTS (SELECT 1 FROM t);",
-    );
-    assert!(rt; within == Some(false));
-    let numbered = waits(
-        alloc,
-        "INSERT INTO s SELECT k FROM u WHERE EXISTS (SELECT ROW_NUMBER() OVER (ORDER BY a) FROM t);",
-    );
-    assert!(rt; numbered == Some(true));
     Ok(())
 }

@@ -58,16 +58,16 @@ several : (plain : Bool) (r : Checked Relation) (s : Checked Relation) (f : Scop
 several plain (Ok a) s f = first plain a.rel a.scope s f
 several plain (Err code) s f = refl
 
-pub by_selects : (sources : List TableDef) (xs : t.Selects) (order : t.SortList) (limit : Option t.Text) → query_bound sources (t.query_of xs order limit) ≡ (all_bound sources xs >>= unless_ordered order limit)
-by_selects sources t.no_selects order limit = refl
-by_selects sources (t.select_and x t.no_selects) order limit = alone (is_plain order limit) (select_bound sources x)
-by_selects sources (t.select_and x (t.select_and y ys)) order limit =
-    several (is_plain order limit) (select_bound sources x) (select_bound sources y) (λ both. selects_bound sources both ys)
+pub by_selects : (free : Bool) (sources : List TableDef) (xs : t.Selects) (order : t.SortList) (limit : Option t.Text) → query_bound free sources (t.query_of xs order limit) ≡ (all_bound free sources xs >>= unless_ordered order limit)
+by_selects free sources t.no_selects order limit = refl
+by_selects free sources (t.select_and x t.no_selects) order limit = alone (is_plain order limit) (select_bound free sources x)
+by_selects free sources (t.select_and x (t.select_and y ys)) order limit =
+    several (is_plain order limit) (select_bound free sources x) (select_bound free sources y) (λ both. selects_bound free sources both ys)
 
-pub by_query : (sources : List TableDef) (x : Query)
-    → query_bound sources (query_view x) ≡ (all_bound sources (t.selects (selects_view (out-Query x).selects)) >>= unless_ordered (t.sort_list (sorts_view (out-Query x).order)) (out-Query x).limit)
-by_query sources x =
-    ap (query_bound sources) (query x) ∙ by_selects sources (t.selects (selects_view (out-Query x).selects)) (t.sort_list (sorts_view (out-Query x).order)) (out-Query x).limit
+pub by_query : (free : Bool) (sources : List TableDef) (x : Query)
+    → query_bound free sources (query_view x) ≡ (all_bound free sources (t.selects (selects_view (out-Query x).selects)) >>= unless_ordered (t.sort_list (sorts_view (out-Query x).order)) (out-Query x).limit)
+by_query free sources x =
+    ap (query_bound free sources) (query x) ∙ by_selects free sources (t.selects (selects_view (out-Query x).selects)) (t.sort_list (sorts_view (out-Query x).order)) (out-Query x).limit
 
 -- ---- ORDER BY and LIMIT
 

@@ -3,6 +3,8 @@ pub mod Columns
 pub mod Exists
 pub mod IntoSinks
 pub mod Joins
+pub mod Lefts
+pub mod OnlySources
 pub mod Pops
 pub mod Selects
 pub mod Unions

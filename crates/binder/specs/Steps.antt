@@ -1,15 +1,17 @@
 -- Steps of the walk of a query, as the code takes them.
-use Rattle.std.specs.Prelude.{◌≡◌, ℕ, Bool, false, not, ◌&&◌, ◌||◌, cond, List, [], ◌∷◌, ◌++◌, Option, Some, None, Ok, Err}
-use Rattle.ct_value.specs.declared.codes.ScriptCode.TheVariants.{Unsupported}
+use Rattle.std.specs.Prelude.{◌≡◌, ℕ, ◌-◌, nat_lt, length, Bool, false, not, ◌&&◌, ◌||◌, cond, List, [], ◌∷◌, ◌++◌, Option, Some, None, Ok, Err}
+use Rattle.ct_value.specs.declared.codes.ScriptCode.TheVariants.{RankUnbounded, Unsupported}
 use Rattle.ct_catalog.specs.declared.table.TableDef.{TableDef}
 use Rattle.rel_algebra.specs.Rel.{Rel, Rels, Union, rels, rel_and}
 use Rattle.sql_syntax.specs.Tree.{Tree, Text}
 use Rattle.sql_syntax.specs.Tree as t
-use Rattle.query_answer.specs.Answer.{Entry, is_grouped, types}
+use Rattle.query_answer.specs.Answer.{Entry, conjuncts, entries, is_grouped, types}
+use Rattle.query_answer.specs.Forms.{is_simple}
 use Rattle.query_answer.specs.Names.{Scope}
+use Rattle.query_answer.specs.Ranks.{Ranked}
 use Rattle.binding.specs.Checked.{Checked, ◌>>=◌}
 use Rattle.binding.specs.Inserts.{column_types, go_into, scans}
-use Rattle.binding.specs.Queries.{Outside, Part, Relation, alone, denied_bound, exists_bound, grouped_select, inside_bound, is_plain, is_simple, member_part, own_value, plain_part, plain_select, query_bound, select_bound, selects_bound, united}
+use Rattle.binding.specs.Queries.{Outside, Part, Relation, Framed, FromWhere, Only, all_parts_bound, all_parts_but, alone, alone_bound, denied_bound, exists_bound, exists_part, framed, grouped_select, inside_bound, is_plain, joins_bound, kept, list_bound, member_part, own_value, parts_bound, parts_but, plain_listed, plain_part, plain_select, query_bound, ranked_list, read_by, select_bound, selects_bound, source_bound, united}
 
 -- a query with ORDER BY or LIMIT is refused behind its selects
 abbrev pub unless_ordered : t.SortList → Option Text → Relation → Checked Relation
@@ -24,8 +26,8 @@ abbrev pub union_of_all : List Rel → Rels × Scope → Relation
 union_of_all inputs p = record { rel = Union (onto inputs p.0); scope = p.1 }
 
 -- the UNION ALL of inputs and of the selects behind them
-abbrev pub union_from : List TableDef → List Rel → Scope → t.Selects → Checked Relation
-union_from sources inputs scope xs = selects_bound sources scope xs >>= λ p. Ok (union_of_all inputs p)
+abbrev pub union_from : Bool → List TableDef → List Rel → Scope → t.Selects → Checked Relation
+union_from free sources inputs scope xs = selects_bound free sources scope xs >>= λ p. Ok (union_of_all inputs p)
 
 -- the columns of a select and of those before it, if there are any
 abbrev pub common_scope : Option Scope → Scope → Checked Scope
@@ -33,10 +35,10 @@ common_scope None scope = Ok scope
 common_scope (Some before) scope = united before scope
 
 -- the same where the columns of those before may not be known yet; no text has a UNION ALL of nothing
-abbrev pub union_of_rest : List TableDef → List Rel → Option Scope → t.Selects → Checked Relation
-union_of_rest sources inputs (Some scope) xs = union_from sources inputs scope xs
-union_of_rest sources inputs None t.no_selects = Err Unsupported
-union_of_rest sources inputs None (t.select_and x xs) = select_bound sources x >>= λ a. union_from sources (inputs ++ a.rel ∷ []) a.scope xs
+abbrev pub union_of_rest : Bool → List TableDef → List Rel → Option Scope → t.Selects → Checked Relation
+union_of_rest free sources inputs (Some scope) xs = union_from free sources inputs scope xs
+union_of_rest free sources inputs None t.no_selects = Err Unsupported
+union_of_rest free sources inputs None (t.select_and x xs) = select_bound free sources x >>= λ a. union_from free sources (inputs ++ a.rel ∷ []) a.scope xs
 
 -- the Union of inputs that have these columns
 abbrev pub whole_union : List Rel → Option Scope → Checked Relation
@@ -44,10 +46,10 @@ whole_union inputs None = Err Unsupported
 whole_union inputs (Some scope) = Ok (record { rel = Union (rels inputs); scope = scope })
 
 -- one select alone, or several
-abbrev pub all_bound : List TableDef → t.Selects → Checked Relation
-all_bound sources t.no_selects = Err Unsupported
-all_bound sources (t.select_and x t.no_selects) = select_bound sources x
-all_bound sources (t.select_and x (t.select_and y ys)) = select_bound sources x >>= λ a. union_from sources (a.rel ∷ []) a.scope (t.select_and y ys)
+abbrev pub all_bound : Bool → List TableDef → t.Selects → Checked Relation
+all_bound free sources t.no_selects = Err Unsupported
+all_bound free sources (t.select_and x t.no_selects) = select_bound free sources x
+all_bound free sources (t.select_and x (t.select_and y ys)) = select_bound free sources x >>= λ a. union_from free sources (a.rel ∷ []) a.scope (t.select_and y ys)
 
 -- the select list, before DISTINCT
 abbrev pub listed : List Entry → List Tree → t.OptionalTree → Relation → Checked Relation
@@ -63,24 +65,82 @@ misfits number x sink = scans number x.rel || not (go_into (types x.scope) (colu
 abbrev pub IsOk : {A : Type 0} → Checked A → Type 0
 IsOk {A} r = (x : A) × (r ≡ Ok x)
 
-abbrev pub member_bound : List TableDef → Outside → Scope → Tree → t.Query → Checked Part
-member_bound sources outside own x q = plain_part outside own x >>= own_value >>= λ a. query_bound sources q >>= member_part own x a
+abbrev pub member_bound : Bool → List TableDef → Outside → Scope → Tree → t.Query → Checked Part
+member_bound free sources outside own x q = plain_part outside own x >>= own_value >>= λ a. query_bound free sources q >>= member_part own x a
 
 -- a conjunct that is neither an AND nor in parentheses
-abbrev pub part_bound : List TableDef → Outside → Scope → Tree → Checked Part
-part_bound sources outside own (t.Exists q) = exists_bound sources false own q
-part_bound sources outside own (t.Not x) = denied_bound sources outside own (t.Not x) x
-part_bound sources outside own (t.InQuery x q false) = member_bound sources outside own x q
-part_bound sources outside own x = plain_part outside own x
+abbrev pub part_bound : Bool → List TableDef → Outside → Scope → Tree → Checked Part
+part_bound free sources outside own (t.Exists q) = exists_bound free sources false own q
+part_bound free sources outside own (t.Not x) = denied_bound free sources outside own (t.Not x) x
+part_bound free sources outside own (t.InQuery x q false) = member_bound free sources outside own x q
+part_bound free sources outside own x = plain_part outside own x
 
-abbrev pub only_part : List TableDef → Outside → Scope → Tree → Checked (List Part)
-only_part sources outside own x = part_bound sources outside own x >>= alone
+abbrev pub only_part : Bool → List TableDef → Outside → Scope → Tree → Checked (List Part)
+only_part free sources outside own x = part_bound free sources outside own x >>= alone
 
 -- the subquery of an EXISTS, by its selects
-abbrev pub exists_simple : List TableDef → Bool → Scope → Bool → t.Select → Checked Part
-exists_simple sources anti outside plain x = cond (is_simple x && plain) (inside_bound sources anti outside x) (Err Unsupported)
+abbrev pub exists_simple : Bool → List TableDef → Bool → Scope → Bool → t.Select → Checked Part
+exists_simple free sources anti outside plain x = cond (is_simple x && plain) (inside_bound free sources anti outside x) (Err Unsupported)
 
-abbrev pub exists_only : List TableDef → Bool → Scope → Bool → t.Selects → Checked Part
-exists_only sources anti outside plain t.no_selects = Err Unsupported
-exists_only sources anti outside plain (t.select_and x t.no_selects) = exists_simple sources anti outside plain x
-exists_only sources anti outside plain (t.select_and x (t.select_and y ys)) = Err Unsupported
+abbrev pub exists_only : Bool → List TableDef → Bool → Scope → Bool → t.Selects → Checked Part
+exists_only free sources anti outside plain t.no_selects = Err Unsupported
+exists_only free sources anti outside plain (t.select_and x t.no_selects) = exists_simple free sources anti outside plain x
+exists_only free sources anti outside plain (t.select_and x (t.select_and y ys)) = Err Unsupported
+
+-- ---- conjuncts, but for one that may be spent
+
+abbrev pub left_bound : Bool → List TableDef → Option ℕ → Outside → Scope → Tree → Checked (List Part)
+left_bound free sources None outside own x = parts_bound free sources outside own x
+left_bound free sources (Some n) outside own x = parts_but free sources n outside own x
+
+abbrev pub all_left_bound : Bool → List TableDef → Option ℕ → Outside → Scope → t.Trees → Checked (List Part)
+all_left_bound free sources None outside own xs = all_parts_bound free sources outside own xs
+all_left_bound free sources (Some n) outside own xs = all_parts_but free sources n outside own xs
+
+-- in a tree itself, and behind it
+abbrev pub spent_here : Option ℕ → Tree → Option ℕ
+spent_here None x = None
+spent_here (Some n) x = cond (nat_lt n (length (conjuncts x))) (Some n) None
+
+abbrev pub spent_behind : Option ℕ → Tree → Option ℕ
+spent_behind None x = None
+spent_behind (Some n) x = cond (nat_lt n (length (conjuncts x))) None (Some (n - length (conjuncts x)))
+
+-- ---- what a select reads
+
+abbrev pub joined_framed : Bool → List TableDef → t.Select → Checked Framed
+joined_framed free sources (t.select_of distinct items from joins condition groups having) =
+    source_bound free sources from >>= joins_bound free sources joins >>= λ x. Ok (record { relation = x; spent = None })
+
+abbrev pub only_framed : Bool → List TableDef → t.Select → t.Source → Checked Framed
+only_framed free sources outer from = read_by t.no_joins (alone_bound free sources from) (source_bound free sources from) >>= framed free outer
+
+abbrev pub read_framed : Bool → List TableDef → t.Select → Checked Framed
+read_framed free sources (t.select_of distinct items from joins condition groups having) =
+    read_by joins (alone_bound free sources from) (source_bound free sources from >>= joins_bound free sources joins) >>= framed free (t.select_of distinct items from joins condition groups having)
+
+-- a select that is alone
+abbrev pub only_select : t.Selects → Option t.Select
+only_select t.no_selects = None
+only_select (t.select_and x t.no_selects) = Some x
+only_select (t.select_and x (t.select_and y ys)) = None
+
+-- of a query without ORDER BY and LIMIT
+abbrev pub selects_framed : Bool → List TableDef → t.Select → t.Selects → Option Text → Checked Framed
+selects_framed free sources outer xs alias = only_framed free sources outer (t.FromQuery (t.query_of xs t.no_sorts None) alias)
+
+abbrev pub select_framed : Bool → List TableDef → t.Select → t.Select → Option Text → Checked Framed
+select_framed free sources outer x alias = selects_framed free sources outer (t.select_and x t.no_selects) alias
+
+-- of one with a rank
+abbrev pub from_list : Bool → t.Select → Option Text → Ranked → FromWhere → Checked Framed
+from_list free outer alias q f = ranked_list q (kept f.parts f.relation) >>= λ x. framed free outer (Only (record { alias = alias; list = x }))
+
+-- ---- the list of an EXISTS's subquery
+
+abbrev pub plain_exists : Bool → t.Select → FromWhere → Checked Part
+plain_exists anti (t.select_of distinct items from joins condition groups having) f =
+    list_bound (plain_listed f.relation.scope) (entries f.relation.scope items) >>= λ listed. Ok (exists_part anti f.parts f.relation)
+
+abbrev pub ranked_exists : Bool → Bool → Ranked → FromWhere → Checked Part
+ranked_exists free anti q f = ranked_list q f.relation >>= λ x. cond free (Ok (exists_part anti f.parts f.relation)) (Err RankUnbounded)

@@ -1,6 +1,6 @@
 //! An INSERT: its query over the tables other than the sink, and the sink's columns.
 ghost use Rattle.bind_names.specs.declared.fault.BindFault.TheVariants as f;
-ghost use Rattle.std.specs.Prelude.{◌≡◌, Ok, Err, option_map, IfOk, IsErrOf};
+ghost use Rattle.std.specs.Prelude.{◌≡◌, false, Ok, Err, option_map, IfOk, IsErrOf};
 ghost use Rattle.std.specs.List.{find};
 ghost use Rattle.ct_value.specs.declared.codes.ScriptCode.{ScriptCode};
 ghost use Rattle.sql_syntax.specs.View.{query_view};
@@ -68,8 +68,8 @@ fn sources_for(alloc: Global, tables: &Sources, sink: &Text) -> Result<Sources, 
     Ok(sources)
 }
 
-// While the query is bound the sink stands behind the sources, so that a query that reads it is told from one that reads no table.
-#[tactic(auto, using(crate::proofs::IntoSinks::not_bound, crate::proofs::IntoSinks::too_wide, crate::proofs::IntoSinks::fits, crate::proofs::Pops::last_same))]
+// First with free ranks, so that a rank without a bound is refused behind all else.
+#[tactic(auto, using(crate::proofs::IntoSinks::first_refused))]
 fn into_sink(
     alloc: Global,
     sources: Sources,
@@ -79,9 +79,32 @@ fn into_sink(
     ensures ok { IfOk result (λ x. i.into_sink sources (query_view query.now) sink ≡ Ok (inserted_view x)) }
     ensures refused { (code : ScriptCode) → IsErrOf result (f.Refused code) → i.into_sink sources (query_view query.now) sink ≡ Err code }
 {
+    let bound = sunk(alloc, true, sources, query, sink)?;
+    bound_again(alloc, query, bound)
+}
+
+fn bound_again(alloc: Global, query: &Query, bound: Inserted) -> Result<Inserted, BindFault>
+    ensures ok { IfOk result (λ x. i.sunk false bound.sources (query_view query.now) bound.sink ≡ Ok (inserted_view x)) }
+    ensures refused { (code : ScriptCode) → IsErrOf result (f.Refused code) → i.sunk false bound.sources (query_view query.now) bound.sink ≡ Err code }
+{
+    sunk(alloc, false, bound.sources, query, bound.sink)
+}
+
+// While the query is bound the sink stands behind the sources, so that a query that reads it is told from one that reads no table.
+#[tactic(auto, using(crate::proofs::IntoSinks::not_bound, crate::proofs::IntoSinks::too_wide, crate::proofs::IntoSinks::fits, crate::proofs::Pops::last_same))]
+fn sunk(
+    alloc: Global,
+    free: bool,
+    sources: Sources,
+    query: &Query,
+    sink: TableDef,
+) -> Result<Inserted, BindFault>
+    ensures ok { IfOk result (λ x. i.sunk free sources (query_view query.now) sink ≡ Ok (inserted_view x)) }
+    ensures refused { (code : ScriptCode) → IsErrOf result (f.Refused code) → i.sunk free sources (query_view query.now) sink ≡ Err code }
+{
     let mut tables = sources;
     tables.push(sink)?;
-    let relation = bind_query(alloc, &tables, query)?;
+    let relation = bind_query(alloc, free, &tables, query)?;
     let Some(sink) = tables.pop() else {
         unreachable!()
     };

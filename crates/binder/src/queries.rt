@@ -1,23 +1,28 @@
 //! Queries: selects, their sources and joins, the subqueries of a WHERE, and UNION ALL.
 ghost use Rattle.bind_names.specs.declared.fault.BindFault.TheVariants as f;
-ghost use Rattle.std.specs.Prelude.{◌≡◌, true, false, [], None, Ok, Err, option_map, IfOk, OnOk, IsErrOf};
+ghost use Rattle.std.specs.Prelude.{◌≡◌, ◌∷◌, true, false, [], None, Ok, Err, option_map, IfOk, IfSome, OnOk, IsErrOf};
 ghost use Rattle.ct_value.specs.declared.codes.ScriptCode.{ScriptCode};
 ghost use Rattle.sql_syntax.specs.Tree.{joins as join_list, optional_tree, selects as select_list, sort_list, trees as tree_list};
 ghost use Rattle.sql_syntax.specs.View.{joins_view, query_view, select_view, selects_view, sorts_view, source_view, trees_view, view};
 ghost use Rattle.rel_algebra.specs.View.{rels_view};
-ghost use Rattle.binding.specs.Queries.{all_parts_bound, denied_bound, exists_bound, inside_bound, is_plain, joins_bound, parts_bound, query_bound, select_bound, source_bound, where_bound};
+ghost use Rattle.binding.specs.Queries.{all_parts_bound, all_parts_but, denied_bound, exists_bound, gathered_bound, inside_bound, is_plain, joins_bound, parts_bound, parts_but, query_bound, select_bound, source_bound, where_bound};
 ghost use Rattle.bind_clauses.specs.Views.{relation_view};
 ghost use Rattle.bind_subqueries.specs.Views.{outside_view, part_view, parts_view};
-ghost use Rattle.binder.specs.Steps.{all_bound, common_scope, exists_only, exists_simple, member_bound, only_part, part_bound, union_of_rest, whole_union};
+ghost use Rattle.bind_ranks.specs.Views.{framed_view};
+ghost use Rattle.binder.specs.Views.{from_where_view};
+ghost use Rattle.sql_syntax.specs.Tree as t;
+ghost use Rattle.binder.specs.Steps.{all_bound, common_scope, exists_only, exists_simple, joined_framed, left_bound, member_bound, only_framed, only_part, only_select, part_bound, read_framed, select_framed, selects_framed, union_of_rest, whole_union};
 
-use crate::selected::{refuse_list, selected};
+use crate::gathered::{FromWhere, exists_over, select_over, side_by_side, sole, under_alias};
+use crate::spent::split_spent;
 use bind_clauses::{Relation, read, renamed, united};
 use bind_joins::{joined, kind_of};
 use bind_names::BindFault;
+use bind_ranks::Framed;
 use bind_subqueries::{
-    Outside, Part, Parts, alone, exists_part, is_simple, kept, member_part, own_value, plain_part,
-    tests,
+    Outside, Part, Parts, alone, is_simple, member_part, own_value, plain_part, tests,
 };
+use bind_tops::ranked_select;
 use ct_catalog::Sources;
 use ct_value::{ScriptCode, Text};
 use query_answer::Scope;
@@ -29,13 +34,14 @@ use std::alloc::Global;
 #[cycle(query)]
 pub(crate) fn bind_query(
     alloc: Global,
+    free: bool,
     sources: &Sources,
     query: &Query,
 ) -> Result<Relation, BindFault>
-    ensures ok { IfOk result (λ x. query_bound sources.now (query_view query.now) ≡ Ok (relation_view x)) }
-    ensures refused { (code : ScriptCode) → IsErrOf result (f.Refused code) → query_bound sources.now (query_view query.now) ≡ Err code }
+    ensures ok { IfOk result (λ x. query_bound free sources.now (query_view query.now) ≡ Ok (relation_view x)) }
+    ensures refused { (code : ScriptCode) → IsErrOf result (f.Refused code) → query_bound free sources.now (query_view query.now) ≡ Err code }
 {
-    let relation = bind_selects(alloc, sources, &query.selects)?;
+    let relation = bind_selects(alloc, free, sources, &query.selects)?;
     refuse_ordered(&query.order, &query.limit)?;
     Ok(relation)
 }
@@ -63,27 +69,37 @@ fn is_plain(order: &SortList, limit: &Option<Text>) -> bool
 
 // One select alone, or the UNION ALL of several.
 #[cycle(query)]
-fn bind_selects(alloc: Global, sources: &Sources, selects: &Selects) -> Result<Relation, BindFault>
-    ensures ok { IfOk result (λ x. all_bound sources.now (select_list (selects_view selects.now)) ≡ Ok (relation_view x)) }
-    ensures refused { (code : ScriptCode) → IsErrOf result (f.Refused code) → all_bound sources.now (select_list (selects_view selects.now)) ≡ Err code }
+fn bind_selects(
+    alloc: Global,
+    free: bool,
+    sources: &Sources,
+    selects: &Selects,
+) -> Result<Relation, BindFault>
+    ensures ok { IfOk result (λ x. all_bound free sources.now (select_list (selects_view selects.now)) ≡ Ok (relation_view x)) }
+    ensures refused { (code : ScriptCode) → IsErrOf result (f.Refused code) → all_bound free sources.now (select_list (selects_view selects.now)) ≡ Err code }
 {
     match selects.as_slice() {
         [] => Err(BindFault::Refused(ScriptCode::Unsupported)),
-        [select] => bind_select(alloc, sources, select),
-        [_, _, ..] => bind_union(alloc, sources, selects),
+        [select] => bind_select(alloc, free, sources, select),
+        [_, _, ..] => bind_union(alloc, free, sources, selects),
     }
 }
 
 // The UNION ALL of selects.
 #[cycle(query)]
-fn bind_union(alloc: Global, sources: &Sources, selects: &Selects) -> Result<Relation, BindFault>
-    ensures ok { IfOk result (λ x. union_of_rest sources.now [] None (select_list (selects_view selects.now)) ≡ Ok (relation_view x)) }
-    ensures refused { (code : ScriptCode) → IsErrOf result (f.Refused code) → union_of_rest sources.now [] None (select_list (selects_view selects.now)) ≡ Err code }
+fn bind_union(
+    alloc: Global,
+    free: bool,
+    sources: &Sources,
+    selects: &Selects,
+) -> Result<Relation, BindFault>
+    ensures ok { IfOk result (λ x. union_of_rest free sources.now [] None (select_list (selects_view selects.now)) ≡ Ok (relation_view x)) }
+    ensures refused { (code : ScriptCode) → IsErrOf result (f.Refused code) → union_of_rest free sources.now [] None (select_list (selects_view selects.now)) ≡ Err code }
 {
     let mut inputs = Rels::with_capacity(alloc, selects.len())?;
     let mut scope = None;
     for select in selects.as_slice() {
-        let relation = bind_select(alloc, sources, select)?;
+        let relation = bind_select(alloc, free, sources, select)?;
         scope = Some(common_scope(alloc, scope, relation.scope)?);
         inputs.push(Box::into_inner(relation.rel))?;
     }
@@ -116,42 +132,201 @@ fn common_scope(alloc: Global, before: Option<Scope>, scope: Scope) -> Result<Sc
 
 // The clauses of a select, in the order in which they are walked.
 #[cycle(query)]
-#[tactic(auto, using(sql_syntax::specs::laws::Views::select))]
-fn bind_select(alloc: Global, sources: &Sources, select: &Select) -> Result<Relation, BindFault>
-    ensures ok { IfOk result (λ x. select_bound sources.now (select_view select.now) ≡ Ok (relation_view x)) }
-    ensures refused { (code : ScriptCode) → IsErrOf result (f.Refused code) → select_bound sources.now (select_view select.now) ≡ Err code }
+fn bind_select(
+    alloc: Global,
+    free: bool,
+    sources: &Sources,
+    select: &Select,
+) -> Result<Relation, BindFault>
+    ensures ok { IfOk result (λ x. select_bound free sources.now (select_view select.now) ≡ Ok (relation_view x)) }
+    ensures refused { (code : ScriptCode) → IsErrOf result (f.Refused code) → select_bound free sources.now (select_view select.now) ≡ Err code }
 {
-    let first = bind_source(alloc, sources, &select.from)?;
-    let relation = joined_all(alloc, sources, first, &select.joins)?;
+    let gathered = bind_from_where(alloc, free, sources, Outside::Hidden, select)?;
+    select_over(alloc, free, select, gathered)
+}
+
+// FROM and WHERE of a select.
+#[cycle(query)]
+#[tactic(auto, using(sql_syntax::specs::laws::Views::select))]
+fn bind_from_where(
+    alloc: Global,
+    free: bool,
+    sources: &Sources,
+    outside: Outside<'_>,
+    select: &Select,
+) -> Result<FromWhere, BindFault>
+    ensures ok { IfOk result (λ g. gathered_bound free sources.now (outside_view outside.entry) (select_view select.now) ≡ Ok (from_where_view g)) }
+    ensures refused { (code : ScriptCode) → IsErrOf result (f.Refused code) → gathered_bound free sources.now (outside_view outside.entry) (select_view select.now) ≡ Err code }
+{
+    let framed = bind_read(alloc, free, sources, select)?;
+    let own = &framed.relation.scope;
     let parts = bind_where(
         alloc,
+        free,
         sources,
-        Outside::Hidden,
-        &relation.scope,
+        framed.spent,
+        outside,
+        own,
         &select.cond,
     )?;
-    let relation = kept(alloc, parts, relation)?;
-    selected(
-        alloc,
-        select.distinct,
-        &select.items,
-        &select.groups,
-        &select.having,
-        relation,
-    )
+    Ok(FromWhere {
+        relation: framed.relation,
+        parts,
+    })
+}
+
+// What a select reads.
+#[cycle(query)]
+fn bind_read(
+    alloc: Global,
+    free: bool,
+    sources: &Sources,
+    select: &Select,
+) -> Result<Framed, BindFault>
+    ensures ok { IfOk result (λ x. read_framed free sources.now (select_view select.now) ≡ Ok (framed_view x)) }
+    ensures refused { (code : ScriptCode) → IsErrOf result (f.Refused code) → read_framed free sources.now (select_view select.now) ≡ Err code }
+{
+    if select.joins.is_empty() {
+        return bind_alone(alloc, free, sources, &select.from, select);
+    }
+    bind_joined(alloc, free, sources, select)
+}
+
+// Sources side by side.
+#[cycle(query)]
+#[tactic(auto, using(sql_syntax::specs::laws::Views::select))]
+fn bind_joined(
+    alloc: Global,
+    free: bool,
+    sources: &Sources,
+    select: &Select,
+) -> Result<Framed, BindFault>
+    ensures ok { IfOk result (λ x. joined_framed free sources.now (select_view select.now) ≡ Ok (framed_view x)) }
+    ensures refused { (code : ScriptCode) → IsErrOf result (f.Refused code) → joined_framed free sources.now (select_view select.now) ≡ Err code }
+{
+    let first = bind_source(alloc, free, sources, &select.from)?;
+    let relation = joined_all(alloc, free, sources, first, &select.joins)?;
+    Ok(side_by_side(relation))
+}
+
+// An only source.
+#[cycle(query)]
+#[tactic(auto, unfolding(sql_syntax::specs::View::source_view, sql_syntax::specs::View::query_view), using(crate::proofs::OnlySources::table))]
+fn bind_alone(
+    alloc: Global,
+    free: bool,
+    sources: &Sources,
+    from: &Source,
+    outer: &Select,
+) -> Result<Framed, BindFault>
+    ensures ok { IfOk result (λ x. only_framed free sources.now (select_view outer.now) (source_view from.now) ≡ Ok (framed_view x)) }
+    ensures refused { (code : ScriptCode) → IsErrOf result (f.Refused code) → only_framed free sources.now (select_view outer.now) (source_view from.now) ≡ Err code }
+{
+    match from {
+        Source::Table { name, alias } => Ok(side_by_side(read(alloc, sources, name, alias)?)),
+        Source::Sub { query, alias } => {
+            bind_alone_query(alloc, free, sources, query, outer, alias)
+        }
+    }
+}
+
+// A query as the only source.
+#[cycle(query)]
+fn bind_alone_query(
+    alloc: Global,
+    free: bool,
+    sources: &Sources,
+    query: &Query,
+    outer: &Select,
+    alias: &Option<Text>,
+) -> Result<Framed, BindFault>
+    ensures ok { IfOk result (λ x. only_framed free sources.now (select_view outer.now) (t.FromQuery (query_view query.now) alias.now) ≡ Ok (framed_view x)) }
+    ensures refused { (code : ScriptCode) → IsErrOf result (f.Refused code) → only_framed free sources.now (select_view outer.now) (t.FromQuery (query_view query.now) alias.now) ≡ Err code }
+{
+    if is_plain(&query.order, &query.limit) {
+        return bind_alone_selects(alloc, free, sources, &query.selects, outer, alias);
+    }
+    let relation = bind_query(alloc, free, sources, query)?;
+    Ok(under_alias(alloc, alias, relation)?)
+}
+
+// A select that is alone.
+#[tactic(auto, using(crate::proofs::OnlySources::none_alone))]
+fn only_select(selects: &Selects) -> Option<&Select>
+    ensures select { option_map (λ s. select_view s.now) result ≡ only_select (select_list (selects_view selects.now)) }
+    ensures alone { IfSome result (λ s. selects.now ≡ s.now ∷ []) }
+{
+    match selects.as_slice() {
+        [] => None,
+        [select] => Some(select),
+        [_, _, ..] => None,
+    }
+}
+
+// The selects of a query without ORDER BY and LIMIT as the only source.
+#[cycle(query)]
+fn bind_alone_selects(
+    alloc: Global,
+    free: bool,
+    sources: &Sources,
+    selects: &Selects,
+    outer: &Select,
+    alias: &Option<Text>,
+) -> Result<Framed, BindFault>
+    ensures ok { IfOk result (λ x. selects_framed free sources.now (select_view outer.now) (select_list (selects_view selects.now)) alias.now ≡ Ok (framed_view x)) }
+    ensures refused { (code : ScriptCode) → IsErrOf result (f.Refused code) → selects_framed free sources.now (select_view outer.now) (select_list (selects_view selects.now)) alias.now ≡ Err code }
+{
+    match only_select(selects) {
+        None => {
+            let relation = bind_selects(alloc, free, sources, selects)?;
+            Ok(under_alias(alloc, alias, relation)?)
+        }
+        Some(select) => bind_alone_select(alloc, free, sources, select, outer, alias),
+    }
+}
+
+// The only select of a query, which may have a rank.
+#[cycle(query)]
+#[tactic(auto, using(crate::proofs::OnlySources::ranked, crate::proofs::OnlySources::unranked))]
+fn bind_alone_select(
+    alloc: Global,
+    free: bool,
+    sources: &Sources,
+    select: &Select,
+    outer: &Select,
+    alias: &Option<Text>,
+) -> Result<Framed, BindFault>
+    ensures ok { IfOk result (λ x. select_framed free sources.now (select_view outer.now) (select_view select.now) alias.now ≡ Ok (framed_view x)) }
+    ensures refused { (code : ScriptCode) → IsErrOf result (f.Refused code) → select_framed free sources.now (select_view outer.now) (select_view select.now) alias.now ≡ Err code }
+{
+    match ranked_select(alloc, select)? {
+        None => {
+            let relation = bind_select(alloc, free, sources, select)?;
+            Ok(under_alias(alloc, alias, relation)?)
+        }
+        Some(list) => {
+            let gathered = bind_from_where(alloc, free, sources, Outside::Hidden, select)?;
+            sole(alloc, free, outer, alias, list, gathered)
+        }
+    }
 }
 
 // A table, or a query among the sources.
 #[cycle(query)]
 #[tactic(auto, unfolding(sql_syntax::specs::View::source_view, sql_syntax::specs::View::query_view))]
-fn bind_source(alloc: Global, sources: &Sources, source: &Source) -> Result<Relation, BindFault>
-    ensures ok { IfOk result (λ x. source_bound sources.now (source_view source.now) ≡ Ok (relation_view x)) }
-    ensures refused { (code : ScriptCode) → IsErrOf result (f.Refused code) → source_bound sources.now (source_view source.now) ≡ Err code }
+fn bind_source(
+    alloc: Global,
+    free: bool,
+    sources: &Sources,
+    source: &Source,
+) -> Result<Relation, BindFault>
+    ensures ok { IfOk result (λ x. source_bound free sources.now (source_view source.now) ≡ Ok (relation_view x)) }
+    ensures refused { (code : ScriptCode) → IsErrOf result (f.Refused code) → source_bound free sources.now (source_view source.now) ≡ Err code }
 {
     match source {
         Source::Table { name, alias } => read(alloc, sources, name, alias),
         Source::Sub { query, alias } => {
-            let relation = bind_query(alloc, sources, query)?;
+            let relation = bind_query(alloc, free, sources, query)?;
             Ok(renamed(alloc, alias, relation)?)
         }
     }
@@ -161,40 +336,112 @@ fn bind_source(alloc: Global, sources: &Sources, source: &Source) -> Result<Rela
 #[cycle(query)]
 fn joined_all(
     alloc: Global,
+    free: bool,
     sources: &Sources,
     first: Relation,
     joins: &JoinItems,
 ) -> Result<Relation, BindFault>
-    ensures ok { IfOk result (λ x. joins_bound sources.now (join_list (joins_view joins.now)) (relation_view first) ≡ Ok (relation_view x)) }
-    ensures refused { (code : ScriptCode) → IsErrOf result (f.Refused code) → joins_bound sources.now (join_list (joins_view joins.now)) (relation_view first) ≡ Err code }
+    ensures ok { IfOk result (λ x. joins_bound free sources.now (join_list (joins_view joins.now)) (relation_view first) ≡ Ok (relation_view x)) }
+    ensures refused { (code : ScriptCode) → IsErrOf result (f.Refused code) → joins_bound free sources.now (join_list (joins_view joins.now)) (relation_view first) ≡ Err code }
 {
     let mut all = first;
     for join in joins.as_slice() {
-        let source = bind_source(alloc, sources, &join.source)?;
+        let source = bind_source(alloc, free, sources, &join.source)?;
         all = joined(alloc, kind_of(join.kind), all, source, &join.on)?;
     }
     Ok(all)
 }
 
-// The conjuncts of a WHERE.
+// The conjuncts of a WHERE, but for one that may be spent.
 #[cycle(query)]
+#[tactic(auto, using(crate::proofs::Lefts::where_left))]
 fn bind_where(
     alloc: Global,
+    free: bool,
     sources: &Sources,
+    spent: Option<usize>,
     outside: Outside<'_>,
     own: &Scope,
     condition: &Option<Tree>,
 ) -> Result<Parts, BindFault>
-    ensures ok { IfOk result (λ ps. where_bound sources.now (outside_view outside.entry) own.now (optional_tree (option_map view condition.now)) ≡ Ok (parts_view ps)) }
-    ensures refused { (code : ScriptCode) → IsErrOf result (f.Refused code) → where_bound sources.now (outside_view outside.entry) own.now (optional_tree (option_map view condition.now)) ≡ Err code }
+    ensures ok { IfOk result (λ ps. where_bound free sources.now spent (outside_view outside.entry) own.now (optional_tree (option_map view condition.now)) ≡ Ok (parts_view ps)) }
+    ensures refused { (code : ScriptCode) → IsErrOf result (f.Refused code) → where_bound free sources.now spent (outside_view outside.entry) own.now (optional_tree (option_map view condition.now)) ≡ Err code }
 {
     match condition {
         None => Ok(Parts::new(alloc)),
         Some(tree) => {
-            let parts = bind_parts(alloc, sources, outside, own, tree)?;
+            let parts = bind_left(alloc, free, sources, spent, outside, own, tree)?;
             tests(parts)
         }
     }
+}
+
+// The conjuncts of a tree, but for one that may be spent, counted from 0.
+#[cycle(query)]
+fn bind_left(
+    alloc: Global,
+    free: bool,
+    sources: &Sources,
+    spent: Option<usize>,
+    outside: Outside<'_>,
+    own: &Scope,
+    tree: &Tree,
+) -> Result<Parts, BindFault>
+    ensures ok { IfOk result (λ ps. left_bound free sources.now spent (outside_view outside.entry) own.now (view tree.now) ≡ Ok (parts_view ps)) }
+    ensures refused { (code : ScriptCode) → IsErrOf result (f.Refused code) → left_bound free sources.now spent (outside_view outside.entry) own.now (view tree.now) ≡ Err code }
+{
+    match spent {
+        None => bind_parts(alloc, free, sources, outside, own, tree),
+        Some(place) => bind_but(alloc, free, sources, place, outside, own, tree),
+    }
+}
+
+#[cycle(query)]
+#[tactic(auto, unfolding(sql_syntax::specs::View::view))]
+fn bind_but(
+    alloc: Global,
+    free: bool,
+    sources: &Sources,
+    place: usize,
+    outside: Outside<'_>,
+    own: &Scope,
+    tree: &Tree,
+) -> Result<Parts, BindFault>
+    ensures ok { IfOk result (λ ps. parts_but free sources.now place (outside_view outside.entry) own.now (view tree.now) ≡ Ok (parts_view ps)) }
+    ensures refused { (code : ScriptCode) → IsErrOf result (f.Refused code) → parts_but free sources.now place (outside_view outside.entry) own.now (view tree.now) ≡ Err code }
+{
+    match tree {
+        Tree::And(trees) => {
+            let parts = bind_all_but(alloc, free, sources, place, outside, own, trees)?;
+            tests(parts)
+        }
+        Tree::Paren(value) => bind_but(alloc, free, sources, place, outside, own, value),
+        _ => Ok(Parts::new(alloc)),
+    }
+}
+
+#[cycle(query)]
+#[tactic(auto, using(crate::proofs::Lefts::left_failed, crate::proofs::Lefts::left_end, crate::proofs::Wheres::nothing_before))]
+fn bind_all_but(
+    alloc: Global,
+    free: bool,
+    sources: &Sources,
+    place: usize,
+    outside: Outside<'_>,
+    own: &Scope,
+    trees: &Trees,
+) -> Result<Parts, BindFault>
+    ensures ok { IfOk result (λ ps. all_parts_but free sources.now place (outside_view outside.entry) own.now (tree_list (trees_view trees.now)) ≡ Ok (parts_view ps)) }
+    ensures refused { (code : ScriptCode) → IsErrOf result (f.Refused code) → all_parts_but free sources.now place (outside_view outside.entry) own.now (tree_list (trees_view trees.now)) ≡ Err code }
+{
+    let mut parts = Parts::new(alloc);
+    let mut spent = Some(place);
+    for tree in trees.as_slice() {
+        let split = split_spent(alloc, spent, tree)?;
+        parts.append(bind_left(alloc, free, sources, split.0, outside, own, tree)?)?;
+        spent = split.1;
+    }
+    Ok(parts)
 }
 
 // The top-level conjuncts of a condition, also those in parentheses.
@@ -202,30 +449,33 @@ fn bind_where(
 #[tactic(auto, unfolding(sql_syntax::specs::View::view))]
 fn bind_parts(
     alloc: Global,
+    free: bool,
     sources: &Sources,
     outside: Outside<'_>,
     own: &Scope,
     tree: &Tree,
 ) -> Result<Parts, BindFault>
-    ensures ok { IfOk result (λ ps. parts_bound sources.now (outside_view outside.entry) own.now (view tree.now) ≡ Ok (parts_view ps)) }
-    ensures refused { (code : ScriptCode) → IsErrOf result (f.Refused code) → parts_bound sources.now (outside_view outside.entry) own.now (view tree.now) ≡ Err code }
+    ensures ok { IfOk result (λ ps. parts_bound free sources.now (outside_view outside.entry) own.now (view tree.now) ≡ Ok (parts_view ps)) }
+    ensures refused { (code : ScriptCode) → IsErrOf result (f.Refused code) → parts_bound free sources.now (outside_view outside.entry) own.now (view tree.now) ≡ Err code }
 {
     match tree {
         Tree::And(trees) => {
-            let parts = bind_all_parts(alloc, sources, outside, own, trees)?;
+            let parts = bind_all_parts(alloc, free, sources, outside, own, trees)?;
             tests(parts)
         }
-        Tree::Paren(value) => bind_parts(alloc, sources, outside, own, value),
-        Tree::Or(_) | Tree::Not(_) | Tree::Exists(_) => one(alloc, sources, outside, own, tree),
-        Tree::Compare { .. } | Tree::IsNull { .. } => one(alloc, sources, outside, own, tree),
-        Tree::Between { .. } | Tree::InList { .. } => one(alloc, sources, outside, own, tree),
-        Tree::InQuery { .. } | Tree::Like { .. } => one(alloc, sources, outside, own, tree),
-        Tree::Sum { .. } | Tree::Product { .. } => one(alloc, sources, outside, own, tree),
-        Tree::Sign { .. } | Tree::Number(_) => one(alloc, sources, outside, own, tree),
-        Tree::Str(_) | Tree::Bool(_) | Tree::Null => one(alloc, sources, outside, own, tree),
-        Tree::Name { .. } | Tree::Call { .. } => one(alloc, sources, outside, own, tree),
-        Tree::Cast { .. } | Tree::Sub(_) => one(alloc, sources, outside, own, tree),
-        Tree::Case { .. } => one(alloc, sources, outside, own, tree),
+        Tree::Paren(value) => bind_parts(alloc, free, sources, outside, own, value),
+        Tree::Or(_) | Tree::Not(_) | Tree::Exists(_) => one(
+            alloc, free, sources, outside, own, tree,
+        ),
+        Tree::Compare { .. } | Tree::IsNull { .. } => one(alloc, free, sources, outside, own, tree),
+        Tree::Between { .. } | Tree::InList { .. } => one(alloc, free, sources, outside, own, tree),
+        Tree::InQuery { .. } | Tree::Like { .. } => one(alloc, free, sources, outside, own, tree),
+        Tree::Sum { .. } | Tree::Product { .. } => one(alloc, free, sources, outside, own, tree),
+        Tree::Sign { .. } | Tree::Number(_) => one(alloc, free, sources, outside, own, tree),
+        Tree::Str(_) | Tree::Bool(_) | Tree::Null => one(alloc, free, sources, outside, own, tree),
+        Tree::Name { .. } | Tree::Call { .. } => one(alloc, free, sources, outside, own, tree),
+        Tree::Cast { .. } | Tree::Sub(_) => one(alloc, free, sources, outside, own, tree),
+        Tree::Case { .. } => one(alloc, free, sources, outside, own, tree),
     }
 }
 
@@ -233,17 +483,18 @@ fn bind_parts(
 #[tactic(auto, using(crate::proofs::Wheres::parts_failed, crate::proofs::Wheres::parts_end, crate::proofs::Wheres::nothing_before))]
 fn bind_all_parts(
     alloc: Global,
+    free: bool,
     sources: &Sources,
     outside: Outside<'_>,
     own: &Scope,
     trees: &Trees,
 ) -> Result<Parts, BindFault>
-    ensures ok { IfOk result (λ ps. all_parts_bound sources.now (outside_view outside.entry) own.now (tree_list (trees_view trees.now)) ≡ Ok (parts_view ps)) }
-    ensures refused { (code : ScriptCode) → IsErrOf result (f.Refused code) → all_parts_bound sources.now (outside_view outside.entry) own.now (tree_list (trees_view trees.now)) ≡ Err code }
+    ensures ok { IfOk result (λ ps. all_parts_bound free sources.now (outside_view outside.entry) own.now (tree_list (trees_view trees.now)) ≡ Ok (parts_view ps)) }
+    ensures refused { (code : ScriptCode) → IsErrOf result (f.Refused code) → all_parts_bound free sources.now (outside_view outside.entry) own.now (tree_list (trees_view trees.now)) ≡ Err code }
 {
     let mut parts = Parts::new(alloc);
     for tree in trees.as_slice() {
-        parts.append(bind_parts(alloc, sources, outside, own, tree)?)?;
+        parts.append(bind_parts(alloc, free, sources, outside, own, tree)?)?;
     }
     Ok(parts)
 }
@@ -252,15 +503,16 @@ fn bind_all_parts(
 #[cycle(query)]
 fn one(
     alloc: Global,
+    free: bool,
     sources: &Sources,
     outside: Outside<'_>,
     own: &Scope,
     tree: &Tree,
 ) -> Result<Parts, BindFault>
-    ensures ok { IfOk result (λ ps. only_part sources.now (outside_view outside.entry) own.now (view tree.now) ≡ Ok (parts_view ps)) }
-    ensures refused { (code : ScriptCode) → IsErrOf result (f.Refused code) → only_part sources.now (outside_view outside.entry) own.now (view tree.now) ≡ Err code }
+    ensures ok { IfOk result (λ ps. only_part free sources.now (outside_view outside.entry) own.now (view tree.now) ≡ Ok (parts_view ps)) }
+    ensures refused { (code : ScriptCode) → IsErrOf result (f.Refused code) → only_part free sources.now (outside_view outside.entry) own.now (view tree.now) ≡ Err code }
 {
-    let part = bind_part(alloc, sources, outside, own, tree)?;
+    let part = bind_part(alloc, free, sources, outside, own, tree)?;
     Ok(alone(alloc, part)?)
 }
 
@@ -269,17 +521,18 @@ fn one(
 #[tactic(auto, unfolding(sql_syntax::specs::View::view, sql_syntax::specs::View::query_view))]
 fn bind_part(
     alloc: Global,
+    free: bool,
     sources: &Sources,
     outside: Outside<'_>,
     own: &Scope,
     tree: &Tree,
 ) -> Result<Part, BindFault>
-    ensures ok { IfOk result (λ p. part_bound sources.now (outside_view outside.entry) own.now (view tree.now) ≡ Ok (part_view p)) }
-    ensures refused { (code : ScriptCode) → IsErrOf result (f.Refused code) → part_bound sources.now (outside_view outside.entry) own.now (view tree.now) ≡ Err code }
+    ensures ok { IfOk result (λ p. part_bound free sources.now (outside_view outside.entry) own.now (view tree.now) ≡ Ok (part_view p)) }
+    ensures refused { (code : ScriptCode) → IsErrOf result (f.Refused code) → part_bound free sources.now (outside_view outside.entry) own.now (view tree.now) ≡ Err code }
 {
     match tree {
-        Tree::Exists(query) => bind_exists(alloc, sources, false, own, query),
-        Tree::Not(value) => bind_denied(alloc, sources, outside, own, value, tree),
+        Tree::Exists(query) => bind_exists(alloc, free, sources, false, own, query),
+        Tree::Not(value) => bind_denied(alloc, free, sources, outside, own, value, tree),
         Tree::InQuery {
             value,
             query,
@@ -288,7 +541,7 @@ fn bind_part(
             if *negated {
                 return plain_part(alloc, outside, own, tree);
             }
-            bind_member(alloc, sources, outside, own, query, value)
+            bind_member(alloc, free, sources, outside, own, query, value)
         }
         Tree::Or(_) | Tree::And(_) | Tree::Paren(_) => plain_part(alloc, outside, own, tree),
         Tree::Compare { .. } | Tree::IsNull { .. } => plain_part(alloc, outside, own, tree),
@@ -307,18 +560,19 @@ fn bind_part(
 #[tactic(auto, unfolding(sql_syntax::specs::View::view, sql_syntax::specs::View::query_view))]
 fn bind_denied(
     alloc: Global,
+    free: bool,
     sources: &Sources,
     outside: Outside<'_>,
     own: &Scope,
     denied: &Tree,
     whole: &Tree,
 ) -> Result<Part, BindFault>
-    ensures ok { IfOk result (λ p. denied_bound sources.now (outside_view outside.entry) own.now (view whole.now) (view denied.now) ≡ Ok (part_view p)) }
-    ensures refused { (code : ScriptCode) → IsErrOf result (f.Refused code) → denied_bound sources.now (outside_view outside.entry) own.now (view whole.now) (view denied.now) ≡ Err code }
+    ensures ok { IfOk result (λ p. denied_bound free sources.now (outside_view outside.entry) own.now (view whole.now) (view denied.now) ≡ Ok (part_view p)) }
+    ensures refused { (code : ScriptCode) → IsErrOf result (f.Refused code) → denied_bound free sources.now (outside_view outside.entry) own.now (view whole.now) (view denied.now) ≡ Err code }
 {
     match denied {
-        Tree::Paren(value) => bind_denied(alloc, sources, outside, own, value, whole),
-        Tree::Exists(query) => bind_exists(alloc, sources, true, own, query),
+        Tree::Paren(value) => bind_denied(alloc, free, sources, outside, own, value, whole),
+        Tree::Exists(query) => bind_exists(alloc, free, sources, true, own, query),
         _ => plain_part(alloc, outside, own, whole),
     }
 }
@@ -327,18 +581,19 @@ fn bind_denied(
 #[cycle(query)]
 fn bind_member(
     alloc: Global,
+    free: bool,
     sources: &Sources,
     outside: Outside<'_>,
     own: &Scope,
     query: &Query,
     value: &Tree,
 ) -> Result<Part, BindFault>
-    ensures ok { IfOk result (λ p. member_bound sources.now (outside_view outside.entry) own.now (view value.now) (query_view query.now) ≡ Ok (part_view p)) }
-    ensures refused { (code : ScriptCode) → IsErrOf result (f.Refused code) → member_bound sources.now (outside_view outside.entry) own.now (view value.now) (query_view query.now) ≡ Err code }
+    ensures ok { IfOk result (λ p. member_bound free sources.now (outside_view outside.entry) own.now (view value.now) (query_view query.now) ≡ Ok (part_view p)) }
+    ensures refused { (code : ScriptCode) → IsErrOf result (f.Refused code) → member_bound free sources.now (outside_view outside.entry) own.now (view value.now) (query_view query.now) ≡ Err code }
 {
     let part = plain_part(alloc, outside, own, value)?;
     let bound = own_value(part)?;
-    let relation = bind_query(alloc, sources, query)?;
+    let relation = bind_query(alloc, free, sources, query)?;
     member_part(alloc, own, value, bound, relation)
 }
 
@@ -347,16 +602,17 @@ fn bind_member(
 #[tactic(auto, using(crate::proofs::Exists::by_exists))]
 fn bind_exists(
     alloc: Global,
+    free: bool,
     sources: &Sources,
     anti: bool,
     outside: &Scope,
     query: &Query,
 ) -> Result<Part, BindFault>
-    ensures ok { IfOk result (λ p. exists_bound sources.now anti outside.now (query_view query.now) ≡ Ok (part_view p)) }
-    ensures refused { (code : ScriptCode) → IsErrOf result (f.Refused code) → exists_bound sources.now anti outside.now (query_view query.now) ≡ Err code }
+    ensures ok { IfOk result (λ p. exists_bound free sources.now anti outside.now (query_view query.now) ≡ Ok (part_view p)) }
+    ensures refused { (code : ScriptCode) → IsErrOf result (f.Refused code) → exists_bound free sources.now anti outside.now (query_view query.now) ≡ Err code }
 {
     let plain = is_plain(&query.order, &query.limit);
-    bind_only(alloc, sources, anti, outside, plain, &query.selects)
+    bind_only(alloc, free, sources, anti, outside, plain, &query.selects)
 }
 
 // Its selects, of which there is one; the query has neither ORDER BY nor LIMIT if it is plain.
@@ -364,18 +620,19 @@ fn bind_exists(
 #[tactic(auto, using(crate::proofs::Exists::several))]
 fn bind_only(
     alloc: Global,
+    free: bool,
     sources: &Sources,
     anti: bool,
     outside: &Scope,
     plain: bool,
     selects: &Selects,
 ) -> Result<Part, BindFault>
-    ensures ok { IfOk result (λ p. exists_only sources.now anti outside.now plain (select_list (selects_view selects.now)) ≡ Ok (part_view p)) }
-    ensures refused { (code : ScriptCode) → IsErrOf result (f.Refused code) → exists_only sources.now anti outside.now plain (select_list (selects_view selects.now)) ≡ Err code }
+    ensures ok { IfOk result (λ p. exists_only free sources.now anti outside.now plain (select_list (selects_view selects.now)) ≡ Ok (part_view p)) }
+    ensures refused { (code : ScriptCode) → IsErrOf result (f.Refused code) → exists_only free sources.now anti outside.now plain (select_list (selects_view selects.now)) ≡ Err code }
 {
     match selects.as_slice() {
         [] => Err(BindFault::Refused(ScriptCode::Unsupported)),
-        [select] => bind_simple(alloc, sources, anti, outside, plain, select),
+        [select] => bind_simple(alloc, free, sources, anti, outside, plain, select),
         [_, _, ..] => Err(BindFault::Refused(ScriptCode::Unsupported)),
     }
 }
@@ -383,39 +640,37 @@ fn bind_only(
 #[cycle(query)]
 fn bind_simple(
     alloc: Global,
+    free: bool,
     sources: &Sources,
     anti: bool,
     outside: &Scope,
     plain: bool,
     select: &Select,
 ) -> Result<Part, BindFault>
-    ensures ok { IfOk result (λ p. exists_simple sources.now anti outside.now plain (select_view select.now) ≡ Ok (part_view p)) }
-    ensures refused { (code : ScriptCode) → IsErrOf result (f.Refused code) → exists_simple sources.now anti outside.now plain (select_view select.now) ≡ Err code }
+    ensures ok { IfOk result (λ p. exists_simple free sources.now anti outside.now plain (select_view select.now) ≡ Ok (part_view p)) }
+    ensures refused { (code : ScriptCode) → IsErrOf result (f.Refused code) → exists_simple free sources.now anti outside.now plain (select_view select.now) ≡ Err code }
 {
     let simple = is_simple(alloc, select)?;
     if simple && plain {
-        return bind_inside(alloc, sources, anti, outside, select);
+        return bind_inside(alloc, free, sources, anti, outside, select);
     }
     Err(BindFault::Refused(ScriptCode::Unsupported))
 }
 
-// The select of an EXISTS, whose list is bound though nothing is made of it.
+// The select of an EXISTS.
 #[cycle(query)]
-#[tactic(auto, using(sql_syntax::specs::laws::Views::select))]
 fn bind_inside(
     alloc: Global,
+    free: bool,
     sources: &Sources,
     anti: bool,
     outside: &Scope,
     select: &Select,
 ) -> Result<Part, BindFault>
-    ensures ok { IfOk result (λ p. inside_bound sources.now anti outside.now (select_view select.now) ≡ Ok (part_view p)) }
-    ensures refused { (code : ScriptCode) → IsErrOf result (f.Refused code) → inside_bound sources.now anti outside.now (select_view select.now) ≡ Err code }
+    ensures ok { IfOk result (λ p. inside_bound free sources.now anti outside.now (select_view select.now) ≡ Ok (part_view p)) }
+    ensures refused { (code : ScriptCode) → IsErrOf result (f.Refused code) → inside_bound free sources.now anti outside.now (select_view select.now) ≡ Err code }
 {
-    let first = bind_source(alloc, sources, &select.from)?;
-    let relation = joined_all(alloc, sources, first, &select.joins)?;
     let reach = Outside::InReach(outside);
-    let parts = bind_where(alloc, sources, reach, &relation.scope, &select.cond)?;
-    refuse_list(alloc, &relation.scope, &select.items)?;
-    Ok(exists_part(alloc, anti, parts, relation)?)
+    let gathered = bind_from_where(alloc, free, sources, reach, select)?;
+    exists_over(alloc, free, anti, select, gathered)
 }

@@ -30,7 +30,7 @@ pub(crate) fn selected<'a>(
     ensures ok { IfOk result (λ x. q.selected distinct (entries relation.scope (item_list (items_view items.now))) (listed_trees (tree_list (trees_view groups.now))) (optional_tree (option_map view having.now)) (relation_view relation) ≡ Ok (relation_view x)) }
     ensures refused { (code : ScriptCode) → IsErrOf result (f.Refused code) → q.selected distinct (entries relation.scope (item_list (items_view items.now))) (listed_trees (tree_list (trees_view groups.now))) (optional_tree (option_map view having.now)) (relation_view relation) ≡ Err code }
 {
-    let entries = entries_of(alloc, &relation.scope, items)?;
+    let entries = entries_of(alloc, &relation.scope, items.as_slice())?;
     if entries.is_empty() {
         return Err(BindFault::Refused(ScriptCode::Unsupported));
     }
@@ -60,7 +60,7 @@ pub(crate) fn refuse_list(alloc: Global, scope: &Scope, items: &Items) -> Result
     ensures ok { OnOk result (IsOk (q.list_bound (q.plain_listed scope.now) (entries scope.now (item_list (items_view items.now))))) }
     ensures refused { (code : ScriptCode) → IsErrOf result (f.Refused code) → q.list_bound (q.plain_listed scope.now) (entries scope.now (item_list (items_view items.now))) ≡ Err code }
 {
-    let entries = entries_of(alloc, scope, items)?;
+    let entries = entries_of(alloc, scope, items.as_slice())?;
     list_plain(alloc, scope, &entries)?;
     Ok(())
 }

@@ -64,11 +64,15 @@ pub record Inserted : Type 0 where
   pub sink : TableDef
 
 -- while the query is bound the sink stands behind the sources; last it is refused that the query reads it
-abbrev pub into_sink : List TableDef → Query → TableDef → Checked Inserted
-into_sink sources query sink =
-    query_bound (sources ++ sink ∷ []) query >>= λ x.
+abbrev pub sunk : Bool → List TableDef → Query → TableDef → Checked Inserted
+sunk free sources query sink =
+    query_bound free (sources ++ sink ∷ []) query >>= λ x.
     refused_if (scans (length sources) x.rel || not (go_into (types x.scope) (column_types sink))) SinkShape
     (Ok (record { query = x; sources = sources; sink = sink }))
+
+-- a rank without a bound is refused behind all else: so the query is bound with free ranks first
+abbrev pub into_sink : List TableDef → Query → TableDef → Checked Inserted
+into_sink sources query sink = sunk true sources query sink >>= λ x. sunk false sources query sink
 
 -- the INSERT into a table, over the tables of the catalogue
 abbrev pub insert_bound : List TableDef → Text → Query → Checked Inserted

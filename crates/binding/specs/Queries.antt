@@ -1,10 +1,10 @@
 -- Binding of a query: the first refusal of the walk, or the algebra with the columns in reach.
-use Rattle.std.specs.Prelude.{ℕ, suc, ◌+◌, ◌==◌, nat_lt, Bool, true, false, cond, not, ◌&&◌, ◌||◌, List, [], ◌∷◌, ◌++◌, flat_map, length, slice_get, Option, Some, None, option_map, Ok, Err}
+use Rattle.std.specs.Prelude.{ℕ, suc, ◌+◌, ◌-◌, ◌==◌, nat_lt, Bool, true, false, cond, ◌&&◌, List, [], ◌∷◌, ◌++◌, flat_map, length, slice_get, Option, Some, None, option_map, Ok, Err}
 use Rattle.std.specs.List.{list_any, list_all}
 use Rattle.std.specs.Str.{bytes_eq}
 use Rattle.ct_value.specs.declared.ty.ColTy.{ColTy}
 use Rattle.ct_value.specs.declared.value.CompareOp.TheVariants.{Eq}
-use Rattle.ct_value.specs.declared.codes.ScriptCode.TheVariants.{UnknownTable, UnknownColumn, AmbiguousColumn, TypeMismatch, Unsupported, NotGrouped, TooManyColumns}
+use Rattle.ct_value.specs.declared.codes.ScriptCode.TheVariants.{UnknownTable, UnknownColumn, AmbiguousColumn, TypeMismatch, Unsupported, Nondeterministic, NotGrouped, TooManyColumns, RankUnbounded}
 use Rattle.ct_expr.specs.Expr.{Expr}
 use Rattle.ct_expr.specs.Expr as e
 use Rattle.ct_expr.specs.Types.{is_truths}
@@ -12,21 +12,26 @@ use Rattle.ct_catalog.specs.declared.table.TableDef.{TableDef}
 use Rattle.rel_clauses.specs.declared.agg.Agg.{Agg}
 use Rattle.rel_clauses.specs.declared.join.JoinKind.{JoinKind}
 use Rattle.rel_clauses.specs.declared.join.Pair.{Pair}
+use Rattle.rel_clauses.specs.declared.sort.SortCol.{SortCol}
+use Rattle.rel_clauses.specs.Ranks.{rank_column, rank_columns}
 use Rattle.rel_algebra.specs.Rel.{Rel, Rels, no_rels, rel_and}
 use Rattle.rel_algebra.specs.Rel as r
 use Rattle.rel_algebra.specs.Types.{common_columns, is_boolean}
 use Rattle.sql_syntax.specs.Tree.{Tree, Text}
 use Rattle.sql_syntax.specs.Tree as t
-use Rattle.query_answer.specs.declared.scope.Found.TheVariants.{At}
-use Rattle.query_answer.specs.Calls.{Call, calls}
+use Rattle.query_answer.specs.declared.scope.Found.{Found}
+use Rattle.query_answer.specs.declared.scope.Found.TheVariants.{Absent, At, Several}
+use Rattle.query_answer.specs.Calls.{Call}
+use Rattle.query_answer.specs.Forms.{is_simple}
 use Rattle.query_answer.specs.Joins.{kind_of, plain_column, pair_found, pair_of, with_pair, pairs_of, rest_of, join_scope}
 use Rattle.query_answer.specs.Names.{Scope, find, find_linked, is_called}
 use Rattle.query_answer.specs.Outside.{looks_outside}
-use Rattle.query_answer.specs.Shapes.{column_shape, has_tree}
-use Rattle.query_answer.specs.Answer.{conjuncts, under, table_scope, renamed_scope, Listed, Placed, Written, NoSource, Entry, entries, listed_calls, select_calls, is_grouped, listed_trees, types, retyped}
+use Rattle.query_answer.specs.Ranks.{Ranked, Top, ranked_select, with_rank}
+use Rattle.query_answer.specs.Shapes.{column_shape}
+use Rattle.query_answer.specs.Answer.{conjuncts, under, table_scope, renamed_scope, Listed, Placed, Written, NoSource, Entry, entries, listed_calls, select_calls, is_grouped, listed_trees, types, retyped, ranked_entries, select_conjuncts, top_of, is_kept}
 use Rattle.binding.specs.Checked.{Checked, ◌>>=◌, or_code, refused_if}
 use Rattle.binding.specs.Nodes.{Bound, expr_list, operands, compare}
-use Rattle.binding.specs.Expressions.{Leaf, bound, bound_by, bound_over, each_bound, conditions, conjuncts_bound, column}
+use Rattle.binding.specs.Expressions.{Leaf, bound, bound_by, bound_over, each_bound, conditions, conjuncts_bound, column, may_change}
 use Rattle.binding.specs.InGroups.{in_group, key_for, has_no_keys, calls_bound, bound_arguments, bound_filters}
 
 -- the algebra, and the columns in reach over its rows
@@ -262,23 +267,6 @@ kept ps x = record { rel = all_matched ps (where_all (owns ps) x.rel); scope = x
 abbrev pub exists_part : Bool → List Part → Relation → Part
 exists_part anti ps x = Matched anti (kept ps x).rel (links ps) (all_if (rests ps))
 
--- the subquery of an EXISTS is one select without DISTINCT, aggregates, GROUP BY and HAVING
-abbrev pub item_calls : t.Item → List Call
-item_calls t.All = []
-item_calls (t.AllOf source) = []
-item_calls (t.One x name) = calls x
-
-abbrev pub items_have_calls : t.Items → Bool
-items_have_calls t.no_items = false
-items_have_calls (t.item_and x xs) = not (length (item_calls x) == 0) || items_have_calls xs
-
-abbrev pub has_groups : t.Trees → Bool
-has_groups t.no_trees = false
-has_groups (t.tree_and x xs) = true
-
-abbrev pub is_simple : t.Select → Bool
-is_simple (t.select_of distinct items from joins condition groups having) = not (distinct || (items_have_calls items || (has_groups groups || has_tree having)))
-
 abbrev pub is_one : t.Selects → Bool
 is_one t.no_selects = true
 is_one (t.select_and x xs) = false
@@ -306,7 +294,7 @@ member_part own x a q =
 abbrev pub alone : Part → Checked (List Part)
 alone p = Ok (p ∷ [])
 
--- ---- a select, and UNION ALL
+-- ---- a select
 
 -- DISTINCT is a Group of all columns
 abbrev pub once : Bool → Relation → Relation
@@ -318,6 +306,125 @@ abbrev pub selected : Bool → List Entry → List Tree → t.OptionalTree → R
 selected distinct [] groups having x = Err Unsupported
 selected distinct (e ∷ es) groups having x =
     cond (is_grouped (e ∷ es) groups having) (grouped_select (e ∷ es) groups having x) (plain_select (e ∷ es) x) >>= λ y. Ok (once distinct y)
+
+-- ---- Top-N
+
+abbrev pub found_place : Bool → Found → Checked ℕ
+found_place changing Absent = cond changing (Err Nondeterministic) (Err UnknownColumn)
+found_place changing (At n ty) = Ok n
+found_place changing Several = Err AmbiguousColumn
+
+-- PARTITION BY and ORDER BY take plain columns of the select's own sources, by their places
+abbrev pub plain_place : Scope → Tree → Checked ℕ
+plain_place scope (t.Name of name quoted) = found_place (may_change of name quoted) (find scope of name)
+plain_place scope (t.Paren x) = plain_place scope x
+plain_place scope _ = Err Unsupported
+
+abbrev pub places_bound : Scope → t.Trees → Checked (List ℕ)
+places_bound scope t.no_trees = Ok []
+places_bound scope (t.tree_and x xs) = plain_place scope x >>= λ n. places_bound scope xs >>= λ ns. Ok (n ∷ ns)
+
+abbrev pub sorts_bound : Scope → t.SortList → Checked (List SortCol)
+sorts_bound scope t.no_sorts = Ok []
+sorts_bound scope (t.sort_and (t.sort_of x desc) xs) = plain_place scope x >>= λ n. sorts_bound scope xs >>= λ sorts. Ok (record { col = n; desc = desc } ∷ sorts)
+
+-- a list with a rank, over the columns of the sources
+pub record RankedList : Type 0 where
+  pub list : Ranked
+  pub input : Relation
+  pub ahead : List Bound
+  pub partition : List ℕ
+  pub order : List SortCol
+  pub behind : List Bound
+
+-- the rank is the column behind those of the sources
+abbrev pub rank_bound : Scope → Bound
+rank_bound scope = column (length scope) rank_column
+
+abbrev pub items_bound : Scope → t.Items → Checked (List Bound)
+items_bound scope items = in_turn (plain_listed scope) 0 (entries scope items)
+
+-- PARTITION BY and ORDER BY are walked at the rank's place in the list
+abbrev pub ranked_list : Ranked → Relation → Checked RankedList
+ranked_list q x =
+    items_bound x.scope q.ahead >>= λ xs.
+    places_bound x.scope q.partition >>= λ partition.
+    sorts_bound x.scope q.order >>= λ order.
+    items_bound x.scope q.behind >>= λ ys.
+    few (with_rank true xs (rank_bound x.scope) ys) >>= λ all.
+    Ok (record { list = q; input = x; ahead = xs; partition = partition; order = order; behind = ys })
+
+-- the first rows of each partition, so many, and the list over them, with the rank where it is kept
+abbrev pub first_ranked : ℕ → Bool → RankedList → Relation
+first_ranked most kept x =
+    let xs = with_rank kept x.ahead (rank_bound x.input.scope) x.behind in
+    record {
+      rel = projected (length (rank_columns kept (types x.input.scope))) xs (r.Rank x.input.rel x.partition x.order most kept);
+      scope = headed (ranked_entries kept x.input.scope x.list) xs;
+    }
+
+-- a rank without a bound: it is refused, unless ranks are free; then it counts as one that keeps no rows
+abbrev pub unbounded : Bool → RankedList → Checked Relation
+unbounded true x = Ok (first_ranked 0 true x)
+unbounded false x = Err RankUnbounded
+
+-- a query with a rank as the only source, under its alias
+pub record Alone : Type 0 where
+  pub alias : Option Text
+  pub list : RankedList
+
+-- what a select reads: its sources side by side, or such a query
+pub data Read : Type 0 where
+  Joined : Relation → Read
+  Only : Alone → Read
+
+abbrev pub joined_read : Checked Relation → Checked Read
+joined_read x = x >>= λ y. Ok (Joined y)
+
+abbrev pub read_by : t.JoinItems → Option (Checked Alone) → Checked Relation → Checked Read
+read_by t.no_joins None x = joined_read x
+read_by t.no_joins (Some a) x = a >>= λ y. Ok (Only y)
+read_by (t.join_and j js) a x = joined_read x
+
+-- the columns in reach, and which conjunct of the WHERE is spent on them
+pub record Framed : Type 0 where
+  pub relation : Relation
+  pub spent : Option ℕ
+
+abbrev pub bounded : Bool → t.Select → Alone → Option Top → Checked Framed
+bounded free outer x None = unbounded free x.list >>= λ y. Ok (record { relation = renamed x.alias y; spent = None })
+bounded free outer x (Some top) =
+    Ok (record { relation = renamed x.alias (first_ranked top.bound (is_kept x.alias x.list.list outer top.conjunct) x.list); spent = Some top.conjunct })
+
+abbrev pub framed : Bool → t.Select → Read → Checked Framed
+framed free outer (Joined x) = Ok (record { relation = x; spent = None })
+framed free outer (Only x) = bounded free outer x (top_of x.alias x.list.input.scope x.list.list (select_conjuncts outer))
+
+-- FROM with the conjuncts of WHERE that are left
+pub record FromWhere : Type 0 where
+  pub relation : Relation
+  pub parts : List Part
+
+abbrev pub alone_of : Option Text → Checked FromWhere → Ranked → Checked Alone
+alone_of alias f q = f >>= λ f. ranked_list q (kept f.parts f.relation) >>= λ x. Ok (record { alias = alias; list = x })
+
+-- the list of a select over the rows that FROM and WHERE give
+abbrev pub listed_by : Bool → Option Ranked → t.Select → Relation → Checked Relation
+listed_by free None (t.select_of distinct items from joins condition groups having) x = selected distinct (entries x.scope items) (listed_trees groups) having x
+listed_by free (Some q) select x = ranked_list q x >>= unbounded free
+
+abbrev pub select_over : Bool → t.Select → FromWhere → Checked Relation
+select_over free select f = listed_by free (ranked_select select) select (kept f.parts f.relation)
+
+-- that of an EXISTS's subquery, of which nothing is made
+abbrev pub list_inside : Bool → Option Ranked → t.Select → Relation → Checked (List Bound)
+list_inside free None (t.select_of distinct items from joins condition groups having) x = list_bound (plain_listed x.scope) (entries x.scope items)
+list_inside free (Some q) select x = ranked_list q x >>= unbounded free >>= λ y. Ok []
+
+abbrev pub exists_over : Bool → Bool → t.Select → FromWhere → Checked Part
+exists_over free anti select f = list_inside free (ranked_select select) select f.relation >>= λ listed. Ok (exists_part anti f.parts f.relation)
+
+-- ---- UNION ALL
 
 -- the columns of both; the names are those of the first
 abbrev pub united : Scope → Scope → Checked Scope
@@ -332,24 +439,31 @@ abbrev pub is_plain : t.SortList → Option Text → Bool
 is_plain t.no_sorts None = true
 is_plain _ _ = false
 
-module _ (sources : List TableDef) where
+-- over these tables, of which the query names some; where ranks are free, one needs no bound
+module _ (free : Bool) (sources : List TableDef) where
   abbrev mutual
     pub query_bound : t.Query → Checked Relation
     query_bound (t.query_of t.no_selects order limit) = Err Unsupported
     query_bound (t.query_of (t.select_and x xs) order limit) =
-        select_bound x >>= λ a. selects_bound a.scope xs >>= λ others.
+        gathered_bound None x >>= select_over free x >>= λ a. selects_bound a.scope xs >>= λ others.
         cond (is_plain order limit) (Ok (record { rel = union_of a.rel others.0; scope = others.1 })) (Err Unsupported)
 
     -- the selects behind the first, with the columns that are common to all
     pub selects_bound : Scope → t.Selects → Checked (Rels × Scope)
     selects_bound scope t.no_selects = Ok (no_rels, scope)
     selects_bound scope (t.select_and x xs) =
-        select_bound x >>= λ a. united scope a.scope >>= λ both. selects_bound both xs >>= λ others. Ok (rel_and a.rel others.0, others.1)
+        gathered_bound None x >>= select_over free x >>= λ a. united scope a.scope >>= λ both. selects_bound both xs >>= λ others. Ok (rel_and a.rel others.0, others.1)
 
-    pub select_bound : t.Select → Checked Relation
-    select_bound (t.select_of distinct items from joins condition groups having) =
-        source_bound from >>= joins_bound joins >>= λ x. where_bound None x.scope condition >>= λ ps.
-        selected distinct (entries x.scope items) (listed_trees groups) having (kept ps x)
+    -- FROM and WHERE of a select
+    pub gathered_bound : Outside → t.Select → Checked FromWhere
+    gathered_bound outside (t.select_of distinct items from joins condition groups having) =
+        read_by joins (alone_bound from) (source_bound from >>= joins_bound joins) >>= framed free (t.select_of distinct items from joins condition groups having) >>= λ f.
+        where_bound f.spent outside f.relation.scope condition >>= λ ps. Ok (record { relation = f.relation; parts = ps })
+
+    -- a query of one select, which has a rank
+    pub alone_bound : t.Source → Option (Checked Alone)
+    alone_bound (t.FromQuery (t.query_of (t.select_and x t.no_selects) t.no_sorts None) alias) = option_map (alone_of alias (gathered_bound None x)) (ranked_select x)
+    alone_bound _ = None
 
     pub source_bound : t.Source → Checked Relation
     source_bound (t.Table name alias) = read alias (find_source 0 sources name)
@@ -360,10 +474,11 @@ module _ (sources : List TableDef) where
     joins_bound t.no_joins x = Ok x
     joins_bound (t.join_and (t.join_of word source on) js) x = source_bound source >>= λ y. joined (kind_of word) x y on >>= joins_bound js
 
-    -- the conjuncts of a WHERE: the operands of an AND are walked first, and then have to be BOOLEAN
-    pub where_bound : Outside → Scope → t.OptionalTree → Checked (List Part)
-    where_bound outside own t.no_tree = Ok []
-    where_bound outside own (t.some_tree x) = parts_bound outside own x >>= tests
+    -- the conjuncts of a WHERE, but for one that may be spent: the operands of an AND are walked first, and then have to be BOOLEAN
+    pub where_bound : Option ℕ → Outside → Scope → t.OptionalTree → Checked (List Part)
+    where_bound spent outside own t.no_tree = Ok []
+    where_bound None outside own (t.some_tree x) = parts_bound outside own x >>= tests
+    where_bound (Some n) outside own (t.some_tree x) = parts_but n outside own x >>= tests
 
     pub parts_bound : Outside → Scope → Tree → Checked (List Part)
     parts_bound outside own (t.And xs) = all_parts_bound outside own xs >>= tests
@@ -378,6 +493,19 @@ module _ (sources : List TableDef) where
     all_parts_bound outside own t.no_trees = Ok []
     all_parts_bound outside own (t.tree_and x xs) = parts_bound outside own x >>= λ ps. all_parts_bound outside own xs >>= λ qs. Ok (ps ++ qs)
 
+    -- all but the n-th
+    pub parts_but : ℕ → Outside → Scope → Tree → Checked (List Part)
+    parts_but n outside own (t.And xs) = all_parts_but n outside own xs >>= tests
+    parts_but n outside own (t.Paren x) = parts_but n outside own x
+    parts_but n outside own x = Ok []
+
+    pub all_parts_but : ℕ → Outside → Scope → t.Trees → Checked (List Part)
+    all_parts_but n outside own t.no_trees = Ok []
+    all_parts_but n outside own (t.tree_and x xs) =
+        cond (nat_lt n (length (conjuncts x)))
+        (parts_but n outside own x >>= λ ps. all_parts_bound outside own xs >>= λ qs. Ok (ps ++ qs))
+        (parts_bound outside own x >>= λ ps. all_parts_but (n - length (conjuncts x)) outside own xs >>= λ qs. Ok (ps ++ qs))
+
     -- the whole conjunct, of which this is denied
     pub denied_bound : Outside → Scope → Tree → Tree → Checked Part
     denied_bound outside own whole (t.Paren x) = denied_bound outside own whole x
@@ -388,10 +516,10 @@ module _ (sources : List TableDef) where
     pub exists_bound : Bool → Scope → t.Query → Checked Part
     exists_bound anti outside (t.query_of t.no_selects order limit) = Err Unsupported
     exists_bound anti outside (t.query_of (t.select_and x xs) order limit) =
-        cond (is_simple x && (is_one xs && is_plain order limit)) (inside_bound anti outside x) (Err Unsupported)
+        cond (is_simple x && (is_one xs && is_plain order limit)) (gathered_bound (Some outside) x >>= exists_over free anti x) (Err Unsupported)
 
-    -- its select list is bound, though nothing is made of it
-    pub inside_bound : Bool → Scope → t.Select → Checked Part
-    inside_bound anti outside (t.select_of distinct items from joins condition groups having) =
-        source_bound from >>= joins_bound joins >>= λ x. where_bound (Some outside) x.scope condition >>= λ ps.
-        list_bound (plain_listed x.scope) (entries x.scope items) >>= λ listed. Ok (exists_part anti ps x)
+  abbrev pub select_bound : t.Select → Checked Relation
+  select_bound x = gathered_bound None x >>= select_over free x
+
+  abbrev pub inside_bound : Bool → Scope → t.Select → Checked Part
+  inside_bound anti outside x = gathered_bound (Some outside) x >>= exists_over free anti x

@@ -17,7 +17,7 @@ use Rattle.rel_clauses.specs.Sums.{Each}
 use Rattle.sql_syntax.specs.Tree.{Query, Text}
 use Rattle.query_answer.specs.Answer.{types}
 use Rattle.binding.specs.Checked.{Checked, or_code, refused_if, ◌>>=◌}
-use Rattle.binding.specs.Inserts.{Inserted, column_types, go_into, goes_into, insert_bound, into_sink, is_table, scans, sources_for}
+use Rattle.binding.specs.Inserts.{Inserted, column_types, go_into, goes_into, insert_bound, into_sink, sunk, is_table, scans, sources_for}
 use Rattle.binding.specs.Queries.{Relation, query_bound}
 use Rattle.table_laws.specs.Declared.{HasTypes}
 use Rattle.job_batch.specs.Runs.{AreWide}
@@ -55,14 +55,20 @@ sunk_if : (test : Bool) (made inserted : Inserted) → refused_if test SinkShape
 sunk_if true made inserted e = absurd (cc)
 sunk_if false made inserted e = let same : made ≡ inserted = cc in ap (λ (x : Inserted). x.sink) same
 
-sunk : (sources : List TableDef) (sink : TableDef) (r : Checked Relation) (inserted : Inserted)
+sink_is : (sources : List TableDef) (sink : TableDef) (r : Checked Relation) (inserted : Inserted)
     → (r >>= λ x. refused_if (scans (length sources) x.rel || not (go_into (types x.scope) (column_types sink))) SinkShape (Ok (record { query = x; sources = sources; sink = sink }))) ≡ Ok inserted → sink ≡ inserted.sink
-sunk sources sink (Err code) inserted e = absurd (cc)
-sunk sources sink (Ok x) inserted e = sunk_if _ _ inserted e
+sink_is sources sink (Err code) inserted e = absurd (cc)
+sink_is sources sink (Ok x) inserted e = sunk_if _ _ inserted e
+
+-- what a step behind another answers
+answered : {A B : Type 0} (r : Checked A) (s : Checked B) (x : B) → (r >>= λ y. s) ≡ Ok x → s ≡ Ok x
+answered (Ok y) s x e = e
+answered (Err code) s x e = absurd (cc)
 
 sink_at : (sources : List TableDef) (query : Query) (o : Option TableDef) (inserted : Inserted) → (or_code UnknownTable o >>= into_sink sources query) ≡ Ok inserted → o ≡ Some inserted.sink
 sink_at sources query None inserted e = absurd (cc)
-sink_at sources query (Some sink) inserted e = ap Some (sunk sources sink (query_bound (sources ++ sink ∷ []) query) inserted e)
+sink_at sources query (Some sink) inserted e =
+    ap Some (sink_is sources sink (query_bound false (sources ++ sink ∷ []) query) inserted (answered (sunk true sources query sink) (sunk false sources query sink) inserted e))
 
 found_if : (P : TableDef → Type 0) (table found : TableDef) (later : Option TableDef) (b : Bool) → P table → (later ≡ Some found → P found) → cond b (Some table) later ≡ Some found → P found
 found_if P table found later true here behind is = let same : table ≡ found = cc in subst P same here

@@ -1,12 +1,11 @@
 -- What a script is judged to be: the query of its INSERT over the script's tables, or the first reason to refuse it.
-use Rattle.std.specs.Prelude.{ℕ, List, [], ◌∷◌, cond, Ok, Err}
-use Rattle.ct_value.specs.declared.codes.ScriptCode.TheVariants.{NotOneInsert, Unsupported}
+use Rattle.std.specs.Prelude.{ℕ, List, [], ◌∷◌, Ok, Err}
+use Rattle.ct_value.specs.declared.codes.ScriptCode.TheVariants.{NotOneInsert}
 use Rattle.sql_syntax.specs.Tree as t
 use Rattle.ct_catalog.specs.Catalogue.{Catalogue}
 use Rattle.judge.specs.Judgement.{Asked, Insert, Judged, asked_of, refused, then}
 use Rattle.binding.specs.Checked.{Checked}
 use Rattle.binding.specs.Inserts.{Inserted, insert_bound}
-use Rattle.bind_unbuilt.specs.Unbuilt.{is_unbuilt}
 
 -- what is judged: the number of the INSERT, the tables and settings, the query as it is written, and what it is bound to
 pub record Accepted : Type 0 where
@@ -19,9 +18,8 @@ abbrev pub at_statement : Catalogue → ℕ → t.Query → Checked Inserted →
 at_statement c number query (Ok inserted) = Ok (record { statement = number; catalogue = c; query = query; inserted = inserted })
 at_statement c number query (Err code) = refused code number
 
--- a query of a form that isn't built is refused before it is bound
 abbrev pub bound_query : Catalogue → ℕ → t.Text → t.Query → Judged Accepted
-bound_query c number table query = cond (is_unbuilt query) (refused Unsupported number) (at_statement c number query (insert_bound c.tables table query))
+bound_query c number table query = at_statement c number query (insert_bound c.tables table query)
 
 abbrev pub bound_insert : Catalogue → ℕ → t.Statement → Judged Accepted
 bound_insert c number (t.Insert table query) = bound_query c number table query

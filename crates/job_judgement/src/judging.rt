@@ -7,7 +7,6 @@ ghost use Rattle.job_judgement.specs.Views.{accepted_view};
 
 use crate::Accepted;
 use bind_names::BindFault;
-use bind_unbuilt::is_unbuilt;
 use binder::bind;
 use ct_catalog::Catalog;
 use ct_value::{Bytes, ScriptCode, Text};
@@ -16,8 +15,7 @@ use judge::{Asked, JudgeFault, judge};
 use sql_syntax::{Query, Statement};
 use std::alloc::Global;
 
-/// What a script is judged to be: its text and its catalogue first, then whether its query has a form that isn't built, then the walk of
-/// the binder. A text has at most 262,144 bytes.
+/// What a script is judged to be: its text and its catalogue first, then the walk of the binder. A text has at most 262,144 bytes.
 pub fn judged(alloc: Global, text: &Bytes) -> Result<Accepted, Halt>
     requires { length text.now ≤ 262144 }
     ensures ok { IfOk result (λ script. judgement text.now ≡ Ok (accepted_view script)) }
@@ -71,9 +69,6 @@ fn bound_query(
     ensures ok { IfOk result (λ script. bound_query catalog number table (query_view query) ≡ Ok (accepted_view script)) }
     ensures halts { IfErr result (λ halt. IsHalt halt (bound_query catalog number table (query_view query))) }
 {
-    if is_unbuilt(&query) {
-        return Err(refused(ScriptCode::Unsupported, number));
-    }
     match bind(alloc, catalog.tables(), &table, &query) {
         Ok(inserted) => Ok(Accepted {
             statement: number,

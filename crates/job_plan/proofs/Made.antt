@@ -16,7 +16,7 @@ use Rattle.rel_algebra.specs.Types.{columns_of}
 use Rattle.sql_syntax.specs.Tree.{Query, Text}
 use Rattle.query_answer.specs.Answer.{types}
 use Rattle.binding.specs.Checked.{Checked, ◌>>=◌, or_code, refused_if}
-use Rattle.binding.specs.Inserts.{Inserted, column_types, go_into, insert_bound, into_sink, is_table, scans, sources_for}
+use Rattle.binding.specs.Inserts.{Inserted, column_types, go_into, insert_bound, into_sink, sunk, is_table, scans, sources_for}
 use Rattle.binding.specs.Queries.{Relation, query_bound}
 use Rattle.judge.specs.Judgement.{Asked, asked_of, refused}
 use Rattle.table_laws.specs.Declared.{HasTypes}
@@ -96,9 +96,15 @@ of_query : (tables : List TableDef) (name : Text) (sink : TableDef) → find (is
 of_query tables name sink found (Err code) inserted e = absurd (cc (e))
 of_query tables name sink found (Ok x) inserted e = of_test tables name sink found x (scans (length (sources_for tables name)) x.rel || not (go_into (types x.scope) (column_types sink))) inserted e
 
+-- what a step behind another answers
+behind : {A B : Type 0} (r : Checked A) (s : Checked B) (x : B) → (r >>= λ y. s) ≡ Ok x → s ≡ Ok x
+behind (Ok y) s x e = e
+behind (Err code) s x e = absurd (cc)
+
 of_sink : (tables : List TableDef) (name : Text) (query : Query) (o : Option TableDef) → find (is_table name) tables ≡ o → (inserted : Inserted) → (or_code UnknownTable o >>= into_sink (sources_for tables name) query) ≡ Ok inserted → IsOf tables name inserted
 of_sink tables name query None found inserted e = absurd (cc (e))
-of_sink tables name query (Some sink) found inserted e = of_query tables name sink found (query_bound (sources_for tables name ++ sink ∷ []) query) inserted e
+of_sink tables name query (Some sink) found inserted e =
+    of_query tables name sink found (query_bound false (sources_for tables name ++ sink ∷ []) query) inserted (behind (sunk true (sources_for tables name) query sink) (sunk false (sources_for tables name) query sink) inserted e)
 
 of_insert : (tables : List TableDef) (name : Text) (query : Query) (inserted : Inserted) → insert_bound tables name query ≡ Ok inserted → IsOf tables name inserted
 of_insert tables name query inserted e = of_sink tables name query (find (is_table name) tables) refl inserted e

@@ -1,8 +1,7 @@
 -- A run of a script without arithmetic never leaves a type's range.
 use Rattle.std.specs.Prelude.{◌↔◌}
-use Rattle.std.proofs.Common.{◌≡◌, ℕ, ◌+◌, cond, Bool, true, false, ◌||◌, List, [], ◌∷◌, Option, Some, None, Result, Ok, Err, refl, sym, ap, subst, ◌∙◌, arith}
+use Rattle.std.proofs.Common.{◌≡◌, ℕ, ◌+◌, Bool, true, false, ◌||◌, List, [], ◌∷◌, Option, Result, Ok, Err, refl, sym, ap, subst, ◌∙◌, arith}
 use Rattle.ct_value.specs.declared.codes.ScriptCode.{ScriptCode}
-use Rattle.ct_value.specs.declared.codes.ScriptCode.TheVariants.{Unsupported}
 use Rattle.ct_value.specs.declared.row.Row.{Row}
 use Rattle.ct_value.specs.declared.ty.ColTy.{ColTy}
 use Rattle.command_line.specs.Words.{FileNames, Request}
@@ -11,10 +10,9 @@ use Rattle.sql_syntax.specs.Tree as t
 use Rattle.sql_rules.specs.ReadsScripts as s
 use Rattle.sql_rules.specs.Scripts.{IsScript}
 use Rattle.ct_catalog.specs.Catalogue.{Catalogue, applied, empty}
-use Rattle.judge.specs.Judgement.{Asked, Insert, Judged, asked_after, asked_by, asked_from, asked_of, declared_then, refused, then}
+use Rattle.judge.specs.Judgement.{Asked, Insert, Judged, asked_after, asked_by, asked_from, asked_of, declared_then, then}
 use Rattle.binding.specs.Checked.{Checked}
 use Rattle.binding.specs.Inserts.{Inserted, insert_bound}
-use Rattle.bind_unbuilt.specs.Unbuilt.{is_unbuilt}
 use Rattle.arithmetic.specs.Arithmetic.{in_query, in_statement, in_statements}
 use Rattle.phys_plan.specs.declared.plan.Plan.{Plan}
 use Rattle.job_ending.specs.declared.ending.Ending.TheVariants as e
@@ -63,12 +61,8 @@ free_bound c number query (Ok inserted) script none e =
     sym (ap (λ (x : Accepted). in_query x.query) same) ∙ none
 free_bound c number query (Err code) script none e = absurd (cc (e))
 
-free_built : (b : Bool) (c : Catalogue) (number : ℕ) (query : t.Query) (o : Checked Inserted) (script : Accepted) → in_query query ≡ false → cond b (refused Unsupported number) (at_statement c number query o) ≡ Ok script → in_query script.query ≡ false
-free_built true c number query o script none e = absurd (cc (e))
-free_built false c number query o script none e = free_bound c number query o script none e
-
 free_insert : (c : Catalogue) (number : ℕ) (statement : t.Statement) (script : Accepted) → in_statement statement ≡ false → bound_insert c number statement ≡ Ok script → in_query script.query ≡ false
-free_insert c number (t.Insert table query) script none e = free_built (is_unbuilt query) c number query (insert_bound c.tables table query) script none e
+free_insert c number (t.Insert table query) script none e = free_bound c number query (insert_bound c.tables table query) script none e
 free_insert c number (t.Create name elements options) script none e = absurd (cc (e))
 free_insert c number (t.Set key value) script none e = absurd (cc (e))
 

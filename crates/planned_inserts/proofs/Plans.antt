@@ -9,7 +9,7 @@ use Rattle.rel_algebra.specs.Types.{columns_of}
 use Rattle.sql_syntax.specs.Tree.{Query, Text}
 use Rattle.query_answer.specs.Answer.{types}
 use Rattle.binding.specs.Checked.{Checked, ◌>>=◌, or_code, refused_if}
-use Rattle.binding.specs.Inserts.{Inserted, column_types, go_into, insert_bound, into_sink, is_table, scans, sources_for}
+use Rattle.binding.specs.Inserts.{Inserted, column_types, go_into, insert_bound, into_sink, sunk, is_table, scans, sources_for}
 use Rattle.binding.specs.Queries.{Relation, query_bound}
 use Rattle.phys_plan.specs.declared.plan.Plan.{Plan}
 use Rattle.plan_laws.specs.Trees.{IsMade, TablesAreMade}
@@ -34,9 +34,15 @@ of_query : (sources : List TableDef) (sink : TableDef) (o : Checked Relation) (b
 of_query sources sink (Ok x) bound e = accepted sources sink x (scans (length sources) x.rel || not (go_into (types x.scope) (column_types sink))) bound e
 of_query sources sink (Err code) bound e = absurd (cc)
 
+-- what a step behind another answers
+behind : {A B : Type 0} (r : Checked A) (s : Checked B) (x : B) → (r >>= λ y. s) ≡ Ok x → s ≡ Ok x
+behind (Ok y) s x e = e
+behind (Err code) s x e = absurd (cc)
+
 of_sink : (tables : List TableDef) (name : Text) (query : Query) (o : Option TableDef) (bound : Inserted) → (or_code UnknownTable o >>= into_sink (sources_for tables name) query) ≡ Ok bound → bound.sources ≡ sources_for tables name
 of_sink tables name query None bound e = absurd (cc)
-of_sink tables name query (Some sink) bound e = of_query (sources_for tables name) sink (query_bound (sources_for tables name ++ sink ∷ []) query) bound e
+of_sink tables name query (Some sink) bound e =
+    of_query (sources_for tables name) sink (query_bound false (sources_for tables name ++ sink ∷ []) query) bound (behind (sunk true (sources_for tables name) query sink) (sunk false (sources_for tables name) query sink) bound e)
 
 -- ---- its plan
 

@@ -14,6 +14,7 @@ use Rattle.rel_clauses.specs.Clauses.{Meaning, filter_rows, project_rows}
 use Rattle.rel_clauses.specs.declared.join.JoinKind.{JoinKind}
 use Rattle.rel_clauses.specs.declared.join.Pair.{Pair}
 use Rattle.rel_clauses.specs.Joins.{Matching, matching, join_rows, semi_join}
+use Rattle.rel_clauses.specs.Ranks.{rank_rows, rank_column}
 use Rattle.rel_clauses.specs.Sums.{distinct, plus}
 use Rattle.rel_algebra.specs.Types.{common_columns}
 use Rattle.sql_syntax.specs.Tree.{Tree, Text}
@@ -26,6 +27,7 @@ use Rattle.query_answer.specs.Groups.{grouped_rows, called, key_at, meanings}
 use Rattle.query_answer.specs.Joins.{kind_of, plain_column, pair_found, pairs_of, rest_of, join_scope}
 use Rattle.query_answer.specs.Names.{Scope, Lookup, find, find_linked, named, column_at, is_called}
 use Rattle.query_answer.specs.Outside.{looks_outside}
+use Rattle.query_answer.specs.Ranks.{Ranked, Top, ranked_select, places, sorts, top_from, with_rank, without, is_looked_at, reads_rank}
 use Rattle.query_answer.specs.Shapes.{shape, place_of, column_shape}
 use Rattle.query_answer.specs.Stands.{Leaf, stands, or_else}
 use Rattle.query_answer.specs.Table.{Typed, nothing, compare, conjunction}
@@ -80,6 +82,10 @@ abbrev mutual
   pub all_conjuncts : t.Trees → List Tree
   all_conjuncts t.no_trees = []
   all_conjuncts (t.tree_and x xs) = conjuncts x ++ all_conjuncts xs
+
+abbrev pub conjuncts_if : t.OptionalTree → List Tree
+conjuncts_if t.no_tree = []
+conjuncts_if (t.some_tree x) = conjuncts x
 
 -- a tree at each row, whose columns names stand for by this look-up
 abbrev pub by : Lookup → Tree → Typed
@@ -340,6 +346,85 @@ union_scope a b = retyped a (unwrap_or (common_columns (types a) (types b)) [])
 abbrev pub union : Reach → Reach → Reach
 union a b = record { scope = union_scope a.scope b.scope; rows = plus a.rows b.rows }
 
+-- ---- Top-N
+
+-- what is listed ahead of a rank or behind it, over the columns of the sources
+abbrev pub told : Scope → t.Items → List Typed
+told scope items = map (λ e. listed_over scope e.listed) (entries scope items)
+
+-- the rank is the column behind those of the sources
+abbrev pub rank_entry : Scope → Text → Entry
+rank_entry scope name = record { listed = Placed (length scope); name = Some name }
+
+-- what a list with a rank lists, with the rank where it is kept
+abbrev pub ranked_entries : Bool → Scope → Ranked → List Entry
+ranked_entries kept scope q = with_rank kept (entries scope q.ahead) (rank_entry scope q.name) (entries scope q.behind)
+
+-- the first rows of each partition, so many, and the list over them
+abbrev pub first_ranked : Ranked → ℕ → Bool → Reach → Reach
+first_ranked q bound kept r =
+    let xs = with_rank kept (told r.scope q.ahead) (column_at (At (length r.scope) rank_column)) (told r.scope q.behind) in
+    record {
+      scope = headed (ranked_entries kept r.scope q) xs;
+      rows = option_and_then (project_rows (meanings xs)) (option_and_then (rank_rows (places (find r.scope) q.partition) (sorts (find r.scope) q.order) bound kept) r.rows);
+    }
+
+-- the names of the list, as they are found from outside
+abbrev pub ranked_names : Option Text → Scope → Ranked → Scope
+ranked_names alias scope q = map (λ e. under alias e.name rank_column) (ranked_entries true scope q)
+
+-- the first conjunct outside that bounds the rank, over a query under this alias whose sources have these columns
+abbrev pub top_of : Option Text → Scope → Ranked → List Tree → Option Top
+top_of alias scope q cs = top_from 0 (find (ranked_names alias scope q)) (length (entries scope q.ahead)) cs
+
+-- the rank is kept where the select outside looks at it besides its bound
+abbrev pub is_kept : Option Text → Ranked → t.Select → ℕ → Bool
+is_kept alias q (t.select_of distinct items from joins condition groups having) conjunct =
+    is_looked_at (reads_rank alias q.name) items (without conjunct (conjuncts_if condition)) groups having
+
+-- a query with a rank as the only source: its alias, its list, and the rows that its FROM and its WHERE give
+pub record Alone : Type 0 where
+  pub alias : Option Text
+  pub list : Ranked
+  pub reach : Reach
+
+-- what a select reads: its sources side by side, or such a query
+pub data Read : Type 0 where
+  Joined : Reach → Read
+  Only : Alone → Read
+
+abbrev pub read_by : t.JoinItems → Option Alone → Reach → Read
+read_by t.no_joins None r = Joined r
+read_by t.no_joins (Some x) r = Only x
+read_by (t.join_and j js) x r = Joined r
+
+-- FROM with the conjuncts of WHERE that are left
+pub record FromWhere : Type 0 where
+  pub reach : Reach
+  pub parts : List Part
+
+abbrev pub alone_of : Option Text → Option Ranked → FromWhere → Option Alone
+alone_of alias None f = None
+alone_of alias (Some q) f = Some (record { alias = alias; list = q; reach = filtered f.parts f.reach })
+
+-- the rank's bound is done with where the first rows are read; a rank without a bound isn't accepted
+abbrev pub bounded : Alone → t.Select → Option Top → List Part → FromWhere
+bounded x outer None ps = record { reach = no_reach; parts = ps }
+bounded x outer (Some top) ps = record { reach = renamed x.alias (first_ranked x.list top.bound (is_kept x.alias x.list outer top.conjunct) x.reach); parts = without top.conjunct ps }
+
+abbrev pub select_conjuncts : t.Select → List Tree
+select_conjuncts (t.select_of distinct items from joins condition groups having) = conjuncts_if condition
+
+abbrev pub from_where : t.Select → Read → List Part → FromWhere
+from_where outer (Joined r) ps = record { reach = r; parts = ps }
+from_where outer (Only x) ps = bounded x outer (top_of x.alias x.reach.scope x.list (select_conjuncts outer)) ps
+
+-- the list of a select over the rows that FROM and WHERE give
+abbrev pub select_over : t.Select → FromWhere → Reach
+select_over (t.select_of distinct items from joins condition groups having) f =
+    let r = filtered f.parts f.reach in
+    selected distinct (entries r.scope items) (listed_trees groups) having r
+
 -- ---- the tree
 
 module _ (tables : List TableRows) where
@@ -347,16 +432,21 @@ module _ (tables : List TableRows) where
     -- the answer of a query: its columns with their names, and its rows
     pub answer : t.Query → Reach
     answer (t.query_of t.no_selects order limit) = no_reach
-    answer (t.query_of (t.select_and x xs) order limit) = answers (answer_select x) xs
+    answer (t.query_of (t.select_and x xs) order limit) = answers (select_over x (gathered x)) xs
 
     pub answers : Reach → t.Selects → Reach
     answers r t.no_selects = r
-    answers r (t.select_and x xs) = answers (union r (answer_select x)) xs
+    answers r (t.select_and x xs) = answers (union r (select_over x (gathered x))) xs
 
-    pub answer_select : t.Select → Reach
-    answer_select (t.select_of distinct items from joins condition groups having) =
-        let r = filtered (where_parts condition) (from_joins (answer_source from) joins) in
-        selected distinct (entries r.scope items) (listed_trees groups) having r
+    -- what FROM and WHERE of a select give
+    pub gathered : t.Select → FromWhere
+    gathered (t.select_of distinct items from joins condition groups having) =
+        from_where (t.select_of distinct items from joins condition groups having) (read_by joins (alone_in from) (from_joins (answer_source from) joins)) (where_parts condition)
+
+    -- a query of one select, which has a rank
+    pub alone_in : t.Source → Option Alone
+    alone_in (t.FromQuery (t.query_of (t.select_and x t.no_selects) t.no_sorts None) alias) = alone_of alias (ranked_select x) (gathered x)
+    alone_in _ = None
 
     pub answer_source : t.Source → Reach
     answer_source (t.Table name alias) = read alias (find_table tables name)
@@ -393,5 +483,7 @@ module _ (tables : List TableRows) where
     -- its select list is not evaluated
     pub inside : t.Query → Inside
     inside (t.query_of t.no_selects order limit) = record { reach = no_reach; linked = [] }
-    inside (t.query_of (t.select_and (t.select_of distinct items from joins condition groups having) xs) order limit) =
-        within (where_parts condition) (from_joins (answer_source from) joins)
+    inside (t.query_of (t.select_and x xs) order limit) = let f = gathered x in within f.parts f.reach
+
+  abbrev pub answer_select : t.Select → Reach
+  answer_select x = select_over x (gathered x)

@@ -1,11 +1,14 @@
 pub mod Answer
 pub mod Calls
+pub mod Forms
 pub mod Functions
 pub mod Groups
 pub mod Joins
 pub mod Literals
+pub mod Mentions
 pub mod Names
 pub mod Outside
+pub mod Ranks
 pub mod Shapes
 pub mod Stands
 pub mod Table

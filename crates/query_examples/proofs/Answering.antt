@@ -1,5 +1,5 @@
 -- The rows of a query's answer are those that are computed on lists, of the tree that the query is bound to.
-use Rattle.std.proofs.Common.{◌≡◌, Bool, true, ◌&&◌, List, [], ◌∷◌, map, Option, Some, None, Ok, Err, IfOk, is_ok, refl, sym, ap, ◌∙◌, option_map}
+use Rattle.std.proofs.Common.{◌≡◌, Bool, true, false, ◌&&◌, List, [], ◌∷◌, map, Option, Some, None, Ok, Err, IfOk, is_ok, refl, sym, ap, ◌∙◌, option_map}
 use Rattle.std.specs.List.{list_all, AllByRecursion}
 use Rattle.ct_value.specs.Bag.{items, bag_of}
 use Rattle.ct_value.specs.Order.{row_cmp, row_total, row_exact}
@@ -47,7 +47,7 @@ each_fits cols rows h = each-bag_of row_total row_exact (Fits cols) rows (go row
     go [] h = tt
     go (row ∷ rows) h = (first (row_fits cols row) _ h, go rows (second (row_fits cols row) _ h))
 
-module _ (thm : (tables : List TableRows) (query : Query) → AreTyped (tables_of tables) → IfOk (query_bound (declared tables) query) (λ bound. answer (tables_of tables) bound.rel ≡ (query_answer tables query).rows))
+module _ (thm : (tables : List TableRows) (query : Query) → AreTyped (tables_of tables) → IfOk (query_bound false (declared tables) query) (λ bound. answer (tables_of tables) bound.rel ≡ (query_answer tables query).rows))
     (lists : (tables : List ListedTable) (rel : Rel) → answer (map l.table_of tables) rel ≡ option_map bag_of (listed tables rel)) where
   in_order : (r : Option (List Row)) → option_map items (option_map (bag_of {R = row_cmp}) r) ≡ option_map (sorted row_cmp) r
   in_order None = refl
@@ -57,11 +57,11 @@ module _ (thm : (tables : List TableRows) (query : Query) → AreTyped (tables_o
   accepted e query (Ok x) h k = ap (λ r. Ok (option_map items r)) (sym h ∙ lists (listed_for e) x.rel) ∙ ap Ok (in_order (listed (listed_for e) x.rel))
   accepted e query (Err code) h k = absurd (cc)
 
-  one : (e : Answered) (q : Checked Query) → ((rows_fit (column_types t) e.of_t && rows_fit (column_types u) e.of_u) && is_ok (q >>= query_bound all)) ≡ true → rows_told e q ≡ computed e (q >>= query_bound all)
+  one : (e : Answered) (q : Checked Query) → ((rows_fit (column_types t) e.of_t && rows_fit (column_types u) e.of_u) && is_ok (q >>= query_bound false all)) ≡ true → rows_told e q ≡ computed e (q >>= query_bound false all)
   one e (Err code) h = refl
   one e (Ok query) h =
       let p = first (rows_fit (column_types t) e.of_t && rows_fit (column_types u) e.of_u) _ h in
-      accepted e query (query_bound all query)
+      accepted e query (query_bound false all query)
       (thm (tables_for e) query (each_fits (column_types t) e.of_t (first (rows_fit (column_types t) e.of_t) _ p), (each_fits (column_types u) e.of_u (second (rows_fit (column_types t) e.of_t) _ p), (each_fits (column_types o) [] refl, tt))))
       (second (rows_fit (column_types t) e.of_t && rows_fit (column_types u) e.of_u) _ h)
 

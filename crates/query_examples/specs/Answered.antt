@@ -30,10 +30,10 @@ rows_told e (Err code) = Err code
 abbrev pub HaveAnswers : List Answered → Type 0
 HaveAnswers table = map (λ e. rows_told e (query_text e.text)) table ≡ map (λ e. Ok e.rows) table
 
-abbrev n : ℕ → Value
+abbrev pub n : ℕ → Value
 n k = Num (pos k)
 
-abbrev w : Text → Value
+abbrev pub w : Text → Value
 w word = Words word
 
 -- a, b, s, d, f, g
@@ -48,7 +48,7 @@ t_rows =
 abbrev u_rows : List Row
 u_rows = (n 1 ∷ w (codes "x") ∷ []) ∷ (n 3 ∷ w (codes "z") ∷ []) ∷ []
 
-abbrev over_both : Text → Option (List Row) → Answered
+abbrev pub over_both : Text → Option (List Row) → Answered
 over_both text rows = record { text = text; of_t = t_rows; of_u = u_rows; rows = rows }
 
 abbrev over_none : Text → Option (List Row) → Answered

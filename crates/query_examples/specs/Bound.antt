@@ -15,22 +15,22 @@ use Rattle.rel_clauses.specs.declared.join.Pair.{Pair}
 use Rattle.rel_algebra.specs.Rel.{Rel, Scan, Filter, Project, Union, Group, Join, Semi, rels}
 use Rattle.sql_syntax.specs.Tree.{Text}
 
-abbrev a : Expr
+abbrev pub a : Expr
 a = Column 0 Int
 
-abbrev b : Expr
+abbrev pub b : Expr
 b = Column 1 Int
 
 abbrev f : Expr
 f = Column 4 Truths
 
-abbrev int : ℕ → Expr
+abbrev pub int : ℕ → Expr
 int n = Literal (Num (pos n)) Int
 
-abbrev agg : AggCall → Option ℕ → Option ℕ → Agg
+abbrev pub agg : AggCall → Option ℕ → Option ℕ → Agg
 agg call arg filter = record { call = call; arg = arg; filter = filter }
 
-abbrev pair : ℕ → ℕ → Pair
+abbrev pub pair : ℕ → ℕ → Pair
 pair left right = record { left = left; right = right }
 
 abbrev pub bound : List (Text × Rel)

@@ -1,5 +1,5 @@
 -- What it is that a table of examples holds: what a query is bound to, or what it is refused as.
-use Rattle.std.specs.Prelude.{◌≡◌, List, [], ◌∷◌, ◌++◌, map, Option, Some, None, option_map, Ok, Err, Bool, codes}
+use Rattle.std.specs.Prelude.{◌≡◌, false, List, [], ◌∷◌, ◌++◌, map, Option, Some, None, option_map, Ok, Err, Bool, codes}
 use Rattle.ct_value.specs.declared.codes.ScriptCode.{ScriptCode}
 use Rattle.ct_value.specs.declared.codes.ScriptCode.TheVariants.{Syntax}
 use Rattle.ct_value.specs.declared.row.Row.{Row}
@@ -26,7 +26,7 @@ abbrev pub query_text : Text → Checked Query
 query_text text = query_in (read_text (codes "INSERT INTO o " ++ text ++ codes ";"))
 
 abbrev pub bound_text : Text → Checked Relation
-bound_text text = query_text text >>= query_bound all
+bound_text text = query_text text >>= query_bound false all
 
 abbrev pub code_of : {A : Type 0} → Checked A → Option ScriptCode
 code_of (Ok x) = None

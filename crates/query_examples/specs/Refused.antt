@@ -239,7 +239,7 @@ walks =
 
 -- ---- long chains, and many columns
 
-abbrev times : ℕ → Text → Text
+abbrev pub times : ℕ → Text → Text
 times zero text = []
 times (suc n) text = text ++ times n text
 

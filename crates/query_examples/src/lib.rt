@@ -8,6 +8,7 @@ ghost use Rattle.query_examples.specs.Answered.{HaveAnswers, answered};
 ghost use Rattle.query_examples.specs.Bound.{bound, columns};
 ghost use Rattle.query_examples.specs.Checks.{AreAccepted, AreBound, AreRefused, HaveCodes, HaveColumns, HaveTypes, HaveValues, InsertsHave};
 ghost use Rattle.query_examples.specs.Inserts.{inserts};
+ghost use Rattle.query_examples.specs.Ranks.{inserted, refused, rows, trees};
 ghost use Rattle.query_examples.specs.Refused.{accepted, ambiguous, long_chains, mismatched, nondeterministic, ungrouped, unknown_columns, unknown_tables, unsupported, walks, wide};
 ghost use Rattle.query_examples.specs.Values.{null_row, null_values, row, values};
 
@@ -72,6 +73,25 @@ pub fn expressions_have_their_values()
 /// queries' by the theorem of binding.
 pub fn queries_have_their_answers()
     ensures { HaveAnswers answered }
+{
+    binding_keeps_the_answer();
+    listed_answer_is_the_answer();
+}
+
+/// Top-N: the trees that queries with a rank are bound to.
+pub fn ranks_are_bound()
+    ensures { AreBound trees }
+{}
+
+/// Ranks without a bound, of which INSERTs show that they are refused last, and other ranks that have no place.
+pub fn ranks_are_refused()
+    ensures first { HaveCodes refused }
+    ensures inserted { InsertsHave inserted }
+{}
+
+/// The rows of the answers of queries with a rank.
+pub fn ranks_have_their_answers()
+    ensures { HaveAnswers rows }
 {
     binding_keeps_the_answer();
     listed_answer_is_the_answer();

@@ -14,6 +14,7 @@ pub mod Nodes
 pub mod Options
 pub mod Parts
 pub mod Queries
+pub mod Ranks
 pub mod Selects
 pub mod Sources
 pub mod Types

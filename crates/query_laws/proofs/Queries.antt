@@ -1,5 +1,5 @@
 -- What a query is bound to has the query's answer: one induction over the tree, a clause a step.
-use Rattle.std.proofs.Common.{◌≡◌, ℕ, zero, suc, ◌+◌, Bool, true, false, ◌&&◌, ◌||◌, List, [], ◌∷◌, map, length, Option, Some, None, cond, Ok, IfOk, refl, sym, ap, ◌∙◌, subst, option_map, slice_get, unwrap_or, arith}
+use Rattle.std.proofs.Common.{◌≡◌, ℕ, zero, suc, ◌+◌, ◌-◌, ◌<◌, ◌≤◌, nat_lt, ltb-true, ltb-false, Bool, true, false, ◌&&◌, ◌||◌, List, [], ◌∷◌, ◌++◌, map, length, Option, Some, None, cond, Ok, Err, IfOk, refl, sym, ap, ◌∙◌, subst, option_map, slice_get, unwrap_or, arith, length-append}
 use Rattle.std.specs.List.{list_all}
 use Rattle.std.specs.Str.{bytes_eq}
 use Rattle.ct_value.specs.Bag.{none}
@@ -21,10 +21,12 @@ use Rattle.sql_syntax.specs.Tree.{Text}
 use Rattle.sql_syntax.specs.Tree as t
 use Rattle.query_answer.specs.Answer.{TableRows, Reach, Entry, types, entries, listed_trees, is_grouped, union, union_scope, retyped, find_table, table_scope}
 use Rattle.query_answer.specs.Answer as a
+use Rattle.query_answer.specs.Forms.{is_simple}
 use Rattle.query_answer.specs.Joins.{kind_of}
-use Rattle.query_answer.specs.Names.{Scope}
+use Rattle.query_answer.specs.Names.{Scope, find}
+use Rattle.query_answer.specs.Ranks.{Ranked, Top, ranked_select, without}
 use Rattle.binding.specs.Checked.{Checked, ◌>>=◌, or_code}
-use Rattle.binding.specs.Queries.{Relation, Outside, query_bound, selects_bound, select_bound, source_bound, find_source, union_of, united, is_plain, is_test, tests, plain_part, own_value, member_part, alone}
+use Rattle.binding.specs.Queries.{Relation, Outside, RankedList, query_bound, selects_bound, source_bound, find_source, union_of, united, is_plain, is_test, tests, plain_part, own_value, member_part, alone, ranked_list}
 use Rattle.binding.specs.Queries as b
 use Rattle.query_laws.specs.Statement.{tables_of, table_of, all_have_full_unions, any_has_idle_project}
 use Rattle.query_laws.proofs.Bags.{each_map}
@@ -33,6 +35,7 @@ use Rattle.query_laws.proofs.GroupRight.{grouped_right}
 use Rattle.query_laws.proofs.Joins.{joined_right}
 use Rattle.query_laws.proofs.Lists.{slice_map}
 use Rattle.query_laws.proofs.Options.{bind, then, weaker, tested_else, map_map, both_parts, some_is}
+use Rattle.query_laws.proofs.Ranks.{ListIs, TopFits, list_right, first_right, top_fits, without_front, without_behind}
 use Rattle.query_laws.proofs.Parts.{PartIs, PartsAre, ValueIs, parts_append, plain_means, kept_right, exists_right, value_means, member_right, tests_pass}
 use Rattle.query_laws.proofs.Selects.{reach, FineAt, Selected, plain_right, once_right}
 
@@ -219,6 +222,11 @@ module _ (tables : List TableRows) (fit : AreTyped (tables_of tables)) where
 
   -- ---- conjuncts of a WHERE
 
+  -- what is left of conjuncts that are one alone
+  only_one : (outside : Outside) (own : Scope) (n : ℕ) (p : a.Part) → n < 1 → PartsAre T outside own [] (without n (p ∷ []))
+  only_one outside own zero p l = tt
+  only_one outside own (suc n) p l = absurd (omega arith)
+
   plain_right_part : (outside : Outside) (own : Scope) (c : t.Tree) → IfOk (plain_part outside own c >>= alone) (λ ps. PartsAre T outside own ps (a.Plain c ∷ []))
   plain_right_part outside own c = bind (plain_part outside own c) alone (λ p. PartIs T outside own p (a.Plain c)) _ (plain_means T outside own c) (λ p h. (h, tt))
 
@@ -229,55 +237,285 @@ module _ (tables : List TableRows) (fit : AreTyped (tables_of tables)) where
   one_part outside own o q h = bind o alone (λ p. (outside : Outside) → PartIs T outside own p q) _ h (λ p k. (k outside, tt))
 
   -- sources, joined from the left
-  sources_right : (from : t.Source) (joins : t.JoinItems) → IfOk (source_bound D from) (λ x. Right x (a.answer_source tables from)) → ((x : Relation) (w : Reach) → Right x w → IfOk (b.joins_bound D joins x) (λ y. Right y (a.from_joins tables w joins)))
-      → IfOk (source_bound D from >>= b.joins_bound D joins) (λ x. Right x (a.from_joins tables (a.answer_source tables from) joins))
-  sources_right from joins h k = bind (source_bound D from) (b.joins_bound D joins) (λ x. Right x (a.answer_source tables from)) _ h (λ x l. k x (a.answer_source tables from) l)
+  sources_right : (from : t.Source) (joins : t.JoinItems) → IfOk (source_bound false D from) (λ x. Right x (a.answer_source tables from)) → ((x : Relation) (w : Reach) → Right x w → IfOk (b.joins_bound false D joins x) (λ y. Right y (a.from_joins tables w joins)))
+      → IfOk (source_bound false D from >>= b.joins_bound false D joins) (λ x. Right x (a.from_joins tables (a.answer_source tables from) joins))
+  sources_right from joins h k = bind (source_bound false D from) (b.joins_bound false D joins) (λ x. Right x (a.answer_source tables from)) _ h (λ x l. k x (a.answer_source tables from) l)
+
+  -- ---- FROM and WHERE
+
+  -- all conjuncts but the one that is spent
+  abbrev left_of : Option ℕ → List a.Part → List a.Part
+  left_of None qs = qs
+  left_of (Some n) qs = without n qs
+
+  -- what is spent is there
+  abbrev IsSpent : t.OptionalTree → Option ℕ → Type 0
+  IsSpent c None = Unit {0}
+  IsSpent c (Some n) = n < length (a.conjuncts_if c)
 
   mutual
-    pub query_right : (q : t.Query) → IfOk (query_bound (map (λ x. x.table) tables) q) (λ x. Right x (a.answer tables q))
+    parts_count : (x : t.Tree) → length (a.parts tables x) ≡ length (a.conjuncts x)
+    parts_count (t.And xs) = all_parts_count xs
+    parts_count (t.Paren x) = parts_count x
+    parts_count (t.InQuery x q false) = refl
+    parts_count (t.InQuery x q true) = refl
+    parts_count _ = refl
+
+    all_parts_count : (xs : t.Trees) → length (a.all_parts tables xs) ≡ length (a.all_conjuncts xs)
+    all_parts_count t.no_trees = refl
+    all_parts_count (t.tree_and x xs) =
+        length-append (a.parts tables x) (a.all_parts tables xs) ∙ ((λ i. parts_count x i + all_parts_count xs i) ∙ sym (length-append (a.conjuncts x) (a.all_conjuncts xs)))
+
+  -- a query with a rank, bound
+  pub record AloneIs (y : b.Alone) (w : a.Alone) : Type 0 where
+    pub alias_is : y.alias ≡ w.alias
+    pub query : Ranked
+    pub over : Relation
+    pub list_is : ListIs query over y.list
+    pub ranked_is : query ≡ w.list
+    pub reach_is : R y.list.input ≡ w.reach
+    pub fine : FineAt T y.list.input
+
+  abbrev ReadIs : b.Read → a.Read → Type 0
+  ReadIs (b.Joined x) (a.Joined w) = Right x w
+  ReadIs (b.Joined x) (a.Only w) = ⊥
+  ReadIs (b.Only y) (a.Joined w) = ⊥
+  ReadIs (b.Only y) (a.Only w) = AloneIs y w
+
+  abbrev AlonesAre : Option (Checked b.Alone) → Option a.Alone → Type 0
+  AlonesAre None None = Unit {0}
+  AlonesAre None (Some w) = ⊥
+  AlonesAre (Some o) None = ⊥
+  AlonesAre (Some o) (Some w) = IfOk o (λ y. AloneIs y w)
+
+  read_is : (joins : t.JoinItems) (o : Option (Checked b.Alone)) (p : Option a.Alone) (r : Checked Relation) (w : Reach) → AlonesAre o p → IfOk r (λ x. Right x w) → IfOk (b.read_by joins o r) (λ y. ReadIs y (a.read_by joins p w))
+  read_is t.no_joins None None r w h k = bind r _ (λ x. Right x w) (λ y. ReadIs y (a.Joined w)) k (λ x l. l)
+  read_is t.no_joins None (Some v) r w h k = absurd h
+  read_is t.no_joins (Some o) None r w h k = absurd h
+  read_is t.no_joins (Some o) (Some v) r w h k = bind o _ (λ y. AloneIs y v) (λ y. ReadIs y (a.Only v)) h (λ y l. l)
+  read_is (t.join_and j js) o p r w h k = bind r _ (λ x. Right x w) (λ y. ReadIs y (a.Joined w)) k (λ x l. l)
+
+  -- the columns in reach, with what is spent of the conjuncts
+  pub record FrameIs (outer : t.Select) (w : a.Read) (f : b.Framed) : Type 0 where
+    pub reach_is : (ps : List a.Part) → R f.relation ≡ (a.from_where outer w ps).reach
+    pub fine : FineAt T f.relation
+    pub parts_are : (ps : List a.Part) → left_of f.spent ps ≡ (a.from_where outer w ps).parts
+    pub there : (n : ℕ) → f.spent ≡ Some n → n < length (a.select_conjuncts outer)
+
+  abbrev BoundedIs : t.Select → a.Alone → Option Top → b.Framed → Type 0
+  BoundedIs outer w o f =
+      ((ps : List a.Part) → R f.relation ≡ (a.bounded w outer o ps).reach) × FineAt T f.relation × ((ps : List a.Part) → left_of f.spent ps ≡ (a.bounded w outer o ps).parts) × ((n : ℕ) → f.spent ≡ Some n → n < length (a.select_conjuncts outer))
+
+  bounded_right : (outer : t.Select) (y : b.Alone) (w : a.Alone) → AloneIs y w → (o : Option Top) → TopFits 0 (a.select_conjuncts outer) o → IfOk (b.bounded false outer y o) (BoundedIs outer w o)
+  bounded_right outer y w h None l = tt
+  bounded_right outer y w h (Some top) l =
+      let kept = a.is_kept y.alias y.list.list outer top.conjunct in
+      let p = first_right T h.query h.over y.list top.bound kept h.list_is h.fine l.0 in
+      let x = b.first_ranked top.bound kept y.list in
+      let q = renamed_right y.alias x (a.first_ranked y.list.list top.bound kept (R y.list.input)) p in
+      let lists : y.list.list ≡ w.list = h.list_is.list_is ∙ h.ranked_is in (
+        λ ps. q.0 ∙ (λ i. a.renamed (h.alias_is i) (a.first_ranked (lists i) top.bound (a.is_kept (h.alias_is i) (lists i) outer top.conjunct) (h.reach_is i))),
+        q.1,
+        λ ps. refl,
+        λ n e. let j : top.conjunct ≡ n = some_is top.conjunct n e in subst (λ m. m < length (a.select_conjuncts outer)) j (let k : top.conjunct < 0 + length (a.select_conjuncts outer) = l.2 in omega arith),
+      )
+
+  frame_right : (outer : t.Select) (y : b.Read) (w : a.Read) → ReadIs y w → IfOk (b.framed false outer y) (FrameIs outer w)
+  frame_right outer (b.Joined x) (a.Joined w) h = record { reach_is = λ ps. h.0; fine = h.1; parts_are = λ ps. refl; there = λ n e. absurd (cc) }
+  frame_right outer (b.Joined x) (a.Only w) h = absurd h
+  frame_right outer (b.Only y) (a.Joined w) h = absurd h
+  frame_right outer (b.Only y) (a.Only w) h =
+      let cs = a.select_conjuncts outer in
+      let lists : y.list.list ≡ w.list = h.list_is.list_is ∙ h.ranked_is in
+      let top = a.top_of y.alias y.list.input.scope y.list.list cs in
+      let same : top ≡ a.top_of w.alias w.reach.scope w.list cs = (λ i. a.top_of (h.alias_is i) (h.reach_is i).scope (lists i) cs) in
+      weaker (b.framed false outer (b.Only y)) (BoundedIs outer w top) (FrameIs outer (a.Only w))
+      (bounded_right outer y w h top (top_fits 0 (find (a.ranked_names y.alias y.list.input.scope y.list.list)) (length (entries y.list.input.scope y.list.list.ahead)) cs))
+      (λ f k. record {
+        reach_is = λ ps. k.0 ps ∙ (λ i. (a.bounded w outer (same i) ps).reach);
+        fine = k.1;
+        parts_are = λ ps. k.2 ps ∙ (λ i. (a.bounded w outer (same i) ps).parts);
+        there = k.3;
+      })
+
+  -- what FROM and WHERE of a select are bound to
+  pub record GatheredIs (outside : Outside) (f : b.FromWhere) (g : a.FromWhere) : Type 0 where
+    pub reach_is : R f.relation ≡ g.reach
+    pub fine : FineAt T f.relation
+    pub parts_are : PartsAre T outside f.relation.scope f.parts g.parts
+    pub tested : list_all is_test f.parts ≡ true
+
+  -- the rows that they give
+  gathered_kept : (f : b.FromWhere) (g : a.FromWhere) → GatheredIs None f g → Right (b.kept f.parts f.relation) (a.filtered g.parts g.reach)
+  gathered_kept f g h =
+      let p = kept_right T None f.relation f.parts g.parts h.parts_are h.tested h.fine in
+      (p.0 ∙ ap (a.filtered g.parts) h.reach_is, p.1)
+
+  refused : (o : Checked RankedList) (P : Relation → Type 0) → IfOk (o >>= b.unbounded false) P
+  refused (Ok x) P = tt
+  refused (Err code) P = tt
+
+  listed_right : (x : t.Select) (f : b.FromWhere) (g : a.FromWhere) → GatheredIs None f g → IfOk (b.select_over false x f) (λ y. Right y (a.select_over x g))
+  listed_right (t.select_of distinct items from joins condition groups having) f g h = go (ranked_select (t.select_of distinct items from joins condition groups having))
+    where
+      go : (o : Option Ranked) → IfOk (b.listed_by false o (t.select_of distinct items from joins condition groups having) (b.kept f.parts f.relation)) (λ y. Right y (a.select_over (t.select_of distinct items from joins condition groups having) g))
+      go None =
+          let y = b.kept f.parts f.relation in
+          let p = gathered_kept f g h in
+          weaker (b.selected distinct (entries y.scope items) (listed_trees groups) having y) _ _ (selected_right distinct (entries y.scope items) groups having y p.1)
+          (λ z k. (k.0 ∙ ap (λ v. a.selected distinct (entries v.scope items) (listed_trees groups) having v) p.0, k.1))
+      go (Some q) = refused (ranked_list q (b.kept f.parts f.relation)) (λ y. Right y (a.select_over (t.select_of distinct items from joins condition groups having) g))
+
+  select_is : (x : t.Select) → IfOk (b.gathered_bound false D None x) (λ f. GatheredIs None f (a.gathered tables x)) → IfOk (b.select_bound false D x) (λ y. Right y (a.answer_select tables x))
+  select_is x h = bind (b.gathered_bound false D None x) (b.select_over false x) (λ f. GatheredIs None f (a.gathered tables x)) _ h (λ f k. listed_right x f (a.gathered tables x) k)
+
+  inside_is : (anti : Bool) (own : Scope) (x : t.Select) (xs : t.Selects) (order : t.SortList) (limit : Option Text) → IfOk (b.gathered_bound false D (Some own) x) (λ f. GatheredIs (Some own) f (a.gathered tables x))
+      → IfOk (b.inside_bound false D anti own x) (λ p. (outside : Outside) → PartIs T outside own p (a.Exists anti (a.inside tables (t.query_of (t.select_and x xs) order limit))))
+  inside_is anti own x xs order limit h =
+      bind (b.gathered_bound false D (Some own) x) (b.exists_over false anti x) (λ f. GatheredIs (Some own) f (a.gathered tables x)) _ h (λ f k.
+      then (b.list_inside false (ranked_select x) x f.relation) _ _ (λ listed e outside.
+      exists_right T anti own f.relation (a.gathered tables x).reach f.parts (a.gathered tables x).parts k.reach_is k.fine k.parts_are k.tested))
+
+  alone_is : (alias : Option Text) (x : t.Select) → IfOk (b.gathered_bound false D None x) (λ f. GatheredIs None f (a.gathered tables x)) → (o : Option Ranked)
+      → AlonesAre (option_map (b.alone_of alias (b.gathered_bound false D None x)) o) (a.alone_of alias o (a.gathered tables x))
+  alone_is alias x h None = tt
+  alone_is alias x h (Some q) =
+      bind (b.gathered_bound false D None x) _ (λ f. GatheredIs None f (a.gathered tables x)) _ h (λ f k.
+      let p = gathered_kept f (a.gathered tables x) k in
+      let z = b.kept f.parts f.relation in
+      bind (ranked_list q z) _ (ListIs q z) _ (list_right q z) (λ y l.
+      record {
+        alias_is = refl;
+        query = q;
+        over = z;
+        list_is = l;
+        ranked_is = refl;
+        reach_is = ap R l.input_is ∙ p.0;
+        fine = subst (FineAt T) (sym l.input_is) p.1;
+      }))
+
+  mutual
+    pub query_right : (q : t.Query) → IfOk (query_bound false D q) (λ x. Right x (a.answer tables q))
     query_right (t.query_of t.no_selects order limit) = tt
     query_right (t.query_of (t.select_and x xs) order limit) =
-        bind (select_bound D x) _ (λ y. Right y (a.answer_select tables x)) _ (select_right x) (λ y h.
-        bind (selects_bound D y.scope xs) _ (λ others. Unions y.scope xs others.0 others.1) _ (selects_right xs y.scope) (λ others u.
+        bind (b.select_bound false D x) _ (λ y. Right y (a.answer_select tables x)) _ (select_is x (gathered_right None x)) (λ y h.
+        bind (selects_bound false D y.scope xs) _ (λ others. Unions y.scope xs others.0 others.1) _ (selects_right xs y.scope) (λ others u.
         tested_else (is_plain order limit) (Ok (record { rel = union_of y.rel others.0; scope = others.1 })) Unsupported (λ z. Right z (a.answers tables (a.answer_select tables x) xs)) (λ e. all_united y xs others.0 others.1 (a.answer_select tables x) h u)))
 
-    pub selects_right : (xs : t.Selects) (scope : Scope) → IfOk (selects_bound D scope xs) (λ others. Unions scope xs others.0 others.1)
+    pub selects_right : (xs : t.Selects) (scope : Scope) → IfOk (selects_bound false D scope xs) (λ others. Unions scope xs others.0 others.1)
     selects_right t.no_selects scope = no_more scope
     selects_right (t.select_and x xs) scope =
-        bind (select_bound D x) _ (λ c. Right c (a.answer_select tables x)) _ (select_right x) (λ c h.
+        bind (b.select_bound false D x) _ (λ c. Right c (a.answer_select tables x)) _ (select_is x (gathered_right None x)) (λ c h.
         bind (united scope c.scope) _ (λ both. (cs : List ColTy) × (common_columns (types scope) (types c.scope) ≡ Some cs) × (retyped scope cs ≡ both)) _ (united_right scope c.scope) (λ both p.
-        bind (selects_bound D both xs) _ (λ others. Unions both xs others.0 others.1) _ (selects_right xs both) (λ others u.
+        bind (selects_bound false D both xs) _ (λ others. Unions both xs others.0 others.1) _ (selects_right xs both) (λ others u.
         one_more scope x xs c p.0 others.0 others.1 h p.1 (subst (λ s. Unions s xs others.0 others.1) (sym p.2) u))))
 
-    pub select_right : (x : t.Select) → IfOk (select_bound D x) (λ y. Right y (a.answer_select tables x))
-    select_right (t.select_of distinct items from joins condition groups having) =
+    gathered_right : (outside : Outside) (x : t.Select) → IfOk (b.gathered_bound false D outside x) (λ f. GatheredIs outside f (a.gathered tables x))
+    gathered_right outside (t.select_of distinct items from joins condition groups having) =
+        let outer = t.select_of distinct items from joins condition groups having in
         let joined = a.from_joins tables (a.answer_source tables from) joins in
+        let w = a.read_by joins (a.alone_in tables from) joined in
         let C = a.where_parts tables condition in
-        let W = a.filtered C joined in
-        bind (source_bound D from >>= b.joins_bound D joins) _ (λ x. Right x joined) _ (sources_right from joins (source_right from) (joins_right joins)) (λ x h.
-        bind (b.where_bound D None x.scope condition) _ (λ ps. PartsAre T None x.scope ps C × (list_all is_test ps ≡ true)) _ (where_parts_right None x.scope condition) (λ ps w.
-        let y = b.kept ps x in
-        let kept = kept_right T None x ps C w.0 w.1 h.1 in
-        let same : R y ≡ W = kept.0 ∙ ap (a.filtered C) h.0 in
-        weaker (b.selected distinct (entries x.scope items) (listed_trees groups) having y) _ _ (selected_right distinct (entries x.scope items) groups having y kept.1)
-        (λ z k. (k.0 ∙ ap (λ v. a.selected distinct (entries v.scope items) (listed_trees groups) having v) same, k.1))))
+        bind (b.read_by joins (b.alone_bound false D from) (source_bound false D from >>= b.joins_bound false D joins) >>= b.framed false outer) _ (FrameIs outer w) _
+        (bind (b.read_by joins (b.alone_bound false D from) (source_bound false D from >>= b.joins_bound false D joins)) (b.framed false outer) (λ y. ReadIs y w) (FrameIs outer w)
+        (read_is joins (b.alone_bound false D from) (a.alone_in tables from) (source_bound false D from >>= b.joins_bound false D joins) joined (alone_right from) (sources_right from joins (source_right from) (joins_right joins)))
+        (λ y h. frame_right outer y w h))
+        (λ f h.
+        bind (b.where_bound false D f.spent outside f.relation.scope condition) _ (λ ps. PartsAre T outside f.relation.scope ps (left_of f.spent C) × (list_all is_test ps ≡ true)) _
+        (where_right f.spent outside f.relation.scope condition (spent_there f.spent condition h.there))
+        (λ ps k. record {
+          reach_is = h.reach_is C;
+          fine = h.fine;
+          parts_are = subst (λ (qs : List a.Part). PartsAre T outside f.relation.scope ps qs) (h.parts_are C) k.0;
+          tested = k.1;
+        }))
+      where
+        spent_there : (o : Option ℕ) (c : t.OptionalTree) → ((n : ℕ) → o ≡ Some n → n < length (a.conjuncts_if c)) → IsSpent c o
+        spent_there None c h = tt
+        spent_there (Some n) c h = h n refl
 
-    where_parts_right : (outside : Outside) (own : Scope) (c : t.OptionalTree) → IfOk (b.where_bound D outside own c) (λ ps. PartsAre T outside own ps (a.where_parts tables c) × (list_all is_test ps ≡ true))
-    where_parts_right outside own t.no_tree = (tt, refl)
-    where_parts_right outside own (t.some_tree x) =
-        bind (b.parts_bound D outside own x) tests (λ ps. PartsAre T outside own ps (a.parts tables x)) _ (parts_right outside own x) (λ ps h. tests_pass ps (λ qs. PartsAre T outside own qs (a.parts tables x)) h)
+    -- a query of one select, which has a rank
+    alone_right : (from : t.Source) → AlonesAre (b.alone_bound false D from) (a.alone_in tables from)
+    alone_right (t.Table name alias) = tt
+    alone_right (t.FromQuery (t.query_of t.no_selects order limit) alias) = tt
+    alone_right (t.FromQuery (t.query_of (t.select_and x t.no_selects) t.no_sorts None) alias) = alone_is alias x (gathered_right None x) (ranked_select x)
+    alone_right (t.FromQuery (t.query_of (t.select_and x t.no_selects) t.no_sorts (Some limit)) alias) = tt
+    alone_right (t.FromQuery (t.query_of (t.select_and x t.no_selects) (t.sort_and s order) limit) alias) = tt
+    alone_right (t.FromQuery (t.query_of (t.select_and x (t.select_and y ys)) order limit) alias) = tt
 
-    parts_right : (outside : Outside) (own : Scope) (x : t.Tree) → IfOk (b.parts_bound D outside own x) (λ ps. PartsAre T outside own ps (a.parts tables x))
+    where_right : (spent : Option ℕ) (outside : Outside) (own : Scope) (c : t.OptionalTree) → IsSpent c spent → IfOk (b.where_bound false D spent outside own c) (λ ps. PartsAre T outside own ps (left_of spent (a.where_parts tables c)) × (list_all is_test ps ≡ true))
+    where_right None outside own t.no_tree l = (tt, refl)
+    where_right (Some n) outside own t.no_tree l = (tt, refl)
+    where_right None outside own (t.some_tree x) l =
+        bind (b.parts_bound false D outside own x) tests (λ ps. PartsAre T outside own ps (a.parts tables x)) _ (parts_right outside own x) (λ ps h. tests_pass ps (λ qs. PartsAre T outside own qs (a.parts tables x)) h)
+    where_right (Some n) outside own (t.some_tree x) l =
+        bind (b.parts_but false D n outside own x) tests (λ ps. PartsAre T outside own ps (without n (a.parts tables x))) _ (but_right n outside own x l) (λ ps h. tests_pass ps (λ qs. PartsAre T outside own qs (without n (a.parts tables x))) h)
+
+    -- all conjuncts but one
+    but_right : (n : ℕ) (outside : Outside) (own : Scope) (x : t.Tree) → n < length (a.conjuncts x) → IfOk (b.parts_but false D n outside own x) (λ ps. PartsAre T outside own ps (without n (a.parts tables x)))
+    but_right n outside own (t.And xs) l =
+        bind (b.all_parts_but false D n outside own xs) tests (λ ps. PartsAre T outside own ps (without n (a.all_parts tables xs))) _ (all_but_right n outside own xs l) (λ ps h.
+        weaker (tests ps) _ _ (tests_pass ps (λ qs. PartsAre T outside own qs (without n (a.all_parts tables xs))) h) (λ qs k. k.0))
+    but_right n outside own (t.Paren x) l = but_right n outside own x l
+    but_right n outside own (t.Exists q) l = only_one outside own n (a.Exists false (a.inside tables q)) l
+    but_right n outside own (t.Not x) l = only_one outside own n (a.denied tables (t.Not x) x) l
+    but_right n outside own (t.InQuery x q false) l = only_one outside own n (a.Member x (a.answer tables q)) l
+    but_right n outside own (t.InQuery x q true) l = only_one outside own n (a.Plain (t.InQuery x q true)) l
+    but_right n outside own (t.Or xs) l = only_one outside own n (a.Plain (t.Or xs)) l
+    but_right n outside own (t.Compare op x y) l = only_one outside own n (a.Plain (t.Compare op x y)) l
+    but_right n outside own (t.IsNull x negated) l = only_one outside own n (a.Plain (t.IsNull x negated)) l
+    but_right n outside own (t.Between x low high negated) l = only_one outside own n (a.Plain (t.Between x low high negated)) l
+    but_right n outside own (t.InList x xs negated) l = only_one outside own n (a.Plain (t.InList x xs negated)) l
+    but_right n outside own (t.Like x y negated) l = only_one outside own n (a.Plain (t.Like x y negated)) l
+    but_right n outside own (t.Sum x xs) l = only_one outside own n (a.Plain (t.Sum x xs)) l
+    but_right n outside own (t.Product x xs) l = only_one outside own n (a.Plain (t.Product x xs)) l
+    but_right n outside own (t.Sign minus x) l = only_one outside own n (a.Plain (t.Sign minus x)) l
+    but_right n outside own (t.Number text) l = only_one outside own n (a.Plain (t.Number text)) l
+    but_right n outside own (t.Str text) l = only_one outside own n (a.Plain (t.Str text)) l
+    but_right n outside own (t.Truth truth) l = only_one outside own n (a.Plain (t.Truth truth)) l
+    but_right n outside own t.Null l = only_one outside own n (a.Plain t.Null) l
+    but_right n outside own (t.Name of name quoted) l = only_one outside own n (a.Plain (t.Name of name quoted)) l
+    but_right n outside own (t.Call name args filter o) l = only_one outside own n (a.Plain (t.Call name args filter o)) l
+    but_right n outside own (t.Cast x ty) l = only_one outside own n (a.Plain (t.Cast x ty)) l
+    but_right n outside own (t.Sub q) l = only_one outside own n (a.Plain (t.Sub q)) l
+    but_right n outside own (t.Case whens otherwise) l = only_one outside own n (a.Plain (t.Case whens otherwise)) l
+
+    all_but_right : (n : ℕ) (outside : Outside) (own : Scope) (xs : t.Trees) → n < length (a.all_conjuncts xs) → IfOk (b.all_parts_but false D n outside own xs) (λ ps. PartsAre T outside own ps (without n (a.all_parts tables xs)))
+    all_but_right n outside own t.no_trees l = absurd (omega arith)
+    all_but_right n outside own (t.tree_and x xs) l =
+        let C = a.conjuncts x in
+        let P = a.parts tables x in
+        let Q = a.all_parts tables xs in
+        go (nat_lt n (length C)) refl
+        (λ s. bind (b.parts_but false D n outside own x) _ (λ ps. PartsAre T outside own ps (without n P)) _ (but_right n outside own x s) (λ ps h.
+        bind (b.all_parts_bound false D outside own xs) _ (λ qs. PartsAre T outside own qs Q) _ (all_parts_right outside own xs) (λ qs k.
+        subst (λ (zs : List a.Part). PartsAre T outside own (ps ++ qs) zs) (sym (without_front n P Q (subst (λ m. n < m) (sym (parts_count x)) s))) (parts_append T outside own ps qs (without n P) Q h k))))
+        (λ s. bind (b.parts_bound false D outside own x) _ (λ ps. PartsAre T outside own ps P) _ (parts_right outside own x) (λ ps h.
+        bind (b.all_parts_but false D (n - length C) outside own xs) _ (λ qs. PartsAre T outside own qs (without (n - length C) Q)) _
+        (all_but_right (n - length C) outside own xs (let e = length-append C (a.all_conjuncts xs) in let m : n < length (C ++ a.all_conjuncts xs) = l in omega (arith, e))) (λ qs k.
+        subst (λ (zs : List a.Part). PartsAre T outside own (ps ++ qs) zs)
+        (sym (without_behind n P Q (subst (λ m. m ≤ n) (sym (parts_count x)) s) ∙ ap (λ m. P ++ without (n - m) Q) (parts_count x)))
+        (parts_append T outside own ps qs P (without (n - length C) Q) h k))))
+      where
+        go : (t : Bool) → nat_lt n (length (a.conjuncts x)) ≡ t
+            → (n < length (a.conjuncts x) → IfOk (b.parts_but false D n outside own x >>= λ ps. b.all_parts_bound false D outside own xs >>= λ qs. Ok (ps ++ qs)) (λ ps. PartsAre T outside own ps (without n (a.parts tables x ++ a.all_parts tables xs))))
+            → (length (a.conjuncts x) ≤ n → IfOk (b.parts_bound false D outside own x >>= λ ps. b.all_parts_but false D (n - length (a.conjuncts x)) outside own xs >>= λ qs. Ok (ps ++ qs)) (λ ps. PartsAre T outside own ps (without n (a.parts tables x ++ a.all_parts tables xs))))
+            → IfOk (cond t (b.parts_but false D n outside own x >>= λ ps. b.all_parts_bound false D outside own xs >>= λ qs. Ok (ps ++ qs)) (b.parts_bound false D outside own x >>= λ ps. b.all_parts_but false D (n - length (a.conjuncts x)) outside own xs >>= λ qs. Ok (ps ++ qs)))
+            (λ ps. PartsAre T outside own ps (without n (a.parts tables x ++ a.all_parts tables xs)))
+        go true e h k = h (ltb-true n (length (a.conjuncts x)) e)
+        go false e h k = k (let s = ltb-false n (length (a.conjuncts x)) e in omega arith)
+
+    parts_right : (outside : Outside) (own : Scope) (x : t.Tree) → IfOk (b.parts_bound false D outside own x) (λ ps. PartsAre T outside own ps (a.parts tables x))
     parts_right outside own (t.And xs) =
-        bind (b.all_parts_bound D outside own xs) tests (λ ps. PartsAre T outside own ps (a.all_parts tables xs)) _ (all_parts_right outside own xs) (λ ps h.
+        bind (b.all_parts_bound false D outside own xs) tests (λ ps. PartsAre T outside own ps (a.all_parts tables xs)) _ (all_parts_right outside own xs) (λ ps h.
         weaker (tests ps) _ _ (tests_pass ps (λ qs. PartsAre T outside own qs (a.all_parts tables xs)) h) (λ qs k. k.0))
     parts_right outside own (t.Paren x) = parts_right outside own x
-    parts_right outside own (t.Exists q) = one_part outside own (b.exists_bound D false own q) (a.Exists false (a.inside tables q)) (exists_query_right false own q)
-    parts_right outside own (t.Not x) = alone_part outside own (b.denied_bound D outside own (t.Not x) x) (a.denied tables (t.Not x) x) (denied_right outside own (t.Not x) x)
+    parts_right outside own (t.Exists q) = one_part outside own (b.exists_bound false D false own q) (a.Exists false (a.inside tables q)) (exists_query_right false own q)
+    parts_right outside own (t.Not x) = alone_part outside own (b.denied_bound false D outside own (t.Not x) x) (a.denied tables (t.Not x) x) (denied_right outside own (t.Not x) x)
     parts_right outside own (t.InQuery x q false) =
         bind (plain_part outside own x >>= own_value) _ (ValueIs T own x) _ (value_means T outside own x) (λ v h.
-        alone_part outside own (query_bound D q >>= member_part own x v) (a.Member x (a.answer tables q))
-        (bind (query_bound D q) (member_part own x v) (λ y. Right y (a.answer tables q)) _ (query_right q) (λ y k.
+        alone_part outside own (query_bound false D q >>= member_part own x v) (a.Member x (a.answer tables q))
+        (bind (query_bound false D q) (member_part own x v) (λ y. Right y (a.answer tables q)) _ (query_right q) (λ y k.
         weaker (member_part own x v y) _ _ (member_right T own x v y (a.answer tables q) h k.0 k.1) (λ p l. l outside))))
     parts_right outside own (t.InQuery x q true) = plain_right_part outside own (t.InQuery x q true)
     parts_right outside own (t.Or xs) = plain_right_part outside own (t.Or xs)
@@ -299,16 +537,16 @@ module _ (tables : List TableRows) (fit : AreTyped (tables_of tables)) where
     parts_right outside own (t.Sub q) = plain_right_part outside own (t.Sub q)
     parts_right outside own (t.Case whens otherwise) = plain_right_part outside own (t.Case whens otherwise)
 
-    all_parts_right : (outside : Outside) (own : Scope) (xs : t.Trees) → IfOk (b.all_parts_bound D outside own xs) (λ ps. PartsAre T outside own ps (a.all_parts tables xs))
+    all_parts_right : (outside : Outside) (own : Scope) (xs : t.Trees) → IfOk (b.all_parts_bound false D outside own xs) (λ ps. PartsAre T outside own ps (a.all_parts tables xs))
     all_parts_right outside own t.no_trees = tt
     all_parts_right outside own (t.tree_and x xs) =
-        bind (b.parts_bound D outside own x) _ (λ ps. PartsAre T outside own ps (a.parts tables x)) _ (parts_right outside own x) (λ ps h.
-        bind (b.all_parts_bound D outside own xs) _ (λ qs. PartsAre T outside own qs (a.all_parts tables xs)) _ (all_parts_right outside own xs) (λ qs k.
+        bind (b.parts_bound false D outside own x) _ (λ ps. PartsAre T outside own ps (a.parts tables x)) _ (parts_right outside own x) (λ ps h.
+        bind (b.all_parts_bound false D outside own xs) _ (λ qs. PartsAre T outside own qs (a.all_parts tables xs)) _ (all_parts_right outside own xs) (λ qs k.
         parts_append T outside own ps qs (a.parts tables x) (a.all_parts tables xs) h k))
 
-    denied_right : (outside : Outside) (own : Scope) (whole x : t.Tree) → IfOk (b.denied_bound D outside own whole x) (λ p. PartIs T outside own p (a.denied tables whole x))
+    denied_right : (outside : Outside) (own : Scope) (whole x : t.Tree) → IfOk (b.denied_bound false D outside own whole x) (λ p. PartIs T outside own p (a.denied tables whole x))
     denied_right outside own whole (t.Paren x) = denied_right outside own whole x
-    denied_right outside own whole (t.Exists q) = weaker (b.exists_bound D true own q) _ _ (exists_query_right true own q) (λ p h. h outside)
+    denied_right outside own whole (t.Exists q) = weaker (b.exists_bound false D true own q) _ _ (exists_query_right true own q) (λ p h. h outside)
     denied_right outside own whole (t.And xs) = plain_means T outside own whole
     denied_right outside own whole (t.Or xs) = plain_means T outside own whole
     denied_right outside own whole (t.Not x) = plain_means T outside own whole
@@ -331,28 +569,20 @@ module _ (tables : List TableRows) (fit : AreTyped (tables_of tables)) where
     denied_right outside own whole (t.Sub q) = plain_means T outside own whole
     denied_right outside own whole (t.Case whens otherwise) = plain_means T outside own whole
 
-    exists_query_right : (anti : Bool) (own : Scope) (q : t.Query) → IfOk (b.exists_bound D anti own q) (λ p. (outside : Outside) → PartIs T outside own p (a.Exists anti (a.inside tables q)))
+    exists_query_right : (anti : Bool) (own : Scope) (q : t.Query) → IfOk (b.exists_bound false D anti own q) (λ p. (outside : Outside) → PartIs T outside own p (a.Exists anti (a.inside tables q)))
     exists_query_right anti own (t.query_of t.no_selects order limit) = tt
     exists_query_right anti own (t.query_of (t.select_and x xs) order limit) =
-        tested_else (b.is_simple x && (b.is_one xs && is_plain order limit)) (b.inside_bound D anti own x) Unsupported _ (λ e. inside_right anti own x xs order limit)
+        tested_else (is_simple x && (b.is_one xs && is_plain order limit)) (b.inside_bound false D anti own x) Unsupported _ (λ e. inside_is anti own x xs order limit (gathered_right (Some own) x))
 
-    inside_right : (anti : Bool) (own : Scope) (x : t.Select) (xs : t.Selects) (order : t.SortList) (limit : Option Text) → IfOk (b.inside_bound D anti own x) (λ p. (outside : Outside) → PartIs T outside own p (a.Exists anti (a.inside tables (t.query_of (t.select_and x xs) order limit))))
-    inside_right anti own (t.select_of distinct items from joins condition groups having) xs order limit =
-        let joined = a.from_joins tables (a.answer_source tables from) joins in
-        bind (source_bound D from >>= b.joins_bound D joins) _ (λ x. Right x joined) _ (sources_right from joins (source_right from) (joins_right joins)) (λ x h.
-        bind (b.where_bound D (Some own) x.scope condition) _ (λ ps. PartsAre T (Some own) x.scope ps (a.where_parts tables condition) × (list_all is_test ps ≡ true)) _ (where_parts_right (Some own) x.scope condition) (λ ps w.
-        then (b.list_bound (b.plain_listed x.scope) (entries x.scope items)) _ _ (λ listed e outside.
-        exists_right T anti own x joined ps (a.where_parts tables condition) h.0 h.1 w.0 w.1)))
-
-    pub source_right : (from : t.Source) → IfOk (source_bound D from) (λ x. Right x (a.answer_source tables from))
+    pub source_right : (from : t.Source) → IfOk (source_bound false D from) (λ x. Right x (a.answer_source tables from))
     source_right (t.Table name alias) = read_right alias (find_source 0 D name) (find_table tables name) (found_at 0 tables name)
-    source_right (t.FromQuery q alias) = bind (query_bound D q) _ (λ x. Right x (a.answer tables q)) _ (query_right q) (λ x h. renamed_right alias x (a.answer tables q) h)
+    source_right (t.FromQuery q alias) = bind (query_bound false D q) _ (λ x. Right x (a.answer tables q)) _ (query_right q) (λ x h. renamed_right alias x (a.answer tables q) h)
 
-    pub joins_right : (js : t.JoinItems) (x : Relation) (w : Reach) → Right x w → IfOk (b.joins_bound D js x) (λ y. Right y (a.from_joins tables w js))
+    pub joins_right : (js : t.JoinItems) (x : Relation) (w : Reach) → Right x w → IfOk (b.joins_bound false D js x) (λ y. Right y (a.from_joins tables w js))
     joins_right t.no_joins x w h = h
     joins_right (t.join_and (t.join_of word source on) js) x w h =
         let other = a.answer_source tables source in
-        bind (source_bound D source) _ (λ y. Right y other) _ (source_right source) (λ y k.
-        bind (b.joined (kind_of word) x y on) (b.joins_bound D js) (λ z. Right z (a.joined (kind_of word) w other on)) (λ z. Right z (a.from_joins tables (a.joined (kind_of word) w other on) js))
+        bind (source_bound false D source) _ (λ y. Right y other) _ (source_right source) (λ y k.
+        bind (b.joined (kind_of word) x y on) (b.joins_bound false D js) (λ z. Right z (a.joined (kind_of word) w other on)) (λ z. Right z (a.from_joins tables (a.joined (kind_of word) w other on) js))
         (weaker (b.joined (kind_of word) x y on) _ _ (joined_right T (kind_of word) x y on h.1 k.1) (λ z l. (l.0 ∙ (λ i. a.joined (kind_of word) (h.0 i) (k.0 i) on), l.1)))
         (λ z l. joins_right js z (a.joined (kind_of word) w other on) l))

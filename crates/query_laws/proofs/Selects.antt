@@ -37,7 +37,7 @@ use Rattle.query_laws.proofs.Bags.{made_all, mapped_itself, each_map, each_any}
 use Rattle.query_laws.proofs.Bound.{Known, front, back}
 use Rattle.query_laws.proofs.Clauses.{AllTyped, tys, Fine, projected_rows}
 use Rattle.query_laws.proofs.Lists.{map_length, slice_map, take_whole}
-use Rattle.query_laws.proofs.Names.{Same, Is, AllAre, column_is, over_means}
+use Rattle.query_laws.proofs.Names.{Same, SameRow, Is, AllAre, column_is, over_means}
 use Rattle.query_laws.proofs.Nodes as k
 use Rattle.query_laws.proofs.Options.{bind, tested}
 
@@ -89,6 +89,13 @@ length_headed [] (y ∷ ys) l = absurd (omega arith)
 length_headed (e ∷ es) [] l = absurd (omega arith)
 length_headed (e ∷ es) (y ∷ ys) l = ap suc (length_headed es ys (omega arith))
 
+-- the values of expressions are those of what is told
+pub meanings_same : (cols : List ColTy) (ys : List Bound) (zs : List Typed) → k.AllAre cols SameRow ys zs → map eval (expr_list ys) ≡ meanings zs
+meanings_same cols [] [] h = refl
+meanings_same cols [] (z ∷ zs) h = absurd h
+meanings_same cols (y ∷ ys) [] h = absurd h
+meanings_same cols (y ∷ ys) (z ∷ zs) h = λ i. (λ row. h.0.2 row row refl i) ∷ meanings_same cols ys zs h.1 i
+
 -- ---- over the columns in reach
 
 module _ (scope : Scope) where
@@ -103,10 +110,7 @@ module _ (scope : Scope) where
 
   -- the values of expressions are those of what is told
   pub plain_meanings : (ys : List Bound) (zs : List Typed) → AllAre scope ys zs → map eval (expr_list ys) ≡ meanings zs
-  plain_meanings [] [] h = refl
-  plain_meanings [] (z ∷ zs) h = absurd h
-  plain_meanings (y ∷ ys) [] h = absurd h
-  plain_meanings (y ∷ ys) (z ∷ zs) h = λ i. (λ row. h.0.2 row row refl i) ∷ plain_meanings ys zs h.1 i
+  plain_meanings = meanings_same (types scope)
 
   Nothing : ℕ → Call → Type 0
   Nothing n c = Unit {0}

@@ -17,16 +17,16 @@ ghost use Rattle.query_laws.specs.Statement.{declared, filled, has_full_unions, 
 
 /// What an accepted query is bound to has the query's answer, out of range included, and the query's columns with their names.
 pub fn binding_keeps_the_answer()
-    ensures rows { (tables : List TableRows) (query : Query) → AreTyped (tables_of tables) → IfOk (query_bound (declared tables) query) (λ bound. answer (tables_of tables) bound.rel ≡ (query_answer tables query).rows) }
-    ensures columns { (tables : List TableRows) (query : Query) → AreTyped (tables_of tables) → IfOk (query_bound (declared tables) query) (λ bound. bound.scope ≡ (query_answer tables query).scope) }
+    ensures rows { (tables : List TableRows) (query : Query) → AreTyped (tables_of tables) → IfOk (query_bound false (declared tables) query) (λ bound. answer (tables_of tables) bound.rel ≡ (query_answer tables query).rows) }
+    ensures columns { (tables : List TableRows) (query : Query) → AreTyped (tables_of tables) → IfOk (query_bound false (declared tables) query) (λ bound. bound.scope ≡ (query_answer tables query).scope) }
 {}
 
 /// It is well-typed over the tables' columns, with the types of the query's columns; each Union of it has two inputs or more, and no
 /// Project of it has its input's columns in place as items.
 pub fn bound_queries_are_well_typed()
-    ensures columns { (sources : List TableDef) (query : Query) → IfOk (query_bound sources query) (λ bound. columns_of (map column_types sources) bound.rel ≡ Some (types bound.scope)) }
-    ensures unions { (sources : List TableDef) (query : Query) → IfOk (query_bound sources query) (λ bound. has_full_unions bound.rel ≡ true) }
-    ensures projects { (sources : List TableDef) (query : Query) → IfOk (query_bound sources query) (λ bound. has_idle_project (map column_types sources) bound.rel ≡ false) }
+    ensures columns { (sources : List TableDef) (query : Query) → IfOk (query_bound false sources query) (λ bound. columns_of (map column_types sources) bound.rel ≡ Some (types bound.scope)) }
+    ensures unions { (sources : List TableDef) (query : Query) → IfOk (query_bound false sources query) (λ bound. has_full_unions bound.rel ≡ true) }
+    ensures projects { (sources : List TableDef) (query : Query) → IfOk (query_bound false sources query) (λ bound. has_idle_project (map column_types sources) bound.rel ≡ false) }
 {}
 
 /// What the query of an accepted INSERT is bound to has, over the sources, the answer that the query has over the sources and the

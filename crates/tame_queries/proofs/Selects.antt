@@ -1,5 +1,5 @@
 -- A select without arithmetic is bound to a tree that calculates nothing, over a tree that calculates nothing: clause by clause.
-use Rattle.std.proofs.Common.{◌≡◌, ℕ, suc, ◌+◌, Bool, true, false, ◌&&◌, List, [], ◌∷◌, ◌++◌, length, Option, Some, None, cond, Ok, IfOk, refl, option_map, slice_get}
+use Rattle.std.proofs.Common.{◌≡◌, ℕ, suc, ◌+◌, Bool, true, false, ◌&&◌, ◌||◌, List, [], ◌∷◌, ◌++◌, length, Option, Some, None, cond, Ok, IfOk, refl, option_map, slice_get}
 use Rattle.std.specs.Prelude.{flat_map, nat_lt}
 use Rattle.std.specs.List.{list_all}
 use Rattle.ct_value.specs.declared.codes.ScriptCode.TheVariants.{AmbiguousColumn, UnknownColumn, TypeMismatch, NotGrouped, TooManyColumns}
@@ -7,26 +7,29 @@ use Rattle.ct_value.specs.declared.value.CompareOp.TheVariants.{Eq}
 use Rattle.ct_catalog.specs.declared.table.TableDef.{TableDef}
 use Rattle.rel_clauses.specs.declared.join.JoinKind.{JoinKind}
 use Rattle.rel_clauses.specs.declared.join.Pair.{Pair}
+use Rattle.rel_clauses.specs.Ranks.{rank_columns}
 use Rattle.rel_algebra.specs.Rel.{Rel}
 use Rattle.rel_algebra.specs.Rel as r
 use Rattle.rel_algebra.specs.Types.{is_boolean}
 use Rattle.sql_syntax.specs.Tree.{Tree, Text}
 use Rattle.sql_syntax.specs.Tree as t
 use Rattle.query_answer.specs.declared.scope.ScopeColumn.{ScopeColumn}
-use Rattle.query_answer.specs.Answer.{conjuncts, Listed, Placed, Written, NoSource, Entry, placed_from, placed_of, or_no_source, entries_of, entries, listed_calls, having_calls, select_calls, is_grouped, listed_trees}
+use Rattle.query_answer.specs.Answer.{conjuncts, Listed, Placed, Written, NoSource, Entry, placed_from, placed_of, or_no_source, entries_of, entries, listed_calls, having_calls, select_calls, is_grouped, listed_trees, types, select_conjuncts, top_of, is_kept}
 use Rattle.query_answer.specs.Calls.{Call}
 use Rattle.query_answer.specs.declared.scope.Found.TheVariants.{At}
 use Rattle.query_answer.specs.Joins.{plain_column, pair_found, pair_of, rest_of, unless_pair}
 use Rattle.query_answer.specs.Names.{Scope, Lookup, find, find_linked, is_called}
 use Rattle.query_answer.specs.Outside.{looks_outside}
+use Rattle.query_answer.specs.Forms.{is_simple}
+use Rattle.query_answer.specs.Ranks.{Ranked, Top, written_name, has_rank, named_rank, ranked_from, ranked_items, item_over, ranked_select, with_rank}
 use Rattle.query_answer.specs.Shapes.{column_shape, place_of}
-use Rattle.arithmetic.specs.Arithmetic.{in_tree, in_trees, in_optional, in_item, in_items}
+use Rattle.arithmetic.specs.Arithmetic.{in_tree, in_trees, in_optional, in_item, in_items, in_select, in_source, in_joins}
 use Rattle.arithmetic.specs.Tame.{is_tame, rest_is_tame, is_tame_rel}
-use Rattle.binding.specs.Checked.{◌>>=◌, or_code}
+use Rattle.binding.specs.Checked.{Checked, ◌>>=◌, or_code}
 use Rattle.binding.specs.Expressions.{Leaf, bound, bound_by, bound_over, each_bound, conditions, conjuncts_bound, column}
 use Rattle.binding.specs.InGroups.{in_group, key_for, has_no_keys, calls_bound, bound_arguments, bound_filters}
 use Rattle.binding.specs.Nodes.{Bound, expr_list, compare}
-use Rattle.binding.specs.Queries.{Relation, Part, Own, Linked, Matched, Outside, own_part, linked_part, plain_part, is_test, tests, owns, rests, all_if, where_all, all_matched, kept, exists_part, own_value, only_column, matched_by, member_part, alone, read, all_of, share_source, rest_bound, on_bound, joined, is_in_place, projected, Lister, in_turn, few, list_bound, plain_listed, plain_select, group_listed, condition, having_bound, filter_if, group_rel, grouped_select, once, selected}
+use Rattle.binding.specs.Queries.{Relation, Part, Own, Linked, Matched, Outside, own_part, linked_part, plain_part, is_test, tests, owns, rests, all_if, where_all, all_matched, kept, exists_part, own_value, only_column, matched_by, member_part, alone, read, all_of, share_source, rest_bound, on_bound, joined, is_in_place, projected, Lister, in_turn, few, list_bound, plain_listed, plain_select, group_listed, condition, having_bound, filter_if, group_rel, grouped_select, once, selected, RankedList, rank_bound, items_bound, places_bound, sorts_bound, ranked_list, first_ranked, unbounded, Alone, Read, Joined, Only, read_by, Framed, bounded, framed, FromWhere, alone_of, listed_by, select_over, list_inside, exists_over}
 use Rattle.tame_queries.proofs.Bound.{IsFree, AllFree, tame_append, bound_tame, by_tame, over_tame, each_tame, conditions_tame, conjuncts_free}
 use Rattle.tame_queries.proofs.Calls.{AreCounts, counts_append, calls_count, aggs_count}
 use Rattle.tame_queries.proofs.Checked.{bind, then, tested, tested_else, neither}
@@ -315,3 +318,124 @@ selected_tame distinct (e ∷ es) groups having x f g k h = go (is_grouped (e �
     go : (b : Bool) → IfOk (cond b (grouped_select (e ∷ es) (listed_trees groups) having x) (plain_select (e ∷ es) x) >>= λ y. Ok (once distinct y)) TameRel
     go true = bind (grouped_select (e ∷ es) (listed_trees groups) having x) _ TameRel TameRel (grouped_tame (e ∷ es) (listed_trees groups) having x f (trees_free groups g) k h) (λ y p. once_tame distinct y p)
     go false = bind (plain_select (e ∷ es) x) _ TameRel TameRel (plain_tame (e ∷ es) x f h) (λ y p. once_tame distinct y p)
+
+-- ---- Top-N
+
+-- the items beside the rank
+abbrev pub FreeRanked : Option Ranked → Type 0
+FreeRanked None = Unit {0}
+FreeRanked (Some q) = (in_items q.ahead ≡ false) × (in_items q.behind ≡ false)
+
+behind_free : (name : Option Text) (over : t.Over) (xs : t.Items) → in_items xs ≡ false → FreeRanked (named_rank name over xs)
+unfolding in_items
+behind_free None over xs f = tt
+behind_free (Some name) (t.over_of partition order) xs f = (refl, f)
+
+from_free : (o : t.OptionalOver) (x : t.Item) (xs : t.Items) (others : Option Ranked) → in_item x ≡ false → in_items xs ≡ false → FreeRanked others → FreeRanked (ranked_from o x xs others)
+unfolding in_items
+from_free t.no_over x xs None f g h = tt
+from_free t.no_over x xs (Some q) f g h = (λ i. f i || h.0 i, h.1)
+from_free (t.some_over over) x xs others f g h = go (has_rank xs)
+  where
+    go : (b : Bool) → FreeRanked (cond b None (named_rank (written_name x) over xs))
+    go true = tt
+    go false = behind_free (written_name x) over xs g
+
+items_free : (xs : t.Items) → in_items xs ≡ false → FreeRanked (ranked_items xs)
+unfolding in_items
+items_free t.no_items f = tt
+items_free (t.item_and x xs) f =
+    let g = neither (in_item x) (in_items xs) f in
+    from_free (item_over x) x xs (ranked_items xs) g.0 g.1 (items_free xs g.1)
+
+pub ranked_free : (x : t.Select) → in_select x ≡ false → FreeRanked (ranked_select x)
+unfolding in_select
+ranked_free (t.select_of distinct items from joins condition groups having) f = go (is_simple (t.select_of distinct items from joins condition groups having)) (items_free items (neither (in_items items) _ f).0)
+  where
+    go : (b : Bool) → FreeRanked (ranked_items items) → FreeRanked (cond b (ranked_items items) None)
+    go true h = h
+    go false h = tt
+
+abbrev pub TameList : RankedList → Type 0
+TameList x = AllTame x.ahead × (AllTame x.behind × TameRel x.input)
+
+items_tame : (scope : Scope) (xs : t.Items) → in_items xs ≡ false → IfOk (items_bound scope xs) AllTame
+items_tame scope xs f = in_turn_tame (plain_listed scope) (plain_listed_tame scope) 0 (entries scope xs) (entries_free scope xs f)
+
+pub ranked_list_tame : (q : Ranked) (x : Relation) → FreeRanked (Some q) → TameRel x → IfOk (ranked_list q x) TameList
+ranked_list_tame q x f h =
+    bind (items_bound x.scope q.ahead) _ AllTame TameList (items_tame x.scope q.ahead f.0) (λ xs k.
+    then (places_bound x.scope q.partition) _ TameList (λ partition.
+    then (sorts_bound x.scope q.order) _ TameList (λ order.
+    bind (items_bound x.scope q.behind) _ AllTame TameList (items_tame x.scope q.behind f.1) (λ ys l.
+    then (few (with_rank true xs (rank_bound x.scope) ys)) _ TameList (λ all.
+    (k, (l, h)))))))
+
+with_rank_tame : (kept : Bool) (xs : List Bound) (x : Bound) (ys : List Bound) → AllTame xs → Tame x → AllTame ys → AllTame (with_rank kept xs x ys)
+with_rank_tame true xs x ys h k l = tame_append xs (x ∷ ys) h (k, l)
+with_rank_tame false xs x ys h k l = tame_append xs ys h l
+
+pub first_tame : (most : ℕ) (kept : Bool) (x : RankedList) → TameList x → TameRel (first_ranked most kept x)
+first_tame most kept x h =
+    projected_tame (length (rank_columns kept (types x.input.scope))) (with_rank kept x.ahead (rank_bound x.input.scope) x.behind) (r.Rank x.input.rel x.partition x.order most kept)
+    (with_rank_tame kept x.ahead (rank_bound x.input.scope) x.behind h.0 refl h.1.0) h.1.1
+
+unbounded_tame : (free : Bool) (x : RankedList) → TameList x → IfOk (unbounded free x) TameRel
+unbounded_tame true x h = first_tame 0 true x h
+unbounded_tame false x h = tt
+
+abbrev pub TameAlone : Alone → Type 0
+TameAlone x = TameList x.list
+
+abbrev pub TameRead : Read → Type 0
+TameRead (Joined x) = TameRel x
+TameRead (Only x) = TameAlone x
+
+abbrev TameFramed : Framed → Type 0
+TameFramed f = TameRel f.relation
+
+abbrev pub TameFrom : FromWhere → Type 0
+TameFrom f = TameRel f.relation × TameParts f.parts
+
+abbrev pub IfTame : Option (Checked Alone) → Type 0
+IfTame None = Unit {0}
+IfTame (Some o) = IfOk o TameAlone
+
+pub read_by_tame : (joins : t.JoinItems) (o : Option (Checked Alone)) (x : Checked Relation) → IfTame o → IfOk x TameRel → IfOk (read_by joins o x) TameRead
+read_by_tame t.no_joins None x h k = bind x _ TameRel TameRead k (λ y l. l)
+read_by_tame t.no_joins (Some o) x h k = bind o _ TameAlone TameRead h (λ y l. l)
+read_by_tame (t.join_and j js) o x h k = bind x _ TameRel TameRead k (λ y l. l)
+
+pub framed_tame : (free : Bool) (outer : t.Select) (y : Read) → TameRead y → IfOk (framed free outer y) TameFramed
+framed_tame free outer (Joined x) h = h
+framed_tame free outer (Only x) h = go (top_of x.alias x.list.input.scope x.list.list (select_conjuncts outer))
+  where
+    go : (o : Option Top) → IfOk (bounded free outer x o) TameFramed
+    go None = bind (unbounded free x.list) _ TameRel TameFramed (unbounded_tame free x.list h) (λ y l. l)
+    go (Some top) = first_tame top.bound (is_kept x.alias x.list.list outer top.conjunct) x.list h
+
+pub alone_tame_if : (alias : Option Text) (f : Checked FromWhere) (o : Option Ranked) → FreeRanked o → IfOk f TameFrom → IfTame (option_map (alone_of alias f) o)
+alone_tame_if alias f None h k = tt
+alone_tame_if alias f (Some q) h k =
+    bind f _ TameFrom TameAlone k (λ g l.
+    bind (ranked_list q (kept g.parts g.relation)) _ TameList TameAlone (ranked_list_tame q (kept g.parts g.relation) h (kept_tame g.parts g.relation l.1 l.0)) (λ y m. m))
+
+pub select_over_tame : (free : Bool) (x : t.Select) (f : FromWhere) → in_select x ≡ false → TameFrom f → IfOk (select_over free x f) TameRel
+unfolding in_select
+select_over_tame free (t.select_of distinct items from joins condition groups having) f e h = go (ranked_select (t.select_of distinct items from joins condition groups having)) (ranked_free (t.select_of distinct items from joins condition groups having) e)
+  where
+    go : (o : Option Ranked) → FreeRanked o → IfOk (listed_by free o (t.select_of distinct items from joins condition groups having) (kept f.parts f.relation)) TameRel
+    go None k =
+        let of_items = neither (in_items items) _ e in
+        let of_from = neither (in_source from) _ of_items.1 in
+        let of_joins = neither (in_joins joins) _ of_from.1 in
+        let of_condition = neither (in_optional condition) _ of_joins.1 in
+        let of_groups = neither (in_trees groups) (in_optional having) of_condition.1 in
+        let y = kept f.parts f.relation in
+        selected_tame distinct (entries y.scope items) groups having y (entries_free y.scope items of_items.0) of_groups.0 of_groups.1 (kept_tame f.parts f.relation h.1 h.0)
+    go (Some q) k =
+        let y = kept f.parts f.relation in
+        bind (ranked_list q y) _ TameList TameRel (ranked_list_tame q y k (kept_tame f.parts f.relation h.1 h.0)) (λ z l. unbounded_tame free z l)
+
+pub exists_over_tame : (free anti : Bool) (x : t.Select) (f : FromWhere) → TameFrom f → IfOk (exists_over free anti x f) TamePart
+exists_over_tame free anti x f h = then (list_inside free (ranked_select x) x f.relation) _ TamePart (λ listed. exists_tame anti f.parts f.relation h.1 h.0)

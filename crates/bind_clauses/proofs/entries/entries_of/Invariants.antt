@@ -6,4 +6,4 @@ use Rattle.bind_clauses.specs.Views.{entries_view}
 use Rattle.bind_clauses.proofs.entries.entries_of.Given as goal
 
 abbrev pub invariant-loop-item : goal.invariant-loop-item
-invariant-loop-item l = entries_view l.found ++ entries l.scope (item_list (items_view (drop l.item-index l.item-items))) ≡ entries l.scope (item_list (items_view l.items))
+invariant-loop-item l = entries_view l.found ++ entries l.scope (item_list (items_view (drop l.item-index l.items))) ≡ entries l.scope (item_list (items_view l.items))

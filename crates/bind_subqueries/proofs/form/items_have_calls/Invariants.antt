@@ -1,7 +1,7 @@
 use Rattle.std.proofs.Common.{◌≡◌, drop}
 use Rattle.sql_syntax.specs.Tree.{items}
 use Rattle.sql_syntax.specs.View.{items_view}
-use Rattle.binding.specs.Queries as q
+use Rattle.query_answer.specs.Forms as q
 use Rattle.bind_subqueries.proofs.form.items_have_calls.Given as goal
 
 abbrev pub invariant-loop-item : goal.invariant-loop-item

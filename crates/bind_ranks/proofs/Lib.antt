@@ -1,0 +1,4 @@
+pub mod Behind
+pub mod Firsts
+pub mod Lists
+pub mod Orders

@@ -1,0 +1,4 @@
+pub mod Around
+pub mod Entries
+pub mod Lefts
+pub mod Tops

@@ -1,0 +1,192 @@
+-- What a select reads, by the form of its sources.
+use Rattle.std.proofs.Common.{◌≡◌, ◌≤◌, ◌==◌, Bool, true, false, List, [], ◌∷◌, length, cond, Option, Some, None, option_map, Ok, Err, refl, sym, ap, ◌∙◌, arith}
+use Rattle.std.proofs.lemmas.Bool.Decides.{nat_tests}
+use Rattle.ct_value.specs.declared.codes.ScriptCode.TheVariants.{RankUnbounded, Unsupported}
+use Rattle.ct_catalog.specs.declared.table.TableDef.{TableDef}
+use Rattle.sql_syntax.specs.declared.tree.Args.TheViews.{out-Query, out-Select}
+use Rattle.sql_syntax.specs.declared.tree.JoinItem.{JoinItem}
+use Rattle.sql_syntax.specs.declared.tree.Query.{Query}
+use Rattle.sql_syntax.specs.declared.tree.Select.{Select}
+use Rattle.sql_syntax.specs.Tree.{Text}
+use Rattle.sql_syntax.specs.Tree as t
+use Rattle.sql_syntax.specs.View.{items_view, join_view, joins_view, query_view, select_view, selects_view, sorts_view, source_view, trees_view, view}
+use Rattle.sql_syntax.specs.laws.Views.{query, select}
+use Rattle.query_answer.specs.Ranks.{Ranked, ranked_select, with_rank}
+use Rattle.binding.specs.Checked.{Checked, ◌>>=◌}
+use Rattle.binding.specs.Nodes.{Bound}
+use Rattle.binding.specs.Queries.{Framed, FromWhere, Only, RankedList, Relation, alone_bound, alone_of, exists_over, exists_part, few, find_source, framed, gathered_bound, is_plain, items_bound, joined_read, joins_bound, kept, list_inside, places_bound, query_bound, rank_bound, Part, ranked_list, read, read_by, renamed, select_bound, sorts_bound, source_bound, unbounded}
+use Rattle.binder.specs.Steps.{all_bound, from_list, joined_framed, only_framed, only_select, plain_exists, ranked_exists, read_framed, select_framed, selects_framed}
+use Rattle.binder.proofs.BySelects.{by_selects}
+
+module _ (free : Bool) (sources : List TableDef) (outer : t.Select) where
+  -- ---- side by side
+
+  side : (r : Checked Relation) → (joined_read r >>= framed free outer) ≡ (r >>= λ x. Ok (record { relation = x; spent = None }))
+  side (Ok x) = refl
+  side (Err code) = refl
+
+  itself : (r : Checked Relation) → (r >>= joins_bound free sources t.no_joins) ≡ r
+  itself (Ok x) = refl
+  itself (Err code) = refl
+
+  only : (from : t.Source) → (read_by t.no_joins (alone_bound free sources from) (source_bound free sources from >>= joins_bound free sources t.no_joins) >>= framed free outer) ≡ only_framed free sources outer from
+  only from = ap (λ r. read_by t.no_joins (alone_bound free sources from) r >>= framed free outer) (itself (source_bound free sources from))
+
+  -- ---- an only source that has no rank
+
+  plainly : (from : t.Source) → alone_bound free sources from ≡ None → only_framed free sources outer from ≡ (source_bound free sources from >>= λ x. Ok (record { relation = x; spent = None }))
+  plainly from e = ap (λ o. read_by t.no_joins o (source_bound free sources from) >>= framed free outer) e ∙ side (source_bound free sources from)
+
+  pub table : (name : Text) (alias : Option Text) → only_framed free sources outer (t.Table name alias) ≡ (read alias (find_source 0 sources name) >>= λ x. Ok (record { relation = x; spent = None }))
+  table name alias = side (read alias (find_source 0 sources name))
+
+  abbrev sided : Relation → Checked Framed
+  sided x = Ok (record { relation = x; spent = None })
+
+  abbrev named : Option Text → Relation → Checked Relation
+  named alias x = Ok (renamed alias x)
+
+  abbrev pub named_sided : Option Text → Relation → Checked Framed
+  named_sided alias x = Ok (record { relation = renamed alias x; spent = None })
+
+  aliased : (alias : Option Text) (r : Checked Relation) → (r >>= named alias >>= sided) ≡ (r >>= named_sided alias)
+  aliased alias (Ok x) = refl
+  aliased alias (Err code) = refl
+
+  abbrev pub under : Option Text → Checked Relation → Checked Framed
+  under alias r = r >>= named_sided alias
+
+  of_query : (q : t.Query) (alias : Option Text) → alone_bound free sources (t.FromQuery q alias) ≡ None → only_framed free sources outer (t.FromQuery q alias) ≡ under alias (query_bound free sources q)
+  of_query q alias e = plainly (t.FromQuery q alias) e ∙ aliased alias (query_bound free sources q)
+
+  not_plain : (xs : t.Selects) (order : t.SortList) (limit : Option Text) (alias : Option Text) → is_plain order limit ≡ false → alone_bound free sources (t.FromQuery (t.query_of xs order limit) alias) ≡ None
+  not_plain t.no_selects order limit alias e = refl
+  not_plain (t.select_and x t.no_selects) t.no_sorts None alias e = absurd (cc)
+  not_plain (t.select_and x t.no_selects) t.no_sorts (Some limit) alias e = refl
+  not_plain (t.select_and x t.no_selects) (t.sort_and s order) limit alias e = refl
+  not_plain (t.select_and x (t.select_and y ys)) order limit alias e = refl
+
+  pub ordered : (x : Query) (alias : Option Text) → is_plain (t.sort_list (sorts_view (out-Query x).order)) (out-Query x).limit ≡ false → only_framed free sources outer (t.FromQuery (query_view x) alias) ≡ under alias (query_bound free sources (query_view x))
+  ordered x alias e =
+      of_query (query_view x) alias
+      (ap (λ q. alone_bound free sources (t.FromQuery q alias)) (query x) ∙ not_plain (t.selects (selects_view (out-Query x).selects)) (t.sort_list (sorts_view (out-Query x).order)) (out-Query x).limit alias e)
+
+  plain_is : (xs : t.Selects) (order : t.SortList) (limit : Option Text) (alias : Option Text) → is_plain order limit ≡ true → only_framed free sources outer (t.FromQuery (t.query_of xs order limit) alias) ≡ selects_framed free sources outer xs alias
+  plain_is xs t.no_sorts None alias e = refl
+  plain_is xs t.no_sorts (Some limit) alias e = absurd (cc)
+  plain_is xs (t.sort_and s order) None alias e = absurd (cc)
+  plain_is xs (t.sort_and s order) (Some limit) alias e = absurd (cc)
+
+  pub plain_query : (x : Query) (alias : Option Text) → is_plain (t.sort_list (sorts_view (out-Query x).order)) (out-Query x).limit ≡ true → only_framed free sources outer (t.FromQuery (query_view x) alias) ≡ selects_framed free sources outer (t.selects (selects_view (out-Query x).selects)) alias
+  plain_query x alias e = ap (λ q. only_framed free sources outer (t.FromQuery q alias)) (query x) ∙ plain_is (t.selects (selects_view (out-Query x).selects)) (t.sort_list (sorts_view (out-Query x).order)) (out-Query x).limit alias e
+
+  unordered : (r : Checked Relation) → (r >>= λ x. cond true (Ok x) (Err Unsupported)) ≡ r
+  unordered (Ok x) = refl
+  unordered (Err code) = refl
+
+  by_all : (xs : t.Selects) (alias : Option Text) → alone_bound free sources (t.FromQuery (t.query_of xs t.no_sorts None) alias) ≡ None → selects_framed free sources outer xs alias ≡ under alias (all_bound free sources xs)
+  by_all xs alias e = of_query (t.query_of xs t.no_sorts None) alias e ∙ ap (under alias) (by_selects free sources xs t.no_sorts None ∙ unordered (all_bound free sources xs))
+
+  pub not_alone : (xs : t.Selects) (alias : Option Text) → only_select xs ≡ None → selects_framed free sources outer xs alias ≡ under alias (all_bound free sources xs)
+  not_alone t.no_selects alias e = by_all t.no_selects alias refl
+  not_alone (t.select_and x t.no_selects) alias e = absurd (cc)
+  not_alone (t.select_and x (t.select_and y ys)) alias e = by_all (t.select_and x (t.select_and y ys)) alias refl
+
+  pub alone : (xs : t.Selects) (x : t.Select) (alias : Option Text) → only_select xs ≡ Some x → selects_framed free sources outer xs alias ≡ select_framed free sources outer x alias
+  alone t.no_selects x alias e = absurd (cc)
+  alone (t.select_and y t.no_selects) x alias e = let same : y ≡ x = cc in ap (λ z. select_framed free sources outer z alias) same
+  alone (t.select_and y (t.select_and z ys)) x alias e = absurd (cc)
+
+  -- ---- one select
+
+  pub unranked : (x : t.Select) (alias : Option Text) → ranked_select x ≡ None → select_framed free sources outer x alias ≡ under alias (select_bound free sources x)
+  unranked x alias e = by_all (t.select_and x t.no_selects) alias (ap (option_map (alone_of alias (gathered_bound free sources None x))) e)
+
+  with_list : (alias : Option Text) (q : Ranked) (g : Checked FromWhere) → ((alone_of alias g q >>= λ y. Ok (Only y)) >>= framed free outer) ≡ (g >>= from_list free outer alias q)
+  with_list alias q (Err code) = refl
+  with_list alias q (Ok f) = go (ranked_list q (kept f.parts f.relation))
+    where
+      go : (r : Checked RankedList) → (((r >>= λ x. Ok (record { alias = alias; list = x })) >>= λ y. Ok (Only y)) >>= framed free outer) ≡ (r >>= λ x. framed free outer (Only (record { alias = alias; list = x })))
+      go (Ok x) = refl
+      go (Err code) = refl
+
+  pub ranked : (x : t.Select) (alias : Option Text) (q : Ranked) → ranked_select x ≡ Some q → select_framed free sources outer x alias ≡ (gathered_bound free sources None x >>= from_list free outer alias q)
+  ranked x alias q e =
+      ap (λ o. read_by t.no_joins (option_map (alone_of alias (gathered_bound free sources None x)) o) (source_bound free sources (t.FromQuery (t.query_of (t.select_and x t.no_selects) t.no_sorts None) alias)) >>= framed free outer) e
+      ∙ with_list alias q (gathered_bound free sources None x)
+
+-- ---- by the joins of a select
+
+some : {A : Type 0} (x : A) (xs : List A) → (length (x ∷ xs) == 0) ≡ true → ⊥
+some x xs e = let f : (length (x ∷ xs) == 0) ≡ false = grind (arith, nat_tests) in cc
+
+abbrev made : Select → t.Select
+made x = t.select_of (out-Select x).distinct (t.items (items_view (out-Select x).items)) (source_view (out-Select x).from) (t.joins (joins_view (out-Select x).joins)) (t.optional_tree (option_map view (out-Select x).cond)) (t.trees (trees_view (out-Select x).groups)) (t.optional_tree (option_map view (out-Select x).having))
+
+module _ (free : Bool) (sources : List TableDef) where
+  of_read : (outer : t.Select) (from : t.Source) (js : List JoinItem) → (length js == 0) ≡ true
+      → (read_by (t.joins (joins_view js)) (alone_bound free sources from) (source_bound free sources from >>= joins_bound free sources (t.joins (joins_view js))) >>= framed free outer) ≡ only_framed free sources outer from
+  of_read outer from [] e = only free sources outer from
+  of_read outer from (j ∷ js) e = absurd (some j js e)
+
+  of_joins : (outer : t.Select) (from : t.Source) (js : List JoinItem) → (length js == 0) ≡ false
+      → (read_by (t.joins (joins_view js)) (alone_bound free sources from) (source_bound free sources from >>= joins_bound free sources (t.joins (joins_view js))) >>= framed free outer)
+      ≡ (source_bound free sources from >>= joins_bound free sources (t.joins (joins_view js)) >>= λ x. Ok (record { relation = x; spent = None }))
+  of_joins outer from [] l = absurd (cc)
+  of_joins outer from (j ∷ js) l = side free sources outer (source_bound free sources from >>= joins_bound free sources (t.join_and (join_view j) (t.joins (joins_view js))))
+
+  pub read_only : (x : Select) → (length (out-Select x).joins == 0) ≡ true → read_framed free sources (select_view x) ≡ only_framed free sources (select_view x) (source_view (out-Select x).from)
+  read_only x e =
+      ap (read_framed free sources) (select x)
+      ∙ (of_read (made x) (source_view (out-Select x).from) (out-Select x).joins e ∙ ap (λ o. only_framed free sources o (source_view (out-Select x).from)) (sym (select x)))
+
+  pub read_joined : (x : Select) → (length (out-Select x).joins == 0) ≡ false → read_framed free sources (select_view x) ≡ joined_framed free sources (select_view x)
+  read_joined x l =
+      ap (read_framed free sources) (select x) ∙ (of_joins (made x) (source_view (out-Select x).from) (out-Select x).joins l ∙ ap (joined_framed free sources) (sym (select x)))
+
+-- ---- the list of an EXISTS's subquery
+
+module _ (free anti : Bool) (f : FromWhere) where
+  abbrev nothing_listed : Relation → Checked (List Bound)
+  nothing_listed y = Ok []
+
+  abbrev whatever : List Bound → Checked Part
+  whatever listed = Ok (exists_part anti f.parts f.relation)
+
+  abbrev if_free : Bool → RankedList → Checked Part
+  if_free free x = cond free (Ok (exists_part anti f.parts f.relation)) (Err RankUnbounded)
+
+  pub exists_plain : (x : t.Select) → ranked_select x ≡ None → exists_over free anti x f ≡ plain_exists anti x f
+  exists_plain (t.select_of distinct items from joins condition groups having) e = ap (λ o. list_inside free o (t.select_of distinct items from joins condition groups having) f.relation >>= λ listed. Ok (exists_part anti f.parts f.relation)) e
+
+  pub exists_ranked : (x : t.Select) (q : Ranked) → ranked_select x ≡ Some q → exists_over free anti x f ≡ ranked_exists free anti q f
+  exists_ranked x q e = ap (λ o. list_inside free o x f.relation >>= λ listed. Ok (exists_part anti f.parts f.relation)) e ∙ go free (ranked_list q f.relation)
+    where
+      go : (free : Bool) (r : Checked RankedList) → (r >>= unbounded free >>= nothing_listed >>= whatever) ≡ (r >>= if_free free)
+      go true (Ok x) = refl
+      go true (Err code) = refl
+      go false (Ok x) = refl
+      go false (Err code) = refl
+
+after : {A B : Type 0} (r : Checked A) (f : A → Checked B) (y : B) (P : Type 0) → ((z : A) → f z ≡ Ok y → P) → (r >>= f) ≡ Ok y → P
+after (Ok z) f y P k e = k z e
+after (Err code) f y P k e = absurd (cc)
+
+-- a list is over the rows that it was given
+pub input_same : (q : Ranked) (x : Relation) (y : RankedList) → ranked_list q x ≡ Ok y → y.input ≡ x
+input_same q x y =
+    after (items_bound x.scope q.ahead) _ y (y.input ≡ x) (λ xs.
+    after (places_bound x.scope q.partition) _ y (y.input ≡ x) (λ ns.
+    after (sorts_bound x.scope q.order) _ y (y.input ≡ x) (λ ss.
+    after (items_bound x.scope q.behind) _ y (y.input ≡ x) (λ ys.
+    after (few (with_rank true xs (rank_bound x.scope) ys)) _ y (y.input ≡ x) (λ all e.
+    let made : RankedList = record { list = q; input = x; ahead = xs; partition = ns; order = ss; behind = ys } in
+    let same : made ≡ y = cc in
+    ap (λ z. z.input) (sym same))))))
+
+-- ---- selects
+
+pub none_alone : (xs : List Select) → 2 ≤ length xs → only_select (t.selects (selects_view xs)) ≡ None
+none_alone [] l = absurd (omega arith)
+none_alone (x ∷ []) l = absurd (omega arith)
+none_alone (x ∷ y ∷ xs) l = refl

@@ -1,0 +1,22 @@
+-- The form of a select and of a query.
+use Rattle.std.specs.Prelude.{Bool, true, false, not, ◌||◌, ◌==◌, List, [], length}
+use Rattle.sql_syntax.specs.Tree as t
+use Rattle.query_answer.specs.Calls.{Call, calls}
+use Rattle.query_answer.specs.Shapes.{has_tree}
+
+abbrev pub item_calls : t.Item → List Call
+item_calls t.All = []
+item_calls (t.AllOf source) = []
+item_calls (t.One x name) = calls x
+
+abbrev pub items_have_calls : t.Items → Bool
+items_have_calls t.no_items = false
+items_have_calls (t.item_and x xs) = not (length (item_calls x) == 0) || items_have_calls xs
+
+abbrev pub has_groups : t.Trees → Bool
+has_groups t.no_trees = false
+has_groups (t.tree_and x xs) = true
+
+-- a select without DISTINCT, aggregates, GROUP BY and HAVING
+abbrev pub is_simple : t.Select → Bool
+is_simple (t.select_of distinct items from joins condition groups having) = not (distinct || (items_have_calls items || (has_groups groups || has_tree having)))
