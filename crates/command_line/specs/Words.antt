@@ -1,5 +1,5 @@
 -- The words of the command line: the command, and what the words ask of it.
-use Rattle.std.specs.Prelude.{ℕ, ◌<◌, ◌^◌, Bool, true, List, [], ◌∷◌, Option, Some, None, option_map, if◌then◌else◌, codes}
+use Rattle.std.specs.Prelude.{ℕ, ◌<◌, ◌^◌, Bool, true, false, List, [], ◌∷◌, Option, Some, None, option_map, if◌then◌else◌, codes}
 use Rattle.std.specs.Str.{bytes_eq}
 use Rattle.std.specs.Str.Parse.{IsNumeral, digits_value, without_leading_plus}
 use Rattle.clap.specs.Simple.{on_top}
@@ -55,6 +55,8 @@ pub data Request : Type 0 where
   run : FileNames → Request
   -- the answer over the first so many changes, or over all
   batch : FileNames → Option ℕ → Request
+  -- the plan of the script of this name
+  explain : List ℕ → Request
 
 -- both names, where both are given
 abbrev pub names_of : Option (List ℕ) → Option (List ℕ) → Option FileNames
@@ -77,6 +79,20 @@ asked_for (Some word) names first =
     if bytes_eq word (codes "run") then run_of names first
     else (if bytes_eq word (codes "batch") then batch_of names first else None)
 
+-- a plan is asked for by the script alone
+abbrev pub explain_of : Option (List ℕ) → Option (List ℕ) → Option (List ℕ) → Option Request
+explain_of None changes first = None
+explain_of (Some script) (Some changes) first = None
+explain_of (Some script) None (Some first) = None
+explain_of (Some script) None None = Some (explain script)
+
+abbrev pub is_explain : Option (List ℕ) → Bool
+is_explain None = false
+is_explain (Some word) = bytes_eq word (codes "explain")
+
+abbrev pub asked_by : Option (List ℕ) → Option (List ℕ) → Option (List ℕ) → Option (List ℕ) → Option Request
+asked_by what script changes first = if is_explain what then explain_of script changes first else asked_for what (names_of script changes) first
+
 -- nothing where the command finds a fault
 abbrev pub unless_fault : Kinds → Option Request → Option Request
 unless_fault [] request = request
@@ -85,5 +101,4 @@ unless_fault (fault ∷ faults) request = None
 -- what these words ask for; None is a wrong use
 unfoldable pub request_of : List (List ℕ) → Option Request
 request_of words =
-    unless_fault (fault_of the_app words)
-    (asked_for (value_of words (codes "do")) (names_of (value_of words (codes "script")) (value_of words (codes "changes"))) (value_of words (codes "first")))
+    unless_fault (fault_of the_app words) (asked_by (value_of words (codes "do")) (value_of words (codes "script")) (value_of words (codes "changes")) (value_of words (codes "first")))

@@ -1,6 +1,6 @@
 ghost use Rattle.std.specs.Prelude.{◌≡◌, ◌≢◌, [], ℕ, List, Option, Some, None, codes, option_map, IfOk, IsErrOf};
 ghost use Rattle.clap.specs.Words.{fault_of, first_value, found_of};
-ghost use Rattle.command_line.specs.Words.{IsWhole, asked_for, batch_of, names_of, number_in, request_of, run_of, the_app, value_of};
+ghost use Rattle.command_line.specs.Words.{IsWhole, asked_for, explain_of, is_explain, names_of, number_in, request_of, run_of, the_app, value_of};
 ghost use Rattle.command_line.specs.Requests.{names_view, request_view};
 
 use crate::command::command;
@@ -26,6 +26,8 @@ pub enum Request {
         names: FileNames,
         first: Option<u64>,
     },
+    /// The plan of the script of this name.
+    Explain(Text),
 }
 
 /// Why nothing is asked for.
@@ -107,7 +109,33 @@ fn run_of(names: FileNames, first: Option<u64>) -> Result<Request, WordsFault>
     }
 }
 
-// What is asked for by the value of `--do`: a run where it isn't given. The command could test that itself, by a list of
+// A plan, which is asked for by a script alone.
+fn explain_of(
+    alloc: Global,
+    script: Option<&str>,
+    changes: Option<&str>,
+    first: Option<u64>,
+) -> Result<Request, WordsFault>
+    ensures ok { IfOk result (λ request. (text : Option (List ℕ)) → first ≡ option_map number_in text → explain_of (option_map (λ s. s.now) script.entry) (option_map (λ s. s.now) changes.entry) text ≡ Some (request_view request)) }
+    ensures usage { IsErrOf result WordsFault.Usage → (text : Option (List ℕ)) → first ≡ option_map number_in text → explain_of (option_map (λ s. s.now) script.entry) (option_map (λ s. s.now) changes.entry) text ≡ None }
+{
+    match (script, changes, first) {
+        (Some(script), None, None) => Ok(Request::Explain(Text::from_str(alloc, script)?)),
+        _ => Err(WordsFault::Usage),
+    }
+}
+
+// Whether a plan is asked for.
+fn is_explain(what: Option<&str>) -> bool
+    ensures { result ≡ is_explain (option_map (λ s. s.now) what.entry) }
+{
+    match what {
+        None => false,
+        Some(word) => word == "explain",
+    }
+}
+
+// What is asked for by the value of `--do`, where that isn't a plan: a run where it isn't given. The command could test that itself, by a list of
 // values, but clauses see such a list with its address, so no definition of the command could say which it is.
 fn asked_for(
     what: Option<&str>,
@@ -137,6 +165,12 @@ pub fn request_of(alloc: Global, words: &[Text]) -> Result<Request, WordsFault>
     ensures usage { IsErrOf result WordsFault.Usage → request_of words.now ≡ None }
 {
     let matches = matches_of(alloc, words)?;
-    let names = names_of(alloc, matches.get_str("script"), matches.get_str("changes"))?;
-    asked_for(matches.get_str("do"), names, number_of(&matches, "first"))
+    let what = matches.get_str("do");
+    let script = matches.get_str("script");
+    let changes = matches.get_str("changes");
+    let first = number_of(&matches, "first");
+    if is_explain(what) {
+        return explain_of(alloc, script, changes, first);
+    }
+    asked_for(what, names_of(alloc, script, changes)?, first)
 }

@@ -1,3 +1,4 @@
+pub mod Laid
 pub mod Laws
-pub mod Runnable
-pub mod Waits
+pub mod Planned
+pub mod Views

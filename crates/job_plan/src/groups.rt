@@ -2,7 +2,7 @@
 ghost use Rattle.std.specs.Prelude.{◌≡◌};
 ghost use Rattle.rel_algebra.specs.Rel.{rels as rel_list};
 ghost use Rattle.rel_algebra.specs.View.{rel_view, rels_view};
-ghost use Rattle.job_plan.specs.Runnable.{any_has_keyed_group, has_keyed_group};
+ghost use Rattle.job_plan.specs.Planned.{any_has_keyed_group, has_keyed_group};
 
 use rel_algebra::{Rel, Rels};
 

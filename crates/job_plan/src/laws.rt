@@ -1,24 +1,21 @@
-//! A law of what can be run. The function has nothing to do: its contract is the law.
-ghost use Rattle.job_plan.specs.Laws.{RunnableScriptsCanRun};
+//! A law of the plans of scripts. The function has nothing to do: its contract is the law.
+ghost use Rattle.job_plan.specs.Laws.{RunnableScriptsArePlanned};
 
 use job_judgement::accepted_is_bound;
 use plan_build::typed_trees_have_tables;
-use plan_trees::{trees_have_nodes, trees_have_plans};
-use planned_inserts::{inserts_have_typed_plans, subtasks_are_few};
+use plan_trees::trees_have_plans;
+use planned_inserts::inserts_have_laid_plans;
+use planner::planned_plans_are_ruled;
 use query_laws::bound_inserts_are_well_typed;
-use table_laws::tables_are_well_declared;
 
-/// The plan of a script that can be run is one that a run takes: of a tree whose columns go into the sink's, over columns whose types
-/// exist, with few nodes in few subtasks.
-pub fn runnable_scripts_can_run()
-    ensures { RunnableScriptsCanRun }
+/// The plan of a script is the one that is laid of its tree, with what is inferred of it; it is sound, and its operators have rules.
+pub fn runnable_scripts_are_planned()
+    ensures { RunnableScriptsArePlanned }
 {
     accepted_is_bound();
     bound_inserts_are_well_typed();
-    inserts_have_typed_plans();
-    subtasks_are_few();
-    tables_are_well_declared();
-    trees_have_nodes();
+    inserts_have_laid_plans();
+    planned_plans_are_ruled();
     trees_have_plans();
     typed_trees_have_tables();
 }

@@ -1,105 +1,111 @@
 //! The plan of an accepted script.
-ghost use Rattle.std.specs.Prelude.{◌≡◌, true, Ok, IfOk, IfErr};
-ghost use Rattle.phys_plan.specs.declared.plan.Plan.{Plan};
+ghost use Rattle.std.specs.Prelude.{◌≡◌, cond, Some, None, Ok, IfOk, IfErr};
+ghost use Rattle.plan_check.specs.declared.checked.CheckedPlan.{CheckedPlan};
+ghost use Rattle.plan_check.specs.Checked.{plan_in};
+ghost use Rattle.sound_plans.specs.Sound.{IsRuled};
+ghost use Rattle.planner.specs.Planned.{Planned, Says, made};
 ghost use Rattle.job_judgement.specs.Halts.{IsHalt};
 ghost use Rattle.job_judgement.specs.Judged.{IsJudged};
 ghost use Rattle.job_judgement.specs.Views.{accepted_view};
-ghost use Rattle.job_stream.specs.Stream.{CanRun};
-ghost use Rattle.job_plan.specs.Runnable.{RunsAs, is_retract, is_told, runnable};
-ghost use Rattle.job_plan.specs.Waits.{WaitsBy};
+ghost use Rattle.job_plan.specs.Laid.{IsLaidFor};
+ghost use Rattle.job_plan.specs.Planned.{keeps_bundles, laid, planned, runnable};
+ghost use Rattle.job_plan.specs.Views.{plan_view, planned_view};
 
 use crate::groups::has_keyed_group;
-use ct_change::Declared;
-use ct_value::ScriptCode;
+use ct_value::{Memory, ScriptCode};
 use job_ending::Halt;
 use job_judgement::{Accepted, accepted_is_bound};
 use phys_plan::Plan;
 use plan_build::{PlanFault, plan_of, typed_trees_have_tables};
-use planned_inserts::{inserts_have_typed_plans, subtasks_are_few};
+use plan_check::CheckedPlan;
+use plan_trees::trees_have_one_plan;
+use planned_inserts::inserts_have_laid_plans;
+use planner::{PlannerFault, plan, planned_plans_are_ruled};
 use query_laws::bound_inserts_are_well_typed;
+use seen_plans::{plans_are_refused_as_seen, plans_infer_as_seen};
 use std::alloc::Global;
-use table_laws::tables_are_well_declared;
-use tree_networks::trees_have_one_network;
 
-/// A plan by which an accepted script runs as a changelog: it runs as the script's plan does. The script is refused as unsupported, at its
-/// statement, where it waits for what isn't built.
-pub fn planned(alloc: Global, script: &Accepted) -> Result<Plan, Halt>
+/// The plan of an accepted script, or none where that waits for what isn't built: for a materializer, or for groups that keep bundles. The
+/// script is refused at its statement by the first of the planner's refusals.
+pub fn planned(alloc: Global, script: &Accepted) -> Result<Option<CheckedPlan>, Halt>
     requires judged { IsJudged (accepted_view script.now) }
-    ensures ok { IfOk result (λ plan. (told : Plan) × (runnable (accepted_view script.now) ≡ Ok told) × RunsAs plan told) }
-    ensures can { IfOk result (λ plan. CanRun plan (accepted_view script.now).inserted.query.rel) }
+    ensures ok { IfOk result (λ made. planned (accepted_view script.now) ≡ Ok (planned_view made)) }
+    ensures ruled { IfOk result (λ made. (checked : CheckedPlan) → made ≡ Some checked → IsRuled (plan_in checked)) }
+    ensures halts { IfErr result (λ halt. IsHalt halt (planned (accepted_view script.now))) }
+{
+    match made(alloc, script) {
+        Ok(checked) => Ok(unless_bundled(script, checked)),
+        Err(PlannerFault::Refused(code)) => Err(halt_at(script, code)),
+        Err(PlannerFault::Waits) => Ok(None),
+        Err(PlannerFault::Memory) => Err(Halt::Memory),
+    }
+}
+
+/// The plan of an accepted script; one that waits for what isn't built is refused as unsupported at its statement.
+pub fn runnable(alloc: Global, script: &Accepted) -> Result<CheckedPlan, Halt>
+    requires judged { IsJudged (accepted_view script.now) }
+    ensures ok { IfOk result (λ checked. runnable (accepted_view script.now) ≡ Ok (plan_view checked)) }
+    ensures ruled { IfOk result (λ checked. IsRuled (plan_in checked)) }
     ensures halts { IfErr result (λ halt. IsHalt halt (runnable (accepted_view script.now))) }
 {
-    if is_told(script) {
-        plan_of_script(alloc, script)
+    match planned(alloc, script)? {
+        Some(checked) => Ok(checked),
+        None => Err(halt_at(script, ScriptCode::Unsupported)),
+    }
+}
+
+// None where groups keep bundles.
+fn unless_bundled(script: &Accepted, checked: CheckedPlan) -> Option<CheckedPlan>
+    ensures { result ≡ cond (keeps_bundles (accepted_view script.now)) None (Some checked) }
+{
+    if script.catalog.settings().batching && has_keyed_group(&script.inserted.query.rel) {
+        None
     } else {
-        Err(unsupported(script))
+        Some(checked)
     }
 }
 
-// Whether a changelog into the sink can be told, without bundles.
-fn is_told(script: &Accepted) -> bool
-    ensures { result ≡ is_told (accepted_view script.now) }
-{
-    is_retract(script.inserted.sink.mode)
-        && !(script.catalog.settings().batching && has_keyed_group(&script.inserted.query.rel))
-}
-
-fn is_retract(mode: Declared) -> bool
-    ensures { result ≡ is_retract mode }
-{
-    match mode {
-        Declared::Append | Declared::Upsert => false,
-        Declared::Retract => true,
-    }
-}
-
-// The plan of what the script's query is bound to, or the halt of its fault.
-fn plan_of_script(alloc: Global, script: &Accepted) -> Result<Plan, Halt>
+// What the planner makes of the plan that is laid of the script's query.
+fn made(alloc: Global, script: &Accepted) -> Result<CheckedPlan, PlannerFault>
     requires judged { IsJudged (accepted_view script.now) }
-    requires told { is_told (accepted_view script.now) ≡ true }
-    ensures ok { IfOk result (λ plan. (told : Plan) × (runnable (accepted_view script.now) ≡ Ok told) × RunsAs plan told) }
-    ensures can { IfOk result (λ plan. CanRun plan (accepted_view script.now).inserted.query.rel) }
-    ensures halts { IfErr result (λ halt. IsHalt halt (runnable (accepted_view script.now))) }
+    ensures planned { IfOk result (λ checked. made (laid (accepted_view script.now)) (accepted_view script.now).catalogue.settings.materialize ≡ Planned (plan_view checked)) }
+    ensures ruled { IfOk result (λ checked. IsRuled (plan_in checked)) }
+    ensures fault { IfErr result (λ fault. Says (made (laid (accepted_view script.now)) (accepted_view script.now).catalogue.settings.materialize) fault) }
 {
-    match plan_over_sources(alloc, script) {
-        Ok(plan) => Ok(plan),
-        Err(PlanFault::Memory) => Err(Halt::Memory),
-        Err(PlanFault::NoTable | PlanFault::TooMany) => Err(unsupported(script)),
-    }
+    accepted_is_bound();
+    inserts_have_laid_plans();
+    planned_plans_are_ruled();
+    plans_are_refused_as_seen();
+    plans_infer_as_seen();
+    trees_have_one_plan();
+    let laid = laid_of(alloc, script)?;
+    plan(alloc, laid, script.catalog.settings().materialize)
 }
 
-// The plan of what the script's query is bound to.
-fn plan_over_sources(alloc: Global, script: &Accepted) -> Result<Plan, PlanFault>
+// The plan that is laid of the script's query.
+fn laid_of(alloc: Global, script: &Accepted) -> Result<Plan, Memory>
     requires judged { IsJudged (accepted_view script.now) }
-    requires told { is_told (accepted_view script.now) ≡ true }
-    ensures ok { IfOk result (λ plan. (told : Plan) × (runnable (accepted_view script.now) ≡ Ok told) × RunsAs plan told) }
-    ensures can { IfOk result (λ plan. CanRun plan (accepted_view script.now).inserted.query.rel) }
-    ensures fault { IfErr result (λ fault. WaitsBy fault (accepted_view script.now)) }
+    ensures { IfOk result (λ plan. IsLaidFor (accepted_view script.now) plan) }
 {
     accepted_is_bound();
     bound_inserts_are_well_typed();
-    inserts_have_typed_plans();
-    subtasks_are_few();
-    tables_are_well_declared();
-    trees_have_one_network();
     typed_trees_have_tables();
     let sources = script.inserted.sources.dup()?;
     let sink = script.inserted.sink.dup()?;
     let parallelism = script.catalog.settings().parallelism;
-    plan_of(
-        alloc,
-        &script.inserted.query.rel,
-        sources,
-        sink,
-        parallelism,
-    )
+    let rel = &script.inserted.query.rel;
+    match plan_of(alloc, rel, sources, sink, parallelism) {
+        Ok(plan) => Ok(plan),
+        Err(PlanFault::Memory) => Err(Memory),
+        Err(PlanFault::NoTable) => unreachable!(),
+    }
 }
 
-fn unsupported(script: &Accepted) -> Halt
-    ensures { result ≡ Halt.Script ScriptCode.Unsupported script.now.statement }
+fn halt_at(script: &Accepted, code: ScriptCode) -> Halt
+    ensures { result ≡ Halt.Script code script.now.statement }
 {
     Halt::Script {
-        code: ScriptCode::Unsupported,
+        code,
         statement: script.statement,
     }
 }

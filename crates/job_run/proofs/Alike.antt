@@ -1,13 +1,10 @@
--- Plans that run alike have one outcome.
-use Rattle.std.proofs.Common.{◌≡◌, ℕ, List, sym}
+-- A plan has the outcome of the plan as it is seen.
+use Rattle.std.proofs.Common.{◌≡◌}
 use Rattle.phys_plan.specs.declared.plan.Plan.{Plan}
+use Rattle.plan_trees.specs.Seen.{plan_as_seen}
 use Rattle.stream_run.specs.Run.{whole_run}
-use Rattle.job_plan.specs.Runnable.{RunsAs}
+use Rattle.tree_networks.specs.Networks.{PlansRunAsSeen}
 use Rattle.job_stream.specs.Stream.{most_sent, outcome_of, sink_types, streamed}
 
-pub streamed_alike : (plan other : Plan) → RunsAs plan other → streamed other ≡ streamed plan
-streamed_alike plan other alike =
-    let network = sym alike.network_is in
-    let sources = sym alike.sources_are in
-    let sink = sym alike.sink_is in
-    λ i bytes. outcome_of (sink_types (sink i)) (whole_run (network i) most_sent (sources i) bytes)
+pub streamed_as_seen : PlansRunAsSeen → (plan : Plan) → streamed (plan_as_seen plan) ≡ streamed plan
+streamed_as_seen seen plan = λ i bytes. outcome_of (sink_types plan.sink) (whole_run (seen plan i) most_sent plan.sources bytes)

@@ -1,32 +1,28 @@
 -- A job that ends well has written the answer.
-use Rattle.std.proofs.Common.{◌≡◌, ℕ, Bool, true, false, List, [], ◌∷◌, ◌++◌, Option, Some, None, Result, Ok, Err, cond, refl, sym, ap, subst, ◌∙◌}
-use Rattle.std.specs.Prelude.{take}
-use Rattle.command_line.specs.Words.{FileNames, Request, run, batch, request_of}
+use Rattle.std.proofs.Common.{◌≡◌, ℕ, Bool, true, false, List, [], ◌∷◌, Option, Some, None, Result, Ok, Err, refl, sym, ap, subst, ◌∙◌}
+use Rattle.command_line.specs.Words.{FileNames, Request, run, batch, explain, request_of}
 use Rattle.ct_value.specs.Bag.{items}
-use Rattle.ct_value.specs.declared.ty.Ty.{Ty}
 use Rattle.ct_catalog.specs.declared.table.TableDef.{TableDef}
 use Rattle.ct_change.specs.declared.change.Change.{Change}
 use Rattle.ct_change.specs.Changelog.{Rows}
 use Rattle.ct_io.specs.Holdings.{Holdings, Loaded, Missing, Long, Whole, loaded}
-use Rattle.change_lines.specs.Lines.{Record, records_of}
-use Rattle.ct_value.specs.declared.codes.ScriptCode.TheVariants.{Unsupported}
-use Rattle.judge.specs.Judgement.{Judged, refused as refused_at}
-use Rattle.rel_algebra.specs.Answer.{Table, answer, wide}
+use Rattle.change_lines.specs.Lines.{records_of}
+use Rattle.judge.specs.Judgement.{Judged}
+use Rattle.rel_algebra.specs.Answer.{Table, answer}
 use Rattle.rel_algebra.specs.Rel.{Rel}
+use Rattle.ct_change.specs.Changelog.{Mode}
 use Rattle.query_laws.specs.Statement.{tables_of}
 use Rattle.source_laws.specs.Fitting.{RowsFit}
-use Rattle.source_lines.specs.Taken.{RefusedLine, Taken, nothing_taken, rows_of, take_records, taken_of}
+use Rattle.source_lines.specs.Taken.{RefusedLine, Taken, rows_of, taken_of}
 use Rattle.job_ending.specs.declared.ending.Ending.TheVariants as e
 use Rattle.job_ending.specs.declared.ending.LimitName.TheVariants.{Script as ScriptLimit, Changes as ChangesLimit}
 use Rattle.job_ending.specs.Outcome.{Outcome}
 use Rattle.phys_plan.specs.declared.plan.Plan.{Plan}
 use Rattle.stream_model.specs.declared.events.PrintItem.{PrintItem}
-use Rattle.stream_model.specs.declared.events.PrintItem.TheVariants.{Quiet}
-use Rattle.stream_model.specs.declared.events.StepFault.{StepFault}
 use Rattle.stream_model.specs.declared.events.StepFault.TheVariants as fault
 use Rattle.stream_model.specs.Machine.{State}
 use Rattle.stream_model.specs.Runs.{changes_in}
-use Rattle.plan_network.specs.Plans.{column_types}
+use Rattle.plan_network.specs.Plans.{column_types, table_mode}
 use Rattle.plan_rules.specs.Doings.{network}
 use Rattle.stream_run.specs.Headline.{Headline, IsAnswered, RunsPrintAnswers, with_rows as rows_in}
 use Rattle.stream_run.specs.Run.{Ran, ended, refused, stopped, whole_run}
@@ -35,13 +31,14 @@ use Rattle.job_judgement.specs.Judged.{IsJudged}
 use Rattle.job_judgement.specs.Judgement.{Accepted, judgement}
 use Rattle.job_batch.specs.Agree.{AnswersAgree, query_answer}
 use Rattle.job_batch.specs.Batch.{after_lines, answered, sink_types as answer_types, with_changes as batch_changes, with_rows}
-use Rattle.job_stream.specs.Stream.{CanRun, most_sent, outcome_of, sink_types, streamed}
-use Rattle.job_plan.specs.Laws.{RunnableScriptsCanRun}
-use Rattle.job_plan.specs.Runnable.{runnable}
-use Rattle.plan_trees.specs.Trees.{plan_of_tree}
-use Rattle.job_run.specs.Headline.{HasAnswered, HasRun, IsHeadline, IsHeadlineOf}
+use Rattle.job_explain.specs.Shown.{shown}
+use Rattle.job_stream.specs.Stream.{most_sent, outcome_of, sink_types, streamed}
+use Rattle.plan_answers.specs.Answers.{Answers, InferredPlansAnswer}
+use Rattle.job_plan.specs.Laws.{IsScriptPlan, RunnableScriptsArePlanned}
+use Rattle.job_plan.specs.Planned.{laid, planned, runnable}
+use Rattle.job_run.specs.Headline.{HasAnswered, HasExplained, HasRun, IsHeadline, IsHeadlineOf}
 use Rattle.job_run.specs.Held.{AreHeld}
-use Rattle.job_run.specs.Outcome.{after_judgement, after_load, batch_script, over_changes, run_script, with_request, with_script, outcome}
+use Rattle.job_run.specs.Outcome.{after_judgement, after_load, batch_script, explain_script, over_changes, run_script, with_request, with_script, outcome}
 
 -- ---- the answer of the tree is the query's
 
@@ -60,8 +57,8 @@ module _ (agree : AnswersAgree) (fit : RowsTakenFit) (script : Accepted) (judged
   abbrev rel : Rel
   rel = script.inserted.query.rel
 
-  answered_so : (n : ℕ) (printed : List Change) → IsAnswered sources (λ rows. answer (rows_in sources rows) rel) (records_of bytes) n printed → IsAnswered sources (query_answer script) (records_of bytes) n printed
-  answered_so n printed is = record {
+  answered_so : (mode : Mode) (n : ℕ) (printed : List Change) → IsAnswered mode sources (λ rows. answer (rows_in sources rows) rel) (records_of bytes) n printed → IsAnswered mode sources (query_answer script) (records_of bytes) n printed
+  answered_so mode n printed is = record {
     taken = is.taken;
     is_taken = is.is_taken;
     valid = is.valid;
@@ -70,23 +67,18 @@ module _ (agree : AnswersAgree) (fit : RowsTakenFit) (script : Accepted) (judged
         ∙ ap (λ (ts : List Table). answer ts rel) (sym (same_rows sources (rows_of sources is.taken))) ∙ is.folds;
   }
 
-  pub headline_so : (plan : Plan) (s : State) (items : List PrintItem) → Headline (network plan) sources (λ rows. answer (rows_in sources rows) rel) (records_of bytes) s items → Headline (network plan) sources (query_answer script) (records_of bytes) s items
-  headline_so plan s items h = record {
+  pub headline_so : (plan : Plan) (mode : Mode) (s : State) (items : List PrintItem) → Headline (network plan) mode sources (λ rows. answer (rows_in sources rows) rel) (records_of bytes) s items → Headline (network plan) mode sources (query_answer script) (records_of bytes) s items
+  headline_so plan mode s items h = record {
     ends = h.ends;
-    answered = λ before after n is. answered_so n (changes_in before) (h.answered before after n is);
+    answered = λ before after n is. answered_so mode n (changes_in before) (h.answered before after n is);
     carried = h.carried;
   }
 
--- ---- the plan has the script's tables
+-- ---- the plan answers what the script's tree does
 
-plan_is : (script : Accepted) (plan : Plan) → runnable script ≡ Ok plan → (plan.sources ≡ script.inserted.sources) × (plan.sink ≡ script.inserted.sink)
-plan_is script plan is = by _ is
-  where
-    by : (b : Bool) → cond b (Ok (plan_of_tree script.inserted.sources script.inserted.sink script.catalogue.settings.parallelism script.inserted.query.rel)) (refused_at Unsupported script.statement) ≡ Ok plan
-        → (plan.sources ≡ script.inserted.sources) × (plan.sink ≡ script.inserted.sink)
-    by true e = let same : plan_of_tree script.inserted.sources script.inserted.sink script.catalogue.settings.parallelism script.inserted.query.rel ≡ plan = cc (e) in
-        (sym (ap (λ (p : Plan). p.sources) same), sym (ap (λ (p : Plan). p.sink) same))
-    by false e = absurd (cc (e))
+plan_answers : InferredPlansAnswer → (script : Accepted) (plan : Plan) → IsScriptPlan script plan → Answers plan script.inserted.query.rel
+plan_answers answers script plan is =
+    subst (λ (p : Plan). Answers p script.inserted.query.rel) (sym is.is) (answers (laid script) script.inserted.query.rel is.laid_well.columns is.laid_well.laid_out is.laid_well.typed)
 
 module _ (h : Holdings) (names : FileNames) (script_text : List ℕ) (script_held : loaded h names.script 262144 ≡ Whole script_text) (script : Accepted) (accepted : judgement script_text ≡ Ok script) where
   held_with : (changes : List ℕ) → loaded h names.changes 67108864 ≡ Whole changes → AreHeld names h script changes
@@ -97,14 +89,17 @@ module _ (h : Holdings) (names : FileNames) (script_text : List ℕ) (script_hel
 
   -- ---- a run
 
-  module _ (prints : RunsPrintAnswers) (can : RunnableScriptsCanRun) (agree : AnswersAgree) (fit : RowsTakenFit) where
+  module _ (prints : RunsPrintAnswers) (can : RunnableScriptsArePlanned) (answers : InferredPlansAnswer) (agree : AnswersAgree) (fit : RowsTakenFit) where
     module _ (plan : Plan) (runs : runnable script ≡ Ok plan) where
       run_ended : (changes : List ℕ) → loaded h names.changes 67108864 ≡ Whole changes → (ran : Ran) → whole_run (network plan) most_sent plan.sources changes ≡ ran → (outcome_of (sink_types plan.sink) ran).ending ≡ e.Done → HasRun names h (outcome_of (sink_types plan.sink) ran).bytes
       run_ended changes held (ended s) is done =
-          let tables = plan_is script plan runs in
-          let printed = prints plan script.inserted.query.rel (can script is_judged plan runs).plan_of most_sent changes s is in
-          let of_sources : Headline (network plan) script.inserted.sources (λ rows. answer (rows_in script.inserted.sources rows) script.inserted.query.rel) (records_of changes) s s.printed =
-          subst (λ (sources : List TableDef). Headline (network plan) sources (λ rows. answer (rows_in sources rows) script.inserted.query.rel) (records_of changes) s s.printed) tables.0 printed in
+          let of = can script is_judged plan runs in
+          let sources : plan.sources ≡ script.inserted.sources = ap (λ (p : Plan). p.sources) of.is in
+          let sink : plan.sink ≡ script.inserted.sink = ap (λ (p : Plan). p.sink) of.is in
+          let printed = prints plan script.inserted.query.rel of.ruled (plan_answers answers script plan of) most_sent changes s is in
+          let of_sources : Headline (network plan) (table_mode script.inserted.sink) script.inserted.sources (λ rows. answer (rows_in script.inserted.sources rows) script.inserted.query.rel) (records_of changes) s s.printed =
+          subst (λ (sink : TableDef). Headline (network plan) (table_mode sink) script.inserted.sources (λ rows. answer (rows_in script.inserted.sources rows) script.inserted.query.rel) (records_of changes) s s.printed) sink
+          (subst (λ (sources : List TableDef). Headline (network plan) (table_mode plan.sink) sources (λ rows. answer (rows_in sources rows) script.inserted.query.rel) (records_of changes) s s.printed) sources printed) in
           record {
             script = script;
             plan = plan;
@@ -112,9 +107,10 @@ module _ (h : Holdings) (names : FileNames) (script_text : List ℕ) (script_hel
             state = s;
             held = held_with changes held;
             runs = runs;
+            sound = of.ruled;
             ends = is;
-            reads = ap (λ (sink : TableDef). item_lines (sink_types sink) s.printed) tables.1;
-            headline = headline_so agree fit script is_judged changes plan s s.printed of_sources;
+            reads = ap (λ (sink : TableDef). item_lines (sink_types sink) s.printed) sink;
+            headline = headline_so agree fit script is_judged changes plan (table_mode script.inserted.sink) s s.printed of_sources;
           }
       run_ended changes held (refused line code) is done = absurd (cc (done))
       run_ended changes held (stopped (fault.Change code) printed) is done = absurd (cc (done))
@@ -164,30 +160,55 @@ module _ (h : Holdings) (names : FileNames) (script_text : List ℕ) (script_hel
     batch_loaded Long is done = absurd (cc (done))
     batch_loaded (Whole changes) is done = batch_lines changes is _ refl done
 
+    batch_planned : (j : Judged (Option Plan)) → (after_judgement (λ plan. over_changes h names.changes (batch_changes script first)) j).ending ≡ e.Done
+        → HasAnswered names first h (after_judgement (λ plan. over_changes h names.changes (batch_changes script first)) j).bytes
+    batch_planned (Err refusal) done = absurd (cc (done))
+    batch_planned (Ok plan) done = batch_loaded _ refl done
+
     pub batch_here : (batch_script h names.changes first script).ending ≡ e.Done → HasAnswered names first h (batch_script h names.changes first script).bytes
-    batch_here done = batch_loaded _ refl done
+    batch_here done = batch_planned (planned script) done
+
+-- ---- a plan
+
+module _ (h : Holdings) (name script_text : List ℕ) (script_held : loaded h name 262144 ≡ Whole script_text) (script : Accepted) (accepted : judgement script_text ≡ Ok script) (can : RunnableScriptsArePlanned) where
+  explained_so : (j : Judged Plan) → runnable script ≡ j → (after_judgement shown j).ending ≡ e.Done → HasExplained name h (after_judgement shown j).bytes
+  explained_so (Err refusal) is done = absurd (cc (done))
+  explained_so (Ok plan) is done = record {
+    script_text = script_text;
+    script = script;
+    plan = plan;
+    script_held = script_held;
+    accepted = accepted;
+    runs = is;
+    sound = (can script (record { text = script_text; judged = accepted }) plan is).ruled;
+    reads = refl;
+  }
+
+  pub explained_here : (explain_script script).ending ≡ e.Done → HasExplained name h (explain_script script).bytes
+  explained_here done = explained_so (runnable script) refl done
 
 -- ---- what holds behind the judgement of the script holds of the job
 
-module _ (h : Holdings) (names : FileNames) (next : Accepted → Outcome) (P : List ℕ → Type 0)
-    (here : (text : List ℕ) → loaded h names.script 262144 ≡ Whole text → (script : Accepted) → judgement text ≡ Ok script → (next script).ending ≡ e.Done → P (next script).bytes) where
-  at_script : (text : List ℕ) → loaded h names.script 262144 ≡ Whole text → (j : Judged Accepted) → judgement text ≡ j → (after_judgement next j).ending ≡ e.Done → P (after_judgement next j).bytes
+module _ (h : Holdings) (name : List ℕ) (next : Accepted → Outcome) (P : List ℕ → Type 0)
+    (here : (text : List ℕ) → loaded h name 262144 ≡ Whole text → (script : Accepted) → judgement text ≡ Ok script → (next script).ending ≡ e.Done → P (next script).bytes) where
+  at_script : (text : List ℕ) → loaded h name 262144 ≡ Whole text → (j : Judged Accepted) → judgement text ≡ j → (after_judgement next j).ending ≡ e.Done → P (after_judgement next j).bytes
   at_script text held (Err refusal) is done = absurd (cc (done))
   at_script text held (Ok script) is done = here text held script is done
 
-  at_load : (l : Loaded) → loaded h names.script 262144 ≡ l → (after_load ScriptLimit (λ text. after_judgement next (judgement text)) l).ending ≡ e.Done → P (after_load ScriptLimit (λ text. after_judgement next (judgement text)) l).bytes
+  at_load : (l : Loaded) → loaded h name 262144 ≡ l → (after_load ScriptLimit (λ text. after_judgement next (judgement text)) l).ending ≡ e.Done → P (after_load ScriptLimit (λ text. after_judgement next (judgement text)) l).bytes
   at_load Missing is done = absurd (cc (done))
   at_load Long is done = absurd (cc (done))
   at_load (Whole text) is done = at_script text is _ refl done
 
-  pub at_names : (with_script h names.script next).ending ≡ e.Done → P (with_script h names.script next).bytes
-  at_names done = at_load _ refl done
+  pub at_name : (with_script h name next).ending ≡ e.Done → P (with_script h name next).bytes
+  at_name done = at_load _ refl done
 
-module _ (prints : RunsPrintAnswers) (can : RunnableScriptsCanRun) (agree : AnswersAgree) (fit : RowsTakenFit) (h : Holdings) where
+module _ (prints : RunsPrintAnswers) (can : RunnableScriptsArePlanned) (answers : InferredPlansAnswer) (agree : AnswersAgree) (fit : RowsTakenFit) (h : Holdings) where
   at_request : (o : Option Request) → (with_request h o).ending ≡ e.Done → IsHeadlineOf o h (with_request h o).bytes
   at_request None done = absurd (cc (done))
-  at_request (Some (run names)) done = at_names h names (run_script h names.changes) (λ bytes. HasRun names h bytes) (λ text held script is. run_here h names text held script is prints can agree fit) done
-  at_request (Some (batch names first)) done = at_names h names (batch_script h names.changes first) (λ bytes. HasAnswered names first h bytes) (λ text held script is. batch_here h names text held script is first) done
+  at_request (Some (run names)) done = at_name h names.script (run_script h names.changes) (λ bytes. HasRun names h bytes) (λ text held script is. run_here h names text held script is prints can answers agree fit) done
+  at_request (Some (batch names first)) done = at_name h names.script (batch_script h names.changes first) (λ bytes. HasAnswered names first h bytes) (λ text held script is. batch_here h names text held script is first) done
+  at_request (Some (explain name)) done = at_name h name explain_script (λ bytes. HasExplained name h bytes) (λ text held script is. explained_here h name text held script is can) done
 
   pub headline : (words : List (List ℕ)) → (outcome words h).ending ≡ e.Done → IsHeadline words h (outcome words h).bytes
   headline words done = at_request (request_of words) done

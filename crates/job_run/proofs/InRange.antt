@@ -23,9 +23,9 @@ use Rattle.job_stream.specs.Stream.{most_sent, sink_types, streamed}
 use Rattle.plan_rules.specs.Doings.{network}
 use Rattle.stream_run.specs.Run.{whole_run}
 use Rattle.tame_queries.specs.Statement.{InsertsAreTame}
-use Rattle.tame_runs.specs.Runs.{RunsStayInRange}
-use Rattle.job_plan.specs.Laws.{RunnableScriptsCanRun}
-use Rattle.job_plan.specs.Runnable.{runnable}
+use Rattle.tame_runs.specs.Runs.{RunsStayInRange, TreesHaveTamePlans, is_tame_plan}
+use Rattle.job_plan.specs.Laws.{RunnableScriptsArePlanned}
+use Rattle.job_plan.specs.Planned.{laid, runnable}
 use Rattle.job_run.specs.Complete.{HasNoArithmetic}
 use Rattle.job_run.specs.Outcome.{after_judgement, after_load, changes_limit, outcome, over_changes, run_script, script_limit, with_request}
 use Rattle.job_run.proofs.Printable.{stopped_so}
@@ -80,7 +80,7 @@ free_query text statements script read none e =
 
 -- ---- the run
 
-module _ (bound : (script : Accepted) → IsJudged script → IsBound script) (tame : InsertsAreTame) (can : RunnableScriptsCanRun) (stays : RunsStayInRange) (h : Holdings) (node subtask : ℕ) (row : Row) (columns : List ColTy) (names : FileNames)
+module _ (bound : (script : Accepted) → IsJudged script → IsBound script) (tame : InsertsAreTame) (can : RunnableScriptsArePlanned) (trees : TreesHaveTamePlans) (stays : RunsStayInRange) (h : Holdings) (node subtask : ℕ) (row : Row) (columns : List ColTy) (names : FileNames)
     (script_text : List ℕ) (statements : List t.Statement) (read : s.read_text script_text ≡ s.answered statements) (none : in_statements statements ≡ false) where
   changes_stay : (script : Accepted) → judgement script_text ≡ Ok script → (plan : Plan) → runnable script ≡ Ok plan → (l : Loaded) → (after_load ChangesLimit (streamed plan) l).ending ≡ e.Range node subtask row columns → ⊥
   changes_stay script judged plan runs Missing out = absurd (cc (out))
@@ -90,7 +90,9 @@ module _ (bound : (script : Accepted) → IsJudged script → IsBound script) (t
       let b = bound script is in
       let calculates_nothing = tame script.catalogue.tables b.table script.query script.inserted b.bound (free_query script_text statements script read none judged) in
       let ran = stopped_so (sink_types plan.sink) (whole_run (network plan) most_sent plan.sources changes) node subtask row columns out in
-      stays plan script.inserted.query.rel (can script is plan runs).plan_of calculates_nothing most_sent (omega arith) changes node subtask row columns ran.0 ran.1
+      let of = can script is plan runs in
+      let tame_plan : is_tame_plan plan ≡ true = ap is_tame_plan of.is ∙ trees (laid script) script.inserted.query.rel of.laid_well.laid_out calculates_nothing in
+      stays plan of.ruled tame_plan most_sent (omega arith) changes node subtask row columns ran.0 ran.1
 
   plan_stays : (script : Accepted) → judgement script_text ≡ Ok script → (j : Judged Plan) → runnable script ≡ j → (after_judgement (λ plan. over_changes h names.changes (streamed plan)) j).ending ≡ e.Range node subtask row columns → ⊥
   plan_stays script judged (Err refusal) is out = absurd (cc (out))
@@ -103,8 +105,8 @@ module _ (bound : (script : Accepted) → IsJudged script → IsBound script) (t
   file_stays : (l : Loaded) → l ≡ Whole script_text → (after_load ScriptLimit (λ text. after_judgement (run_script h names.changes) (judgement text)) l).ending ≡ e.Range node subtask row columns → ⊥
   file_stays l is out = script_stays (judgement script_text) refl (sym (ap (λ (x : Loaded). (after_load ScriptLimit (λ text. after_judgement (run_script h names.changes) (judgement text)) x).ending) is) ∙ out)
 
-pub stays_in_range : ((script : Accepted) → IsJudged script → IsBound script) → InsertsAreTame → RunnableScriptsCanRun → RunsStayInRange → ((text : List ℕ) (x : t.Script) → (s.read_text text ≡ s.answered x.statements) ↔ IsScript text x)
+pub stays_in_range : ((script : Accepted) → IsJudged script → IsBound script) → InsertsAreTame → RunnableScriptsArePlanned → TreesHaveTamePlans → RunsStayInRange → ((text : List ℕ) (x : t.Script) → (s.read_text text ≡ s.answered x.statements) ↔ IsScript text x)
     → (h : Holdings) (node subtask : ℕ) (row : Row) (columns : List ColTy) (words : List (List ℕ)) → HasNoArithmetic words h → (outcome words h).ending ≡ e.Range node subtask row columns → ⊥
-stays_in_range bound tame can stays reads h node subtask row columns words free out =
-    file_stays bound tame can stays h node subtask row columns free.names free.script_text free.script.statements ((reads free.script_text free.script).1 free.spelled) free.none
+stays_in_range bound tame can trees stays reads h node subtask row columns words free out =
+    file_stays bound tame can trees stays h node subtask row columns free.names free.script_text free.script.statements ((reads free.script_text free.script).1 free.spelled) free.none
     (loaded h free.names.script script_limit) free.script_held (sym (ap (λ (o : Option Request). (with_request h o).ending) free.named) ∙ out)

@@ -7,7 +7,7 @@ use Rattle.job_ending.specs.declared.halt.Halt.TheVariants.{Script, Change, Rang
 use Rattle.job_ending.specs.declared.ending.LimitName.{LimitName}
 use Rattle.job_ending.specs.declared.ending.LimitName.TheVariants.{Script as ScriptLimit}
 use Rattle.job_ending.specs.Outcome.{Outcome}
-use Rattle.job_ending.specs.Runs.{HaltsAs}
+use Rattle.job_ending.specs.Runs.{HaltsAs, IsBefore}
 use Rattle.job_judgement.specs.Halts.{IsHalt}
 use Rattle.job_judgement.specs.declared.accepted.Accepted.{Accepted as AcceptedValue}
 use Rattle.job_judgement.specs.Judged.{IsJudged}
@@ -43,6 +43,16 @@ judged_halt told read next judged (Range node subtask row columns) is = absurd i
 judged_halt told read next judged (Limit name) is = absurd is
 judged_halt told read next judged ReadFault is = absurd is
 judged_halt told read next judged WriteFault is = absurd is
+
+-- the same behind the last load
+pub judged_before : {A : Type 0} (next : A → Outcome) (judged : Judged A) (halt : Halt) → IsHalt halt judged → IsBefore halt (after_judgement next judged)
+judged_before next judged Memory is = tt
+judged_before next judged (Script code number) is = ap (after_judgement next) is
+judged_before next judged (Change code line) is = absurd is
+judged_before next judged (Range node subtask row columns) is = absurd is
+judged_before next judged (Limit name) is = absurd is
+judged_before next judged ReadFault is = absurd is
+judged_before next judged WriteFault is = absurd is
 
 -- the same by a definition that agrees
 halts_moved : (told : Option Holdings) (read : Type 0) (of other : Holdings → Outcome) (halt : Halt) → ((h : Holdings) → told ≡ Some h → other h ≡ of h) → HaltsAs told of read halt → HaltsAs told other read halt

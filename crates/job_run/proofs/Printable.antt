@@ -6,22 +6,23 @@ use Rattle.ct_value.specs.declared.ty.ColTy.{ColTy}
 use Rattle.ct_value.specs.declared.ty.Ty.{Ty}
 use Rattle.ct_value.specs.declared.value.Value.{Value}
 use Rattle.ct_field.specs.Typed.{col_fits, row_fits}
-use Rattle.rel_algebra.specs.Rel.{Rel}
 use Rattle.phys_plan.specs.declared.plan.Plan.{Plan}
 use Rattle.stream_model.specs.declared.events.PrintItem.{PrintItem}
 use Rattle.stream_model.specs.declared.events.StepFault.{StepFault}
 use Rattle.stream_model.specs.declared.events.StepFault.TheVariants as fault
 use Rattle.plan_rules.specs.Doings.{network}
 use Rattle.stream_run.specs.Run.{Ran, ended, refused, stopped, whole_run}
+use Rattle.sound_plans.specs.Sound.{IsRuled}
 use Rattle.stopped_runs.specs.Stops.{RunsStopAtRows, StopsHaveTypes}
 use Rattle.judge.specs.Judgement.{Judged}
 use Rattle.job_ending.specs.declared.ending.Ending.TheVariants as e
 use Rattle.job_ending.specs.declared.halt.Halt.{Halt}
 use Rattle.job_ending.specs.declared.halt.Halt.TheVariants.{Script, Change, Range, Limit, ReadFault, WriteFault, Memory}
 use Rattle.job_ending.specs.Endings.{IsPrintable}
+use Rattle.job_ending.specs.Outcome.{Outcome}
 use Rattle.job_ending.specs.Runs.{IsCausedThere, ending_of, ending_of_halt}
 use Rattle.job_judgement.specs.Halts.{IsHalt}
-use Rattle.job_stream.specs.Stream.{CanRun, most_sent, outcome_of, sink_types, streamed}
+use Rattle.job_stream.specs.Stream.{most_sent, outcome_of, sink_types, streamed}
 
 -- a refusal by the judgement
 pub printable_halt : {A : Type 0} (halt : Halt) (judged : Judged A) → IsHalt halt judged → IsPrintable (ending_of_halt halt)
@@ -32,6 +33,17 @@ printable_halt (Range node subtask row columns) judged is = absurd is
 printable_halt (Limit name) judged is = absurd is
 printable_halt ReadFault judged is = absurd is
 printable_halt WriteFault judged is = absurd is
+
+-- behind the last load, where the outcome is that all goes well
+pub done_printable : {T : Type 0} (there : Outcome) (write : Type 0) (result : Result T Halt) → there.ending ≡ e.Done → IsCausedThere there write result → IsPrintable (ending_of result)
+done_printable there write (Ok x) done cause = tt
+done_printable there write (Err Memory) done cause = tt
+done_printable there write (Err WriteFault) done cause = tt
+done_printable there write (Err ReadFault) done cause = tt
+done_printable there write (Err (Script code number)) done cause = tt
+done_printable there write (Err (Change code line)) done cause = tt
+done_printable there write (Err (Range node subtask row types)) done cause = absurd (cc (done, cause))
+done_printable there write (Err (Limit name)) done cause = tt
 
 -- ---- a run
 
@@ -52,12 +64,12 @@ stopped_so tys (stopped (fault.Range n s r c) printed) node subtask row types is
 stopped_so tys (stopped fault.Limit printed) node subtask row types is = absurd (cc (is))
 stopped_so tys (stopped fault.Memory printed) node subtask row types is = absurd (cc (is))
 
-module _ (at_rows : RunsStopAtRows) (have_types : StopsHaveTypes) (plan : Plan) (rel : Rel) (can : CanRun plan rel) (bytes : List ℕ) where
+module _ (at_rows : RunsStopAtRows) (have_types : StopsHaveTypes) (plan : Plan) (ruled : IsRuled plan) (bytes : List ℕ) where
   range_printable : (node subtask : ℕ) (row : Row) (types : List ColTy) → (streamed plan bytes).ending ≡ e.Range node subtask row types → IsPrintable (e.Range node subtask row types)
   range_printable node subtask row types is =
       let ran = stopped_so (sink_types plan.sink) (whole_run (network plan) most_sent plan.sources bytes) node subtask row types is in (
-        fits_length types row (at_rows plan rel can.plan_of most_sent bytes node subtask row types ran.0 ran.1),
-        have_types plan rel can.plan_of can.exist most_sent bytes node subtask row types ran.0 ran.1,
+        fits_length types row (at_rows plan ruled most_sent bytes node subtask row types ran.0 ran.1),
+        have_types plan ruled most_sent bytes node subtask row types ran.0 ran.1,
       )
 
   pub run_printable : {T : Type 0} (write : Type 0) (result : Result T Halt) → IsCausedThere (streamed plan bytes) write result → IsPrintable (ending_of result)

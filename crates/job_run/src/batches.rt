@@ -1,11 +1,12 @@
 //! The batch answer of a script.
-ghost use Rattle.std.specs.Prelude.{◌≡◌, ◌≤◌};
+ghost use Rattle.std.specs.Prelude.{◌≤◌};
 ghost use Rattle.ct_io.specs.Counts.{Rose};
 ghost use Rattle.job_ending.specs.Endings.{IsPrintable};
 ghost use Rattle.job_ending.specs.Runs.{Runs, ending_of};
 ghost use Rattle.job_judgement.specs.Judged.{IsJudged};
 ghost use Rattle.job_judgement.specs.Views.{accepted_view};
-ghost use Rattle.job_run.specs.Outcome.{batch_script, with_script};
+ghost use Rattle.job_batch.specs.Batch.{with_changes};
+ghost use Rattle.job_run.specs.Outcome.{batch_script, over_changes, with_script};
 
 use crate::load::{load, load_script};
 use crate::requests::CHANGES_LIMIT;
@@ -15,6 +16,7 @@ use ct_value::Text;
 use job_batch::batch;
 use job_ending::{Halt, LimitName};
 use job_judgement::Accepted;
+use job_plan::planned;
 use std::alloc::Global;
 
 /// Answers the query of the script of these names over the first lines of the change file, or over all.
@@ -42,6 +44,24 @@ fn batch_script<F: Shelf, K: Sink>(
 ) -> Result<(), Halt>
     requires judged { IsJudged (accepted_view script.now) }
     ensures runs { Runs (F.holdings shelf.old) (λ h. batch_script h changes.now first (accepted_view script.now)) (Rose (F.faults shelf.old) (F.faults shelf.new)) (Rose (K.faults out.old) (K.faults out.new)) (K.written out.old) (K.written out.new) (ending_of result) }
+    ensures printable { IsPrintable (ending_of result) }
+    ensures later { F.faults shelf.old ≤ F.faults shelf.new }
+{
+    planned(alloc, script)?;
+    answer_script(alloc, script, changes, first, shelf, out)
+}
+
+// The answer over the lines of a change file.
+fn answer_script<F: Shelf, K: Sink>(
+    alloc: Global,
+    script: &Accepted,
+    changes: &Text,
+    first: Option<u64>,
+    shelf: &mut F,
+    out: &mut K,
+) -> Result<(), Halt>
+    requires judged { IsJudged (accepted_view script.now) }
+    ensures runs { Runs (F.holdings shelf.old) (λ h. over_changes h changes.now (with_changes (accepted_view script.now) first)) (Rose (F.faults shelf.old) (F.faults shelf.new)) (Rose (K.faults out.old) (K.faults out.new)) (K.written out.old) (K.written out.new) (ending_of result) }
     ensures printable { IsPrintable (ending_of result) }
     ensures later { F.faults shelf.old ≤ F.faults shelf.new }
 {

@@ -1,13 +1,12 @@
 //! The changelog of a script.
-ghost use Rattle.std.specs.Prelude.{◌≡◌, ◌≤◌, length};
-ghost use Rattle.rel_algebra.specs.Rel.{Rel};
+ghost use Rattle.std.specs.Prelude.{◌≤◌, length};
 ghost use Rattle.ct_io.specs.Counts.{Rose};
-ghost use Rattle.command_line.specs.Requests.{names_view};
 ghost use Rattle.job_ending.specs.Endings.{IsPrintable};
 ghost use Rattle.job_ending.specs.Runs.{Runs, RunsThere, ending_of};
 ghost use Rattle.job_judgement.specs.Judged.{IsJudged};
 ghost use Rattle.job_judgement.specs.Views.{accepted_view};
-ghost use Rattle.job_stream.specs.Stream.{CanRun, streamed};
+ghost use Rattle.sound_plans.specs.Sound.{IsRuled};
+ghost use Rattle.job_stream.specs.Stream.{streamed};
 ghost use Rattle.job_run.specs.Outcome.{over_changes, run_script, with_script};
 
 use crate::load::{load, load_script};
@@ -17,11 +16,12 @@ use ct_io::{Shelf, Sink};
 use ct_value::{Bytes, Text};
 use job_ending::{Halt, LimitName};
 use job_judgement::Accepted;
-use job_plan::planned;
+use job_plan::runnable;
 use job_stream::stream;
 use phys_plan::Plan;
 use std::alloc::Global;
 use stopped_runs::{runs_stop_at_rows, stops_have_types};
+use tree_networks::plans_run_as_seen;
 
 /// Runs the script of these names over the change file.
 pub fn run_names<F: Shelf, K: Sink>(
@@ -49,8 +49,9 @@ fn run_script<F: Shelf, K: Sink>(
     ensures printable { IsPrintable (ending_of result) }
     ensures later { F.faults shelf.old ≤ F.faults shelf.new }
 {
-    let plan = planned(alloc, script)?;
-    run_plan(alloc, &plan, changes, shelf, out)
+    plans_run_as_seen();
+    let checked = runnable(alloc, script)?;
+    run_plan(alloc, checked.plan(), changes, shelf, out)
 }
 
 fn run_plan<F: Shelf, K: Sink>(
@@ -60,7 +61,7 @@ fn run_plan<F: Shelf, K: Sink>(
     shelf: &mut F,
     out: &mut K,
 ) -> Result<(), Halt>
-    requires can { (rel : Rel) × CanRun plan.now rel }
+    requires ruled { IsRuled plan.now }
     ensures runs { Runs (F.holdings shelf.old) (λ h. over_changes h changes.now (streamed plan.now)) (Rose (F.faults shelf.old) (F.faults shelf.new)) (Rose (K.faults out.old) (K.faults out.new)) (K.written out.old) (K.written out.new) (ending_of result) }
     ensures printable { IsPrintable (ending_of result) }
     ensures later { F.faults shelf.old ≤ F.faults shelf.new }
@@ -71,7 +72,7 @@ fn run_plan<F: Shelf, K: Sink>(
 
 // The run over the lines of a change file.
 fn run_lines<K: Sink>(alloc: Global, plan: &Plan, bytes: Bytes, out: &mut K) -> Result<(), Halt>
-    requires can { (rel : Rel) × CanRun plan.now rel }
+    requires ruled { IsRuled plan.now }
     requires within { length bytes ≤ 67108864 }
     ensures runs { RunsThere (streamed plan.now bytes) (Rose (K.faults out.old) (K.faults out.new)) (K.written out.old) (K.written out.new) result }
     ensures printable { IsPrintable (ending_of result) }

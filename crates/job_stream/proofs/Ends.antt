@@ -1,9 +1,9 @@
 -- A run that finishes by an outcome.
 use Rattle.std.proofs.Common.{◌≡◌, ℕ, suc, ◌+◌, ◌<◌, ◌≤◌, ◌&&◌, cond, IsTrue, List, [], ◌∷◌, ◌++◌, length, map, Option, true, false, Bool, Result, Ok, Err, refl, sym, ap, subst, ◌∙◌, append_assoc, append-nil, arith}
-use Rattle.std.specs.Prelude.{nat_le}
+use Rattle.std.specs.Prelude.{max, nat_le}
 use Rattle.std.proofs.lemmas.Bool.{le-leb, leb-true}
-use Rattle.std.specs.List.{AllByRecursion}
-use Rattle.ct_io.specs.Written.{Appends, AppendsUpTo, AppendsPart}
+use Rattle.std.specs.List.{AllByRecursion, list_all}
+use Rattle.ct_io.specs.Written.{Appends, AppendsPart}
 use Rattle.ct_io.specs.Appending.{appends_nothing, part_none}
 use Rattle.ct_value.specs.declared.codes.ChangeCode.{ChangeCode}
 use Rattle.ct_value.specs.declared.ty.Ty.{Ty}
@@ -25,18 +25,21 @@ use Rattle.stream_model.specs.declared.events.StepFault.TheVariants as fault
 use Rattle.stream_model.specs.Drain.{IsDrainFault}
 use Rattle.printed_lines.specs.Printed.{IsWide, item_lines}
 use Rattle.stream_run.specs.Run.{Ran, ended, refused, stopped, and_then, take_lines, drained, whole_run}
-use Rattle.stream_run.specs.laws.Ends.{IsStop, Begins, printed_by}
+use Rattle.stream_run.specs.laws.Ends.{IsStop, printed_by}
 use Rattle.session_runs.specs.Goes.{HasPrinted, run_of}
 use Rattle.job_ending.specs.declared.halt.Halt.{Halt}
 use Rattle.job_ending.specs.declared.halt.Halt.TheVariants as h
 use Rattle.job_ending.specs.Outcome.{Outcome}
-use Rattle.job_ending.specs.Runs.{ending_of, is_free, IsCausedThere, RunsThere, IsBefore}
-use Rattle.job_stream.specs.Stream.{CanRun, outcome_of, halt_of, sink_types}
-use Rattle.rel_algebra.specs.Rel.{Rel}
+use Rattle.job_ending.specs.Runs.{IsCausedThere, RunsThere}
 use Rattle.phys_plan.specs.declared.plan.Plan.{Plan}
-use Rattle.plan_rules.specs.Columns.{columns_at}
-use Rattle.session_open.specs.Opening.{AreColumns}
-use Rattle.plan_opens.specs.Opening.{IsSmallPlan}
+use Rattle.phys_plan.specs.declared.plan.Rule.TheVariants as rule
+use Rattle.plan_network.specs.Plans.{numbered}
+use Rattle.plan_shape.specs.Shape.{has_sizes, is_shaped, is_whole}
+use Rattle.plan_shape.specs.Tables.{are_tables, has_columns, has_type, is_declarable, key_fits}
+use Rattle.plan_check.specs.Sound.{IsSound}
+use Rattle.plan_check.specs.Types.{fit_sink, keep_nulls}
+use Rattle.sound_plans.specs.laws.Lists.{both}
+use Rattle.job_stream.specs.Stream.{outcome_of, halt_of, sink_types}
 use Rattle.job_stream.specs.Writing.{Finishes}
 use Rattle.job_stream.proofs.Items.{lines_both}
 
@@ -158,8 +161,8 @@ front_wide : (width : ℕ) (items rest : List PrintItem) → AllByRecursion (IsW
 front_wide width [] rest h = tt
 front_wide width (item ∷ items) rest h = (h.0, front_wide width items rest h.1)
 
-pub ran_wide : (columns : List ColTy) (sink : TableDef) → go_into columns (column_types sink) ≡ true → (ran : Ran) → AllByRecursion (λ change. row_fits columns change.row ≡ true) (changes_in (printed_by ran)) → AllByRecursion (IsWide (length (sink_types sink))) (printed_by ran)
-ran_wide columns sink goes ran h = items_wide columns (length (sink_types sink)) (go_length columns (column_types sink) goes ∙ types_length sink.cols) (printed_by ran) h
+pub ran_wide : (columns : List ColTy) (sink : TableDef) → fit_sink columns (column_types sink) ≡ true → (ran : Ran) → AllByRecursion (λ change. row_fits columns change.row ≡ true) (changes_in (printed_by ran)) → AllByRecursion (IsWide (length (sink_types sink))) (printed_by ran)
+ran_wide columns sink fits ran h = items_wide columns (length (sink_types sink)) (go_length columns (column_types sink) (both (go_into columns (column_types sink)) (keep_nulls columns (column_types sink)) fits).0 ∙ types_length sink.cols) (printed_by ran) h
 
 pub printed_wide : (width : ℕ) (ran : Ran) (items : List PrintItem) → HasPrinted ran items → AllByRecursion (IsWide width) (printed_by ran) → AllByRecursion (IsWide width) items
 printed_wide width ran items has h = subst (AllByRecursion (IsWide width)) (ap printed_by has.ends ∙ sym has.printed) h
@@ -171,9 +174,19 @@ stopped_wide width ran (fault.Range node subtask row types) printed drains stop 
 stopped_wide width ran fault.Limit printed drains stop h = subst (AllByRecursion (IsWide width)) (ap printed_by stop) h
 stopped_wide width ran fault.Memory printed drains stop h = front_wide width printed stop.0 (subst (AllByRecursion (IsWide width)) stop.1 h)
 
-pub types_exist : (cols : List ColDef) → AllByRecursion (λ column. is_type column.ty ≡ true) (map (λ c. c.ty) cols) → AllByRecursion (λ ty. IsTrue (is_type ty)) (map (λ c. c.ty.ty) cols)
+types_exist : (cols : List ColDef) → list_all has_type cols ≡ true → AllByRecursion (λ ty. IsTrue (is_type ty)) (map (λ c. c.ty.ty) cols)
 types_exist [] h = tt
-types_exist (col ∷ cols) h = (h.0, types_exist cols h.1)
+types_exist (col ∷ cols) h = let b = both (has_type col) (list_all has_type cols) h in (b.0, types_exist cols b.1)
+
+-- the table of a sound plan may be declared, so the types of its columns exist
+pub sink_types_exist : (plan : Plan) → IsSound plan → AllByRecursion (λ ty. IsTrue (is_type ty)) (sink_types plan.sink)
+sink_types_exist plan sound =
+    let high : 1 ≤ max 1 (length plan.nodes) = omega arith in
+    let whole : is_whole plan ≡ true = (both (is_whole plan) (is_shaped plan 1 (numbered plan.nodes 1)) (sound rule.Shape 1 (omega arith) high)).0 in
+    let tables = (both (has_sizes plan) (are_tables (plan.sink ∷ plan.sources)) whole).1 in
+    let sink = (both (is_declarable plan.sink) (list_all is_declarable plan.sources) (both (list_all is_declarable (plan.sink ∷ plan.sources)) _ tables).0).0 in
+    let columns = (both (has_columns plan.sink) (key_fits plan.sink.mode plan.sink.cols plan.sink.key) sink).0 in
+    types_exist plan.sink.cols (both _ (list_all has_type plan.sink.cols) (both _ _ columns).1).1
 
 -- ---- the opening
 
@@ -187,9 +200,6 @@ not_within n m false e l = refl
 
 pub whole_too_many : (g : Network) (limit : ℕ) (sources : List TableDef) (bytes : List ℕ) → limit < (opened g).sends → whole_run g limit sources bytes ≡ stopped fault.Limit []
 whole_too_many g limit sources bytes many = ap (λ b. and_then (cond b (ended (opened g)) (stopped fault.Limit [])) (λ s. and_then (take_lines g limit sources 1 s (records_of bytes)) (drained g limit sources))) (not_within (opened g).sends limit (nat_le (opened g).sends limit) refl many)
-
-pub small : (plan : Plan) (rel : Rel) (columns : List (List ColTy)) → CanRun plan rel → AreColumns columns (columns_at plan.sources plan.nodes) → length columns ≡ length plan.nodes + 1 → IsSmallPlan plan rel columns
-small plan rel columns can are many = record { plan_of = can.plan_of; exist = can.exist; few = can.few; narrow = can.narrow; columns_are = are; columns_many = many }
 
 -- the output failed
 pub failed_put : {T : Type 0} (tys : List Ty) (there : Outcome) (items : List PrintItem) (ran : Result T Halt) (write : Type 0) (a b : Option (List ℕ)) → Finishes tys there items ran → write → AppendsPart a b (item_lines tys items) → let r : Result T Halt = Err h.WriteFault in RunsThere there write a b r

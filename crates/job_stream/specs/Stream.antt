@@ -1,14 +1,9 @@
 -- What a run over a plan and a change file answers and writes: it is composed of the machine's run.
-use Rattle.std.specs.Prelude.{◌≡◌, ℕ, ◌<◌, true, List, map, length}
-use Rattle.std.specs.List.{AllByRecursion}
+use Rattle.std.specs.Prelude.{ℕ, List, map}
 use Rattle.ct_value.specs.declared.ty.Ty.{Ty}
 use Rattle.ct_catalog.specs.declared.table.TableDef.{TableDef}
-use Rattle.binding.specs.Inserts.{column_types, go_into}
-use Rattle.rel_algebra.specs.Rel.{Rel}
 use Rattle.phys_plan.specs.declared.plan.Plan.{Plan}
 use Rattle.plan_rules.specs.Doings.{network}
-use Rattle.plan_laws.specs.Trees.{IsPlanOfTyped, types_of}
-use Rattle.type_laws.specs.Exist.{Exist}
 use Rattle.stream_model.specs.declared.events.StepFault.{StepFault}
 use Rattle.stream_model.specs.declared.events.StepFault.TheVariants as fault
 use Rattle.printed_lines.specs.Printed.{item_lines}
@@ -56,12 +51,3 @@ streamed_within limit plan bytes = outcome_of (sink_types plan.sink) (whole_run 
 -- with the limit of the program
 abbrev pub streamed : Plan → List ℕ → Outcome
 streamed plan bytes = streamed_within most_sent plan bytes
-
--- a plan that can be run: of a tree whose columns go into the sink's, over columns whose types exist, with few nodes in few subtasks
-pub record CanRun (plan : Plan) (rel : Rel) : Type 0 where
-  pub plan_of : IsPlanOfTyped plan rel
-  pub exist : AllByRecursion Exist (types_of plan.sources)
-  pub sink_exists : Exist (column_types plan.sink)
-  pub goes : go_into plan_of.columns (column_types plan.sink) ≡ true
-  pub few : length plan.nodes < 999
-  pub narrow : plan.parallelism < 17

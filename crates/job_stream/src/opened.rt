@@ -1,11 +1,10 @@
 //! The run of an opened job.
 ghost use Rattle.std.specs.Prelude.{◌≡◌, ◌<◌, ◌≤◌, length, IfOk, IfErr};
-ghost use Rattle.rel_algebra.specs.Rel.{Rel};
 ghost use Rattle.plan_rules.specs.Doings.{network};
+ghost use Rattle.sound_plans.specs.Sound.{IsRuled};
 ghost use Rattle.stream_run.specs.Run.{whole_run};
 ghost use Rattle.session_runs.specs.Faults.{IsRan};
 ghost use Rattle.session_runs.specs.Goes.{HasPrinted};
-ghost use Rattle.job_stream.specs.Stream.{CanRun};
 
 use change_lines::ChangeLines;
 use ct_change::Steps;
@@ -33,7 +32,7 @@ pub(crate) fn printed_of<L: Ledger>(
     requires name { blank.name ≡ L.name }
     requires parts { blank.parts ≡ L.parts }
     requires some { 0 < L.parts }
-    requires can { (rel : Rel) × CanRun plan.now rel }
+    requires ruled { IsRuled plan.now }
     requires within { length bytes ≤ 67108864 }
     ensures ok { IfOk result (λ items. HasPrinted (whole_run (network plan.now) sent_limit plan.now.sources bytes) items) }
     ensures refused { IfErr result (λ fault. IsRan fault (whole_run (network plan.now) sent_limit plan.now.sources bytes)) }

@@ -1,10 +1,10 @@
 //! The run, to its ending.
 ghost use Rattle.std.specs.Prelude.{◌≡◌, ◌≤◌, length, map, IfOk};
 ghost use Rattle.ct_io.specs.Counts.{Rose};
-ghost use Rattle.rel_algebra.specs.Rel.{Rel};
+ghost use Rattle.sound_plans.specs.Sound.{IsRuled};
 ghost use Rattle.stream_model.specs.Drain.{IsDrainFault};
 ghost use Rattle.job_ending.specs.Runs.{RunsThere};
-ghost use Rattle.job_stream.specs.Stream.{CanRun, halt_of, streamed, streamed_within};
+ghost use Rattle.job_stream.specs.Stream.{halt_of, streamed, streamed_within};
 
 use crate::finishing::finish;
 use crate::opened::printed_of;
@@ -18,14 +18,14 @@ use std::alloc::{AllocError, Global};
 use std::marker::Brand;
 use std::sync::ledger::Blank;
 use stream_model::StepFault;
-use stream_run::runs_print_rows;
+use stream_run::{runs_print_rows, sinks_take_columns};
 
 const MOST_SENT: u32 = 4294967295;
 
-/// Runs a plan over a change file of at most 67,108,864 bytes: all lines are taken, the job is drained, and what it printed is written on
+/// Runs a sound plan over a change file of at most 67,108,864 bytes: all lines are taken, the job is drained, and what it printed is written on
 /// `out`, each item as a line by the types of the sink's columns. It sends at most 4,294,967,295 changes.
 pub fn stream<K: Sink>(alloc: Global, plan: &Plan, bytes: Bytes, out: &mut K) -> Result<(), Halt>
-    requires can { (rel : Rel) × CanRun plan.now rel }
+    requires ruled { IsRuled plan.now }
     requires within { length bytes ≤ 67108864 }
     ensures { RunsThere (streamed plan.now bytes) (Rose (K.faults out.old) (K.faults out.new)) (K.written out.old) (K.written out.new) result }
 {
@@ -40,11 +40,12 @@ pub fn stream_within<K: Sink>(
     sent_limit: u32,
     out: &mut K,
 ) -> Result<(), Halt>
-    requires can { (rel : Rel) × CanRun plan.now rel }
+    requires ruled { IsRuled plan.now }
     requires within { length bytes ≤ 67108864 }
     ensures { RunsThere (streamed_within sent_limit plan.now bytes) (Rose (K.faults out.old) (K.faults out.new)) (K.written out.old) (K.written out.new) result }
 {
     runs_print_rows();
+    sinks_take_columns();
     let Ok(tys) = tys_of(alloc, plan.sink.cols.as_slice()) else {
         return Err(Halt::Memory);
     };

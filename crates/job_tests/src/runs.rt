@@ -2,10 +2,11 @@
 use crate::files::{calls, files, files_of, filled, texts, usual_words};
 use crate::scripts::{
     ANY_SPELLING, BAD_TOKEN_LATER, BATCHES_WITHOUT_GROUP, BEHIND_INSERT, COUNT_ALL, COUNT_APPEND,
-    COUNT_RETRACT, COUNT_SECOND, DISTINCT_OF_TWO, EXISTS_RETRACT, FULL_JOIN, GROUP_IN_BATCHES,
-    IN_QUERY, INTO_APPEND, LEFT_JOIN, MAX_BY_WORD, MEAN_BY_WORD, MORE_TABLES, NO_INSERT,
-    NOT_EXISTS, ONE_HOUR, OPEN_END, RIGHT_JOIN, SELECT_APPEND, SELECT_NULLABLE, SELECT_RETRACT,
-    SELECT_TWO, SELECT_UPSERT, SUM_BY_WORD, THIRTY_TWO_DEEP, TOO_DEEP, WITH_CONDITION,
+    COUNT_INTO_APPEND, COUNT_RETRACT, COUNT_SECOND, COUNT_UPSERT, COUNTS_JOINED, DISTINCT_OF_TWO,
+    EXISTS_RETRACT, FIRST_OF_EQUALS, FULL_JOIN, GROUP_IN_BATCHES, IN_QUERY, INTO_APPEND, LEFT_JOIN,
+    MAX_BY_WORD, MEAN_BY_WORD, MORE_TABLES, NO_INSERT, NO_SINK_KEY, NOT_EXISTS, NULL_INTO_KEY,
+    ONE_HOUR, OPEN_END, RIGHT_JOIN, SELECT_APPEND, SELECT_NULLABLE, SELECT_RETRACT, SELECT_TWO,
+    SELECT_UPSERT, SUM_BY_WORD, THIRTY_TWO_DEEP, TOO_DEEP, WITH_CONDITION,
 };
 use ct_io::{Calls, Files, MemShelf, MemSink, SureShelf, SureSink};
 use ct_value::{Memory, Text};
@@ -58,7 +59,7 @@ fn usually_leaves(alloc: Global, files: Files, left: &Left) -> bool {
 // A script, a change file, and what the run over them leaves.
 type Run = (&'static str, &'static str, Left);
 
-const WORKED: [Run; 34] = [
+const WORKED: [Run; 37] = [
     (SELECT_APPEND, "", ("=,0\n", "", 0)),
     (
         SELECT_APPEND,
@@ -120,6 +121,21 @@ const WORKED: [Run; 34] = [
     (THIRTY_TWO_DEEP, "t,+I,a\n", ("+I,a\n=,1\n", "", 0)),
     (WITH_CONDITION, "t,+I,b\nt,+I,ab\n", ("+I,ab\n=,2\n", "", 0)),
     (BATCHES_WITHOUT_GROUP, "t,+I,a\n", ("+I,a\n=,1\n", "", 0)),
+    (
+        INTO_APPEND,
+        "t,+I,a\nt,+I,a\n",
+        ("+I,a\n+I,a\n=,2\n", "", 0),
+    ),
+    (
+        COUNT_UPSERT,
+        "t,+I,a\nt,+I,a\n",
+        ("+I,a,1\n+U,a,2\n=,2\n", "", 0),
+    ),
+    (
+        COUNTS_JOINED,
+        "u,+I,a,7\nt,+I,a\nt,+I,a\n",
+        ("+I,a,1,7\n-U,a,1,7\n+U,a,2,7\n=,3\n", "", 0),
+    ),
     (
         SELECT_NULLABLE,
         "t,+I,\"a,b\"\r\nt,+I,\\N\nt,+I,\\\\N\nt,+I,\n",
@@ -322,7 +338,7 @@ fn worked_runs_leave_what_is_wanted(rt: HostRuntime) {
 }
 
 // Scripts that are refused, and the line on `err`.
-const REFUSED_SCRIPTS: [(&str, &str); 10] = [
+const REFUSED_SCRIPTS: [(&str, &str); 13] = [
     ("", "script S19 NotOneInsert statement 1\n"),
     (TOO_DEEP, "script S20 TooDeep statement 3\n"),
     (ONE_HOUR, "script S10 StateTtl statement 1\n"),
@@ -335,7 +351,10 @@ const REFUSED_SCRIPTS: [(&str, &str); 10] = [
         "script S6 DuplicateName statement 1\n",
     ),
     (GROUP_IN_BATCHES, "script S18 Unsupported statement 4\n"),
-    (INTO_APPEND, "script S18 Unsupported statement 3\n"),
+    (FIRST_OF_EQUALS, "script S11 Ties statement 3\n"),
+    (COUNT_INTO_APPEND, "script S13 SinkMode statement 3\n"),
+    (NO_SINK_KEY, "script S14 SinkKeyNotUnique statement 3\n"),
+    (NULL_INTO_KEY, "script S21 SinkNull statement 3\n"),
 ];
 
 // Change files of an append table `t` with one column that are refused, and the line on `err`.
@@ -532,4 +551,27 @@ fn keeps_ending_without_line(alloc: Global) -> bool {
 #[test]
 fn an_ending_stays_where_its_line_cannot_be_written(rt: HostRuntime) {
     assert!(rt; keeps_ending_without_line(rt.alloc()));
+}
+
+// What `--do explain` leaves of a script.
+fn is_explained(alloc: Global, script: &'static str, left: &Left) -> bool {
+    let Ok(words) = texts(alloc, &["--script", "s", "--do", "explain"]) else {
+        return false;
+    };
+    match files_of(alloc, script, "") {
+        Ok(files) => surely_leaves(alloc, words.as_slice(), files, left),
+        Err(_) => false,
+    }
+}
+
+const COUNT_PLAN: &str = "1 Scan(t) hash[0] changelogMode=[I]\n\
+    2 Group(1,1) from 1 forward changelogMode=[I,UA]\n\
+    3 Sink(out_t) from 2 changelogMode=[I,UA]\n";
+
+#[test]
+fn plans_are_explained_or_refused(rt: HostRuntime) {
+    let alloc = rt.alloc();
+    assert!(rt; is_explained(alloc, COUNT_UPSERT, &(COUNT_PLAN, "", 0)));
+    let refusal = "script S13 SinkMode statement 3\n";
+    assert!(rt; is_explained(alloc, COUNT_INTO_APPEND, &("", refusal, 2)));
 }

@@ -164,7 +164,7 @@ pub const RIGHT_JOIN: &str =
     CREATE TABLE out_t (id INT, city STRING) WITH ('changelog' = 'retract');\
     INSERT INTO out_t SELECT o.id, c.city FROM orders AS o RIGHT JOIN customers AS c ON o.cust = c.cid;";
 
-/// A sink of another mode, which isn't run yet.
+/// The words of an append table, into another.
 pub const INTO_APPEND: &str = "CREATE TABLE t (word STRING NOT NULL);\
     CREATE TABLE out_t (word STRING); INSERT INTO out_t SELECT word FROM t;";
 
@@ -185,3 +185,35 @@ pub const IN_QUERY: &str =
     "CREATE TABLE a (id INT, k INT); CREATE TABLE b (k INT) WITH ('changelog' = 'retract');\
     CREATE TABLE out_t (id INT) WITH ('changelog' = 'retract');\
     INSERT INTO out_t SELECT id FROM a WHERE k IN (SELECT k FROM b GROUP BY k HAVING COUNT(*) > 1);";
+
+/// Counts the rows of each word of an append table, into an upsert table.
+pub const COUNT_UPSERT: &str = "CREATE TABLE t (word STRING NOT NULL);\
+    CREATE TABLE out_t (word STRING PRIMARY KEY NOT ENFORCED, n BIGINT) WITH ('changelog' = 'upsert');\
+    INSERT INTO out_t SELECT word, COUNT(*) FROM t GROUP BY word;";
+
+/// Counts of words, joined to another table's: their new rows come alone to the join.
+pub const COUNTS_JOINED: &str = "CREATE TABLE t (word STRING NOT NULL);\
+    CREATE TABLE u (word STRING NOT NULL, x INT) WITH ('changelog' = 'retract');\
+    CREATE TABLE out_t (word STRING, n BIGINT, x INT) WITH ('changelog' = 'retract');\
+    INSERT INTO out_t SELECT c.word, c.n, u.x FROM u \
+    JOIN (SELECT word, COUNT(*) AS n FROM t GROUP BY word) AS c ON u.word = c.word;";
+
+/// The same count into an append table.
+pub const COUNT_INTO_APPEND: &str = "CREATE TABLE t (word STRING NOT NULL);\
+    CREATE TABLE out_t (word STRING, n BIGINT);\
+    INSERT INTO out_t SELECT word, COUNT(*) FROM t GROUP BY word;";
+
+/// Words into an upsert table, of which each may come twice.
+pub const NO_SINK_KEY: &str = "CREATE TABLE t (word STRING NOT NULL);\
+    CREATE TABLE out_t (word STRING PRIMARY KEY NOT ENFORCED) WITH ('changelog' = 'upsert');\
+    INSERT INTO out_t SELECT word FROM t;";
+
+/// NULL into a column that is NOT NULL.
+pub const NULL_INTO_KEY: &str = "CREATE TABLE t (word STRING);\
+    CREATE TABLE out_t (word STRING PRIMARY KEY NOT ENFORCED, n BIGINT) WITH ('changelog' = 'upsert');\
+    INSERT INTO out_t SELECT word, COUNT(*) FROM t GROUP BY word;";
+
+/// The first of all rows, among which several may be equal.
+pub const FIRST_OF_EQUALS: &str = "CREATE TABLE t (word STRING NOT NULL);\
+    CREATE TABLE out_t (word STRING) WITH ('changelog' = 'retract');\
+    INSERT INTO out_t SELECT word FROM (SELECT word, ROW_NUMBER() OVER (ORDER BY word) AS rn FROM t) WHERE rn <= 1;";

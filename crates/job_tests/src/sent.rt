@@ -8,7 +8,7 @@ use ct_io::SureSink;
 use ct_value::{Bytes, Memory};
 use job_ending::{Halt, LimitName};
 use job_judgement::{Accepted, judged};
-use job_plan::planned;
+use job_plan::runnable;
 use job_stream::stream_within;
 use std::alloc::Global;
 
@@ -33,13 +33,13 @@ fn script_of(alloc: Global, text: &str) -> Result<Accepted, Halt>
 // Runs a script over the lines of a text, where so many changes are sent at most.
 fn runs_within(alloc: Global, script: &str, changes: &str, sent_limit: u32) -> Result<(), Halt> {
     let script = script_of(alloc, script)?;
-    let plan = planned(alloc, &script)?;
+    let checked = runnable(alloc, &script)?;
     let bytes = bytes_of(alloc, changes)?;
     if bytes.len() > 1000 {
         return Err(Halt::Limit(LimitName::Changes));
     }
     match SureSink::new(alloc) {
-        Ok(mut out) => stream_within(alloc, &plan, bytes, sent_limit, &mut out),
+        Ok(mut out) => stream_within(alloc, checked.plan(), bytes, sent_limit, &mut out),
         Err(_) => Err(Halt::Memory),
     }
 }

@@ -1,6 +1,5 @@
 -- What is laid of a plan, and what a tree adds to it.
-use Rattle.std.specs.Prelude.{◌≡◌, ℕ, ◌+◌, ◌<◌, ◌≤◌, false, true, List, [], ◌∷◌, ◌++◌, length, ⊤}
-use Rattle.std.specs.List.{All}
+use Rattle.std.specs.Prelude.{◌≡◌, ℕ, ◌+◌, false, true, List, [], ◌∷◌, ◌++◌, length, ⊤}
 use Rattle.ct_change.specs.Changelog.{retract, kinds_of}
 use Rattle.ct_change.specs.declared.kind.KindSet.{KindSet}
 use Rattle.rel_algebra.specs.Rel.{Rel, Rels}
@@ -13,19 +12,13 @@ use Rattle.phys_plan.specs.declared.node.Node.{Node}
 use Rattle.phys_plan.specs.declared.plan.Plan.{Plan}
 use Rattle.plan_maker.specs.Laid.{no_keys, IsLaid, AreLaid}
 use Rattle.plan_build.specs.declared.fault.PlanFault.{PlanFault}
-use Rattle.plan_build.specs.declared.fault.PlanFault.TheVariants.{NoTable, TooMany, Memory}
+use Rattle.plan_build.specs.declared.fault.PlanFault.TheVariants.{NoTable, Memory}
 use Rattle.plan_build.specs.declared.laying.Laying.{Laying}
-use Rattle.plan_build.specs.Faults.{lacks_table, any_lacks, nodes_of, nodes_of_all, most_nodes}
+use Rattle.plan_build.specs.Faults.{lacks_table, any_lacks}
 
--- few inputs, for which 32 bits have room
-abbrev pub IsNarrow : Node → Type 0
-IsNarrow node = length node.inputs < most_nodes
-
--- an edge for each node, no more nodes than a plan may have, and few inputs at each
-pub record IsFine (l : Laying) : Type 0 where
-  pub even : length l.nodes ≡ length l.edges
-  pub few : length l.nodes ≤ most_nodes
-  pub narrow : All IsNarrow l.nodes
+-- an edge for each node
+abbrev pub IsEven : Laying → Type 0
+IsEven l = length l.nodes ≡ length l.edges
 
 -- a plan over the same tables, whose nodes and edges begin with these
 pub record Extends (plan : Plan) (l : Laying) : Type 0 where
@@ -38,7 +31,6 @@ pub record Extends (plan : Plan) (l : Laying) : Type 0 where
 -- one more node, of this number, with its edge
 pub record Pushed (old new : Laying) (op : Op) (inputs : List ℕ) (exchange : Exchange) (kinds : KindSet) (update : Update) (number : ℕ) : Type 0 where
   pub number_is : number ≡ length old.nodes + 1
-  pub few : number ≤ most_nodes
   pub sources : new.sources ≡ old.sources
   pub nodes : new.nodes ≡ old.nodes ++ record { op = op; inputs = inputs; keys = no_keys } ∷ []
   pub edges : new.edges ≡ old.edges ++ record { exchange = exchange; kinds = kinds; update = update } ∷ []
@@ -47,41 +39,29 @@ pub record Pushed (old new : Laying) (op : Op) (inputs : List ℕ) (exchange : E
 abbrev pub PushedAs : Laying → Laying → (Op → Type 0) → List ℕ → Exchange → ℕ → Type 0
 PushedAs old new IsOp inputs exchange number = (o : Op) × IsOp o × Pushed old new o inputs exchange (kinds_of retract) Both number
 
--- there is no room for a node more, or memory was wanting
-abbrev pub IsFull : Laying → PlanFault → Type 0
-IsFull l NoTable = ⊥
-IsFull l TooMany = most_nodes ≤ length l.nodes
-IsFull l Memory = ⊤
-
 -- a tree is laid behind what was laid, up to its root, for a consumer that asks for this exchange: so it is in every plan that goes on so
 pub record Lays (old new : Laying) (exchange : Exchange) (rel : Rel) (root : ℕ) : Type 0 where
-  pub fine : IsFine new
+  pub even : IsEven new
   pub root_is : root ≡ length new.nodes
-  pub grows : length old.nodes < length new.nodes
   pub sources : new.sources ≡ old.sources
   pub extends : (plan : Plan) → Extends plan new → Extends plan old
   pub laid : (plan : Plan) → Extends plan new → IsLaid plan (length old.nodes) exchange rel root
   pub tables : lacks_table old.sources rel ≡ false
-  pub count : length new.nodes ≡ length old.nodes + nodes_of old.sources rel
 
 -- the same of several trees
 pub record LaysAll (old new : Laying) (inputs : Rels) (roots : List ℕ) : Type 0 where
-  pub fine : IsFine new
-  pub grows : length old.nodes + length roots ≤ length new.nodes
+  pub even : IsEven new
   pub sources : new.sources ≡ old.sources
   pub extends : (plan : Plan) → Extends plan new → Extends plan old
   pub laid : (plan : Plan) → Extends plan new → AreLaid plan (length old.nodes) inputs roots (length new.nodes)
   pub tables : any_lacks old.sources inputs ≡ false
-  pub count : length new.nodes ≡ length old.nodes + nodes_of_all old.sources inputs
 
 -- why a tree isn't laid behind what was laid
 abbrev pub Fails : Laying → Rel → PlanFault → Type 0
 Fails l rel NoTable = lacks_table l.sources rel ≡ true
-Fails l rel TooMany = most_nodes < length l.nodes + nodes_of l.sources rel
 Fails l rel Memory = ⊤
 
 -- the same of several trees
 abbrev pub FailsAll : Laying → Rels → PlanFault → Type 0
 FailsAll l inputs NoTable = any_lacks l.sources inputs ≡ true
-FailsAll l inputs TooMany = most_nodes < length l.nodes + nodes_of_all l.sources inputs
 FailsAll l inputs Memory = ⊤

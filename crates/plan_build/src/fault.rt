@@ -2,12 +2,10 @@
 
 use ct_value::Memory;
 
-/// Why no plan is made: a part of the tree scans a table that isn't there; the plan would have more than 998 nodes; or memory was
-/// wanting.
+/// Why no plan is made: a part of the tree scans a table that isn't there, or memory was wanting.
 #[derive(Clone, Copy, Debug, PartialEq, Eq)]
 pub enum PlanFault {
     NoTable,
-    TooMany,
     Memory,
 }
 

@@ -1,12 +1,12 @@
 //! What is laid of a plan, and nodes that are put behind it.
-ghost use Rattle.std.specs.Prelude.{◌≡◌, ◌+◌, ◌<◌, [], ◌∷◌, length, option_map, IfOk, IfErr};
+ghost use Rattle.std.specs.Prelude.{◌≡◌, ◌+◌, [], ◌∷◌, option_map, IfOk, IfErr};
 ghost use Rattle.ct_expr.specs.View.{expr_view};
 ghost use Rattle.ct_change.specs.Changelog.{retract, upsert, kinds_of};
 ghost use Rattle.phys_plan.specs.declared.edge.Exchange.TheVariants.{Forward as ToSame, Hash as ByHash};
 ghost use Rattle.phys_plan.specs.declared.edge.Update.TheVariants.{Absent as NoUpdate, After as AfterKey, Both as BothRows};
 ghost use Rattle.phys_plan.specs.declared.node.Op.TheVariants as op;
 ghost use Rattle.plan_maker.specs.Laid.{IsJoin, IsSemi};
-ghost use Rattle.plan_build.specs.Laying.{Pushed, PushedAs, IsFull};
+ghost use Rattle.plan_build.specs.Laying.{Pushed, PushedAs};
 
 use crate::fault::PlanFault;
 use crate::parts::{all_kinds, dup_rest, no_keys, two_numbers, upsert_kinds};
@@ -16,9 +16,6 @@ use ct_value::{Cols, Numbers};
 use phys_plan::{Edge, Edges, Exchange, Node, Nodes, Op, Update};
 use rel_clauses::{JoinKind, Pairs};
 use std::alloc::Global;
-
-// The most nodes of a plan.
-const MOST_NODES: usize = 998;
 
 /// What is laid of a plan over some tables: its nodes so far, and the edges that leave them.
 #[derive(Drop)]
@@ -30,15 +27,17 @@ pub struct Laying {
 }
 
 impl Laying {
-    // Puts a node behind the others, with its edge, and answers its number.
+    // Puts a node behind the others, with its edge, and answers its number. More nodes than numbers of 32 bits count as want of memory.
     pub(crate) fn push(&mut self, op: Op, inputs: Numbers, edge: Edge) -> Result<u32, PlanFault>
         ensures pushed { IfOk result (λ number. Pushed self.old self.new op inputs edge.exchange edge.kinds edge.update number) }
-        ensures full { IfErr result (λ fault. IsFull self.old fault) }
+        ensures full { IfErr result (λ fault. fault ≡ PlanFault.Memory) }
     {
-        if self.nodes.len() >= MOST_NODES {
-            return Err(PlanFault::TooMany);
-        }
-        let number = self.nodes.len() as u32 + 1;
+        let Ok(before) = u32::try_from(self.nodes.len()) else {
+            return Err(PlanFault::Memory);
+        };
+        let Some(number) = before.checked_add(1) else {
+            return Err(PlanFault::Memory);
+        };
         self.nodes.push(Node {
             op,
             inputs,
@@ -56,7 +55,7 @@ impl Laying {
         exchange: Exchange,
     ) -> Result<u32, PlanFault>
         ensures pushed { IfOk result (λ number. Pushed self.old self.new op inputs exchange (kinds_of retract) BothRows number) }
-        ensures full { IfErr result (λ fault. IsFull self.old fault) }
+        ensures full { IfErr result (λ fault. fault ≡ PlanFault.Memory) }
     {
         let edge = Edge {
             exchange,
@@ -74,7 +73,7 @@ impl Laying {
         exchange: Exchange,
     ) -> Result<u32, PlanFault>
         ensures pushed { IfOk result (λ number. Pushed self.old self.new op (below ∷ []) exchange (kinds_of retract) BothRows number) }
-        ensures full { IfErr result (λ fault. IsFull self.old fault) }
+        ensures full { IfErr result (λ fault. fault ≡ PlanFault.Memory) }
     {
         let mut inputs = Numbers::new(self.alloc);
         inputs.push(below)?;
@@ -92,7 +91,7 @@ impl Laying {
         exchange: Exchange,
     ) -> Result<u32, PlanFault>
         ensures pushed { IfOk result (λ number. PushedAs self.old self.new (IsJoin kind on.now (option_map expr_view rest.now)) (left ∷ (right ∷ [])) exchange number) }
-        ensures full { IfErr result (λ fault. IsFull self.old fault) }
+        ensures full { IfErr result (λ fault. fault ≡ PlanFault.Memory) }
     {
         let inputs = two_numbers(self.alloc, left, right)?;
         let on = on.dup()?;
@@ -111,7 +110,7 @@ impl Laying {
         exchange: Exchange,
     ) -> Result<u32, PlanFault>
         ensures pushed { IfOk result (λ number. PushedAs self.old self.new (IsSemi anti on.now (option_map expr_view rest.now)) (left ∷ (right ∷ [])) exchange number) }
-        ensures full { IfErr result (λ fault. IsFull self.old fault) }
+        ensures full { IfErr result (λ fault. fault ≡ PlanFault.Memory) }
     {
         let inputs = two_numbers(self.alloc, left, right)?;
         let on = on.dup()?;
@@ -122,7 +121,7 @@ impl Laying {
     // A scan whose edge is after-only by a key, and hashed by it.
     pub(crate) fn push_keyed_scan(&mut self, source: u32, key: &Cols) -> Result<u32, PlanFault>
         ensures pushed { IfOk result (λ number. Pushed self.old self.new (op.Scan source) [] (ByHash key.now) (kinds_of (upsert key.now)) (AfterKey key.now) number) }
-        ensures full { IfErr result (λ fault. IsFull self.old fault) }
+        ensures full { IfErr result (λ fault. fault ≡ PlanFault.Memory) }
     {
         let edge = Edge {
             exchange: Exchange::Hash(key.dup()?),
@@ -136,7 +135,7 @@ impl Laying {
     // The sink, over a node.
     pub(crate) fn push_sink(&mut self, below: u32) -> Result<u32, PlanFault>
         ensures pushed { IfOk result (λ number. Pushed self.old self.new op.Sink (below ∷ []) ToSame (kinds_of retract) NoUpdate number) }
-        ensures full { IfErr result (λ fault. IsFull self.old fault) }
+        ensures full { IfErr result (λ fault. fault ≡ PlanFault.Memory) }
     {
         let mut inputs = Numbers::new(self.alloc);
         inputs.push(below)?;

@@ -3,7 +3,7 @@ ghost use Rattle.std.specs.Prelude.{◌≡◌, ◌≢◌, [], slice_get, Some, u
 ghost use Rattle.ct_catalog.specs.declared.table.TableDef.{TableDef};
 ghost use Rattle.ct_change.specs.declared.kind.Declared.TheVariants.{Upsert as IsUpsert};
 ghost use Rattle.rel_algebra.specs.Rel as r;
-ghost use Rattle.plan_build.specs.Laying.{IsFine, Lays, Fails};
+ghost use Rattle.plan_build.specs.Laying.{IsEven, Lays, Fails};
 
 use crate::fault::PlanFault;
 use crate::laying::Laying;
@@ -16,7 +16,7 @@ impl Laying {
     // The nodes of a table.
     #[tactic(auto, using(crate::specs::laws::Laid::no_table))]
     pub(crate) fn lay_scan(&mut self, source: u32, exchange: Exchange) -> Result<u32, PlanFault>
-        requires fine { IsFine self.old }
+        requires even { IsEven self.old }
         ensures laid { IfOk result (λ root. Lays self.old self.new exchange (r.Scan source) root) }
         ensures fails { IfErr result (λ fault. Fails self.old (r.Scan source) fault) }
     {
@@ -34,9 +34,9 @@ impl Laying {
     }
 
     // The scan of an append or retract table.
-    #[tactic(auto, using(crate::specs::laws::Laid::plain_lays, crate::specs::laws::Laid::plain_full))]
+    #[tactic(auto, using(crate::specs::laws::Laid::plain_lays, crate::specs::laws::Laid::full_fails))]
     fn lay_plain(&mut self, source: u32, exchange: Exchange) -> Result<u32, PlanFault>
-        requires fine { IsFine self.old }
+        requires even { IsEven self.old }
         requires table { (table : TableDef) × (slice_get self.old.sources source ≡ Some table) × (table.mode ≢ IsUpsert) }
         ensures laid { IfOk result (λ root. Lays self.old self.new exchange (r.Scan source) root) }
         ensures fails { IfErr result (λ fault. Fails self.old (r.Scan source) fault) }
@@ -46,9 +46,9 @@ impl Laying {
     }
 
     // The scan of an upsert table, normalized by its key.
-    #[tactic(auto, using(crate::specs::laws::Laid::upsert_lays, crate::specs::laws::Laid::plain_full, crate::specs::laws::Laid::upsert_full))]
+    #[tactic(auto, using(crate::specs::laws::Laid::upsert_lays, crate::specs::laws::Laid::full_fails))]
     fn lay_upsert(&mut self, source: u32, key: Cols, exchange: Exchange) -> Result<u32, PlanFault>
-        requires fine { IsFine self.old }
+        requires even { IsEven self.old }
         requires table { (table : TableDef) × (slice_get self.old.sources source ≡ Some table) × (table.mode ≡ IsUpsert) × (unwrap_or table.key [] ≡ key) }
         ensures laid { IfOk result (λ root. Lays self.old self.new exchange (r.Scan source) root) }
         ensures fails { IfErr result (λ fault. Fails self.old (r.Scan source) fault) }

@@ -6,7 +6,7 @@ ghost use Rattle.rel_algebra.specs.Rel as r;
 ghost use Rattle.rel_algebra.specs.View.{rel_view, rels_view};
 ghost use Rattle.join_rules.specs.Fits.{left_pairs, right_pairs};
 ghost use Rattle.phys_plan.specs.declared.edge.Exchange.TheVariants.{Hash as ByHash};
-ghost use Rattle.plan_build.specs.Laying.{IsFine, Lays, LaysAll, Fails, FailsAll};
+ghost use Rattle.plan_build.specs.Laying.{IsEven, Lays, LaysAll, Fails, FailsAll};
 
 use crate::fault::PlanFault;
 use crate::laying::Laying;
@@ -22,7 +22,7 @@ impl Laying {
     #[cycle(tree)]
     #[tactic(auto, unfolding(rel_algebra::specs::View::rel_view))]
     pub(crate) fn lay(&mut self, rel: &Rel, exchange: Exchange) -> Result<u32, PlanFault>
-        requires fine { IsFine self.old }
+        requires even { IsEven self.old }
         ensures laid { IfOk result (λ root. Lays self.old self.new exchange (rel_view rel.now) root) }
         ensures fails { IfErr result (λ fault. Fails self.old (rel_view rel.now) fault) }
     {
@@ -66,7 +66,7 @@ impl Laying {
 
     #[cycle(tree)]
     fn lay_filter(&mut self, input: &Rel, cond: &Expr, exchange: Exchange) -> Result<u32, PlanFault>
-        requires fine { IsFine self.old }
+        requires even { IsEven self.old }
         ensures laid { IfOk result (λ root. Lays self.old self.new exchange (r.Filter (rel_view input.now) (expr_view cond.now)) root) }
         ensures fails { IfErr result (λ fault. Fails self.old (r.Filter (rel_view input.now) (expr_view cond.now)) fault) }
     {
@@ -82,7 +82,7 @@ impl Laying {
         items: &Exprs,
         exchange: Exchange,
     ) -> Result<u32, PlanFault>
-        requires fine { IsFine self.old }
+        requires even { IsEven self.old }
         ensures laid { IfOk result (λ root. Lays self.old self.new exchange (r.Project (rel_view input.now) (exprs_view items.now)) root) }
         ensures fails { IfErr result (λ fault. Fails self.old (r.Project (rel_view input.now) (exprs_view items.now)) fault) }
     {
@@ -99,7 +99,7 @@ impl Laying {
         aggs: &Aggs,
         exchange: Exchange,
     ) -> Result<u32, PlanFault>
-        requires fine { IsFine self.old }
+        requires even { IsEven self.old }
         ensures laid { IfOk result (λ root. Lays self.old self.new exchange (r.Group (rel_view input.now) keys aggs.now) root) }
         ensures fails { IfErr result (λ fault. Fails self.old (r.Group (rel_view input.now) keys aggs.now) fault) }
     {
@@ -119,7 +119,7 @@ impl Laying {
         ranked: bool,
         exchange: Exchange,
     ) -> Result<u32, PlanFault>
-        requires fine { IsFine self.old }
+        requires even { IsEven self.old }
         ensures laid { IfOk result (λ root. Lays self.old self.new exchange (r.Rank (rel_view input.now) partition.now order.now bound ranked) root) }
         ensures fails { IfErr result (λ fault. Fails self.old (r.Rank (rel_view input.now) partition.now order.now bound ranked) fault) }
     {
@@ -139,7 +139,7 @@ impl Laying {
     // The left side of a join, hashed by its columns of the pairs.
     #[cycle(tree)]
     fn lay_left(&mut self, left: &Rel, on: &Pairs) -> Result<u32, PlanFault>
-        requires fine { IsFine self.old }
+        requires even { IsEven self.old }
         ensures laid { IfOk result (λ root. Lays self.old self.new (ByHash (left_pairs on.now)) (rel_view left.now) root) }
         ensures fails { IfErr result (λ fault. Fails self.old (rel_view left.now) fault) }
     {
@@ -150,7 +150,7 @@ impl Laying {
     // The right side.
     #[cycle(tree)]
     fn lay_right(&mut self, right: &Rel, on: &Pairs) -> Result<u32, PlanFault>
-        requires fine { IsFine self.old }
+        requires even { IsEven self.old }
         ensures laid { IfOk result (λ root. Lays self.old self.new (ByHash (right_pairs on.now)) (rel_view right.now) root) }
         ensures fails { IfErr result (λ fault. Fails self.old (rel_view right.now) fault) }
     {
@@ -160,7 +160,7 @@ impl Laying {
 
     #[cycle(tree)]
     fn lay_union(&mut self, inputs: &[Rel], exchange: Exchange) -> Result<u32, PlanFault>
-        requires fine { IsFine self.old }
+        requires even { IsEven self.old }
         ensures laid { IfOk result (λ root. Lays self.old self.new exchange (r.Union (rels (rels_view inputs.now))) root) }
         ensures fails { IfErr result (λ fault. Fails self.old (r.Union (rels (rels_view inputs.now))) fault) }
     {
@@ -171,7 +171,7 @@ impl Laying {
     // Several trees, one behind the other, with the numbers of their roots.
     #[cycle(tree)]
     fn lay_all(&mut self, inputs: &[Rel]) -> Result<Numbers, PlanFault>
-        requires fine { IsFine self.old }
+        requires even { IsEven self.old }
         ensures laid { IfOk result (λ roots. LaysAll self.old self.new (rels (rels_view inputs.now)) roots) }
         ensures fails { IfErr result (λ fault. FailsAll self.old (rels (rels_view inputs.now)) fault) }
     {

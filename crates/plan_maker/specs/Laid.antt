@@ -112,5 +112,4 @@ module _ (plan : Plan) where
     pub sink_edge : HasEdge (root + 1) Forward (kinds_of retract) Absent
     pub nodes : length plan.nodes ≡ root + 1
     pub edges : length plan.edges ≡ root + 1
-    pub into : plan.sink.mode ≡ Retract
     pub batches : plan.mini_batch ≡ 0

@@ -1,1 +1,4 @@
-pub mod Trees
+pub mod Types
+pub mod Tables
+pub mod Ports
+pub mod Plans

@@ -1,20 +1,15 @@
 //! The function has nothing to do: its contract is the law.
 ghost use Rattle.plan_opens.specs.Opening.{PlansOpen};
 
-use group_rules::{groups_stand, groups_take};
-use plan_laws::{plans_are_wired, plans_meet_facts};
-use stream_model::scans_stand;
+use sound_plans::{nodes_fit, sound_plans_are_wired, sound_plans_meet_facts};
 use type_laws::columns_have_types;
 
-/// A job of the plan of a well-typed tree over tables as a catalogue makes them can be opened with the operators of its nodes, where
-/// it has few nodes and few subtasks.
+/// A job of a sound plan whose operators have rules can be opened with the operators of its nodes and the columns that they send.
 pub fn plans_open()
     ensures { PlansOpen }
 {
-    groups_stand();
-    groups_take();
-    scans_stand();
     columns_have_types();
-    plans_are_wired();
-    plans_meet_facts();
+    nodes_fit();
+    sound_plans_are_wired();
+    sound_plans_meet_facts();
 }

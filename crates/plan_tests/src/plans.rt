@@ -92,7 +92,7 @@ fn a_tree_has_its_plan(rt: HostRuntime) {
     let alloc = rt.alloc();
     assert!(rt; is_planned(planned(alloc, both(alloc))));
     assert!(rt; is_ranked(planned(alloc, ranked(alloc))));
-    assert!(rt; planned(alloc, repeated(alloc, 996)).is_ok());
+    assert!(rt; planned(alloc, repeated(alloc, 2000)).is_ok());
 }
 
 #[test]
@@ -104,5 +104,4 @@ fn other_trees_have_none(rt: HostRuntime) {
             PlanFault::NoTable
         )
     );
-    assert!(rt; has_fault(planned(alloc, repeated(alloc, 997)), PlanFault::TooMany));
 }

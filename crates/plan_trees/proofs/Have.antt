@@ -203,9 +203,9 @@ module _ (plan : Plan) where
           refl,
         )
 
-pub have_plans : (sources : List TableDef) (sink : TableDef) (parallelism : ℕ) (rel : Rel) → sink.mode ≡ Retract → lacks_table sources rel ≡ false
+pub have_plans : (sources : List TableDef) (sink : TableDef) (parallelism : ℕ) (rel : Rel) → lacks_table sources rel ≡ false
     → IsPlanOf (plan_of_tree sources sink parallelism rel) rel
-have_plans sources sink parallelism rel into tables =
+have_plans sources sink parallelism rel tables =
     let plan = plan_of_tree sources sink parallelism rel in
     let ps = pieces_of sources 0 Forward rel in
     let root : ℕ = 0 + length ps in
@@ -221,6 +221,5 @@ have_plans sources sink parallelism rel into tables =
       sink_edge = subst (λ v. HasEdge plan v Forward (kinds_of retract) Absent) last told;
       nodes = omega (arith, length-map (with_sink ps) (λ p. p.node), last);
       edges = omega (arith, length-map (with_sink ps) (λ p. p.edge), last);
-      into = into;
       batches = refl;
     }

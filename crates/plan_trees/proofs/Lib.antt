@@ -1,4 +1,3 @@
 pub mod Places
 pub mod One
 pub mod Have
-pub mod Count

@@ -1,11 +1,10 @@
 -- What is known of the plans of trees.
-use Rattle.std.specs.Prelude.{◌≡◌, ℕ, ◌+◌, false, List, length}
-use Rattle.ct_change.specs.declared.kind.Declared.TheVariants.{Retract}
+use Rattle.std.specs.Prelude.{◌≡◌, ℕ, false, List}
 use Rattle.ct_catalog.specs.declared.table.TableDef.{TableDef}
 use Rattle.rel_algebra.specs.Rel.{Rel}
 use Rattle.phys_plan.specs.declared.plan.Plan.{Plan}
 use Rattle.plan_maker.specs.Laid.{IsPlanOf}
-use Rattle.plan_build.specs.Faults.{lacks_table, nodes_of}
+use Rattle.plan_build.specs.Faults.{lacks_table}
 use Rattle.plan_trees.specs.Trees.{plan_of_tree}
 use Rattle.plan_trees.specs.Seen.{plan_as_seen}
 
@@ -16,10 +15,5 @@ TreesHaveOnePlan = (plan : Plan) (rel : Rel) → IsPlanOf plan rel → plan_as_s
 -- and that is one of its plans, where each table is there
 abbrev pub TreesHavePlans : Type 0
 TreesHavePlans =
-    (sources : List TableDef) (sink : TableDef) (parallelism : ℕ) (rel : Rel) → sink.mode ≡ Retract → lacks_table sources rel ≡ false
+    (sources : List TableDef) (sink : TableDef) (parallelism : ℕ) (rel : Rel) → lacks_table sources rel ≡ false
     → IsPlanOf (plan_of_tree sources sink parallelism rel) rel
-
--- it has the tree's nodes and the sink
-abbrev pub TreesHaveNodes : Type 0
-TreesHaveNodes =
-    (sources : List TableDef) (sink : TableDef) (parallelism : ℕ) (rel : Rel) → length (plan_of_tree sources sink parallelism rel).nodes ≡ nodes_of sources rel + 1

@@ -5,7 +5,7 @@
 //! and of the algebra, and has no code.
 #![tactic(auto)]
 
-ghost use Rattle.plan_trees.specs.Laws.{TreesHaveOnePlan, TreesHavePlans, TreesHaveNodes};
+ghost use Rattle.plan_trees.specs.Laws.{TreesHaveOnePlan, TreesHavePlans};
 
 /// A tree has one plan, as plans are seen. The function has nothing to do: its contract is the law.
 pub fn trees_have_one_plan()
@@ -15,9 +15,4 @@ pub fn trees_have_one_plan()
 /// A tree over tables that are there has a plan.
 pub fn trees_have_plans()
     ensures { TreesHavePlans }
-{}
-
-/// A plan has the tree's nodes and the sink.
-pub fn trees_have_nodes()
-    ensures { TreesHaveNodes }
 {}

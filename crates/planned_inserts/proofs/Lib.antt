@@ -1,3 +1,4 @@
 pub mod Catalogues
 pub mod Settings
+pub mod Tables
 pub mod Plans

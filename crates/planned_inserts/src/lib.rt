@@ -1,21 +1,22 @@
-//! What is known of the plan of a script's INSERT.
+//! What is known of the plan that is laid of a script's INSERT.
 //!
-//! Promised: the plan of what an accepted INSERT is bound to meets all that the laws on plans ask, for the tables and settings of any
-//! script. It stands on the judgement's and the binding's definitions and on the laws on plans, and has no code.
+//! Promised: the plan that is laid of what an accepted INSERT is bound to is one that the planner takes, for the tables and settings of any
+//! script. It stands on the judgement's and the binding's definitions, on the laws of queries and on the planner, and has no code.
 #![tactic(auto)]
 
-ghost use Rattle.planned_inserts.specs.Inserts.{InsertsHaveTypedPlans, SubtasksAreFew};
+ghost use Rattle.planned_inserts.specs.Inserts.{InsertsHaveLaidPlans, SubtasksAreFew};
 
-use plan_laws::tables_are_made;
 use query_laws::bound_inserts_are_well_typed;
+use table_laws::tables_are_well_declared;
 
-/// The plan of what an INSERT is bound to is that of a well-typed tree over tables as a catalogue makes them, in one subtask or more.
-pub fn inserts_have_typed_plans()
-    ensures { InsertsHaveTypedPlans }
+/// The plan that is laid of what an INSERT is bound to is that of a well-typed tree with full unions, whose columns go into the sink's, over
+/// tables that may be declared, in 1 to 16 subtasks.
+pub fn inserts_have_laid_plans()
+    ensures { InsertsHaveLaidPlans }
 {
-    tables_are_made();
     bound_inserts_are_well_typed();
     subtasks_are_few();
+    tables_are_well_declared();
 }
 
 /// A script sets one subtask to sixteen.

@@ -4,7 +4,6 @@ use Rattle.std.proofs.Common.{zero, suc, true, false, [], ◌∷◌, refl, sym, 
 use Rattle.std.specs.List.{list_all, list_any}
 use Rattle.std.proofs.lemmas.Bool.{eqb-true, eqb-false, ltb-false}
 use Rattle.ct_value.specs.declared.codes.ScriptCode.{ScriptCode}
-use Rattle.ct_value.specs.declared.ty.ColTy.{ColTy}
 use Rattle.ct_change.specs.declared.kind.Declared.{Declared}
 use Rattle.ct_change.specs.declared.kind.Declared.TheVariants.{Append, Retract, Upsert}
 use Rattle.ct_catalog.specs.declared.settings.Materialize.{Materialize}
@@ -16,6 +15,7 @@ use Rattle.phys_plan.specs.declared.node.Op.{Op}
 use Rattle.phys_plan.specs.declared.node.Op.TheVariants as op
 use Rattle.phys_plan.specs.declared.plan.Plan.{Plan}
 use Rattle.phys_plan.specs.declared.plan.Rule.TheVariants as rule
+use Rattle.rel_algebra.specs.Rel.{Rel}
 use Rattle.plan_reading.specs.Reading.{numbered as item}
 use Rattle.plan_reading.specs.Columns.{columns_in}
 use Rattle.mode_infer.specs.declared.kinds.Flow.{Flow}
@@ -33,16 +33,17 @@ use Rattle.plan_check.specs.Sound.{inferred_of, IsSound, Meets}
 use Rattle.binding.specs.Inserts.{go_into}
 use Rattle.plan_check.specs.Types.{keep_nulls, types_at}
 use Rattle.plan_refusals.specs.Refusals.{below_sink, brings_null, changes_rows, has_materializer, inputs_in, is_forced, is_large, is_large_with, is_refused, or_else, refusal, sink_way, tells_more, way_into}
-use Rattle.sound_plans.specs.Sound.{has_rule}
+use Rattle.sound_plans.specs.Sound.{IsRuled, has_rule}
 use Rattle.sound_plans.specs.laws.Columns.{inferred_columns}
 use Rattle.sound_plans.specs.laws.Consumers.{by_test}
 use Rattle.sound_plans.specs.laws.Lists.{both, the_same}
 use Rattle.sound_plans.specs.laws.Local.{alike}
 use Rattle.sound_plans.specs.laws.Shapes.{among, inner_no_sink, node_there}
 use Rattle.inferred_plans.specs.Inferred.{InferredPlansAreSound, with_inferred}
+use Rattle.inferred_plans.specs.laws.Nodes.{node_read}
 use Rattle.tree_shapes.specs.Shapes.{HasTreeShape, IsLaidWell, LaidPlansHaveShape}
 use Rattle.tree_shapes.specs.laws.Trees.{tree}
-use Rattle.planner.specs.Planned.{IsLaidPlan}
+use Rattle.planner.specs.Planned.{IsLaidPlan, Planned, PlannedPlansAreRuled, made_by}
 
 -- ---- no refusal
 
@@ -128,7 +129,7 @@ few_nodes : (n : ℕ) (m : Bool) → m ≡ false → is_large_with m n ≡ false
 few_nodes n true e l = absurd (cc)
 few_nodes n false e l = ltb-false 128 n l
 
-module _ (laid : Plan) (is : IsLaidPlan laid) (setting : Materialize) (accepted : refusal (inferred_of laid) laid setting ≡ None)
+module _ (laid : Plan) (rel : Rel) (is : IsLaidPlan laid rel) (setting : Materialize) (accepted : refusal (inferred_of laid) laid setting ≡ None)
     (bare : has_materializer (sink_way (inferred_of laid) laid setting) ≡ false) where
   abbrev inferred : Inferred
   inferred = inferred_of laid
@@ -165,7 +166,7 @@ module _ (laid : Plan) (is : IsLaidPlan laid) (setting : Materialize) (accepted 
   high = let n = is.laid_out.nodes in omega arith
 
   types : types_at laid.sources laid.nodes root ≡ Some is.columns
-  types = (tree laid tables is.rel 0 Forward root is.laid_out.laid high is.unions is.columns is.typed).columns_are
+  types = (tree laid tables rel 0 Forward root is.laid_out.laid high is.unions is.columns is.typed).columns_are
 
   -- the node below the sink is the tree's root
   below_is : below_sink laid.nodes ≡ root
@@ -183,7 +184,7 @@ module _ (laid : Plan) (is : IsLaidPlan laid) (setting : Materialize) (accepted 
   both_true true b e f = f
   both_true false b e f = absurd (cc)
 
-  well : IsLaidWell laid is.rel
+  well : IsLaidWell laid rel
   well = record {
     laid_out = is.laid_out;
     columns = is.columns;
@@ -198,7 +199,7 @@ module _ (laid : Plan) (is : IsLaidPlan laid) (setting : Materialize) (accepted 
 
   module _ (shapes : LaidPlansHaveShape) (shaped : ShapedPlansHaveShape) where
     has : HasTreeShape laid
-    has = shapes laid is.rel well
+    has = shapes laid rel well
 
     some_root : 0 < root
     some_root =
@@ -235,9 +236,38 @@ module _ (laid : Plan) (is : IsLaidPlan laid) (setting : Materialize) (accepted 
         go None e = ap (fills_sink inferred laid) (alike laid.nodes v ∙ e)
         go (Some node) e = ap (fills_sink inferred laid) (alike laid.nodes v ∙ e) ∙ filled v node e node.op refl
 
--- the plan with what is inferred of it is sound
-pub made_is_sound : LaidPlansHaveShape → InferredPlansAreSound → ShapedPlansHaveShape → (laid : Plan) → IsLaidPlan laid → (setting : Materialize) → refusal (inferred_of laid) laid setting ≡ None
-    → has_materializer (sink_way (inferred_of laid) laid setting) ≡ false → IsSound (with_inferred laid)
-made_is_sound shapes sound shaped laid is setting accepted bare =
-    let h = has laid is setting accepted bare shapes shaped in
-    sound laid h.rules h.shape h.types h.exchanged (sink_key laid is setting accepted bare shapes shaped)
+-- an operator has a rule, whatever keys its node says
+abbrev ruled_in : Option Node → Bool
+ruled_in None = true
+ruled_in (Some node) = has_rule node.op
+
+module _ (shapes : LaidPlansHaveShape) (sound : InferredPlansAreSound) (shaped : ShapedPlansHaveShape) (laid : Plan) (rel : Rel) (is : IsLaidPlan laid rel) (setting : Materialize)
+    (accepted : refusal (inferred_of laid) laid setting ≡ None) (bare : has_materializer (sink_way (inferred_of laid) laid setting) ≡ false) where
+  -- the plan with what is inferred of it is sound
+  pub made_is_sound : IsSound (with_inferred laid)
+  made_is_sound =
+      let h = has laid rel is setting accepted bare shapes shaped in
+      sound laid h.rules h.shape h.types h.exchanged (sink_key laid rel is setting accepted bare shapes shaped)
+
+  each_ruled : (v : ℕ) (node : Node) → numbered (with_inferred laid).nodes v ≡ Some node → has_rule node.op ≡ true
+  each_ruled v node e =
+      let h = has laid rel is setting accepted bare shapes shaped in
+      sym (ap ruled_in e) ∙ node_read (inferred_of laid).keys ruled_in (λ node keys. refl) laid.nodes v ∙ below (numbered laid.nodes v) refl
+    where
+      below : (o : Option Node) → numbered laid.nodes v ≡ o → ruled_in o ≡ true
+      below None i = refl
+      below (Some own) i = (has laid rel is setting accepted bare shapes shaped).rules v own i
+
+  made_is_ruled : IsRuled (with_inferred laid)
+  made_is_ruled = record { sound = made_is_sound; rules = each_ruled }
+
+-- what is planned isn't refused and doesn't wait
+by_made : (laid plan : Plan) (code : Option ScriptCode) (materialized : Bool) → made_by laid code materialized ≡ Planned plan → (code ≡ None) × (materialized ≡ false) × (with_inferred laid ≡ plan)
+by_made laid plan (Some code) materialized e = absurd (cc)
+by_made laid plan None true e = absurd (cc)
+by_made laid plan None false e = (refl, refl, cc)
+
+pub planned_is_ruled : LaidPlansHaveShape → InferredPlansAreSound → ShapedPlansHaveShape → PlannedPlansAreRuled
+planned_is_ruled shapes sound shaped laid rel setting plan is e =
+    let m = by_made laid plan (refusal (inferred_of laid) laid setting) (has_materializer (sink_way (inferred_of laid) laid setting)) e in
+    subst IsRuled m.2 (made_is_ruled shapes sound shaped laid rel is setting m.0 m.1)

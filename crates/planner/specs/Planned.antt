@@ -1,26 +1,26 @@
 -- The plan of a script's tree: what is asked of it as it is laid, and what comes of it.
-use Rattle.std.specs.Prelude.{◌≡◌, ℕ, ◌<◌, ◌≤◌, Bool, true, false, List, ◌∷◌, Option, None, Some}
+use Rattle.std.specs.Prelude.{◌≡◌, ◌<◌, ◌≤◌, Bool, true, false, List, ◌∷◌, Option, None, Some}
 use Rattle.ct_value.specs.declared.codes.ScriptCode.{ScriptCode}
 use Rattle.ct_value.specs.declared.ty.ColTy.{ColTy}
 use Rattle.ct_catalog.specs.declared.settings.Materialize.{Materialize}
 use Rattle.binding.specs.Inserts.{go_into}
 use Rattle.rel_algebra.specs.Rel.{Rel}
 use Rattle.rel_algebra.specs.Types.{columns_of}
+use Rattle.query_laws.specs.Statement.{has_full_unions}
 use Rattle.phys_plan.specs.declared.plan.Plan.{Plan}
 use Rattle.plan_network.specs.Plans.{column_types}
-use Rattle.plan_laws.specs.Trees.{types_of}
 use Rattle.plan_shape.specs.Tables.{are_tables}
 use Rattle.plan_check.specs.Sound.{inferred_of}
 use Rattle.plan_refusals.specs.Refusals.{has_materializer, refusal, sink_way}
 use Rattle.inferred_plans.specs.Inferred.{with_inferred}
-use Rattle.tree_shapes.specs.Shapes.{IsLaidOut, has_full_unions}
+use Rattle.sound_plans.specs.Sound.{IsRuled}
+use Rattle.tree_shapes.specs.Shapes.{IsLaidOut, types_of}
 use Rattle.planner.specs.declared.fault.PlannerFault.{PlannerFault}
 use Rattle.planner.specs.declared.fault.PlannerFault.TheVariants as fault
 
--- the plan that is laid of a well-typed tree, whose unions have two inputs or more and whose columns go into the sink's, over tables that may
+-- the plan that is laid of a tree: a well-typed one, whose unions have two inputs or more and whose columns go into the sink's, over tables that may
 -- be declared, in 1 to 16 subtasks
-pub record IsLaidPlan (laid : Plan) : Type 0 where
-  pub rel : Rel
+pub record IsLaidPlan (laid : Plan) (rel : Rel) : Type 0 where
   pub laid_out : IsLaidOut laid rel
   pub columns : List ColTy
   pub typed : columns_of (types_of laid.sources) rel ≡ Some columns
@@ -49,3 +49,7 @@ abbrev pub Says : Made → PlannerFault → Type 0
 Says made (fault.Refused code) = made ≡ Refused code
 Says made fault.Waits = made ≡ Waits
 Says made fault.Memory = Unit {0}
+
+-- what is planned is sound, and its operators have rules
+abbrev pub PlannedPlansAreRuled : Type 0
+PlannedPlansAreRuled = (laid : Plan) (rel : Rel) (setting : Materialize) (plan : Plan) → IsLaidPlan laid rel → made laid setting ≡ Planned plan → IsRuled plan

@@ -1,5 +1,6 @@
 //! A plan made and checked.
 ghost use Rattle.std.specs.Prelude.{◌≡◌, false, None, IfOk, IfErr, OnOk};
+ghost use Rattle.rel_algebra.specs.Rel.{Rel};
 ghost use Rattle.inferred_plans.specs.Inferred.{with_inferred};
 ghost use Rattle.plan_check.specs.Checked.{plan_in};
 ghost use Rattle.plan_check.specs.Sound.{IsSound, inferred_of};
@@ -24,7 +25,7 @@ use upsert_keys::set_keys;
 /// of each node, and the kinds and updates of each edge. `Refused` comes with the first refusal (ties, the sink's mode, its key, NULL, a
 /// materializer that is off, too many nodes), and `Waits` where there is none and a materializer is needed.
 pub fn plan(alloc: Global, laid: Plan, setting: Materialize) -> Result<CheckedPlan, PlannerFault>
-    requires { IsLaidPlan laid }
+    requires { (rel : Rel) × IsLaidPlan laid rel }
     ensures planned { IfOk result (λ checked. made laid setting ≡ Planned (plan_in checked)) }
     ensures refused { IfErr result (λ fault. Says (made laid setting) fault) }
 {

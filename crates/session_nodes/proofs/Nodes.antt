@@ -13,12 +13,9 @@ use Rattle.phys_plan.specs.declared.node.Op.TheVariants as op
 use Rattle.phys_plan.specs.declared.plan.Plan.{Plan}
 use Rattle.stream_model.specs.Network.{Network, task}
 use Rattle.plan_network.specs.Plans.{Doing, inputs_in, numbered, scan_of}
-use Rattle.plan_rules.specs.Doings.{Around, around_of, doing_by, doing_in, first_input, mode_told, network, rule_by, second}
+use Rattle.plan_rules.specs.Doings.{Around, around_of, doing_by, doing_in, first_input, mode_told, network, rule_by, second, update_in}
 use Rattle.session_open.specs.Opening.{IsMade}
-use Rattle.ct_change.specs.Changelog.{retract}
-use Rattle.phys_plan.specs.declared.edge.Update.{Update}
-use Rattle.phys_plan.specs.declared.edge.Update.TheVariants.{Absent, After, Both}
-use Rattle.session_nodes.specs.Running.{IsWhole, IsBuilt, IsBuiltPlan, IsOperatorOf, range_types_by, second_input}
+use Rattle.session_nodes.specs.Running.{IsBuilt, IsBuiltPlan, IsOperatorOf, range_types_by, second_input}
 
 -- what a node does is its operator's rule
 pub record DoesBy (doing : Doing) (rule : Rule) : Type 0 where
@@ -83,6 +80,12 @@ others_of plan columns g v [] built = built.columns_are 0
 others_of plan columns g v (first ∷ []) built = built.columns_are 0
 others_of plan columns g v (first ∷ (other ∷ others)) built = built.columns_are other
 
+-- the mode of its edge
+pub other_mode : (plan : Plan) (v : ℕ) (inputs : List ℕ) → mode_told (update_in (numbered plan.edges (second_input inputs))) ≡ mode_told (second (around_of plan v inputs)).input
+other_mode plan v [] = refl
+other_mode plan v (first ∷ []) = refl
+other_mode plan v (first ∷ (other ∷ others)) = refl
+
 -- the types of the row at which a node is out of range
 pub types_none : (plan : Plan) (columns : List (List ColTy)) (g : Network) (v : ℕ) → IsBuiltPlan plan columns g → numbered plan.nodes v ≡ None → [] ≡ g.range_types v
 types_none plan columns g v built is = subst (λ (g : Network). [] ≡ g.range_types v) (sym built.network_is) (sym (ap (λ n. (doing_in plan v n).range_types) is))
@@ -118,12 +121,6 @@ module _ {O : Type 0} (rule_is : O → Rule) (is_broken : O → Bool) (stands : 
           stands_for = of.1.stands_so;
         },
       )
-
--- the mode of an edge that tells both rows of an update
-pub told_whole : (update : Update) → IsWhole update → mode_told update ≡ retract
-told_whole Absent whole = refl
-told_whole (After columns) whole = absurd whole
-told_whole Both whole = refl
 
 -- the types at a number, none past the end
 pub types_there : (columns : List (List ColTy)) (n : ℕ) (types : List ColTy) → slice_get columns n ≡ Some types → types ≡ get_or columns n []

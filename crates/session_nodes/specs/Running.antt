@@ -1,13 +1,12 @@
 -- For which networks the operators of a plan are made.
-use Rattle.std.specs.Prelude.{◌≡◌, ℕ, ◌<◌, Bool, true, false, List, [], ◌++◌, length, take, Option, Some, None}
+use Rattle.std.specs.Prelude.{◌≡◌, ℕ, ◌<◌, Bool, false, List, [], ◌++◌, length, take, Option, Some, None}
 use Rattle.ct_value.specs.declared.ty.ColTy.{ColTy}
-use Rattle.rel_clauses.specs.Groups.{group_columns}
-use Rattle.rel_algebra.specs.Types.{rank_fits}
 use Rattle.op_rules.specs.History.{Arrival}
 use Rattle.op_rules.specs.Ports.{TakesAll}
 use Rattle.op_rules.specs.Rules.{Rule}
-use Rattle.phys_plan.specs.declared.edge.Update.{Update}
-use Rattle.phys_plan.specs.declared.edge.Update.TheVariants.{Absent, After, Both}
+use Rattle.row_rules.specs.Normalize.{TellsKey}
+use Rattle.group_rules.specs.Grouping.{IsSound as GroupsWell}
+use Rattle.topn_rules.specs.Ranking.{IsSound as RanksWell}
 use Rattle.phys_plan.specs.declared.node.Node.{Node}
 use Rattle.phys_plan.specs.declared.node.Op.{Op}
 use Rattle.phys_plan.specs.declared.node.Op.TheVariants as op
@@ -15,30 +14,20 @@ use Rattle.phys_plan.specs.declared.plan.Plan.{Plan}
 use Rattle.stream_model.specs.Network.{Network, task}
 use Rattle.plan_network.specs.Plans.{numbered, scan_of}
 use Rattle.plan_rules.specs.Columns.{columns_at}
-use Rattle.plan_rules.specs.Doings.{Around, around_of, first_input, network, other_inputs, rule_by, second}
+use Rattle.plan_rules.specs.Doings.{Around, around_of, first_input, grouping_of, mode_told, network, other_inputs, ranking_of, rule_by}
 use Rattle.session_open.specs.Opening.{AreColumns}
 
--- both rows of an update are told
-abbrev pub IsWhole : Update → Type 0
-IsWhole Absent = Unit {0}
-IsWhole (After columns) = ⊥
-IsWhole Both = Unit {0}
-
--- by both sides of a join
-abbrev pub AreWhole : Around → Type 0
-AreWhole around = IsWhole around.input × IsWhole (second around).input
-
--- the operator is built, as it stands among its inputs
+-- the operator is built, and as it stands among its inputs its modes suit it
 abbrev pub IsBuilt : Op → Around → Type 0
 IsBuilt (op.Scan source) around = Unit {0}
 IsBuilt (op.Filter cond) around = Unit {0}
 IsBuilt (op.Project items) around = Unit {0}
 IsBuilt op.Union around = Unit {0}
-IsBuilt (op.Normalize key) around = IsWhole around.own
-IsBuilt (op.Group keys aggs) around = IsWhole around.input × IsWhole around.own × (made : List ColTy) × (group_columns keys around.columns aggs ≡ Some made)
-IsBuilt (op.Join kind on rest) around = AreWhole around
-IsBuilt (op.Semi anti on rest) around = AreWhole around
-IsBuilt (op.TopN partition order bound ranked) around = IsWhole around.input × IsWhole around.own × (rank_fits around.columns partition order bound ≡ true)
+IsBuilt (op.Normalize key) around = TellsKey key (mode_told around.own)
+IsBuilt (op.Group keys aggs) around = GroupsWell (grouping_of keys aggs around)
+IsBuilt (op.Join kind on rest) around = Unit {0}
+IsBuilt (op.Semi anti on rest) around = Unit {0}
+IsBuilt (op.TopN partition order bound ranked) around = RanksWell (ranking_of partition order bound ranked around)
 IsBuilt op.Sink around = Unit {0}
 IsBuilt _ around = ⊥
 

@@ -1,4 +1,5 @@
-use ct_change::{Change, Changes, Retract, Steps};
+use crate::AnyMode;
+use ct_change::{Change, Changes, Steps};
 use ct_value::Memory;
 use op_group::Group;
 use op_join::{Join, SemiJoin};
@@ -14,11 +15,11 @@ pub enum AnyOperator {
     Filter(FilterOp),
     Project(ProjectOp),
     Union(UnionOp),
-    Normalize(NormalizeOp<Retract>),
-    Group(Group<Retract, Retract>),
-    Join(Join<Retract, Retract>),
-    Semi(SemiJoin<Retract, Retract>),
-    TopN(TopN<Retract, Retract>),
+    Normalize(NormalizeOp<AnyMode>),
+    Group(Group<AnyMode, AnyMode>),
+    Join(Join<AnyMode, AnyMode>),
+    Semi(SemiJoin<AnyMode, AnyMode>),
+    TopN(TopN<AnyMode, AnyMode>),
     Sink(SinkWriter),
 }
 
@@ -29,11 +30,11 @@ impl Operator for AnyOperator {
       | Filter o ↦ ⟦<FilterOp as Operator>⟧.rule o
       | Project o ↦ ⟦<ProjectOp as Operator>⟧.rule o
       | Union o ↦ ⟦<UnionOp as Operator>⟧.rule o
-      | Normalize o ↦ ⟦<NormalizeOp<Retract> as Operator>⟧.rule o
-      | Grouped o ↦ ⟦<Group<Retract, Retract> as Operator>⟧.rule o
-      | Joined o ↦ ⟦<Join<Retract, Retract> as Operator>⟧.rule o
-      | Semi o ↦ ⟦<SemiJoin<Retract, Retract> as Operator>⟧.rule o
-      | Top o ↦ ⟦<TopN<Retract, Retract> as Operator>⟧.rule o
+      | Normalize o ↦ ⟦<NormalizeOp<AnyMode> as Operator>⟧.rule o
+      | Grouped o ↦ ⟦<Group<AnyMode, AnyMode> as Operator>⟧.rule o
+      | Joined o ↦ ⟦<Join<AnyMode, AnyMode> as Operator>⟧.rule o
+      | Semi o ↦ ⟦<SemiJoin<AnyMode, AnyMode> as Operator>⟧.rule o
+      | Top o ↦ ⟦<TopN<AnyMode, AnyMode> as Operator>⟧.rule o
       | Sink o ↦ ⟦<SinkWriter as Operator>⟧.rule o
     ] };
 
@@ -41,11 +42,11 @@ impl Operator for AnyOperator {
       | Filter o ↦ ⟦<FilterOp as Operator>⟧.broken o
       | Project o ↦ ⟦<ProjectOp as Operator>⟧.broken o
       | Union o ↦ ⟦<UnionOp as Operator>⟧.broken o
-      | Normalize o ↦ ⟦<NormalizeOp<Retract> as Operator>⟧.broken o
-      | Grouped o ↦ ⟦<Group<Retract, Retract> as Operator>⟧.broken o
-      | Joined o ↦ ⟦<Join<Retract, Retract> as Operator>⟧.broken o
-      | Semi o ↦ ⟦<SemiJoin<Retract, Retract> as Operator>⟧.broken o
-      | Top o ↦ ⟦<TopN<Retract, Retract> as Operator>⟧.broken o
+      | Normalize o ↦ ⟦<NormalizeOp<AnyMode> as Operator>⟧.broken o
+      | Grouped o ↦ ⟦<Group<AnyMode, AnyMode> as Operator>⟧.broken o
+      | Joined o ↦ ⟦<Join<AnyMode, AnyMode> as Operator>⟧.broken o
+      | Semi o ↦ ⟦<SemiJoin<AnyMode, AnyMode> as Operator>⟧.broken o
+      | Top o ↦ ⟦<TopN<AnyMode, AnyMode> as Operator>⟧.broken o
       | Sink o ↦ ⟦<SinkWriter as Operator>⟧.broken o
     ] };
 
@@ -53,11 +54,11 @@ impl Operator for AnyOperator {
       | Filter o ↦ ⟦<FilterOp as Operator>⟧.stands_for o
       | Project o ↦ ⟦<ProjectOp as Operator>⟧.stands_for o
       | Union o ↦ ⟦<UnionOp as Operator>⟧.stands_for o
-      | Normalize o ↦ ⟦<NormalizeOp<Retract> as Operator>⟧.stands_for o
-      | Grouped o ↦ ⟦<Group<Retract, Retract> as Operator>⟧.stands_for o
-      | Joined o ↦ ⟦<Join<Retract, Retract> as Operator>⟧.stands_for o
-      | Semi o ↦ ⟦<SemiJoin<Retract, Retract> as Operator>⟧.stands_for o
-      | Top o ↦ ⟦<TopN<Retract, Retract> as Operator>⟧.stands_for o
+      | Normalize o ↦ ⟦<NormalizeOp<AnyMode> as Operator>⟧.stands_for o
+      | Grouped o ↦ ⟦<Group<AnyMode, AnyMode> as Operator>⟧.stands_for o
+      | Joined o ↦ ⟦<Join<AnyMode, AnyMode> as Operator>⟧.stands_for o
+      | Semi o ↦ ⟦<SemiJoin<AnyMode, AnyMode> as Operator>⟧.stands_for o
+      | Top o ↦ ⟦<TopN<AnyMode, AnyMode> as Operator>⟧.stands_for o
       | Sink o ↦ ⟦<SinkWriter as Operator>⟧.stands_for o
     ] };
 

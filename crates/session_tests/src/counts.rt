@@ -1,75 +1,71 @@
 //! The plan of a grouped count of words.
-ghost use Rattle.std.specs.Prelude.{◌≡◌, [], ◌∷◌, None, IfOk};
-ghost use Rattle.rel_algebra.specs.Rel.{Group, Scan};
-ghost use Rattle.rel_algebra.specs.View.{rel_view};
-ghost use Rattle.rel_clauses.specs.declared.agg.AggCall.TheVariants.{CountAll as IsCountAll};
-ghost use Rattle.session_tests.specs.Standing.{CountsWords, IsWords};
+ghost use Rattle.std.specs.Prelude.{◌≡◌, true, IfOk};
+ghost use Rattle.job_judgement.specs.Judged.{IsJudged};
+ghost use Rattle.job_judgement.specs.Views.{accepted_view};
+ghost use Rattle.plan_check.specs.Checked.{plan_in};
+ghost use Rattle.session_tests.specs.Standing.{CountsWords, HasWords, IsWords};
 
-use ct_catalog::{ColDef, ColDefs, Sources, TableDef};
-use ct_change::Declared;
-use ct_value::{ColTy, Memory, Text, Ty};
-use phys_plan::Plan;
-use plan_build::{PlanFault, plan_of};
-use rel_algebra::Rel;
-use rel_clauses::{Agg, AggCall, Aggs};
+use ct_catalog::TableDef;
+use ct_value::{Bytes, Memory, Ty};
+use job_ending::{Halt, LimitName};
+use job_judgement::{Accepted, judged};
+use job_plan::runnable;
+use plan_check::CheckedPlan;
 use std::alloc::Global;
 
-/// The plan of `SELECT word, COUNT(*) FROM t GROUP BY word` over an append table of words, into a retract table.
-pub fn counting_plan(alloc: Global) -> Result<Plan, PlanFault>
-    ensures { IfOk result (λ plan. CountsWords plan) }
+// Counts the rows of each word of an append table.
+const COUNT_WORDS: &str = "CREATE TABLE t (word STRING NOT NULL);\
+    CREATE TABLE out_t (word STRING, n BIGINT) WITH ('changelog' = 'retract');\
+    INSERT INTO out_t SELECT word, COUNT(*) FROM t GROUP BY word;";
+
+/// Its plan.
+pub fn counting_plan(alloc: Global) -> Result<CheckedPlan, Halt>
+    ensures { IfOk result (λ checked. CountsWords (plan_in checked)) }
 {
-    let rel = counted(alloc)?;
-    let sink = words(alloc, "out_t", Declared::Retract)?;
-    let source = words(alloc, "t", Declared::Append)?;
-    planned(alloc, &rel, source, sink)
+    let script = script_of(alloc, COUNT_WORDS)?;
+    let checked = runnable(alloc, &script)?;
+    if !has_words(checked.plan().sources.as_slice()) {
+        return Err(Halt::Memory);
+    }
+    Ok(checked)
 }
 
-fn planned(alloc: Global, rel: &Rel, source: TableDef, sink: TableDef) -> Result<Plan, PlanFault>
-    requires tree { rel_view rel.now ≡ Group (Scan 0) 1 (record { call = IsCountAll; arg = None; filter = None } ∷ []) }
-    requires words { IsWords source }
-    requires into { sink.mode ≡ Declared.Retract }
-    ensures { IfOk result (λ plan. CountsWords plan) }
+// What a text is judged to be.
+fn script_of(alloc: Global, text: &str) -> Result<Accepted, Halt>
+    ensures { IfOk result (λ script. IsJudged (accepted_view script)) }
 {
-    let mut sources = Sources::new(alloc);
-    sources.push(source)?;
-    let plan = plan_of(alloc, rel, sources, sink, 1)?;
-    Ok(plan)
+    let bytes = bytes_of(alloc, text)?;
+    if bytes.len() > 1000 {
+        return Err(Halt::Limit(LimitName::Script));
+    }
+    judged(alloc, &bytes)
 }
 
-// A table of a column of words.
-fn words(alloc: Global, name: &str, mode: Declared) -> Result<TableDef, Memory>
-    ensures mode { IfOk result (λ table. table.mode ≡ mode) }
-    ensures words { mode ≡ Declared.Append → IfOk result (λ table. IsWords table) }
-{
-    let mut cols = ColDefs::new(alloc);
-    cols.push(ColDef {
-        name: Text::from_str(alloc, "word")?,
-        ty: ColTy {
-            ty: Ty::Text,
-            nullable: false,
-        },
-    })?;
-    Ok(TableDef {
-        name: Text::from_str(alloc, name)?,
-        cols,
-        key: None,
-        mode,
-    })
+fn bytes_of(alloc: Global, text: &str) -> Result<Bytes, Halt> {
+    match Bytes::from_slice(alloc, text.as_bytes()) {
+        Ok(bytes) => Ok(bytes),
+        Err(Memory) => Err(Halt::Memory),
+    }
 }
 
-#[tactic(auto, unfolding(rel_algebra::specs::View::rel_view))]
-fn counted(alloc: Global) -> Result<Rel, Memory>
-    ensures { IfOk result (λ rel. rel_view rel ≡ Group (Scan 0) 1 (record { call = IsCountAll; arg = None; filter = None } ∷ [])) }
+// Whether the first table is one of words.
+fn has_words(sources: &[TableDef]) -> bool
+    ensures { result ≡ true → HasWords sources.now }
 {
-    let mut aggs = Aggs::new(alloc);
-    aggs.push(Agg {
-        call: AggCall::CountAll,
-        arg: None,
-        filter: None,
-    })?;
-    Ok(Rel::Group {
-        input: Box::new(alloc, Rel::Scan { source: 0 })?,
-        keys: 1,
-        aggs,
-    })
+    match sources.split_first() {
+        Some((source, _)) => is_words(source),
+        None => false,
+    }
+}
+
+// Whether a table has one column, which is of texts.
+fn is_words(table: &TableDef) -> bool
+    ensures { result ≡ true → IsWords table.now }
+{
+    match table.cols.as_slice().split_first() {
+        Some((column, others)) => {
+            others.is_empty() && column.ty.ty == Ty::Text && !column.ty.nullable
+        }
+        None => false,
+    }
 }

@@ -11,10 +11,10 @@ const MOST_SENT: u32 = 4294967295;
 
 // How a grouped count of words goes along these orders.
 fn counted(alloc: Global, limit: u32, orders: &[Order], log: &mut Bytes) -> Result<(), StepFault> {
-    let Ok(plan) = counting_plan(alloc) else {
+    let Ok(checked) = counting_plan(alloc) else {
         return Err(StepFault::Memory);
     };
-    driven::<Brand>(alloc, &plan, limit, orders, log, Blank::new(1))
+    driven::<Brand>(alloc, checked.plan(), limit, orders, log, Blank::new(1))
 }
 
 // Whether it goes to their end and prints this.

@@ -1,4 +1,6 @@
 pub mod Lists
+pub mod Numbers
+pub mod Inputs
 pub mod Inferences
 pub mod Inferred
 pub mod Consumers

@@ -16,7 +16,7 @@ use stream_model::{printed_folds_to_answer, scans_stand};
 pub fn sound_plans_are_wired()
     ensures { SoundPlansAreWired }
 {
-    lower_laws();
+    nodes_fit();
     plans_are_wired();
 }
 
@@ -24,7 +24,7 @@ pub fn sound_plans_are_wired()
 pub fn sound_nodes_have_columns()
     ensures { SoundNodesHaveColumns }
 {
-    lower_laws();
+    nodes_fit();
 }
 
 /// Each of its nodes meets its facts, in however many subtasks it runs, and each port takes what its edge carries.
@@ -32,7 +32,7 @@ pub fn sound_plans_meet_facts()
     ensures facts { SoundPlansMeetFacts }
     ensures takes { SoundPortsTake }
 {
-    lower_laws();
+    nodes_fit();
 }
 
 /// In every run over a sound plan each prefix of what was printed is a valid changelog of the sink's mode, and at every quiet moment it
@@ -40,13 +40,14 @@ pub fn sound_plans_meet_facts()
 pub fn sound_plans_print()
     ensures { SoundPlansPrint }
 {
-    lower_laws();
+    nodes_fit();
     plans_are_wired();
     printed_folds_to_answer();
 }
 
-/// The laws of lower crates on which these stand.
-fn lower_laws()
+/// The laws of lower crates on which these stand: a plan of this shape is fed as the composition theorem asks, what is inferred of a node
+/// goes by what its inputs have, and a node with what is inferred of it fits between its edges and meets its facts.
+pub fn nodes_fit()
     ensures { Laws }
 {
     shaped_plans_have_shape();

@@ -9,5 +9,6 @@
 mod laws;
 
 pub use laws::{
-    sound_nodes_have_columns, sound_plans_are_wired, sound_plans_meet_facts, sound_plans_print,
+    nodes_fit, sound_nodes_have_columns, sound_plans_are_wired, sound_plans_meet_facts,
+    sound_plans_print,
 };

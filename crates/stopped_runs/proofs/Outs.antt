@@ -17,13 +17,13 @@ use Rattle.stream_model.specs.declared.events.StepFault.{StepFault}
 use Rattle.stream_model.specs.declared.events.StepFault.TheVariants.{Change as Refused, Order, Range, Limit, Memory}
 use Rattle.stream_model.specs.Tables.{Table as Source, scanned_at, refusal}
 use Rattle.stream_model.specs.Network.{Feed, Network, task}
-use Rattle.stream_model.specs.Machine.{State, put, opened, send, print, joins, folded, hand_on, answered, flushed, size_of, flushed_if_full, is_channel, move_front, move_to, flush_held, flush_bundle, is_place, scan_count, scanned, take_within, take_unless, take_of}
+use Rattle.stream_model.specs.Machine.{State, put, opened, send, print, joins, folded, answered, flushed, size_of, is_channel, move_front, move_to, flush_held, flush_bundle, is_place, scan_count, scanned, take_unless, take_of}
 use Rattle.stream_model.specs.Machine as machine
 use Rattle.stream_model.specs.Runs.{Item, happens, quiet, step_item, state_in, after, IsTyped, AreTyped}
 use Rattle.stream_model.specs.Theorem.{Composes, Holds}
 use Rattle.stream_model.specs.Drain.{drain}
 use Rattle.plan_rules.specs.Doings.{network}
-use Rattle.plan_laws.specs.Trees.{PlansAreWired, PlansMeetFacts}
+use Rattle.sound_plans.specs.Sound.{SoundPlansAreWired, SoundPlansMeetFacts}
 use Rattle.source_laws.specs.Fitting.{LinesFitColumns}
 use Rattle.stream_run.specs.Run as run
 use Rattle.stream_run.specs.Run.{Ran, ended, refused, stopped, and_then, stepped, took, whole_run}
@@ -204,6 +204,7 @@ module _ (fit : LinesFitColumns) (plan : Plan) (all_hold : (limit : ℕ) (items 
       (λ s r. outs_then (run.take_lines g limit plan.sources 1 s (records_of bytes)) (run.drained g limit plan.sources) (outs_lines (records_of bytes) 1 s r)
       (λ t k. outs_along (drain g limit t) (typed_drain g limit t) t k))
 
-pub stops_where_out : LinesFitColumns → PlansAreWired → PlansMeetFacts → Composes → RunsStopWhereOut
-stops_where_out fit wired meets composes plan rel is limit bytes node subtask row types printed e =
-    subst (Outs fit plan (composes (network plan) (wired plan rel is) (meets plan rel is)) limit) e (outs_run fit plan (composes (network plan) (wired plan rel is) (meets plan rel is)) limit bytes)
+pub stops_where_out : LinesFitColumns → SoundPlansAreWired → SoundPlansMeetFacts → Composes → RunsStopWhereOut
+stops_where_out fit wired meets composes plan ruled limit bytes node subtask row types printed e =
+    let all_hold = composes (network plan) (wired plan ruled) (meets plan ruled) in
+    subst (Outs fit plan all_hold limit) e (outs_run fit plan all_hold limit bytes)

@@ -10,7 +10,6 @@ use Rattle.ct_field.specs.Typed.{col_fits, row_fits}
 use Rattle.ct_change.specs.declared.change.Change.{Change}
 use Rattle.ct_change.specs.Changelog.{Rows, fold, same_row}
 use Rattle.ct_expr.specs.View.{expr_view}
-use Rattle.rel_algebra.specs.Rel.{Rel}
 use Rattle.rel_algebra.specs.Groups.{first_seen}
 use Rattle.op_rules.specs.History.{Arrival, at_port}
 use Rattle.op_rules.specs.Rules.{Answer}
@@ -31,7 +30,7 @@ use Rattle.stream_model.specs.Network.{task}
 use Rattle.plan_network.specs.Plans.{numbered, inputs_in, scan_of}
 use Rattle.plan_rules.specs.Columns.{columns_at}
 use Rattle.plan_rules.specs.Doings.{Around, first_input, other_inputs, side_of, first_side, second, around_of, rule_by, doing_by, doing_in, filter_of, project_of, grouping_of, joining_of, sink_of, network}
-use Rattle.plan_laws.specs.Trees.{IsPlanOfTyped, PortsTake}
+use Rattle.sound_plans.specs.Sound.{IsRuled, SoundPortsTake}
 use Rattle.join_rules.specs.Joining.{joins, matched, Joining, emits}
 use Rattle.stopped_runs.proofs.Answers.{not_err, err_same, OutsAt, outs_both}
 use Rattle.stopped_runs.proofs.Joins.{all_arrive, joins_out, Arrives}
@@ -131,7 +130,7 @@ module _ (P : Change → Type 0) where
 
 -- ---- nodes
 
-module _ (plan : Plan) (rel : Rel) (is : IsPlanOfTyped plan rel) (takes : PortsTake) (v j : ℕ) (before piece : List Arrival) (ready : IsReady (task (network plan) v) j (before ++ piece)) where
+module _ (plan : Plan) (ruled : IsRuled plan) (takes : SoundPortsTake) (v j : ℕ) (before piece : List Arrival) (ready : IsReady (task (network plan) v) j (before ++ piece)) where
   first_is : (inputs : List ℕ) → slice_index_or inputs 0 0 ≡ first_input inputs
   first_is [] = refl
   first_is (input ∷ inputs) = refl
@@ -141,11 +140,11 @@ module _ (plan : Plan) (rel : Rel) (is : IsPlanOfTyped plan rel) (takes : PortsT
     around = around_of plan v node.inputs
 
     one_port : (o : Op) → node.op ≡ o → scan_of o ≡ None → (rule_by o around).ports ≡ 1 → (task (network plan) v).ports ≡ 1
-    one_port o own no_scan one = (takes plan rel is v node there (ap scan_of own ∙ no_scan)).0 ∙ ap (λ (p : Op). (rule_by p around).ports) own ∙ one
+    one_port o own no_scan one = (takes plan ruled v node there (ap scan_of own ∙ no_scan)).0 ∙ ap (λ (p : Op). (rule_by p around).ports) own ∙ one
 
     -- a join's inputs are two
     two_ports : (o : Op) → node.op ≡ o → scan_of o ≡ None → (rule_by o around).ports ≡ 2 → (task (network plan) v).ports ≡ 2
-    two_ports o own no_scan two = (takes plan rel is v node there (ap scan_of own ∙ no_scan)).0 ∙ ap (λ (p : Op). (rule_by p around).ports) own ∙ two
+    two_ports o own no_scan two = (takes plan ruled v node there (ap scan_of own ∙ no_scan)).0 ∙ ap (λ (p : Op). (rule_by p around).ports) own ∙ two
 
     second_is : (inputs : List ℕ) → length inputs ≡ 2 → columns_at plan.sources plan.nodes (slice_index_or inputs 1 0) ≡ (first_side (map (side_of plan) (other_inputs inputs))).columns
     second_is [] two = absurd (omega (arith, two))
@@ -218,8 +217,8 @@ module _ (plan : Plan) (rel : Rel) (is : IsPlanOfTyped plan rel) (takes : PortsT
   pub outs_at_rows : OutsAt (Fit ((network plan).range_types v)) ((network plan).emits v before piece)
   outs_at_rows = node_outs (numbered plan.nodes v) refl
 
-pub stop_at_rows : PortsTake → RunsStopWhereOut → RunsStopAtRows
-stop_at_rows takes where_out plan rel is limit bytes node subtask row types printed e =
-    let stop = where_out plan rel is limit bytes node subtask row types printed e in
+pub stop_at_rows : SoundPortsTake → RunsStopWhereOut → RunsStopAtRows
+stop_at_rows takes where_out plan ruled limit bytes node subtask row types printed e =
+    let stop = where_out plan ruled limit bytes node subtask row types printed e in
     let at = stop.1 in
-    subst (λ (c : List ColTy). row_fits c row ≡ true) (sym stop.0) (outs_at_rows plan rel is takes node subtask at.before at.piece at.ready row at.out)
+    subst (λ (c : List ColTy). row_fits c row ≡ true) (sym stop.0) (outs_at_rows plan ruled takes node subtask at.before at.piece at.ready row at.out)

@@ -1,10 +1,8 @@
 -- Where a run over a change file stops out of range.
 use Rattle.std.specs.Prelude.{◌≡◌, ℕ, true, List, ◌++◌, Err}
-use Rattle.std.specs.List.{AllByRecursion}
 use Rattle.ct_value.specs.declared.row.Row.{Row}
 use Rattle.ct_value.specs.declared.ty.ColTy.{ColTy}
 use Rattle.ct_field.specs.Typed.{row_fits}
-use Rattle.rel_algebra.specs.Rel.{Rel}
 use Rattle.op_rules.specs.History.{Arrival}
 use Rattle.op_rules.specs.Tasks.{IsReady}
 use Rattle.phys_plan.specs.declared.plan.Plan.{Plan}
@@ -12,7 +10,7 @@ use Rattle.stream_model.specs.declared.events.PrintItem.{PrintItem}
 use Rattle.stream_model.specs.declared.events.StepFault.TheVariants.{Range}
 use Rattle.stream_model.specs.Network.{Network, task}
 use Rattle.plan_rules.specs.Doings.{network}
-use Rattle.plan_laws.specs.Trees.{IsPlanOfTyped, types_of}
+use Rattle.sound_plans.specs.Sound.{IsRuled}
 use Rattle.type_laws.specs.Exist.{Exist}
 use Rattle.stream_run.specs.Run.{stopped, whole_run}
 
@@ -23,18 +21,18 @@ pub record IsOutAt (g : Network) (node subtask : ℕ) (row : Row) : Type 0 where
   pub ready : IsReady (task g node) subtask (before ++ piece)
   pub out : g.emits node before piece ≡ Err row
 
--- a run over the plan of a tree that stops out of range does so where a subtask of a node is, and names the node's columns
+-- a run over a sound plan that stops out of range does so where a subtask of a node is, and names the node's columns
 abbrev pub RunsStopWhereOut : Type 0
-RunsStopWhereOut = (plan : Plan) (rel : Rel) → IsPlanOfTyped plan rel → (limit : ℕ) (bytes : List ℕ) (node subtask : ℕ) (row : Row) (types : List ColTy) (printed : List PrintItem)
+RunsStopWhereOut = (plan : Plan) → IsRuled plan → (limit : ℕ) (bytes : List ℕ) (node subtask : ℕ) (row : Row) (types : List ColTy) (printed : List PrintItem)
     → whole_run (network plan) limit plan.sources bytes ≡ stopped (Range node subtask row types) printed
     → (types ≡ (network plan).range_types node) × IsOutAt (network plan) node subtask row
 
 -- the row has these columns
 abbrev pub RunsStopAtRows : Type 0
-RunsStopAtRows = (plan : Plan) (rel : Rel) → IsPlanOfTyped plan rel → (limit : ℕ) (bytes : List ℕ) (node subtask : ℕ) (row : Row) (types : List ColTy) (printed : List PrintItem)
+RunsStopAtRows = (plan : Plan) → IsRuled plan → (limit : ℕ) (bytes : List ℕ) (node subtask : ℕ) (row : Row) (types : List ColTy) (printed : List PrintItem)
     → whole_run (network plan) limit plan.sources bytes ≡ stopped (Range node subtask row types) printed → row_fits types row ≡ true
 
--- whose types exist, where those of the tables do
+-- whose types exist
 abbrev pub StopsHaveTypes : Type 0
-StopsHaveTypes = (plan : Plan) (rel : Rel) → IsPlanOfTyped plan rel → AllByRecursion Exist (types_of plan.sources) → (limit : ℕ) (bytes : List ℕ) (node subtask : ℕ) (row : Row) (types : List ColTy) (printed : List PrintItem)
+StopsHaveTypes = (plan : Plan) → IsRuled plan → (limit : ℕ) (bytes : List ℕ) (node subtask : ℕ) (row : Row) (types : List ColTy) (printed : List PrintItem)
     → whole_run (network plan) limit plan.sources bytes ≡ stopped (Range node subtask row types) printed → Exist types

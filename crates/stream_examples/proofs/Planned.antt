@@ -124,7 +124,6 @@ is_plan = record {
   sink_edge = refl;
   nodes = refl;
   edges = refl;
-  into = refl;
   batches = refl;
 }
 

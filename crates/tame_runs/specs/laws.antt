@@ -1,4 +1,5 @@
 pub mod Lines
 pub mod Steps
 pub mod Nodes
+pub mod Trees
 pub mod Runs

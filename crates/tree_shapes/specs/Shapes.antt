@@ -1,8 +1,10 @@
 -- The plan that is laid of a tree, into a table of any mode, and which rules of sound plans it meets.
-use Rattle.std.specs.Prelude.{◌≡◌, ℕ, ◌+◌, ◌<◌, ◌≤◌, Bool, true, false, ◌&&◌, List, [], ◌∷◌, length, Some}
+use Rattle.std.specs.Prelude.{◌≡◌, ℕ, ◌+◌, ◌<◌, ◌≤◌, true, List, [], ◌∷◌, length, map, Some}
 use Rattle.ct_value.specs.declared.ty.ColTy.{ColTy}
-use Rattle.rel_algebra.specs.Rel.{Rel, Rels, Scan, Filter, Project, Union, Group, Join, Semi, Rank, no_rels, rel_and}
+use Rattle.ct_catalog.specs.declared.table.TableDef.{TableDef}
+use Rattle.rel_algebra.specs.Rel.{Rel}
 use Rattle.rel_algebra.specs.Types.{columns_of}
+use Rattle.query_laws.specs.Statement.{has_full_unions}
 use Rattle.phys_plan.specs.declared.edge.Edge.{Edge}
 use Rattle.phys_plan.specs.declared.edge.Exchange.TheVariants.{Forward}
 use Rattle.phys_plan.specs.declared.node.Node.{Node}
@@ -11,33 +13,14 @@ use Rattle.phys_plan.specs.declared.plan.Plan.{Plan}
 use Rattle.phys_plan.specs.declared.plan.Rule.TheVariants as rule
 use Rattle.plan_network.specs.Plans.{column_types, numbered}
 use Rattle.plan_maker.specs.Laid.{HasNode, IsLaid}
-use Rattle.plan_laws.specs.Trees.{types_of}
 use Rattle.plan_shape.specs.Tables.{are_tables}
 use Rattle.plan_check.specs.Sound.{Meets}
 use Rattle.plan_check.specs.Types.{fit_sink}
 use Rattle.sound_plans.specs.Sound.{has_rule}
 
--- two trees or more
-abbrev pub has_two : Rels → Bool
-has_two no_rels = false
-has_two (rel_and input no_rels) = false
-has_two (rel_and input (rel_and other inputs)) = true
-
-abbrev mutual
-  -- each Union of a tree has two inputs or more
-  pub has_full_unions : Rel → Bool
-  has_full_unions (Scan source) = true
-  has_full_unions (Filter input condition) = has_full_unions input
-  has_full_unions (Project input items) = has_full_unions input
-  has_full_unions (Union inputs) = has_two inputs && all_have_full_unions inputs
-  has_full_unions (Group input keys aggs) = has_full_unions input
-  has_full_unions (Join left right kind pairs rest) = has_full_unions left && has_full_unions right
-  has_full_unions (Semi left right anti pairs rest) = has_full_unions left && has_full_unions right
-  has_full_unions (Rank input partition order bound ranked) = has_full_unions input
-
-  pub all_have_full_unions : Rels → Bool
-  all_have_full_unions no_rels = true
-  all_have_full_unions (rel_and input inputs) = has_full_unions input && all_have_full_unions inputs
+-- the columns of the tables
+abbrev pub types_of : List TableDef → List (List ColTy)
+types_of sources = map column_types sources
 
 -- the nodes of a tree one behind the other, each behind its inputs, and the sink behind them, in a job without bundles
 pub record IsLaidOut (plan : Plan) (rel : Rel) : Type 0 where

@@ -1,3 +1,5 @@
+pub mod Laid
+pub mod Segments
 pub mod Uses
 pub mod Types
 pub mod Nodes

@@ -1,8 +1,6 @@
 -- How trees are laid, one part behind the other.
-use Rattle.std.specs.Prelude.{◌≡◌, ℕ, ◌+◌, ◌<◌, ◌≤◌, Bool, List, ◌++◌, is_none, length, map, slice_get, Option, unwrap_or}
-use Rattle.std.proofs.Common.{zero, suc, false, [], ◌∷◌, refl, sym, ap, subst, ◌∙◌, arith, Some, None}
-use Rattle.std.specs.List.{All}
-use Rattle.std.proofs.lemmas.List.Elements.{All-append}
+use Rattle.std.specs.Prelude.{◌≡◌, ℕ, ◌+◌, Bool, List, ◌++◌, is_none, length, map, slice_get, Option, unwrap_or}
+use Rattle.std.proofs.Common.{suc, false, [], ◌∷◌, refl, sym, ap, subst, ◌∙◌, arith, Some, None}
 use Rattle.ct_change.specs.Changelog.{retract, upsert, kinds_of}
 use Rattle.ct_change.specs.declared.kind.KindSet.{KindSet}
 use Rattle.ct_change.specs.declared.kind.Declared.{Declared}
@@ -13,7 +11,7 @@ use Rattle.ct_expr.specs.Expr.{Expr}
 use Rattle.ct_expr.specs.View.{expr_view}
 use Rattle.rel_clauses.specs.declared.agg.Agg.{Agg}
 use Rattle.rel_clauses.specs.declared.sort.SortCol.{SortCol}
-use Rattle.rel_algebra.specs.Rel.{Rel, Rels, no_rels, rel_and, rels}
+use Rattle.rel_algebra.specs.Rel.{Rel, Rels, no_rels}
 use Rattle.rel_algebra.specs.Rel as r
 use Rattle.group_rules.specs.Fits.{first_columns}
 use Rattle.phys_plan.specs.declared.edge.Edge.{Edge}
@@ -28,10 +26,10 @@ use Rattle.phys_plan.specs.declared.plan.Plan.{Plan}
 use Rattle.plan_network.specs.Plans.{numbered}
 use Rattle.plan_maker.specs.Laid.{IsFilter, IsProject, no_keys, HasNode, HasEdge, ScanLaid, SourceLaid, IsLaid, IsPlanOf}
 use Rattle.plan_build.specs.declared.fault.PlanFault.{PlanFault}
-use Rattle.plan_build.specs.declared.fault.PlanFault.TheVariants.{NoTable, TooMany, Memory}
+use Rattle.plan_build.specs.declared.fault.PlanFault.TheVariants.{NoTable, Memory}
 use Rattle.plan_build.specs.declared.laying.Laying.{Laying}
-use Rattle.plan_build.specs.Faults.{lacks_table, table_nodes, scan_nodes, nodes_of, most_nodes, Says}
-use Rattle.plan_build.specs.Laying.{IsNarrow, IsFine, Extends, Pushed, IsFull, Lays, LaysAll, Fails, FailsAll}
+use Rattle.plan_build.specs.Faults.{lacks_table, Says}
+use Rattle.plan_build.specs.Laying.{IsEven, Extends, Pushed, Lays, LaysAll, Fails, FailsAll}
 
 joined_behind : {A : Type 0} (xs : List A) (y : A) (zs : List A) → (xs ++ y ∷ []) ++ zs ≡ xs ++ y ∷ zs
 joined_behind [] y zs = refl
@@ -50,17 +48,13 @@ number_at all xs y zs v e i =
     let next : length xs + 1 ≡ suc (length xs) = omega arith in
     (λ j. numbered ((e ∙ joined_behind xs y zs) j) ((i ∙ next) j)) ∙ stands_at xs y zs
 
-one_narrow : (node : Node) → IsNarrow node → All IsNarrow (node ∷ [])
-one_narrow node is zero d l = is
-one_narrow node is (suc k) d l = absurd (omega (arith, l))
-
 -- ---- a node more
 
 module _ (old new : Laying) (o : Op) (inputs : List ℕ) (x : Exchange) (kinds : KindSet) (update : Update) (v : ℕ) (p : Pushed old new o inputs x kinds update v) where
   pub pushed_count : length new.nodes ≡ length old.nodes + 1
   pushed_count = ap length p.nodes ∙ one_longer old.nodes (record { op = o; inputs = inputs; keys = no_keys })
 
-  pub pushed_even : length old.nodes ≡ length old.edges → length new.nodes ≡ length new.edges
+  pub pushed_even : IsEven old → IsEven new
   pushed_even e =
       let a = pushed_count in
       let b : length new.edges ≡ length old.edges + 1 = ap length p.edges ∙ one_longer old.edges (record { exchange = x; kinds = kinds; update = update }) in
@@ -68,14 +62,6 @@ module _ (old new : Laying) (o : Op) (inputs : List ℕ) (x : Exchange) (kinds :
 
   pub pushed_number : v ≡ length new.nodes
   pushed_number = p.number_is ∙ sym pushed_count
-
-  pub pushed_fine : IsFine old → length inputs < most_nodes → IsFine new
-  pushed_fine fine narrow = record {
-    even = pushed_even fine.even;
-    few = subst (λ n. n ≤ most_nodes) pushed_number p.few;
-    narrow = subst (λ (ns : List Node). All IsNarrow ns) (sym p.nodes)
-        (All-append IsNarrow old.nodes (record { op = o; inputs = inputs; keys = no_keys } ∷ []) fine.narrow (one_narrow (record { op = o; inputs = inputs; keys = no_keys }) narrow));
-  }
 
   pub pushed_extends : (plan : Plan) → Extends plan new → Extends plan old
   pushed_extends plan e =
@@ -112,122 +98,87 @@ Whole old new o inputs x v = Pushed old new o inputs x (kinds_of retract) Both v
 
 -- ---- a node over a tree
 
--- a tree of one node more
-pub record IsOver (sources : List TableDef) (rel input : Rel) : Type 0 where
-  pub tables : lacks_table sources rel ≡ lacks_table sources input
-  pub count : nodes_of sources rel ≡ nodes_of sources input + 1
-
 module _ (old mid new : Laying) (y x : Exchange) (input : Rel) (below root : ℕ) (o : Op) (l : Lays old mid y input below) (p : Whole mid new o (below ∷ []) x root) where
-  over : (rel : Rel) → IsOver old.sources rel input → ((plan : Plan) → IsLaid plan (length old.nodes) y input below → root ≡ below + 1 → HasNode plan root (λ q. q ≡ o) (below ∷ []) → HasEdge plan root x (kinds_of retract) Both → IsLaid plan (length old.nodes) x rel root)
+  over : (rel : Rel) → lacks_table old.sources rel ≡ lacks_table old.sources input → ((plan : Plan) → IsLaid plan (length old.nodes) y input below → root ≡ below + 1 → HasNode plan root (λ q. q ≡ o) (below ∷ []) → HasEdge plan root x (kinds_of retract) Both → IsLaid plan (length old.nodes) x rel root)
       → Lays old new x rel root
-  over rel one so =
-      let many = pushed_count mid new o (below ∷ []) x (kinds_of retract) Both root p in
-      let few = l.grows in
-      let below_count = l.count in
-      let more = one.count in
-      record {
-        fine = pushed_fine mid new o (below ∷ []) x (kinds_of retract) Both root p l.fine (omega arith);
-        root_is = pushed_number mid new o (below ∷ []) x (kinds_of retract) Both root p;
-        grows = omega arith;
-        sources = p.sources ∙ l.sources;
-        extends = λ plan e. l.extends plan (pushed_extends mid new o (below ∷ []) x (kinds_of retract) Both root p plan e);
-        laid = λ plan e.
-            so plan (l.laid plan (pushed_extends mid new o (below ∷ []) x (kinds_of retract) Both root p plan e)) (p.number_is ∙ ap (λ n. n + 1) (sym l.root_is))
-            (pushed_node mid new o (below ∷ []) x (kinds_of retract) Both root p plan e) (pushed_edge mid new o (below ∷ []) x (kinds_of retract) Both root p plan e l.fine.even);
-        tables = one.tables ∙ l.tables;
-        count = omega arith;
-      }
+  over rel same so = record {
+    even = pushed_even mid new o (below ∷ []) x (kinds_of retract) Both root p l.even;
+    root_is = pushed_number mid new o (below ∷ []) x (kinds_of retract) Both root p;
+    sources = p.sources ∙ l.sources;
+    extends = λ plan e. l.extends plan (pushed_extends mid new o (below ∷ []) x (kinds_of retract) Both root p plan e);
+    laid = λ plan e.
+        so plan (l.laid plan (pushed_extends mid new o (below ∷ []) x (kinds_of retract) Both root p plan e)) (p.number_is ∙ ap (λ n. n + 1) (sym l.root_is))
+        (pushed_node mid new o (below ∷ []) x (kinds_of retract) Both root p plan e) (pushed_edge mid new o (below ∷ []) x (kinds_of retract) Both root p plan e l.even);
+    tables = same ∙ l.tables;
+  }
 
-pub over_fails : (l : Laying) (rel input : Rel) (fault : PlanFault) → IsOver l.sources rel input → Fails l input fault → Fails l rel fault
-over_fails l rel input NoTable one f = one.tables ∙ f
-over_fails l rel input TooMany one f = let more = one.count in omega (arith, f)
-over_fails l rel input Memory one f = tt
+-- where an input isn't laid, no tree is that lacks a table where the input does
+over_fails : (l : Laying) (rel input : Rel) (fault : PlanFault) → lacks_table l.sources rel ≡ lacks_table l.sources input → Fails l input fault → Fails l rel fault
+over_fails l rel input NoTable same f = same ∙ f
+over_fails l rel input Memory same f = tt
 
-pub over_full : (old mid : Laying) (y : Exchange) (rel input : Rel) (below : ℕ) (fault : PlanFault) → IsOver old.sources rel input → Lays old mid y input below → IsFull mid fault → Fails old rel fault
-over_full old mid y rel input below NoTable one l f = absurd f
-over_full old mid y rel input below TooMany one l f = let more = one.count in let count = l.count in omega (arith, f)
-over_full old mid y rel input below Memory one l f = tt
+-- memory may be wanting for any
+pub full_fails : (l : Laying) (rel : Rel) (fault : PlanFault) → fault ≡ Memory → Fails l rel fault
+full_fails l rel fault is = subst (Fails l rel) (sym is) tt
 
-pub filter_over : (sources : List TableDef) (input : Rel) (condition : Expr) → IsOver sources (r.Filter input condition) input
-filter_over sources input condition = record { tables = refl; count = refl }
+pub filter_fails : (l : Laying) (input : Rel) (condition : Expr) (fault : PlanFault) → Fails l input fault → Fails l (r.Filter input condition) fault
+filter_fails l input condition fault f = over_fails l (r.Filter input condition) input fault refl f
 
-pub project_over : (sources : List TableDef) (input : Rel) (items : List Expr) → IsOver sources (r.Project input items) input
-project_over sources input items = record { tables = refl; count = refl }
+pub project_fails : (l : Laying) (input : Rel) (items : List Expr) (fault : PlanFault) → Fails l input fault → Fails l (r.Project input items) fault
+project_fails l input items fault f = over_fails l (r.Project input items) input fault refl f
 
-pub group_over : (sources : List TableDef) (input : Rel) (keys : ℕ) (aggs : List Agg) → IsOver sources (r.Group input keys aggs) input
-group_over sources input keys aggs = record { tables = refl; count = refl }
+pub group_fails : (l : Laying) (input : Rel) (keys : ℕ) (aggs : List Agg) (fault : PlanFault) → Fails l input fault → Fails l (r.Group input keys aggs) fault
+group_fails l input keys aggs fault f = over_fails l (r.Group input keys aggs) input fault refl f
 
-pub rank_over : (sources : List TableDef) (input : Rel) (partition : List ℕ) (order : List SortCol) (bound : ℕ) (ranked : Bool) → IsOver sources (r.Rank input partition order bound ranked) input
-rank_over sources input partition order bound ranked = record { tables = refl; count = refl }
+pub rank_fails : (l : Laying) (input : Rel) (partition : List ℕ) (order : List SortCol) (bound : ℕ) (ranked : Bool) (fault : PlanFault) → Fails l input fault → Fails l (r.Rank input partition order bound ranked) fault
+rank_fails l input partition order bound ranked fault f = over_fails l (r.Rank input partition order bound ranked) input fault refl f
 
 pub filter_lays : (old mid new : Laying) (x : Exchange) (input : Rel) (condition : Expr) (cond : CodeExpr) (below root : ℕ) → Lays old mid Forward input below
     → Pushed mid new (op.Filter cond) (below ∷ []) x (kinds_of retract) Both root → expr_view cond ≡ condition → Lays old new x (r.Filter input condition) root
 filter_lays old mid new x input condition cond below root l p is =
-    over old mid new Forward x input below root (op.Filter cond) l p (r.Filter input condition) (filter_over old.sources input condition)
+    over old mid new Forward x input below root (op.Filter cond) l p (r.Filter input condition) refl
     (λ plan laid next has told. (below, laid, next, as_op plan root (IsFilter condition) (below ∷ []) (op.Filter cond) is has, told))
 
 pub project_lays : (old mid new : Laying) (x : Exchange) (input : Rel) (items : List Expr) (own : List CodeExpr) (below root : ℕ) → Lays old mid Forward input below
     → Pushed mid new (op.Project own) (below ∷ []) x (kinds_of retract) Both root → map expr_view own ≡ items → Lays old new x (r.Project input items) root
 project_lays old mid new x input items own below root l p is =
-    over old mid new Forward x input below root (op.Project own) l p (r.Project input items) (project_over old.sources input items)
+    over old mid new Forward x input below root (op.Project own) l p (r.Project input items) refl
     (λ plan laid next has told. (below, laid, next, as_op plan root (IsProject items) (below ∷ []) (op.Project own) is has, told))
 
 pub group_lays : (old mid new : Laying) (x : Exchange) (input : Rel) (keys : ℕ) (aggs own : List Agg) (columns : List ℕ) (below root : ℕ) → columns ≡ first_columns keys → own ≡ aggs
     → Lays old mid (Hash columns) input below → Pushed mid new (op.Group keys own) (below ∷ []) x (kinds_of retract) Both root → Lays old new x (r.Group input keys aggs) root
 group_lays old mid new x input keys aggs own columns below root c a l p =
     subst (λ g. Lays old new x (r.Group input keys g) root) a
-    (over old mid new (Hash columns) x input below root (op.Group keys own) l p (r.Group input keys own) (group_over old.sources input keys own)
+    (over old mid new (Hash columns) x input below root (op.Group keys own) l p (r.Group input keys own) refl
     (λ plan laid next has told. (below, subst (λ k. IsLaid plan (length old.nodes) (Hash k) input below) c laid, next, has, told)))
 
 pub rank_lays : (old mid new : Laying) (x : Exchange) (input : Rel) (partition columns own : List ℕ) (order sorts : List SortCol) (bound : ℕ) (ranked : Bool) (below root : ℕ) → columns ≡ partition → own ≡ partition → sorts ≡ order
     → Lays old mid (Hash columns) input below → Pushed mid new (op.TopN own sorts bound ranked) (below ∷ []) x (kinds_of retract) Both root → Lays old new x (r.Rank input partition order bound ranked) root
 rank_lays old mid new x input partition columns own order sorts bound ranked below root c a s l p =
     let same : op.TopN own sorts bound ranked ≡ op.TopN partition order bound ranked = λ i. op.TopN (a i) (s i) bound ranked in
-    over old mid new (Hash columns) x input below root (op.TopN own sorts bound ranked) l p (r.Rank input partition order bound ranked) (rank_over old.sources input partition order bound ranked)
+    over old mid new (Hash columns) x input below root (op.TopN own sorts bound ranked) l p (r.Rank input partition order bound ranked) refl
     (λ plan laid next has told. (below, subst (λ k. IsLaid plan (length old.nodes) (Hash k) input below) c laid, next, subst (λ (o : Op). HasNode plan root (λ q. q ≡ o) (below ∷ [])) same has, told))
 
 -- ---- unions
 
-pub none_lays : (l : Laying) → IsFine l → LaysAll l l no_rels []
-none_lays l fine = record {
-  fine = fine;
-  grows = omega arith;
-  sources = refl;
-  extends = λ plan e. e;
-  laid = λ plan e. (refl, refl);
-  tables = refl;
-  count = omega arith;
-}
+pub none_lays : (l : Laying) → IsEven l → LaysAll l l no_rels []
+none_lays l even = record { even = even; sources = refl; extends = λ plan e. e; laid = λ plan e. (refl, refl); tables = refl }
 
 pub union_lays : (old mid new : Laying) (x : Exchange) (inputs : Rels) (roots : List ℕ) (root : ℕ) → LaysAll old mid inputs roots → Pushed mid new op.Union roots x (kinds_of retract) Both root → Lays old new x (r.Union inputs) root
-union_lays old mid new x inputs roots root all p =
-    let many = pushed_count mid new op.Union roots x (kinds_of retract) Both root p in
-    let few = p.few in
-    let number = pushed_number mid new op.Union roots x (kinds_of retract) Both root p in
-    let grows = all.grows in
-    let count = all.count in
-    record {
-      fine = pushed_fine mid new op.Union roots x (kinds_of retract) Both root p all.fine (omega arith);
-      root_is = number;
-      grows = omega arith;
-      sources = p.sources ∙ all.sources;
-      extends = λ plan e. all.extends plan (pushed_extends mid new op.Union roots x (kinds_of retract) Both root p plan e);
-      laid = λ plan e.
-          let f = pushed_extends mid new op.Union roots x (kinds_of retract) Both root p plan e in
-          (roots, length mid.nodes, all.laid plan f, p.number_is, pushed_node mid new op.Union roots x (kinds_of retract) Both root p plan e, pushed_edge mid new op.Union roots x (kinds_of retract) Both root p plan e all.fine.even);
-      tables = all.tables;
-      count = omega arith;
-    }
+union_lays old mid new x inputs roots root all p = record {
+  even = pushed_even mid new op.Union roots x (kinds_of retract) Both root p all.even;
+  root_is = pushed_number mid new op.Union roots x (kinds_of retract) Both root p;
+  sources = p.sources ∙ all.sources;
+  extends = λ plan e. all.extends plan (pushed_extends mid new op.Union roots x (kinds_of retract) Both root p plan e);
+  laid = λ plan e.
+      let f = pushed_extends mid new op.Union roots x (kinds_of retract) Both root p plan e in
+      (roots, length mid.nodes, all.laid plan f, p.number_is, pushed_node mid new op.Union roots x (kinds_of retract) Both root p plan e, pushed_edge mid new op.Union roots x (kinds_of retract) Both root p plan e all.even);
+  tables = all.tables;
+}
 
 pub union_fails : (l : Laying) (inputs : Rels) (fault : PlanFault) → FailsAll l inputs fault → Fails l (r.Union inputs) fault
 union_fails l inputs NoTable f = f
-union_fails l inputs TooMany f = omega (arith, f)
 union_fails l inputs Memory f = tt
-
-pub union_full : (old mid : Laying) (inputs : Rels) (roots : List ℕ) (fault : PlanFault) → LaysAll old mid inputs roots → IsFull mid fault → Fails old (r.Union inputs) fault
-union_full old mid inputs roots NoTable all f = absurd f
-union_full old mid inputs roots TooMany all f = let count = all.count in omega (arith, f)
-union_full old mid inputs roots Memory all f = tt
 
 -- ---- scans
 
@@ -238,32 +189,19 @@ of_source plan l n x source root table same is laid = subst (λ (o : Option Tabl
 has_table : (l : Laying) (source : ℕ) (table : TableDef) → slice_get l.sources source ≡ Some table → lacks_table l.sources (r.Scan source) ≡ false
 has_table l source table is = ap is_none is
 
-table_count : (l : Laying) (source : ℕ) (table : TableDef) → slice_get l.sources source ≡ Some table → nodes_of l.sources (r.Scan source) ≡ table_nodes table.mode
-table_count l source table is = ap scan_nodes is
-
-single : (mode : Declared) → (mode ≡ Upsert → ⊥) → table_nodes mode ≡ 1
-single Append not = refl
-single Retract not = refl
-single Upsert not = absurd (not refl)
-
 -- an append or retract table
-pub plain_lays : (old new : Laying) (x : Exchange) (source root : ℕ) (table : TableDef) → IsFine old → slice_get old.sources source ≡ Some table → (table.mode ≡ Upsert → ⊥)
+pub plain_lays : (old new : Laying) (x : Exchange) (source root : ℕ) (table : TableDef) → IsEven old → slice_get old.sources source ≡ Some table → (table.mode ≡ Upsert → ⊥)
     → Pushed old new (op.Scan source) [] x (kinds_of retract) Both root → Lays old new x (r.Scan source) root
-plain_lays old new x source root table fine is plain p =
-    let many = pushed_count old new (op.Scan source) [] x (kinds_of retract) Both root p in
-    let one = table_count old source table is in
-    let alone = single table.mode plain in
+plain_lays old new x source root table even is plain p =
     record {
-      fine = pushed_fine old new (op.Scan source) [] x (kinds_of retract) Both root p fine (omega arith);
+      even = pushed_even old new (op.Scan source) [] x (kinds_of retract) Both root p even;
       root_is = pushed_number old new (op.Scan source) [] x (kinds_of retract) Both root p;
-      grows = omega arith;
       sources = p.sources;
       extends = pushed_extends old new (op.Scan source) [] x (kinds_of retract) Both root p;
       laid = λ plan e.
           of_source plan old (length old.nodes) x source root table (e.sources ∙ p.sources) is
-          (by_mode plan (pushed_node old new (op.Scan source) [] x (kinds_of retract) Both root p plan e) (pushed_edge old new (op.Scan source) [] x (kinds_of retract) Both root p plan e fine.even) table.mode plain);
+          (by_mode plan (pushed_node old new (op.Scan source) [] x (kinds_of retract) Both root p plan e) (pushed_edge old new (op.Scan source) [] x (kinds_of retract) Both root p plan e even) table.mode plain);
       tables = has_table old source table is;
-      count = omega arith;
     }
   where
     by_mode : (plan : Plan) → HasNode plan root (λ q. q ≡ op.Scan source) [] → HasEdge plan root x (kinds_of retract) Both → (mode : Declared) → (mode ≡ Upsert → ⊥) → ScanLaid plan (length old.nodes) x source mode (unwrap_or table.key []) root
@@ -271,16 +209,12 @@ plain_lays old new x source root table fine is plain p =
     by_mode plan has told Retract not = (p.number_is, has, told)
     by_mode plan has told Upsert not = absurd (not refl)
 
-pub upsert_lays : (old mid new : Laying) (x : Exchange) (source below root : ℕ) (key : List ℕ) (table : TableDef) → IsFine old → slice_get old.sources source ≡ Some table → table.mode ≡ Upsert → unwrap_or table.key [] ≡ key
+pub upsert_lays : (old mid new : Laying) (x : Exchange) (source below root : ℕ) (key : List ℕ) (table : TableDef) → IsEven old → slice_get old.sources source ≡ Some table → table.mode ≡ Upsert → unwrap_or table.key [] ≡ key
     → Pushed old mid (op.Scan source) [] (Hash key) (kinds_of (upsert key)) (After key) below → Pushed mid new (op.Normalize key) (below ∷ []) x (kinds_of retract) Both root → Lays old new x (r.Scan source) root
-upsert_lays old mid new x source below root key table fine is mode key_is p q =
-    let first = pushed_count old mid (op.Scan source) [] (Hash key) (kinds_of (upsert key)) (After key) below p in
-    let second = pushed_count mid new (op.Normalize key) (below ∷ []) x (kinds_of retract) Both root q in
-    let two : nodes_of old.sources (r.Scan source) ≡ 2 = table_count old source table is ∙ ap table_nodes mode in
+upsert_lays old mid new x source below root key table even is mode key_is p q =
     record {
-      fine = pushed_fine mid new (op.Normalize key) (below ∷ []) x (kinds_of retract) Both root q fine_mid (omega arith);
+      even = pushed_even mid new (op.Normalize key) (below ∷ []) x (kinds_of retract) Both root q even_mid;
       root_is = pushed_number mid new (op.Normalize key) (below ∷ []) x (kinds_of retract) Both root q;
-      grows = omega arith;
       sources = q.sources ∙ p.sources;
       extends = λ plan e. pushed_extends old mid (op.Scan source) [] (Hash key) (kinds_of (upsert key)) (After key) below p plan (down plan e);
       laid = λ plan e.
@@ -288,11 +222,10 @@ upsert_lays old mid new x source below root key table fine is mode key_is p q =
           (subst (λ m. ScanLaid plan (length old.nodes) x source m (unwrap_or table.key []) root) (sym mode)
           (subst (λ k. ScanLaid plan (length old.nodes) x source Upsert k root) (sym key_is) (laid plan e)));
       tables = has_table old source table is;
-      count = omega arith;
     }
   where
-    fine_mid : IsFine mid
-    fine_mid = pushed_fine old mid (op.Scan source) [] (Hash key) (kinds_of (upsert key)) (After key) below p fine (omega arith)
+    even_mid : IsEven mid
+    even_mid = pushed_even old mid (op.Scan source) [] (Hash key) (kinds_of (upsert key)) (After key) below p even
 
     down : (plan : Plan) → Extends plan new → Extends plan mid
     down plan e = pushed_extends mid new (op.Normalize key) (below ∷ []) x (kinds_of retract) Both root q plan e
@@ -304,9 +237,9 @@ upsert_lays old mid new x source below root key table fine is mode key_is p q =
         let c = pushed_number old mid (op.Scan source) [] (Hash key) (kinds_of (upsert key)) (After key) below p in
         let next : root ≡ length old.nodes + 2 = omega arith in
         let has = pushed_node old mid (op.Scan source) [] (Hash key) (kinds_of (upsert key)) (After key) below p plan (down plan e) in
-        let told = pushed_edge old mid (op.Scan source) [] (Hash key) (kinds_of (upsert key)) (After key) below p plan (down plan e) fine.even in
+        let told = pushed_edge old mid (op.Scan source) [] (Hash key) (kinds_of (upsert key)) (After key) below p plan (down plan e) even in
         let over_has = pushed_node mid new (op.Normalize key) (below ∷ []) x (kinds_of retract) Both root q plan e in
-        let over_told = pushed_edge mid new (op.Normalize key) (below ∷ []) x (kinds_of retract) Both root q plan e fine_mid.even in (
+        let over_told = pushed_edge mid new (op.Normalize key) (below ∷ []) x (kinds_of retract) Both root q plan e even_mid in (
           next,
           subst (λ v. HasNode plan v (λ o. o ≡ op.Scan source) []) a has,
           subst (λ v. HasEdge plan v (Hash key) (kinds_of (upsert key)) (After key)) a told,
@@ -317,25 +250,6 @@ upsert_lays old mid new x source below root key table fine is mode key_is p q =
 pub no_table : (l : Laying) (source : ℕ) → slice_get l.sources source ≡ None → Fails l (r.Scan source) NoTable
 no_table l source none = ap is_none none
 
-pub plain_full : (l : Laying) (source : ℕ) (table : TableDef) (fault : PlanFault) → slice_get l.sources source ≡ Some table → IsFull l fault → Fails l (r.Scan source) fault
-plain_full l source table NoTable is f = absurd f
-plain_full l source table TooMany is f = let some = some_nodes table.mode in let count = table_count l source table is in omega (arith, f)
-  where
-    some_nodes : (mode : Declared) → 0 < table_nodes mode
-    some_nodes Append = omega arith
-    some_nodes Retract = omega arith
-    some_nodes Upsert = omega arith
-plain_full l source table Memory is f = tt
-
-pub upsert_full : (old mid : Laying) (source below : ℕ) (key : List ℕ) (table : TableDef) (fault : PlanFault) → slice_get old.sources source ≡ Some table → table.mode ≡ Upsert
-    → Pushed old mid (op.Scan source) [] (Hash key) (kinds_of (upsert key)) (After key) below → IsFull mid fault → Fails old (r.Scan source) fault
-upsert_full old mid source below key table NoTable is mode p f = absurd f
-upsert_full old mid source below key table TooMany is mode p f =
-    let first = pushed_count old mid (op.Scan source) [] (Hash key) (kinds_of (upsert key)) (After key) below p in
-    let two : nodes_of old.sources (r.Scan source) ≡ 2 = table_count old source table is ∙ ap table_nodes mode in
-    omega (arith, f)
-upsert_full old mid source below key table Memory is mode p f = tt
-
 -- ---- the plan
 
 nothing_behind : {A : Type 0} (xs : List A) → xs ≡ xs ++ []
@@ -343,30 +257,26 @@ nothing_behind [] = refl
 nothing_behind (x ∷ xs) = ap (λ l. x ∷ l) (nothing_behind xs)
 
 pub plan_is : (start mid new : Laying) (plan : Plan) (rel : Rel) (root v : ℕ) → start.nodes ≡ [] → Lays start mid Forward rel root → Pushed mid new op.Sink (root ∷ []) Forward (kinds_of retract) Absent v
-    → plan.sources ≡ new.sources → plan.nodes ≡ new.nodes → plan.edges ≡ new.edges → plan.sink.mode ≡ Retract → plan.mini_batch ≡ 0 → IsPlanOf plan rel
-plan_is start mid new plan rel root v none l p sources nodes edges into batches =
+    → plan.sources ≡ new.sources → plan.nodes ≡ new.nodes → plan.edges ≡ new.edges → plan.mini_batch ≡ 0 → IsPlanOf plan rel
+plan_is start mid new plan rel root v none l p sources nodes edges batches =
     let e : Extends plan new = record { sources = sources; nodes = []; nodes_are = nodes ∙ nothing_behind new.nodes; edges = []; edges_are = edges ∙ nothing_behind new.edges } in
     let f = pushed_extends mid new op.Sink (root ∷ []) Forward (kinds_of retract) Absent v p plan e in
     let last : v ≡ root + 1 = p.number_is ∙ ap (λ n. n + 1) (sym l.root_is) in
     let count = pushed_number mid new op.Sink (root ∷ []) Forward (kinds_of retract) Absent v p in
-    let even = pushed_even mid new op.Sink (root ∷ []) Forward (kinds_of retract) Absent v p l.fine.even in
+    let even = pushed_even mid new op.Sink (root ∷ []) Forward (kinds_of retract) Absent v p l.even in
     record {
       root = root;
       laid = subst (λ n. IsLaid plan n Forward rel root) (ap length none) (l.laid plan f);
       sink_node = subst (λ n. HasNode plan n (λ o. o ≡ op.Sink) (root ∷ [])) last (pushed_node mid new op.Sink (root ∷ []) Forward (kinds_of retract) Absent v p plan e);
-      sink_edge = subst (λ n. HasEdge plan n Forward (kinds_of retract) Absent) last (pushed_edge mid new op.Sink (root ∷ []) Forward (kinds_of retract) Absent v p plan e l.fine.even);
+      sink_edge = subst (λ n. HasEdge plan n Forward (kinds_of retract) Absent) last (pushed_edge mid new op.Sink (root ∷ []) Forward (kinds_of retract) Absent v p plan e l.even);
       nodes = ap length nodes ∙ sym count ∙ last;
       edges = ap length edges ∙ sym even ∙ sym count ∙ last;
-      into = into;
       batches = batches;
     }
 
-pub plan_fails : (start : Laying) (rel : Rel) (fault : PlanFault) → start.nodes ≡ [] → Fails start rel fault → Says start.sources rel fault
-plan_fails start rel NoTable none f = f
-plan_fails start rel TooMany none f = let empty : length start.nodes ≡ 0 = ap length none in omega (arith, f)
-plan_fails start rel Memory none f = tt
+pub plan_fails : (start : Laying) (rel : Rel) (fault : PlanFault) → Fails start rel fault → Says start.sources rel fault
+plan_fails start rel NoTable f = f
+plan_fails start rel Memory f = tt
 
-pub plan_full : (start mid : Laying) (rel : Rel) (root : ℕ) (fault : PlanFault) → start.nodes ≡ [] → Lays start mid Forward rel root → IsFull mid fault → Says start.sources rel fault
-plan_full start mid rel root NoTable none l f = absurd f
-plan_full start mid rel root TooMany none l f = let empty : length start.nodes ≡ 0 = ap length none in let count = l.count in omega (arith, f)
-plan_full start mid rel root Memory none l f = tt
+pub full_says : (sources : List TableDef) (rel : Rel) (fault : PlanFault) → fault ≡ Memory → Says sources rel fault
+full_says sources rel fault is = subst (Says sources rel) (sym is) tt

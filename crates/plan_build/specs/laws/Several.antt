@@ -10,9 +10,9 @@ use Rattle.phys_plan.specs.declared.edge.Exchange.TheVariants.{Forward}
 use Rattle.phys_plan.specs.declared.plan.Plan.{Plan}
 use Rattle.plan_maker.specs.Laid.{IsLaid, AreLaid}
 use Rattle.plan_build.specs.declared.fault.PlanFault.{PlanFault}
-use Rattle.plan_build.specs.declared.fault.PlanFault.TheVariants.{NoTable, TooMany, Memory}
+use Rattle.plan_build.specs.declared.fault.PlanFault.TheVariants.{NoTable, Memory}
 use Rattle.plan_build.specs.declared.laying.Laying.{Laying}
-use Rattle.plan_build.specs.Faults.{lacks_table, any_lacks, nodes_of, nodes_of_all}
+use Rattle.plan_build.specs.Faults.{lacks_table, any_lacks}
 use Rattle.plan_build.specs.Laying.{Lays, LaysAll, Fails, FailsAll}
 
 -- ---- one tree more
@@ -34,14 +34,6 @@ tables_behind sources (y ∷ xs) x all one =
     or_not (lacks_table sources y) (any_lacks sources (rels (xs ++ x ∷ []))) (left_not (lacks_table sources y) (any_lacks sources (rels xs)) all)
     (tables_behind sources xs x (right_not (lacks_table sources y) (any_lacks sources (rels xs)) all) one)
 
-count_behind : (sources : List TableDef) (xs : List Rel) (x : Rel) → nodes_of_all sources (rels (xs ++ x ∷ [])) ≡ nodes_of_all sources (rels xs) + nodes_of sources x
-count_behind sources [] x = omega arith
-count_behind sources (y ∷ xs) x = omega (arith, count_behind sources xs x)
-
-one_longer : (xs : List ℕ) (y : ℕ) → length (xs ++ y ∷ []) ≡ length xs + 1
-one_longer [] y = refl
-one_longer (x ∷ xs) y = omega (arith, one_longer xs y)
-
 more_laid : (plan : Plan) (x : Rel) (mid root : ℕ) → IsLaid plan mid Forward x root → (xs : List Rel) (n : ℕ) (roots : List ℕ) → AreLaid plan n (rels xs) roots mid → AreLaid plan n (rels (xs ++ x ∷ [])) (roots ++ root ∷ []) root
 more_laid plan x mid root laid [] n roots are =
     (root, [], subst (λ m. IsLaid plan m Forward x root) are.1 laid, (refl, refl), ap (λ (ro : List ℕ). ro ++ root ∷ []) are.0)
@@ -49,25 +41,15 @@ more_laid plan x mid root laid (first ∷ xs) n roots are =
     (are.0, are.1 ++ root ∷ [], are.2, more_laid plan x mid root laid xs are.0 are.1 are.3, ap (λ (ro : List ℕ). ro ++ root ∷ []) are.4)
 
 one_more_lays : (old mid new : Laying) (xs : List Rel) (x : Rel) (roots : List ℕ) (root : ℕ) → LaysAll old mid (rels xs) roots → Lays mid new Forward x root → LaysAll old new (rels (xs ++ x ∷ [])) (roots ++ root ∷ [])
-one_more_lays old mid new xs x roots root all l =
-    let a = all.grows in
-    let b = l.grows in
-    let c = one_longer roots root in
-    let same : nodes_of mid.sources x ≡ nodes_of old.sources x = ap (λ (s : List TableDef). nodes_of s x) all.sources in
-    let d = all.count in
-    let e = l.count in
-    let f = count_behind old.sources xs x in
-    record {
-      fine = l.fine;
-      grows = omega arith;
-      sources = l.sources ∙ all.sources;
-      extends = λ plan e. all.extends plan (l.extends plan e);
-      laid = λ plan e.
-          subst (λ m. AreLaid plan (length old.nodes) (rels (xs ++ x ∷ [])) (roots ++ root ∷ []) m) l.root_is
-          (more_laid plan x (length mid.nodes) root (l.laid plan e) xs (length old.nodes) roots (all.laid plan (l.extends plan e)));
-      tables = tables_behind old.sources xs x all.tables (subst (λ (s : List TableDef). lacks_table s x ≡ false) all.sources l.tables);
-      count = omega arith;
-    }
+one_more_lays old mid new xs x roots root all l = record {
+  even = l.even;
+  sources = l.sources ∙ all.sources;
+  extends = λ plan e. all.extends plan (l.extends plan e);
+  laid = λ plan e.
+      subst (λ m. AreLaid plan (length old.nodes) (rels (xs ++ x ∷ [])) (roots ++ root ∷ []) m) l.root_is
+      (more_laid plan x (length mid.nodes) root (l.laid plan e) xs (length old.nodes) roots (all.laid plan (l.extends plan e)));
+  tables = tables_behind old.sources xs x all.tables (subst (λ (s : List TableDef). lacks_table s x ≡ false) all.sources l.tables);
+}
 
 -- ---- one that isn't laid
 
@@ -84,18 +66,8 @@ lacks_at sources [] p x e f = absurd (cc)
 lacks_at sources (y ∷ xs) zero x e f = let same : y ≡ x = cc in or_left (lacks_table sources y) (any_lacks sources (rels xs)) (ap (lacks_table sources) same ∙ f)
 lacks_at sources (y ∷ xs) (suc p) x e f = or_right (lacks_table sources y) (any_lacks sources (rels xs)) (lacks_at sources xs p x e f)
 
-count_at : (sources : List TableDef) (xs : List Rel) (p : ℕ) (x : Rel) → slice_get xs p ≡ Some x → nodes_of_all sources (rels (take p xs)) + nodes_of sources x ≤ nodes_of_all sources (rels xs)
-count_at sources [] p x e = absurd (cc)
-count_at sources (y ∷ xs) zero x e = let same : y ≡ x = cc in let one = ap (nodes_of sources) same in omega arith
-count_at sources (y ∷ xs) (suc p) x e = omega (arith, count_at sources xs p x e)
-
 one_fails : (old mid : Laying) (xs : List Rel) (p : ℕ) (x : Rel) (roots : List ℕ) (fault : PlanFault) → slice_get xs p ≡ Some x → LaysAll old mid (rels (take p xs)) roots → Fails mid x fault → FailsAll old (rels xs) fault
 one_fails old mid xs p x roots NoTable e all f = lacks_at old.sources xs p x e (subst (λ (s : List TableDef). lacks_table s x ≡ true) all.sources f)
-one_fails old mid xs p x roots TooMany e all f =
-    let same : nodes_of mid.sources x ≡ nodes_of old.sources x = ap (λ (s : List TableDef). nodes_of s x) all.sources in
-    let count = all.count in
-    let most = count_at old.sources xs p x e in
-    omega (arith, f)
 one_fails old mid xs p x roots Memory e all f = tt
 
 -- ---- the code's trees

@@ -1,6 +1,6 @@
 -- Both sides of a join, laid one behind the other, and the join behind them.
-use Rattle.std.specs.Prelude.{◌≡◌, ℕ, ◌+◌, ◌<◌, ◌≤◌, ◌||◌, List, length, Option, ⊤}
-use Rattle.std.proofs.Common.{true, false, [], ◌∷◌, refl, sym, ap, subst, ◌∙◌, arith, Bool}
+use Rattle.std.specs.Prelude.{◌≡◌, ℕ, ◌+◌, ◌||◌, List, length, Option, ⊤}
+use Rattle.std.proofs.Common.{true, false, [], ◌∷◌, refl, sym, ap, subst, ◌∙◌, Bool}
 use Rattle.ct_change.specs.Changelog.{retract, kinds_of}
 use Rattle.ct_catalog.specs.declared.table.TableDef.{TableDef}
 use Rattle.ct_expr.specs.Expr.{Expr}
@@ -16,11 +16,11 @@ use Rattle.phys_plan.specs.declared.node.Op.{Op}
 use Rattle.phys_plan.specs.declared.plan.Plan.{Plan}
 use Rattle.plan_maker.specs.Laid.{IsJoin, IsSemi, HasNode, HasEdge, IsLaid}
 use Rattle.plan_build.specs.declared.fault.PlanFault.{PlanFault}
-use Rattle.plan_build.specs.declared.fault.PlanFault.TheVariants.{NoTable, TooMany, Memory}
+use Rattle.plan_build.specs.declared.fault.PlanFault.TheVariants.{NoTable, Memory}
 use Rattle.plan_build.specs.declared.laying.Laying.{Laying}
-use Rattle.plan_build.specs.Faults.{lacks_table, nodes_of, most_nodes}
-use Rattle.plan_build.specs.Laying.{IsFine, Extends, Pushed, PushedAs, IsFull, Lays, Fails}
-use Rattle.plan_build.specs.laws.Laid.{pushed_count, pushed_number, pushed_fine, pushed_extends, pushed_node, pushed_edge, as_op}
+use Rattle.plan_build.specs.Faults.{lacks_table}
+use Rattle.plan_build.specs.Laying.{IsEven, Extends, Pushed, PushedAs, Lays, Fails}
+use Rattle.plan_build.specs.laws.Laid.{pushed_even, pushed_number, pushed_extends, pushed_node, pushed_edge, as_op}
 
 or_not : (a b : Bool) → a ≡ false → b ≡ false → (a || b) ≡ false
 or_not a b p q = ap (λ x. x || b) p ∙ q
@@ -37,34 +37,23 @@ or_right false b e = e
 
 -- both sides of a join on these pairs are laid, one behind the other, each for an exchange by its columns of the pairs
 record LaysBoth (old new : Laying) (left right : Rel) (on : List Pair) (roots : List ℕ) : Type 0 where
-  pub fine : IsFine new
-  pub two : length roots ≡ 2
-  pub grows : length old.nodes + 2 ≤ length new.nodes
+  pub even : IsEven new
   pub sources : new.sources ≡ old.sources
   pub extends : (plan : Plan) → Extends plan new → Extends plan old
   pub laid : (plan : Plan) → Extends plan new
       → (first : ℕ) × IsLaid plan (length old.nodes) (Hash (left_pairs on)) left first × IsLaid plan first (Hash (right_pairs on)) right (length new.nodes) × (roots ≡ first ∷ (length new.nodes ∷ []))
   pub tables : (lacks_table old.sources left || lacks_table old.sources right) ≡ false
-  pub count : length new.nodes ≡ length old.nodes + (nodes_of old.sources left + nodes_of old.sources right)
 
 -- why they aren't
 abbrev FailsBoth : Laying → Rel → Rel → PlanFault → Type 0
 FailsBoth l left right NoTable = (lacks_table l.sources left || lacks_table l.sources right) ≡ true
-FailsBoth l left right TooMany = most_nodes < length l.nodes + (nodes_of l.sources left + nodes_of l.sources right)
 FailsBoth l left right Memory = ⊤
 
 both_lay : (old mid new : Laying) (left right : Rel) (on : List Pair) (first second : ℕ) → Lays old mid (Hash (left_pairs on)) left first → Lays mid new (Hash (right_pairs on)) right second
     → LaysBoth old new left right on (first ∷ (second ∷ []))
 both_lay old mid new left right on first second l m =
-    let a = l.grows in
-    let b = m.grows in
-    let same : nodes_of mid.sources right ≡ nodes_of old.sources right = ap (λ (s : List TableDef). nodes_of s right) l.sources in
-    let c = l.count in
-    let d = m.count in
     record {
-      fine = m.fine;
-      two = refl;
-      grows = omega arith;
+      even = m.even;
       sources = m.sources ∙ l.sources;
       extends = λ plan e. l.extends plan (m.extends plan e);
       laid = λ plan e. (
@@ -75,69 +64,43 @@ both_lay old mid new left right on first second l m =
         ap (λ n. first ∷ (n ∷ [])) m.root_is,
       );
       tables = or_not (lacks_table old.sources left) (lacks_table old.sources right) l.tables (subst (λ (s : List TableDef). lacks_table s right ≡ false) l.sources m.tables);
-      count = omega arith;
     }
 
 left_fails : (l : Laying) (left right : Rel) (fault : PlanFault) → Fails l left fault → FailsBoth l left right fault
 left_fails l left right NoTable f = or_left (lacks_table l.sources left) (lacks_table l.sources right) f
-left_fails l left right TooMany f = omega (arith, f)
 left_fails l left right Memory f = tt
 
 right_fails : (old mid : Laying) (x : Exchange) (left right : Rel) (first : ℕ) (fault : PlanFault) → Lays old mid x left first → Fails mid right fault → FailsBoth old left right fault
 right_fails old mid x left right first NoTable l f = or_right (lacks_table old.sources left) (lacks_table old.sources right) (subst (λ (s : List TableDef). lacks_table s right ≡ true) l.sources f)
-right_fails old mid x left right first TooMany l f =
-    let same : nodes_of mid.sources right ≡ nodes_of old.sources right = ap (λ (s : List TableDef). nodes_of s right) l.sources in
-    let count = l.count in
-    omega (arith, f)
 right_fails old mid x left right first Memory l f = tt
 
 -- ---- the join
 
--- a tree of one node more than two others
-record IsOverBoth (sources : List TableDef) (rel left right : Rel) : Type 0 where
-  pub tables : lacks_table sources rel ≡ (lacks_table sources left || lacks_table sources right)
-  pub count : nodes_of sources rel ≡ nodes_of sources left + nodes_of sources right + 1
-
-join_over : (sources : List TableDef) (left right : Rel) (kind : JoinKind) (on : List Pair) (rest : Option Expr) → IsOverBoth sources (r.Join left right kind on rest) left right
-join_over sources left right kind on rest = record { tables = refl; count = refl }
-
-semi_over : (sources : List TableDef) (left right : Rel) (anti : Bool) (on : List Pair) (rest : Option Expr) → IsOverBoth sources (r.Semi left right anti on rest) left right
-semi_over sources left right anti on rest = record { tables = refl; count = refl }
+-- a tree lacks a table where one of two others does
+abbrev LacksBoth : List TableDef → Rel → Rel → Rel → Type 0
+LacksBoth sources rel left right = lacks_table sources rel ≡ (lacks_table sources left || lacks_table sources right)
 
 module _ (old mid new : Laying) (x : Exchange) (left right : Rel) (on : List Pair) (roots : List ℕ) (root : ℕ) (o : Op) (l : LaysBoth old mid left right on roots) (p : Pushed mid new o roots x (kinds_of retract) Both root) where
-  over_both : (rel : Rel) → IsOverBoth old.sources rel left right
+  over_both : (rel : Rel) → LacksBoth old.sources rel left right
       → ((plan : Plan) (first second : ℕ) → IsLaid plan (length old.nodes) (Hash (left_pairs on)) left first → IsLaid plan first (Hash (right_pairs on)) right second → root ≡ second + 1
       → HasNode plan root (λ q. q ≡ o) (first ∷ (second ∷ [])) → HasEdge plan root x (kinds_of retract) Both → IsLaid plan (length old.nodes) x rel root)
       → Lays old new x rel root
-  over_both rel one so =
-      let many = pushed_count mid new o roots x (kinds_of retract) Both root p in
-      let grows = l.grows in
-      let below_count = l.count in
-      let more = one.count in
-      let two = l.two in
+  over_both rel same so =
       record {
-        fine = pushed_fine mid new o roots x (kinds_of retract) Both root p l.fine (omega arith);
+        even = pushed_even mid new o roots x (kinds_of retract) Both root p l.even;
         root_is = pushed_number mid new o roots x (kinds_of retract) Both root p;
-        grows = omega arith;
         sources = p.sources ∙ l.sources;
         extends = λ plan e. l.extends plan (pushed_extends mid new o roots x (kinds_of retract) Both root p plan e);
         laid = λ plan e.
             let below = l.laid plan (pushed_extends mid new o roots x (kinds_of retract) Both root p plan e) in
             so plan below.0 (length mid.nodes) below.1 below.2 p.number_is
-            (subst (λ (ro : List ℕ). HasNode plan root (λ q. q ≡ o) ro) below.3 (pushed_node mid new o roots x (kinds_of retract) Both root p plan e)) (pushed_edge mid new o roots x (kinds_of retract) Both root p plan e l.fine.even);
-        tables = one.tables ∙ l.tables;
-        count = omega arith;
+            (subst (λ (ro : List ℕ). HasNode plan root (λ q. q ≡ o) ro) below.3 (pushed_node mid new o roots x (kinds_of retract) Both root p plan e)) (pushed_edge mid new o roots x (kinds_of retract) Both root p plan e l.even);
+        tables = same ∙ l.tables;
       }
 
-both_fail : (l : Laying) (rel left right : Rel) (fault : PlanFault) → IsOverBoth l.sources rel left right → FailsBoth l left right fault → Fails l rel fault
-both_fail l rel left right NoTable one f = one.tables ∙ f
-both_fail l rel left right TooMany one f = let more = one.count in omega (arith, f)
-both_fail l rel left right Memory one f = tt
-
-both_full : (old mid : Laying) (rel left right : Rel) (on : List Pair) (roots : List ℕ) (fault : PlanFault) → IsOverBoth old.sources rel left right → LaysBoth old mid left right on roots → IsFull mid fault → Fails old rel fault
-both_full old mid rel left right on roots NoTable one l f = absurd f
-both_full old mid rel left right on roots TooMany one l f = let more = one.count in let count = l.count in omega (arith, f)
-both_full old mid rel left right on roots Memory one l f = tt
+both_fail : (l : Laying) (rel left right : Rel) (fault : PlanFault) → LacksBoth l.sources rel left right → FailsBoth l left right fault → Fails l rel fault
+both_fail l rel left right NoTable same f = same ∙ f
+both_fail l rel left right Memory same f = tt
 
 -- ---- by operator
 
@@ -145,34 +108,24 @@ module _ (left right : Rel) (kind : JoinKind) (on : List Pair) (rest : Option Ex
   pub join_lays : (old mid new last : Laying) (x : Exchange) (first second root : ℕ) → Lays old mid (Hash (left_pairs on)) left first → Lays mid new (Hash (right_pairs on)) right second
       → PushedAs new last (IsJoin kind on rest) (first ∷ (second ∷ [])) x root → Lays old last x (r.Join left right kind on rest) root
   join_lays old mid new last x first second root l m p =
-      over_both old new last x left right on (first ∷ (second ∷ [])) root p.0 (both_lay old mid new left right on first second l m) p.2 (r.Join left right kind on rest) (join_over old.sources left right kind on rest)
+      over_both old new last x left right on (first ∷ (second ∷ [])) root p.0 (both_lay old mid new left right on first second l m) p.2 (r.Join left right kind on rest) refl
       (λ plan a b laid behind next has told. (a, b, laid, behind, next, as_op plan root (IsJoin kind on rest) (a ∷ (b ∷ [])) p.0 p.1 has, told))
 
   pub join_left_fails : (l : Laying) (fault : PlanFault) → Fails l left fault → Fails l (r.Join left right kind on rest) fault
-  join_left_fails l fault f = both_fail l (r.Join left right kind on rest) left right fault (join_over l.sources left right kind on rest) (left_fails l left right fault f)
+  join_left_fails l fault f = both_fail l (r.Join left right kind on rest) left right fault refl (left_fails l left right fault f)
 
   pub join_right_fails : (old mid : Laying) (x : Exchange) (first : ℕ) (fault : PlanFault) → Lays old mid x left first → Fails mid right fault → Fails old (r.Join left right kind on rest) fault
-  join_right_fails old mid x first fault l f = both_fail old (r.Join left right kind on rest) left right fault (join_over old.sources left right kind on rest) (right_fails old mid x left right first fault l f)
-
-  pub join_full : (old mid new : Laying) (first second : ℕ) (fault : PlanFault) → Lays old mid (Hash (left_pairs on)) left first → Lays mid new (Hash (right_pairs on)) right second → IsFull new fault
-      → Fails old (r.Join left right kind on rest) fault
-  join_full old mid new first second fault l m f =
-      both_full old new (r.Join left right kind on rest) left right on (first ∷ (second ∷ [])) fault (join_over old.sources left right kind on rest) (both_lay old mid new left right on first second l m) f
+  join_right_fails old mid x first fault l f = both_fail old (r.Join left right kind on rest) left right fault refl (right_fails old mid x left right first fault l f)
 
 module _ (left right : Rel) (anti : Bool) (on : List Pair) (rest : Option Expr) where
   pub semi_lays : (old mid new last : Laying) (x : Exchange) (first second root : ℕ) → Lays old mid (Hash (left_pairs on)) left first → Lays mid new (Hash (right_pairs on)) right second
       → PushedAs new last (IsSemi anti on rest) (first ∷ (second ∷ [])) x root → Lays old last x (r.Semi left right anti on rest) root
   semi_lays old mid new last x first second root l m p =
-      over_both old new last x left right on (first ∷ (second ∷ [])) root p.0 (both_lay old mid new left right on first second l m) p.2 (r.Semi left right anti on rest) (semi_over old.sources left right anti on rest)
+      over_both old new last x left right on (first ∷ (second ∷ [])) root p.0 (both_lay old mid new left right on first second l m) p.2 (r.Semi left right anti on rest) refl
       (λ plan a b laid behind next has told. (a, b, laid, behind, next, as_op plan root (IsSemi anti on rest) (a ∷ (b ∷ [])) p.0 p.1 has, told))
 
   pub semi_left_fails : (l : Laying) (fault : PlanFault) → Fails l left fault → Fails l (r.Semi left right anti on rest) fault
-  semi_left_fails l fault f = both_fail l (r.Semi left right anti on rest) left right fault (semi_over l.sources left right anti on rest) (left_fails l left right fault f)
+  semi_left_fails l fault f = both_fail l (r.Semi left right anti on rest) left right fault refl (left_fails l left right fault f)
 
   pub semi_right_fails : (old mid : Laying) (x : Exchange) (first : ℕ) (fault : PlanFault) → Lays old mid x left first → Fails mid right fault → Fails old (r.Semi left right anti on rest) fault
-  semi_right_fails old mid x first fault l f = both_fail old (r.Semi left right anti on rest) left right fault (semi_over old.sources left right anti on rest) (right_fails old mid x left right first fault l f)
-
-  pub semi_full : (old mid new : Laying) (first second : ℕ) (fault : PlanFault) → Lays old mid (Hash (left_pairs on)) left first → Lays mid new (Hash (right_pairs on)) right second → IsFull new fault
-      → Fails old (r.Semi left right anti on rest) fault
-  semi_full old mid new first second fault l m f =
-      both_full old new (r.Semi left right anti on rest) left right on (first ∷ (second ∷ [])) fault (semi_over old.sources left right anti on rest) (both_lay old mid new left right on first second l m) f
+  semi_right_fails old mid x first fault l f = both_fail old (r.Semi left right anti on rest) left right fault refl (right_fails old mid x left right first fault l f)

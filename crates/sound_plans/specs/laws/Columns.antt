@@ -10,7 +10,7 @@ use Rattle.phys_plan.specs.declared.node.Op.{Op}
 use Rattle.phys_plan.specs.declared.node.Op.TheVariants as op
 use Rattle.plan_network.specs.Plans.{numbered}
 use Rattle.plan_rules.specs.Columns.{columns_by, numbered_columns, only, node_columns}
-use Rattle.plan_laws.specs.laws.Numbers.{columns_made}
+use Rattle.sound_plans.specs.laws.Numbers.{columns_made}
 use Rattle.plan_reading.specs.Columns.{columns_in}
 use Rattle.plan_check.specs.Types.{all_types, input_columns, is_typed_by, keyed_columns, next_types, types_after, types_at, types_by}
 use Rattle.plan_check.specs.Sound.{columns_or_none, sent_columns}

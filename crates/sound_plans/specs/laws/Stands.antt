@@ -31,13 +31,13 @@ use Rattle.phys_plan.specs.declared.plan.Plan.{Plan}
 use Rattle.stream_model.specs.Network.{task, ScanFacts}
 use Rattle.plan_network.specs.Plans.{inputs_in, numbered, scan_of, table_of}
 use Rattle.plan_rules.specs.Doings.{Around, around_of, doing_by, doing_in, filter_of, grouping_of, joining_of, network, normalize_of, project_of, ranking_of, rule_by, sink_of, union_of}
-use Rattle.plan_laws.specs.laws.Inputs.{facts_of_ports, takes_of_ports}
-use Rattle.plan_laws.specs.laws.Numbers.{index_at}
 use Rattle.plan_shape.specs.Shape.{is_sink, takes as ports_of}
 use Rattle.plan_shape.specs.Shaped.{MeetsShape}
 use Rattle.plan_nodes.specs.Agrees.{Agrees, NormalizeAgrees, SinkAgrees}
 use Rattle.plan_nodes.specs.Outputs.{IsProper, Output, around_by, edge_of, edges_of, no_output, printed_edge}
 use Rattle.sound_plans.specs.Sound.{IsRuled, has_rule}
+use Rattle.sound_plans.specs.laws.Inputs.{facts_of_ports, takes_of_ports}
+use Rattle.sound_plans.specs.laws.Numbers.{index_at}
 use Rattle.sound_plans.specs.laws.Lists.{map_length, same_number}
 use Rattle.sound_plans.specs.laws.Consumers.{by_test}
 use Rattle.sound_plans.specs.laws.Inferences.{Laws}

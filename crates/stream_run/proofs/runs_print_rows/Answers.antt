@@ -2,4 +2,4 @@ use Rattle.stream_run.specs.laws.Prints.{prints_rows}
 use Rattle.stream_run.proofs.runs_print_rows.Goals as goal
 
 pub returns : goal.returns
-returns c = prints_rows c.scans_stand.ensures c.groups_stand.ensures c.groups_take.ensures c.taken_lines_fit.ensures c.plans_are_wired.ensures c.plans_meet_facts.ensures.facts c.plans_compose.ensures
+returns c = prints_rows c.taken_lines_fit.ensures c.sound_plans_are_wired.ensures c.sound_plans_meet_facts.ensures.facts c.plans_compose.ensures

@@ -5,10 +5,11 @@ use Rattle.std.proofs.lemmas.List.{map-append}
 use Rattle.ct_value.specs.declared.codes.ChangeCode.{ChangeCode}
 use Rattle.ct_value.specs.declared.codes.OrderCode.TheVariants.{NoSuchPlace}
 use Rattle.ct_change.specs.declared.change.Change.{Change}
-use Rattle.ct_change.specs.Changelog.{Rows, retract, fold, IsValid}
+use Rattle.ct_change.specs.Changelog.{Mode, Rows, fold, IsValid}
 use Rattle.ct_catalog.specs.declared.table.TableDef.{TableDef}
 use Rattle.change_lines.specs.declared.line.Line.{Line}
 use Rattle.change_lines.specs.Lines.{Record, line_of, records_of}
+use Rattle.rel_algebra.specs.Rel.{Rel}
 use Rattle.rel_algebra.specs.Answer.{answer}
 use Rattle.op_rules.specs.History.{Arrival, joined}
 use Rattle.op_rules.specs.Rules.{Answer}
@@ -20,14 +21,15 @@ use Rattle.stream_model.specs.declared.events.PrintItem.{PrintItem}
 use Rattle.stream_model.specs.declared.events.PrintItem.TheVariants.{Change as Printed, Quiet}
 use Rattle.stream_model.specs.Tables.{Table as Source, scanned_at, refusal}
 use Rattle.stream_model.specs.Network.{Feed, Network}
-use Rattle.stream_model.specs.Machine.{State, opened, send, print, joins, folded, hand_on, answered, flushed, size_of, flushed_if_full, is_channel, move_front, move_to, move, flush_held, flush_bundle, is_place, flush, scan_count, scanned, take_within, take_unless, take_of, step, IsQuiet}
+use Rattle.stream_model.specs.Machine.{State, opened, send, print, joins, folded, answered, flushed, size_of, flushed_if_full, is_channel, move_front, move_to, flush_held, flush_bundle, is_place, scan_count, scanned, take_unless, take_of, IsQuiet}
 use Rattle.stream_model.specs.Machine as machine
 use Rattle.stream_model.specs.Runs.{Item, happens, quiet, told_quiet, step_item, state_in, after, changes_in, IsTyped, AreTyped}
-use Rattle.stream_model.specs.Theorem.{table_rows, rows_left, Composes, Holds}
+use Rattle.stream_model.specs.Theorem.{table_rows, rows_left, Composes, Holds, PrintsAnswer}
 use Rattle.stream_model.specs.Drain.{Leads, StopsBy, StopsAlong, Stage, delivers, flushes, moves, stage_items, drain_stages, stages, drain, RunsDrain}
 use Rattle.plan_network.specs.Plans.{table_mode, table_of}
 use Rattle.plan_rules.specs.Doings.{network}
-use Rattle.plan_laws.specs.Trees.{PlansAreWired, PlansMeetFacts, PlansPrint, PrintsTree, tables_with}
+use Rattle.sound_plans.specs.Sound.{SoundPlansAreWired, SoundPlansMeetFacts, SoundPlansPrint}
+use Rattle.plan_answers.specs.Answers.{Answers, tables_with}
 use Rattle.source_fold.specs.Kept.{refusal_after}
 use Rattle.source_lines.specs.Taken.{Taken, RefusedLine, nothing_taken, with_line, line_refusal, take_line, take_records, unless_refused, rows_of}
 use Rattle.source_lines.specs.Taken as l
@@ -35,7 +37,7 @@ use Rattle.source_laws.specs.Fitting.{LinesFitColumns}
 use Rattle.stream_run.specs.Run as run
 use Rattle.stream_run.specs.Run.{Ran, ended, refused, stopped, and_then, stepped, took, whole_run}
 pub use Rattle.stream_run.specs.Run.{printed_by}
-use Rattle.stream_run.specs.Headline.{with_rows, RunsPrintAnswers}
+use Rattle.stream_run.specs.Headline.{Headline, IsAnswered, with_rows, RunsPrintAnswers}
 
 pub ok_same : {A B : Type 0} (x y : A) → (let r : Result A B = Ok x in r ≡ Ok y) → x ≡ y
 ok_same x y e = cc
@@ -456,43 +458,94 @@ take_whole (x ∷ xs) = ap (λ ys. x ∷ ys) (take_whole xs)
 
 -- ---- the law
 
+-- before the only quiet item stands a changelog that folds to the answer, where all changes are one
+answered_before : (mode : Mode) (sources : List TableDef) (answers : List Rows → Option Rows) (lines : List Record) (taken : Taken) (changes : List Change) (printed : List PrintItem)
+    → take_records sources 1 nothing_taken lines ≡ Ok taken → ((n : ℕ) → IsValid mode (take n changes)) → answers (rows_of sources taken) ≡ Some (fold mode changes) → changes ≡ changes_in printed → NoQuiet printed
+    → (before after : List PrintItem) (n : ℕ) → printed ++ Quiet (length lines) ∷ [] ≡ before ++ Quiet n ∷ after → IsAnswered mode sources answers lines n (changes_in before)
+answered_before mode sources answers lines taken changes printed is_taken valid folds all none before after n e =
+    let one = one_quiet printed before after (length lines) n none e in
+    let same : changes ≡ changes_in before = all ∙ ap changes_in one.0 in
+    record {
+      taken = taken;
+      is_taken = ap (λ k. take_records sources 1 nothing_taken (take k lines)) (sym one.1) ∙ ap (take_records sources 1 nothing_taken) (take_whole lines) ∙ is_taken;
+      valid = subst (IsValid mode) (take_whole changes ∙ same) (valid (length changes));
+      folds = folds ∙ ap (λ c. Some (fold mode c)) same;
+    }
+
 opened_ended : (g : Network) (b : Bool) (s : State) → cond b (ended (opened g)) (stopped Limit []) ≡ ended s → opened g ≡ s
 opened_ended g true s e = ended_same (opened g) s e
 opened_ended g false s e = absurd (cc (e))
 
-pub ends : LinesFitColumns → PlansAreWired → PlansMeetFacts → PlansPrint → Composes → RunsDrain → RunsPrintAnswers
-ends fit wired meets prints composes drains plan rel is limit bytes s e =
+-- how a run came to its end: by these items and a drain, which printed one quiet item
+record Comes (plan : Plan) (limit : ℕ) (lines : List Record) (s : State) : Type 0 where
+  items : List Item
+  between : State
+  typed : AreTyped (network plan) items
+  leads : Leads (network plan) limit (opened (network plan)) items between
+  drained : Leads (network plan) limit between (drain (network plan) limit between) s
+  taken : take_records plan.sources 1 nothing_taken lines ≡ Ok s.taken
+  before : List PrintItem
+  none : NoQuiet before
+  printed : s.printed ≡ before ++ Quiet (length lines) ∷ []
+
+module _ (fit : LinesFitColumns) (plan : Plan) (limit : ℕ) (lines : List Record) where
+  -- all lines were taken, and the job was drained
+  comes_drained : (u s : State) → TookAll fit plan limit 1 (opened (network plan)) lines u → Leads (network plan) limit u (drain (network plan) limit u) s → Comes plan limit lines s
+  comes_drained u s all leads =
+      let g = network plan in
+      let d = drained_parts g limit u s leads in
+      let count : u.took ≡ length lines = omega (arith, all.counted) in
+      record {
+        items = all.items;
+        between = u;
+        typed = all.typed;
+        leads = all.leads;
+        drained = leads;
+        taken = all.taken ∙ ap (λ (x : Taken). let r : Result Taken RefusedLine = Ok x in r) (sym d.taken);
+        before = d.before;
+        none = d.no_quiet (subst NoQuiet (sym all.printed) tt);
+        printed = d.printed ∙ ap (λ n. d.before ++ Quiet n ∷ []) count;
+      }
+
+  comes_taken : (s : State) → and_then (run.take_lines (network plan) limit plan.sources 1 (opened (network plan)) lines) (run.drained (network plan) limit plan.sources) ≡ ended s → Comes plan limit lines s
+  comes_taken s e =
+      let g = network plan in
+      let p = parts (run.take_lines g limit plan.sources 1 (opened g) lines) (run.drained g limit plan.sources) s e in
+      comes_drained p.between s (took_all fit plan limit 1 (opened g) lines p.between p.first) (along_leads g limit plan.sources p.between (drain g limit p.between) s p.second)
+
+comes : LinesFitColumns → (plan : Plan) (limit : ℕ) (bytes : List ℕ) (s : State) → whole_run (network plan) limit plan.sources bytes ≡ ended s → Comes plan limit (records_of bytes) s
+comes fit plan limit bytes s e =
     let g = network plan in
-    let lines = records_of bytes in
-    let o = parts (run.opens g limit plan.sources) (λ u. and_then (run.take_lines g limit plan.sources 1 u lines) (run.drained g limit plan.sources)) s e in
-    let first : opened g ≡ o.between = opened_ended g (nat_le (opened g).sends limit) o.between o.first in
-    let second : and_then (run.take_lines g limit plan.sources 1 (opened g) lines) (run.drained g limit plan.sources) ≡ ended s = ap (λ u. and_then (run.take_lines g limit plan.sources 1 u lines) (run.drained g limit plan.sources)) first ∙ o.second in
-    let p = parts (run.take_lines g limit plan.sources 1 (opened g) lines) (run.drained g limit plan.sources) s second in
-    let all = took_all fit plan limit 1 (opened g) lines p.between p.first in
-    let leads = along_leads g limit plan.sources p.between (drain g limit p.between) s p.second in
-    let d = drained_parts g limit p.between s leads in
-    let items = all.items ++ drain g limit p.between in
-    let here : after g limit (opened g) all.items ≡ p.between = leads_after g limit (opened g) all.items p.between all.leads in
-    let there : after g limit (opened g) items ≡ s = leads_after g limit (opened g) items s (leads_both g limit (opened g) all.items (drain g limit p.between) p.between s all.leads leads) in
-    let typed : AreTyped g items = typed_both g all.items (drain g limit p.between) all.typed (typed_drain g limit p.between) in
-    let tells : PrintsTree plan rel s = subst (PrintsTree plan rel) there (prints plan rel is limit items typed) in
-    let holds : Holds g s = subst (Holds g) there (composes g (wired plan rel is) (meets plan rel is) limit items typed) in
-    let still : IsQuiet g s = (drains g (wired plan rel is) limit all.items all.typed).drained s (subst (λ u. Leads g limit u (drain g limit u) s) (sym here) leads) in
-    let none : NoQuiet d.before = d.no_quiet (subst NoQuiet (sym all.printed) tt) in
-    let count : p.between.took ≡ length lines = omega (arith, all.counted) in
-    let printed : s.printed ≡ d.before ++ Quiet (length lines) ∷ [] = d.printed ∙ ap (λ n. d.before ++ Quiet n ∷ []) count in
-    let changes : changes_in s.printed ≡ changes_in d.before = ap changes_in printed ∙ changes_before d.before (length lines) in
-    let taken : take_records plan.sources 1 nothing_taken lines ≡ Ok s.taken = all.taken ∙ ap (λ (x : Taken). let r : Result Taken RefusedLine = Ok x in r) (sym d.taken) in
+    let rest = λ (u : State). and_then (run.take_lines g limit plan.sources 1 u (records_of bytes)) (run.drained g limit plan.sources) in
+    let o = parts (run.opens g limit plan.sources) rest s e in
+    comes_taken fit plan limit (records_of bytes) s (ap rest (opened_ended g (nat_le (opened g).sends limit) o.between o.first) ∙ o.second)
+
+-- what such a run has printed, where its items printed the sink's answer, and what holds in each state holds at its end
+headline : (plan : Plan) (rel : Rel) (limit : ℕ) (lines : List Record) (s : State) → (c : Comes plan limit lines s) → Answers plan rel → PrintsAnswer (network plan) (table_mode plan.sink) s → Holds (network plan) s → IsQuiet (network plan) s
+    → Headline (network plan) (table_mode plan.sink) plan.sources (λ rows. answer (with_rows plan.sources rows) rel) lines s s.printed
+headline plan rel limit lines s c told tells holds still =
+    let g = network plan in
+    let mode = table_mode plan.sink in
+    let changes : changes_in s.printed ≡ changes_in c.before = ap changes_in c.printed ∙ changes_before c.before (length lines) in
     let rows = with_same plan.sources (table_rows g s) s.taken (λ k table at. ap (λ (o : Option TableDef). rows_left (option_map (table_of plan.parallelism) o) (s.taken k)) at) in
+    let folds : answer (with_rows plan.sources (rows_of plan.sources s.taken)) rel ≡ Some (fold mode (changes_in s.printed)) =
+    subst (λ tables. answer tables rel ≡ Some (fold mode (changes_in s.printed))) rows (told (table_rows g s) (fold mode (changes_in s.printed)) (tells.folds still)) in
     record {
-      ends = (d.before, printed);
+      ends = (c.before, c.printed);
       answered = λ before after n e.
-          let same = one_quiet d.before before after (length lines) n none (sym printed ∙ e) in
-          record {
-            taken = s.taken;
-            is_taken = ap (λ k. take_records plan.sources 1 nothing_taken (take k lines)) (sym same.1) ∙ ap (take_records plan.sources 1 nothing_taken) (take_whole lines) ∙ taken;
-            valid = subst (IsValid retract) (take_whole (changes_in s.printed) ∙ changes ∙ ap changes_in same.0) (tells.valid (length (changes_in s.printed)));
-            folds = ap (λ tables. answer tables rel) (sym rows) ∙ tells.folds still ∙ ap (λ c. Some (fold retract c)) (changes ∙ ap changes_in same.0);
-          };
+          answered_before mode plan.sources (λ rows. answer (with_rows plan.sources rows) rel) lines s.taken (changes_in s.printed) c.before c.taken tells.valid folds changes c.none before after n (sym c.printed ∙ e);
       carried = record { edges = λ v i node li. (holds.fine v node).kinds i li; printed = holds.printed_kinds };
     }
+
+pub ends : LinesFitColumns → SoundPlansAreWired → SoundPlansMeetFacts → SoundPlansPrint → Composes → RunsDrain → RunsPrintAnswers
+ends fit wired meets prints composes drains plan rel ruled told limit bytes s e =
+    let g = network plan in
+    let c = comes fit plan limit bytes s e in
+    let items = c.items ++ drain g limit c.between in
+    let here : after g limit (opened g) c.items ≡ c.between = leads_after g limit (opened g) c.items c.between c.leads in
+    let there : after g limit (opened g) items ≡ s = leads_after g limit (opened g) items s (leads_both g limit (opened g) c.items (drain g limit c.between) c.between s c.leads c.drained) in
+    let typed : AreTyped g items = typed_both g c.items (drain g limit c.between) c.typed (typed_drain g limit c.between) in
+    headline plan rel limit (records_of bytes) s c told
+    (subst (PrintsAnswer g (table_mode plan.sink)) there (prints plan ruled limit items typed))
+    (subst (Holds g) there (composes g (wired plan ruled) (meets plan ruled) limit items typed))
+    ((drains g (wired plan ruled) limit c.items c.typed).drained s (subst (λ v. Leads g limit v (drain g limit v) s) (sym here) c.drained))

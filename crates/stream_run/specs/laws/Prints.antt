@@ -1,9 +1,8 @@
 -- What a run prints was sent by the sink, so it has the columns of the sink's edge.
-use Rattle.std.specs.Prelude.{◌≡◌, ℕ, ◌+◌, ◌<◌, ◌==◌, ◌&&◌, nat_le, nat_lt, Bool, cond, Option, unwrap_or, Result, List, ◌++◌, length, map}
-use Rattle.std.proofs.Common.{true, false, [], ◌∷◌, refl, sym, ap, subst, ◌∙◌, arith, Some, None, Ok, Err, inr}
+use Rattle.std.specs.Prelude.{◌≡◌, ℕ, ◌+◌, ◌<◌, ◌==◌, ◌&&◌, nat_le, nat_lt, Bool, cond, Option, Result, List, ◌++◌, length, map}
+use Rattle.std.proofs.Common.{true, false, [], ◌∷◌, refl, sym, ap, subst, ◌∙◌, Some, None, Ok, Err, inr}
 use Rattle.std.specs.List.{AllByRecursion}
 use Rattle.std.proofs.lemmas.Bool.{eqb-true, eq-eqb, and_parts, and_from, ltb-true}
-use Rattle.ct_value.specs.declared.ty.ColTy.{ColTy}
 use Rattle.ct_value.specs.declared.codes.ChangeCode.{ChangeCode}
 use Rattle.ct_value.specs.declared.codes.OrderCode.TheVariants.{NoSuchPlace}
 use Rattle.ct_field.specs.Typed.{row_fits}
@@ -11,18 +10,14 @@ use Rattle.ct_change.specs.declared.change.Change.{Change}
 use Rattle.ct_change.specs.Changelog.{fold}
 use Rattle.change_lines.specs.declared.line.Line.{Line}
 use Rattle.change_lines.specs.Lines.{Record, line_of, records_of}
-use Rattle.rel_algebra.specs.Rel.{Rel}
-use Rattle.group_rules.specs.Fits.{GroupsStand, GroupsTake}
 use Rattle.op_rules.specs.History.{Arrival, joined}
 use Rattle.op_rules.specs.Rules.{Answer}
-use Rattle.phys_plan.specs.declared.node.Op.TheVariants as op
 use Rattle.phys_plan.specs.declared.plan.Plan.{Plan}
 use Rattle.stream_model.specs.declared.events.Event.TheVariants.{Take, Move, Flush}
 use Rattle.stream_model.specs.declared.events.StepFault.{StepFault}
 use Rattle.stream_model.specs.declared.events.StepFault.TheVariants.{Change as Refused, Order, Range, Limit, Memory}
 use Rattle.stream_model.specs.declared.events.PrintItem.{PrintItem}
 use Rattle.stream_model.specs.declared.events.PrintItem.TheVariants.{Change as Printed, Quiet}
-use Rattle.stream_model.specs.Scans.{ScansStand}
 use Rattle.stream_model.specs.Tables.{Table as Source, scanned_at, refusal}
 use Rattle.stream_model.specs.Network.{Feed, Network, IsWired}
 use Rattle.stream_model.specs.Machine.{State, put, opened, send, print, joins, folded, answered, flushed, size_of, flushed_if_full, is_channel, move_front, move_to, flush_held, flush_bundle, is_place, is_scan_of, scan_count, scanned, take_unless, take_of}
@@ -30,15 +25,12 @@ use Rattle.stream_model.specs.Machine as machine
 use Rattle.stream_model.specs.Runs.{Item, happens, quiet, step_item, state_in, after, changes_in, IsTyped, AreTyped}
 use Rattle.stream_model.specs.Theorem.{Composes, Holds}
 use Rattle.stream_model.specs.Drain.{drain}
-use Rattle.plan_rules.specs.Columns.{columns_by, columns_at, node_columns}
 use Rattle.plan_rules.specs.Doings.{network}
-use Rattle.plan_laws.specs.Trees.{IsPlanOfTyped, PlansAreWired, PlansMeetFacts}
-use Rattle.plan_laws.specs.laws.Nodes.{columns_from}
-use Rattle.plan_laws.specs.laws.Wiring.{planned}
+use Rattle.sound_plans.specs.Sound.{SoundPlansAreWired, SoundPlansMeetFacts}
 use Rattle.source_laws.specs.Fitting.{LinesFitColumns}
 use Rattle.stream_run.specs.Run as run
 use Rattle.stream_run.specs.Run.{Ran, ended, refused, stopped, and_then, stepped, took, printed_by, whole_run}
-use Rattle.stream_run.specs.Rows.{RunsPrintRows}
+use Rattle.stream_run.specs.Rows.{sent_columns, RunsPrintRows}
 use Rattle.stream_run.specs.laws.Ends.{took_one, one_typed, typed_drain, changes_before}
 
 -- ---- lists
@@ -212,12 +204,12 @@ one_more_typed : (g : Network) (items : List Item) (item : Item) → AreTyped g 
 one_more_typed g [] item all one = (one, tt)
 one_more_typed g (first ∷ items) item all one = (all.0, one_more_typed g items item all.1 one)
 
-module _ (fit : LinesFitColumns) (plan : Plan) (wired : IsWired (network plan)) (holds : (limit : ℕ) (items : List Item) → AreTyped (network plan) items → Holds (network plan) (after (network plan) limit (opened (network plan)) items)) (columns : List ColTy) (sink : columns_at plan.sources plan.nodes (length plan.nodes) ≡ columns) (limit : ℕ) where
+module _ (fit : LinesFitColumns) (plan : Plan) (wired : IsWired (network plan)) (holds : (limit : ℕ) (items : List Item) → AreTyped (network plan) items → Holds (network plan) (after (network plan) limit (opened (network plan)) items)) (limit : ℕ) where
   abbrev g : Network
   g = network plan
 
   abbrev Fit : Change → Type 0
-  Fit change = row_fits columns change.row ≡ true
+  Fit change = row_fits (sent_columns plan) change.row ≡ true
 
   -- the run has come to a state
   record Reached (s : State) : Type 0 where
@@ -228,7 +220,7 @@ module _ (fit : LinesFitColumns) (plan : Plan) (wired : IsWired (network plan)) 
   fits_at : (s : State) → Reached s → AllByRecursion Fit (changes_in s.printed)
   fits_at s r =
       let all = (holds limit r.items r.typed).fine g.count (inr wired.sink) in
-      let sent : SinkSent g limit Fit (after g limit (opened g) r.items) = λ i l. subst (λ own. AllByRecursion (λ change. row_fits own change.row ≡ true) ((after g limit (opened g) r.items).sent g.count i)) sink (all.types i l) in
+      let sent : SinkSent g limit Fit (after g limit (opened g) r.items) = λ i l. all.types i l in
       subst (λ (t : State). AllByRecursion Fit (changes_in t.printed)) r.there (all_sent g limit Fit r.items sent)
 
   reached_one : (s t : State) (item : Item) → Reached s → IsTyped g item → step_item g limit s item ≡ Ok t → Reached t
@@ -301,16 +293,5 @@ module _ (fit : LinesFitColumns) (plan : Plan) (wired : IsWired (network plan)) 
 
 -- ---- the law
 
--- the sink sends the tree's columns
-pub sink_columns : ScansStand → GroupsStand → GroupsTake → (plan : Plan) (rel : Rel) (is : IsPlanOfTyped plan rel) → columns_at plan.sources plan.nodes (length plan.nodes) ≡ is.columns
-sink_columns scans groups takes plan rel is =
-    let root = is.plan_of.root in
-    let lower : root < root + 1 = omega arith in
-    let below = planned scans groups takes plan rel is in
-    let own : node_columns plan.sources plan.nodes (root + 1) ≡ Some is.columns =
-    columns_from plan (root + 1) op.Sink (root ∷ []) is.plan_of.sink_node (lower, tt) ∙ ap (λ (a : Option (List ColTy)). columns_by plan.sources op.Sink (a ∷ [])) below.columns_are in
-    ap (columns_at plan.sources plan.nodes) is.plan_of.nodes ∙ ap (λ (o : Option (List ColTy)). unwrap_or o []) own
-
-pub prints_rows : ScansStand → GroupsStand → GroupsTake → LinesFitColumns → PlansAreWired → PlansMeetFacts → Composes → RunsPrintRows
-prints_rows scans groups takes fit wired meets composes plan rel is limit bytes =
-    rows_fit fit plan (wired plan rel is) (composes (network plan) (wired plan rel is) (meets plan rel is)) is.columns (sink_columns scans groups takes plan rel is) limit bytes
+pub prints_rows : LinesFitColumns → SoundPlansAreWired → SoundPlansMeetFacts → Composes → RunsPrintRows
+prints_rows fit wired meets composes plan ruled limit bytes = rows_fit fit plan (wired plan ruled) (composes (network plan) (wired plan ruled) (meets plan ruled)) limit bytes

@@ -12,4 +12,4 @@ returns c =
       groups = c.groups_stay_in_range.ensures;
       joins = c.joins_stay_in_range.ensures;
       topns = c.topns_stay_in_range.ensures;
-    }) c.taken_lines_fit.ensures c.plans_are_wired.ensures c.plans_meet_facts.ensures.facts c.runs_are_safe.ensures
+    }) c.taken_lines_fit.ensures c.sound_plans_are_wired.ensures c.sound_plans_meet_facts.ensures.facts c.runs_are_safe.ensures

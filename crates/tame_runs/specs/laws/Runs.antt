@@ -1,4 +1,4 @@
--- A run over the plan of a tree that calculates nothing never stops by range.
+-- A run over a sound plan that calculates nothing never stops by range.
 use Rattle.std.specs.Prelude.{◌≡◌, ℕ, ◌+◌, ◌<◌, ◌≤◌, nat_le, Bool, cond, Result, List, ◌++◌, length}
 use Rattle.std.proofs.Common.{zero, suc, true, false, [], ◌∷◌, refl, ap, subst, ◌∙◌, Ok, Err}
 use Rattle.std.specs.List.{AllByRecursion}
@@ -17,7 +17,7 @@ use Rattle.stream_model.specs.Machine as machine
 use Rattle.stream_model.specs.Runs.{Item, happens, quiet, step_item, state_in, after, IsTyped, AreTyped}
 use Rattle.stream_model.specs.Drain.{IsOpen, Stage, delivers, flushes, moves, stage_items, drain_stages, stages, drain, RunsAreSafe}
 use Rattle.plan_rules.specs.Doings.{network}
-use Rattle.plan_laws.specs.Trees.{PlansAreWired, PlansMeetFacts}
+use Rattle.sound_plans.specs.Sound.{SoundPlansAreWired, SoundPlansMeetFacts}
 use Rattle.source_laws.specs.Fitting.{LinesFitColumns}
 use Rattle.stream_run.specs.Run as run
 use Rattle.stream_run.specs.Run.{Ran, ended, refused, stopped, and_then, stepped, took, whole_run}
@@ -157,7 +157,7 @@ module _ (fit : LinesFitColumns) (plan : Plan) (wired : IsWired (network plan)) 
 
 -- ---- the law
 
-pub runs_stay : Rules → LinesFitColumns → PlansAreWired → PlansMeetFacts → RunsAreSafe → RunsStayInRange
-runs_stay rules fit wired meets safe plan rel is tame limit small bytes node subtask row types printed stops =
-    let nodes = nodes_stay rules plan rel is.plan_of tame in
-    subst (Stays fit plan (wired plan rel is) (meets plan rel is) safe limit small nodes) stops (stays_whole fit plan (wired plan rel is) (meets plan rel is) safe limit small nodes bytes)
+pub runs_stay : Rules → LinesFitColumns → SoundPlansAreWired → SoundPlansMeetFacts → RunsAreSafe → RunsStayInRange
+runs_stay rules fit wired meets safe plan ruled tame limit small bytes node subtask row types printed stops =
+    let nodes = nodes_stay rules plan tame in
+    subst (Stays fit plan (wired plan ruled) (meets plan ruled) safe limit small nodes) stops (stays_whole fit plan (wired plan ruled) (meets plan ruled) safe limit small nodes bytes)

@@ -5,8 +5,8 @@ use Rattle.phys_plan.specs.declared.node.Op.{Op}
 use Rattle.phys_plan.specs.declared.plan.Plan.{Plan}
 use Rattle.plan_network.specs.Plans.{HasInput}
 use Rattle.plan_maker.specs.Laid.{HasNode}
-use Rattle.plan_laws.specs.laws.Numbers.{side}
-use Rattle.plan_laws.specs.laws.Segments.{Segment, nothing, both, more}
+use Rattle.sound_plans.specs.laws.Numbers.{side}
+use Rattle.tree_shapes.specs.laws.Segments.{Segment, nothing, both, more}
 use Rattle.tree_shapes.specs.laws.Nodes.{NodeMeets, OpMeets, node_meets}
 
 module _ (plan : Plan) where

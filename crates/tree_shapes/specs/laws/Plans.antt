@@ -18,7 +18,7 @@ use Rattle.mode_infer.specs.Exchanges.{asked}
 use Rattle.plan_inferred.specs.Rules.{by_columns, consumer as consumer_of, exchange_by, says_exchange, width_at}
 use Rattle.plan_inferred.specs.Same.{same_exchange}
 use Rattle.plan_network.specs.Plans.{numbered, HasInput}
-use Rattle.plan_laws.specs.laws.Numbers.{numbered_within, side}
+use Rattle.sound_plans.specs.laws.Numbers.{numbered_within, side}
 use Rattle.plan_shape.specs.Shape.{are_before, consumer, has_nodes, has_sizes, is_consumed, is_fed, is_shaped, is_sink, is_up_to, is_whole, most_bundled, most_nodes, most_subtasks, node_has_shape, op_in, suits_consumer, suits_plan, takes, uses}
 use Rattle.plan_shape.specs.Tables.{are_tables, is_declarable}
 use Rattle.plan_check.specs.Sound.{inferred_of, Meets}

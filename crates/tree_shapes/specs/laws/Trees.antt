@@ -34,16 +34,15 @@ use Rattle.plan_inferred.specs.Rules.{by_columns}
 use Rattle.plan_network.specs.Plans.{column_types, numbered}
 use Rattle.plan_rules.specs.Columns.{common_with}
 use Rattle.plan_maker.specs.Laid.{IsFilter, IsProject, IsJoin, IsSemi, HasNode, CarriesAll, ScanLaid, SourceLaid, IsLaid, AreLaid}
-use Rattle.plan_laws.specs.Trees.{types_of}
-use Rattle.plan_laws.specs.laws.Numbers.{below_is_not, then_parts}
-use Rattle.plan_laws.specs.laws.Wider.{both_parts}
-use Rattle.plan_laws.specs.laws.Nodes.{filter_is, project_is, op_by, join_is, semi_is, renamed}
 use Rattle.plan_shape.specs.Shape.{is_keyed_by, is_read, is_upsert_by, normalizes_by, scans_by, suits_consumer, takes, op_in}
 use Rattle.plan_shape.specs.Tables.{is_declarable, is_upsert}
+use Rattle.query_laws.specs.Statement.{has_two, has_full_unions, all_have_full_unions}
 use Rattle.plan_check.specs.Types.{is_typed_by, types_at, types_by}
+use Rattle.sound_plans.specs.laws.Numbers.{below_is_not, then_parts}
 use Rattle.sound_plans.specs.laws.Lists.{both, map_at, map_length, of_each, the_same, within}
 use Rattle.sound_plans.specs.laws.Tables.{key_within, upsert_has_key}
-use Rattle.tree_shapes.specs.Shapes.{has_two, has_full_unions, all_have_full_unions}
+use Rattle.tree_shapes.specs.Shapes.{types_of}
+use Rattle.tree_shapes.specs.laws.Laid.{both_parts, filter_is, project_is, op_by, join_is, semi_is, renamed}
 use Rattle.tree_shapes.specs.laws.Nodes.{IsFed, IsInner, OpMeets, inner, same_first, types_from}
 use Rattle.tree_shapes.specs.laws.Parts.{Part, next_part, no_part, two_parts}
 

@@ -9,7 +9,7 @@ use Rattle.phys_plan.specs.declared.node.Op.{Op}
 use Rattle.phys_plan.specs.declared.node.Op.TheVariants as op
 use Rattle.plan_network.specs.Plans.{numbered}
 use Rattle.plan_rules.specs.Columns.{numbered_columns}
-use Rattle.plan_laws.specs.laws.Numbers.{all-map}
+use Rattle.sound_plans.specs.laws.Numbers.{all-map}
 use Rattle.plan_check.specs.Types.{all_types, input_columns, next_types, types_after, types_at, types_by}
 use Rattle.sound_plans.specs.Sound.{has_rule}
 use Rattle.sound_plans.specs.laws.Lists.{the_same}

@@ -1,6 +1,6 @@
 use Rattle.std.proofs.Common.{refl}
 use Rattle.job_ending.specs.RunLaws.{runs_moved, memory_runs}
-use Rattle.job_run.proofs.Asked.{of_batch, of_run}
+use Rattle.job_run.proofs.Asked.{of_batch, of_explain, of_run}
 use Rattle.job_run.proofs.requests.run_asked.Goals as goal
 
 pub returns-in-Ok-Run-clause-runs : goal.returns-in-Ok-Run-clause-runs
@@ -10,6 +10,10 @@ returns-in-Ok-Run-clause-runs g c =
 pub returns-in-Ok-Batch-clause-runs : goal.returns-in-Ok-Batch-clause-runs
 returns-in-Ok-Batch-clause-runs g c =
     rw c.ending_of-in-Ok-Batch.ensures (runs_moved _ _ _ _ _ _ _ _ _ _ refl (λ h is. of_batch c.args.words.now c.in-Ok-Batch.field-0 c.in-Ok-Batch.ensures.ok c.in-Ok-Batch.names c.in-Ok-Batch.first c.in-Ok-Batch.field-0-is h) (λ rose. rose) c.batch_names.ensures.runs)
+
+pub returns-in-Ok-Explain-clause-runs : goal.returns-in-Ok-Explain-clause-runs
+returns-in-Ok-Explain-clause-runs g c =
+    rw c.ending_of-in-Ok-Explain.ensures (runs_moved _ _ _ _ _ _ _ _ _ _ refl (λ h is. of_explain c.args.words.now c.in-Ok-Explain.field-0 c.in-Ok-Explain.ensures.ok c.in-Ok-Explain.name c.in-Ok-Explain.field-0-is h) (λ rose. rose) c.explain_name.ensures.runs)
 
 pub returns-in-Err-Memory-clause-runs : goal.returns-in-Err-Memory-clause-runs
 returns-in-Err-Memory-clause-runs g c = memory_runs _ _ _ _ _

@@ -1,5 +1,5 @@
-use Rattle.plan_opens.proofs.Trees.{plans_open}
+use Rattle.plan_opens.proofs.Plans.{plans_open}
 use Rattle.plan_opens.proofs.laws.plans_open.Goals as goal
 
 pub returns : goal.returns
-returns c = plans_open c.scans_stand.ensures c.groups_stand.ensures c.groups_take.ensures c.columns_have_types.ensures c.plans_are_wired.ensures c.plans_meet_facts.ensures.facts c.plans_meet_facts.ensures.takes
+returns c = plans_open c.columns_have_types.ensures c.nodes_fit.ensures c.sound_plans_are_wired.ensures c.sound_plans_meet_facts.ensures.facts c.sound_plans_meet_facts.ensures.takes

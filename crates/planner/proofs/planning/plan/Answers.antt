@@ -9,4 +9,4 @@ pub checked-requires : goal.checked-requires
 checked-requires c =
     let made : c.in_ok-plan.plan ≡ with_inferred c.args.laid = c.in_ok-plan.ensures in
     subst (λ (p : Plan). IsSound p) (sym made)
-    (made_is_sound c.laid_plans_have_shape.ensures c.inferred_plans_are_sound.ensures c.shaped_plans_have_shape.ensures c.args.laid c.requires c.args.setting c.in_ok-test_refusals.ensures.accepted c.in_ok-test_refusals.ensures.bare)
+    (made_is_sound c.laid_plans_have_shape.ensures c.inferred_plans_are_sound.ensures c.shaped_plans_have_shape.ensures c.args.laid c.requires.0 c.requires.1 c.args.setting c.in_ok-test_refusals.ensures.accepted c.in_ok-test_refusals.ensures.bare)

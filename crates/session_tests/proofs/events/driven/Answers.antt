@@ -8,7 +8,7 @@ pub open_job-requires-clause-may : goal.open_job-requires-clause-may
 open_job-requires-clause-may g c =
     let plan = c.args.plan.now in
     let counts = c.requires.counts in
-    (c.plans_open.ensures plan counts.rel c.in_ok-columns.columns (counts.small c.in_ok-columns.columns c.in_ok-columns.ensures.columns c.in_ok-columns.ensures.many)).may
+    (c.plans_open.ensures plan c.in_ok-columns.columns counts.ruled c.in_ok-columns.ensures.columns c.in_ok-columns.ensures.many).may
 
 pub open_job-requires-clause-ready : goal.open_job-requires-clause-ready
 open_job-requires-clause-ready g c =
@@ -16,14 +16,14 @@ open_job-requires-clause-ready g c =
     let counts = c.requires.counts in (
       columns_at plan.sources plan.nodes,
       λ v. doing_in plan v (numbered plan.nodes v),
-      (c.plans_open.ensures plan counts.rel c.in_ok-columns.columns (counts.small c.in_ok-columns.columns c.in_ok-columns.ensures.columns c.in_ok-columns.ensures.many)).openable,
+      (c.plans_open.ensures plan c.in_ok-columns.columns counts.ruled c.in_ok-columns.ensures.columns c.in_ok-columns.ensures.many).openable,
     )
 
 pub play-requires : goal.play-requires
 play-requires g c =
     let plan = c.args.plan.now in
     let counts = c.requires.counts in
-    let opening = (c.plans_open.ensures plan counts.rel c.in_ok-columns.columns (counts.small c.in_ok-columns.columns c.in_ok-columns.ensures.columns c.in_ok-columns.ensures.many)).openable in
+    let opening = (c.plans_open.ensures plan c.in_ok-columns.columns counts.ruled c.in_ok-columns.ensures.columns c.in_ok-columns.ensures.many).openable in
     record {
       ready = record {
         of = network plan;

@@ -1,0 +1,51 @@
+-- The plan of an accepted script, which refusals come with it, and which scripts wait for what isn't built.
+use Rattle.std.specs.Prelude.{ℕ, Bool, false, not, ◌||◌, ◌&&◌, ◌==◌, cond, Option, Some, None, Ok}
+use Rattle.ct_value.specs.declared.codes.ScriptCode.TheVariants.{Unsupported}
+use Rattle.rel_algebra.specs.Rel.{Rel, Rels, no_rels, rel_and}
+use Rattle.rel_algebra.specs.Rel as r
+use Rattle.judge.specs.Judgement.{Judged, refused, then}
+use Rattle.phys_plan.specs.declared.plan.Plan.{Plan}
+use Rattle.plan_trees.specs.Trees.{plan_of_tree}
+use Rattle.planner.specs.Planned.{Made, Refused, Waits, Planned, made}
+use Rattle.job_judgement.specs.Judgement.{Accepted}
+
+abbrev mutual
+  -- a part of the tree groups by keys
+  pub has_keyed_group : Rel → Bool
+  has_keyed_group (r.Scan source) = false
+  has_keyed_group (r.Filter input condition) = has_keyed_group input
+  has_keyed_group (r.Project input items) = has_keyed_group input
+  has_keyed_group (r.Union inputs) = any_has_keyed_group inputs
+  has_keyed_group (r.Group input keys aggs) = not (keys == 0) || has_keyed_group input
+  has_keyed_group (r.Join left right kind pairs rest) = has_keyed_group left || has_keyed_group right
+  has_keyed_group (r.Semi left right anti pairs rest) = has_keyed_group left || has_keyed_group right
+  has_keyed_group (r.Rank input partition order bound ranked) = has_keyed_group input
+
+  pub any_has_keyed_group : Rels → Bool
+  any_has_keyed_group no_rels = false
+  any_has_keyed_group (rel_and input inputs) = has_keyed_group input || any_has_keyed_group inputs
+
+-- in mini-batches a group by keys keeps bundles, which isn't built yet
+abbrev pub keeps_bundles : Accepted → Bool
+keeps_bundles script = script.catalogue.settings.batching && has_keyed_group script.inserted.query.rel
+
+-- the plan that is laid of what the script's query is bound to
+abbrev pub laid : Accepted → Plan
+laid script = plan_of_tree script.inserted.sources script.inserted.sink script.catalogue.settings.parallelism script.inserted.query.rel
+
+-- the script is refused at its statement; or it is planned: its plan, or none where that waits for what isn't built
+abbrev pub planned_by : ℕ → Bool → Made → Judged (Option Plan)
+planned_by statement bundles (Refused code) = refused code statement
+planned_by statement bundles Waits = Ok None
+planned_by statement bundles (Planned plan) = Ok (cond bundles None (Some plan))
+
+abbrev pub planned : Accepted → Judged (Option Plan)
+planned script = planned_by script.statement (keeps_bundles script) (made (laid script) script.catalogue.settings.materialize)
+
+-- what waits is refused as unsupported where its plan is asked for
+abbrev pub built : ℕ → Option Plan → Judged Plan
+built statement None = refused Unsupported statement
+built statement (Some plan) = Ok plan
+
+abbrev pub runnable : Accepted → Judged Plan
+runnable script = then (built script.statement) (planned script)

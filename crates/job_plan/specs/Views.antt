@@ -1,0 +1,13 @@
+-- A script's plan as the definitions see it.
+use Rattle.std.specs.Prelude.{Option, option_map}
+use Rattle.phys_plan.specs.declared.plan.Plan.{Plan}
+use Rattle.plan_check.specs.declared.checked.CheckedPlan.{CheckedPlan}
+use Rattle.plan_check.specs.Checked.{plan_in}
+use Rattle.plan_trees.specs.Seen.{plan_as_seen}
+
+-- the plan, as plans are seen
+abbrev pub plan_view : CheckedPlan → Plan
+plan_view checked = plan_as_seen (plan_in checked)
+
+abbrev pub planned_view : Option CheckedPlan → Option Plan
+planned_view checked = option_map plan_view checked

@@ -1,0 +1,4 @@
+pub mod Nodes
+pub mod Types
+pub mod Inferred
+pub mod Refused

@@ -1,0 +1,66 @@
+ghost use Rattle.std.specs.Prelude.{◌≡◌, IfOk, option_copied};
+ghost use Rattle.plan_network.specs.Plans.{numbered};
+ghost use Rattle.plan_rules.specs.Doings.{after_key, first_input, mode_told, update_in};
+ghost use Rattle.session_nodes.specs.Modes.{mode_in};
+
+use crate::AnyMode;
+use crate::numbers::first_of;
+use ct_change::UpsertBy;
+use ct_value::{Cols, Memory, Numbers};
+use phys_plan::{Edge, Plan, Update};
+use std::alloc::Global;
+
+// The edge of a number.
+fn edge_at(plan: &Plan, number: u32) -> Option<&Edge>
+    ensures { option_copied result ≡ numbered plan.now.edges number }
+{
+    if number == 0 {
+        return None;
+    }
+    plan.edges.get(number as usize - 1)
+}
+
+// The key by which the edge of the first input is after-only, if it is.
+pub(crate) fn after_of(plan: &Plan, inputs: &Numbers) -> Result<Option<Cols>, Memory>
+    ensures { IfOk result (λ after. after ≡ after_key (update_in (numbered plan.now.edges (first_input inputs.now)))) }
+{
+    match edge_at(plan, first_of(inputs)) {
+        None => Ok(None),
+        Some(edge) => key_of(&edge.update),
+    }
+}
+
+// The key by which an edge is after-only, if it is.
+fn key_of(update: &Update) -> Result<Option<Cols>, Memory>
+    ensures { IfOk result (λ key. key ≡ after_key update.now) }
+{
+    match update {
+        Update::Absent => Ok(None),
+        Update::After(columns) => Ok(Some(columns.dup()?)),
+        Update::Both => Ok(None),
+    }
+}
+
+// The mode in which the changes of the edge of a number are written.
+pub(crate) fn mode_at(alloc: Global, plan: &Plan, number: u32) -> Result<AnyMode, Memory>
+    ensures { IfOk result (λ mode. mode_in mode ≡ mode_told (update_in (numbered plan.now.edges number))) }
+{
+    match edge_at(plan, number) {
+        None => Ok(AnyMode::Retract),
+        Some(edge) => mode_by(alloc, &edge.update),
+    }
+}
+
+// The mode of an edge that tells updates so.
+fn mode_by(alloc: Global, update: &Update) -> Result<AnyMode, Memory>
+    ensures { IfOk result (λ mode. mode_in mode ≡ mode_told update.now) }
+{
+    match update {
+        Update::Absent => Ok(AnyMode::Retract),
+        Update::After(columns) => Ok(AnyMode::UpsertBy(UpsertBy {
+            alloc,
+            key: columns.dup()?,
+        })),
+        Update::Both => Ok(AnyMode::Retract),
+    }
+}
