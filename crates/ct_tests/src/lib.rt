@@ -1,7 +1,19 @@
-//! Tests of values, texts and codes, and of shelves and sinks in memory.
+//! Tests of the lower floors, that memory suffices where there is enough of it: values, texts and codes, shelves and sinks in memory, fields,
+//! expressions, change lines, the longest field among them, and the folds of sources. That the definitions say what they should is shown by
+//! `expr_examples` and `line_examples`.
 #![tactic(auto)]
 
 #[cfg(test)]
+mod expressions;
+#[cfg(test)]
+mod fields;
+#[cfg(test)]
+mod folds;
+#[cfg(test)]
+mod lines;
+#[cfg(test)]
 mod outside;
+#[cfg(test)]
+mod tables;
 #[cfg(test)]
 mod values;

@@ -1,15 +1,12 @@
 //! Runs a job over the files and the standard streams of the system.
 #![tactic(auto)]
 
-mod file_shelf;
-mod stream;
 mod words;
 
 use ct_io::Sink;
-use file_shelf::FileShelf;
 use job::{Ending, run_job, status};
 use std::process::ExitCode;
-use stream::Stream;
+use system_io::{FileShelf, Stream};
 use words::{WordFault, words_of};
 
 fn main(rt: HostRuntime) -> ExitCode {

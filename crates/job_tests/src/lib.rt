@@ -1,13 +1,36 @@
-//! Tests of the top call: worked runs, faults, limits, and runs of many lines; and a run that may send few changes.
+//! Tests of the upper floors: worked runs of the top call, with faults, limits and many lines; sessions that are driven event by event;
+//! made scripts, whose plans are checked again; and which INSERTs are bound. What the calls answer is in their contracts.
 #![tactic(auto)]
 
 #[cfg(test)]
+mod changes;
+#[cfg(test)]
+mod channels;
+#[cfg(test)]
+mod counts;
+#[cfg(test)]
+mod events;
+#[cfg(test)]
 mod files;
 #[cfg(test)]
+mod inserts;
+#[cfg(test)]
+mod judging;
+#[cfg(test)]
 mod long_runs;
+#[cfg(test)]
+mod made;
+#[cfg(test)]
+mod orders;
+#[cfg(test)]
+mod plans;
+#[cfg(test)]
+mod rows;
 #[cfg(test)]
 mod runs;
 #[cfg(test)]
 mod scripts;
 #[cfg(test)]
 mod sent;
+#[cfg(test)]
+mod tables;

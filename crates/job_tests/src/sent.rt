@@ -1,38 +1,15 @@
 // A run that may send few changes.
-ghost use Rattle.std.specs.Prelude.{IfOk};
-ghost use Rattle.job_judgement.specs.Judged.{IsJudged};
-ghost use Rattle.job_judgement.specs.Views.{accepted_view};
-
+use crate::judging::{bytes_of, script_of};
 use crate::scripts::{COUNT_APPEND, KEEPS_NOTHING};
 use ct_io::SureSink;
-use ct_value::{Bytes, Memory};
 use job_ending::{Halt, LimitName};
-use job_judgement::{Accepted, judged};
 use job_plan::runnable;
 use job_stream::stream_within;
 use std::alloc::Global;
 
-fn bytes_of(alloc: Global, text: &str) -> Result<Bytes, Halt> {
-    match Bytes::from_slice(alloc, text.as_bytes()) {
-        Ok(bytes) => Ok(bytes),
-        Err(Memory) => Err(Halt::Memory),
-    }
-}
-
-// What a text is judged to be.
-fn script_of(alloc: Global, text: &str) -> Result<Accepted, Halt>
-    ensures { IfOk result (λ script. IsJudged (accepted_view script)) }
-{
-    let bytes = bytes_of(alloc, text)?;
-    if bytes.len() > 1000 {
-        return Err(Halt::Limit(LimitName::Script));
-    }
-    judged(alloc, &bytes)
-}
-
 // Runs a script over the lines of a text, where so many changes are sent at most.
 fn runs_within(alloc: Global, script: &str, changes: &str, sent_limit: u32) -> Result<(), Halt> {
-    let script = script_of(alloc, script)?;
+    let script = script_of(alloc, &bytes_of(alloc, script)?)?;
     let checked = runnable(alloc, &script)?;
     let bytes = bytes_of(alloc, changes)?;
     if bytes.len() > 1000 {

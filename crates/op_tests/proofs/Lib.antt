@@ -1,1 +1,10 @@
 pub mod Comings
+pub mod GroupArrivals
+pub mod GroupFitting
+pub mod GroupSound
+pub mod JoinArrivals
+pub mod JoinFitting
+pub mod RowArrivals
+pub mod TopArrivals
+pub mod TopFitting
+pub mod TopSound

@@ -1,0 +1,6 @@
+pub mod GroupFed
+pub mod GroupTables
+pub mod JoinFed
+pub mod JoinTables
+pub mod TopFed
+pub mod TopTables

@@ -1,10 +1,45 @@
-//! Tests that memory suffices where there is enough of it: each call of changes, modes, kept state and channels once.
-//! What the calls answer is in their contracts, and that the definitions say what they should is shown by `op_examples`.
+//! Tests of what is kept and of the operators: that memory suffices where there is enough of it, histories whose answers were worked out
+//! by hand, and many changes. What the calls answer is in their contracts, and that the definitions say what they should is shown by
+//! `op_examples`, `row_examples` and `join_examples`.
 #![tactic(auto)]
 
 #[cfg(test)]
+mod group_feeding;
+#[cfg(test)]
+mod group_histories;
+#[cfg(test)]
+mod group_modes;
+#[cfg(test)]
+mod group_rows;
+mod join_feed;
+#[cfg(test)]
+mod join_feeding;
+#[cfg(test)]
+mod join_rows;
+#[cfg(test)]
+mod join_shown;
+#[cfg(test)]
+mod joins;
+#[cfg(test)]
+mod many_groups;
+#[cfg(test)]
+mod many_joins;
+#[cfg(test)]
+mod many_tops;
+#[cfg(test)]
 mod modes;
+#[cfg(test)]
+mod row_operators;
 #[cfg(test)]
 mod rows;
 #[cfg(test)]
+mod standing;
+#[cfg(test)]
 mod state;
+#[cfg(test)]
+mod top_feeding;
+#[cfg(test)]
+mod top_histories;
+mod top_reads;
+#[cfg(test)]
+mod tops;

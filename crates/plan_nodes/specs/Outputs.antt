@@ -82,7 +82,11 @@ pub record IsProper (out : Output) : Type 0 where
 -- ---- what is around a node
 
 abbrev pub side_of : Output → Side
-side_of input = record { input = input.edge.update; columns = input.columns }
+side_of input = record { kinds = input.edge.kinds; input = input.edge.update; columns = input.columns }
+
+abbrev pub first_kinds : List Output → KindSet
+first_kinds [] = no_kinds
+first_kinds (input ∷ inputs) = input.edge.kinds
 
 abbrev pub first_update : List Output → Update
 first_update [] = Both
@@ -98,6 +102,7 @@ others_of (input ∷ inputs) = map side_of inputs
 
 abbrev pub around_by : TableDef → List Output → Output → Around
 around_by sink inputs own = record {
+  kinds = first_kinds inputs;
   input = first_update inputs;
   own = own.edge.update;
   columns = first_columns_of inputs;

@@ -1,8 +1,9 @@
 -- What each node of a plan does, by the rule of its operator.
-use Rattle.std.specs.Prelude.{ℕ, Bool, List, [], ◌∷◌, ◌++◌, length, take, map, Option, Some, None, option_map, Ok}
+use Rattle.std.specs.Prelude.{ℕ, Bool, cond, List, [], ◌∷◌, ◌++◌, length, take, map, Option, Some, None, option_map, Ok}
 use Rattle.ct_value.specs.declared.ty.ColTy.{ColTy}
-use Rattle.ct_change.specs.Changelog.{Mode, retract, upsert, Rows}
+use Rattle.ct_change.specs.Changelog.{Mode, append, retract, upsert, Rows}
 use Rattle.ct_change.specs.declared.kind.Declared.{Declared}
+use Rattle.ct_change.specs.declared.kind.KindSet.{KindSet}
 use Rattle.ct_expr.specs.Expr.{Expr}
 use Rattle.ct_expr.specs.View.{expr_view}
 use Rattle.rel_clauses.specs.declared.agg.Agg.{Agg}
@@ -17,7 +18,7 @@ use Rattle.row_rules.specs.Union.{Union, union_rule, union_answer}
 use Rattle.row_rules.specs.Normalize.{Normalize, normalize_rule}
 use Rattle.row_rules.specs.Sink.{Sink, sink_rule}
 use Rattle.group_rules.specs.Grouping.{Grouping, group_rule}
-use Rattle.group_rules.specs.Fits.{part, batch}
+use Rattle.group_rules.specs.Fits.{part, batch, has_more_than_inserts}
 use Rattle.join_rules.specs.Joining.{Shape, joins, matched, Joining, joined_answer, join_rule}
 use Rattle.topn_rules.specs.Ranking.{Ranking, topn_rule}
 use Rattle.phys_plan.specs.declared.edge.Edge.{Edge as PlanEdge}
@@ -28,7 +29,7 @@ use Rattle.phys_plan.specs.declared.node.Op.TheVariants as op
 use Rattle.phys_plan.specs.declared.node.Node.{Node}
 use Rattle.phys_plan.specs.declared.plan.Plan.{Plan}
 use Rattle.stream_model.specs.Network.{Network}
-use Rattle.plan_network.specs.Plans.{Doing, numbered, network_of}
+use Rattle.plan_network.specs.Plans.{Doing, kinds_in, network_of, no_kinds, numbered}
 use Rattle.plan_rules.specs.Columns.{columns_at}
 
 -- the key of an after-only edge
@@ -37,20 +38,28 @@ after_key Absent = None
 after_key (After columns) = Some columns
 after_key Both = None
 
--- the mode in which the changes of an edge are written
+-- the mode in which a node writes the changes of its edge
 abbrev pub mode_told : Update → Mode
 mode_told Absent = retract
 mode_told (After columns) = upsert columns
 mode_told Both = retract
 
--- an input: how it tells updates, and its columns
+-- the mode in which a consumer reads them: where inserts alone come, nothing is ever taken back
+abbrev pub mode_read : KindSet → Update → Mode
+mode_read kinds Absent = cond (has_more_than_inserts kinds) retract append
+mode_read kinds (After columns) = upsert columns
+mode_read kinds Both = retract
+
+-- an input: the kinds that come, how updates are told, and its columns
 pub record Side : Type 0 where
+  pub kinds : KindSet
   pub input : Update
   pub columns : List ColTy
 
--- what is around a node: how its first input tells updates and how it does itself, the columns of its first input, its other
--- inputs, how many inputs it has, and what the sink's table is declared as
+-- what is around a node: the kinds that its first input carries, how that tells updates and how the node does itself, the columns
+-- of its first input, its other inputs, how many inputs it has, and what the sink's table is declared as
 pub record Around : Type 0 where
+  pub kinds : KindSet
   pub input : Update
   pub own : Update
   pub columns : List ColTy
@@ -60,7 +69,7 @@ pub record Around : Type 0 where
 
 -- the second input; one that isn't there has no columns
 abbrev pub first_side : List Side → Side
-first_side [] = record { input = Both; columns = [] }
+first_side [] = record { kinds = no_kinds; input = Both; columns = [] }
 first_side (side ∷ sides) = side
 
 abbrev pub second : Around → Side
@@ -91,7 +100,7 @@ abbrev pub normalize_of : List ℕ → Around → Normalize
 normalize_of key around = record { key = key; output = mode_told around.own }
 
 abbrev pub grouping_of : ℕ → List Agg → Around → Grouping
-grouping_of keys aggs around = record { keys = keys; aggs = aggs; columns = around.columns; input = mode_told around.input; output = mode_told around.own }
+grouping_of keys aggs around = record { keys = keys; aggs = aggs; columns = around.columns; input = mode_read around.kinds around.input; output = mode_told around.own }
 
 abbrev pub joining_of : Shape → List Pair → Option Expr → Around → Joining
 joining_of shape on rest around = record {
@@ -100,8 +109,8 @@ joining_of shape on rest around = record {
   rest = rest;
   left_columns = around.columns;
   right_columns = (second around).columns;
-  left = mode_told around.input;
-  right = mode_told (second around).input;
+  left = mode_read around.kinds around.input;
+  right = mode_read (second around).kinds (second around).input;
 }
 
 -- a join is out of range at a joined row: the left's columns, then the right's
@@ -115,7 +124,7 @@ ranking_of partition order bound ranked around = record {
   bound = bound;
   ranked = ranked;
   columns = around.columns;
-  input = mode_told around.input;
+  input = mode_read around.kinds around.input;
   output = mode_told around.own;
 }
 
@@ -166,10 +175,11 @@ other_inputs [] = []
 other_inputs (input ∷ inputs) = inputs
 
 abbrev pub side_of : Plan → ℕ → Side
-side_of plan input = record { input = update_in (numbered plan.edges input); columns = columns_at plan.sources plan.nodes input }
+side_of plan input = record { kinds = kinds_in (numbered plan.edges input); input = update_in (numbered plan.edges input); columns = columns_at plan.sources plan.nodes input }
 
 abbrev pub around_of : Plan → ℕ → List ℕ → Around
 around_of plan v inputs = record {
+  kinds = kinds_in (numbered plan.edges (first_input inputs));
   input = update_in (numbered plan.edges (first_input inputs));
   own = update_in (numbered plan.edges v);
   columns = columns_at plan.sources plan.nodes (first_input inputs);

@@ -12,8 +12,8 @@ use Rattle.phys_plan.specs.declared.node.Op.{Op}
 use Rattle.phys_plan.specs.declared.node.Op.TheVariants as op
 use Rattle.phys_plan.specs.declared.plan.Plan.{Plan}
 use Rattle.stream_model.specs.Network.{Network, task}
-use Rattle.plan_network.specs.Plans.{Doing, inputs_in, numbered, scan_of}
-use Rattle.plan_rules.specs.Doings.{Around, around_of, doing_by, doing_in, first_input, mode_told, network, rule_by, second, update_in}
+use Rattle.plan_network.specs.Plans.{Doing, inputs_in, kinds_in, numbered, scan_of}
+use Rattle.plan_rules.specs.Doings.{Around, around_of, doing_by, doing_in, first_input, mode_read, network, rule_by, second, update_in}
 use Rattle.session_open.specs.Opening.{IsMade}
 use Rattle.session_nodes.specs.Running.{IsBuilt, IsBuiltPlan, IsOperatorOf, range_types_by, second_input}
 
@@ -80,8 +80,10 @@ others_of plan columns g v [] built = built.columns_are 0
 others_of plan columns g v (first ∷ []) built = built.columns_are 0
 others_of plan columns g v (first ∷ (other ∷ others)) built = built.columns_are other
 
--- the mode of its edge
-pub other_mode : (plan : Plan) (v : ℕ) (inputs : List ℕ) → mode_told (update_in (numbered plan.edges (second_input inputs))) ≡ mode_told (second (around_of plan v inputs)).input
+-- the mode in which its edge is read
+pub other_mode : (plan : Plan) (v : ℕ) (inputs : List ℕ)
+    → mode_read (kinds_in (numbered plan.edges (second_input inputs))) (update_in (numbered plan.edges (second_input inputs)))
+    ≡ mode_read (second (around_of plan v inputs)).kinds (second (around_of plan v inputs)).input
 other_mode plan v [] = refl
 other_mode plan v (first ∷ []) = refl
 other_mode plan v (first ∷ (other ∷ others)) = refl

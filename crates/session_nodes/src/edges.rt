@@ -1,11 +1,13 @@
 ghost use Rattle.std.specs.Prelude.{◌≡◌, IfOk, option_copied};
-ghost use Rattle.plan_network.specs.Plans.{numbered};
-ghost use Rattle.plan_rules.specs.Doings.{after_key, first_input, mode_told, update_in};
+ghost use Rattle.ct_change.specs.Changelog.{upsert};
+ghost use Rattle.plan_network.specs.Plans.{kinds_in, numbered};
+ghost use Rattle.phys_plan.specs.declared.edge.Update.TheVariants.{Absent};
+ghost use Rattle.plan_rules.specs.Doings.{after_key, first_input, mode_read, mode_told, update_in};
 ghost use Rattle.session_nodes.specs.Modes.{mode_in};
 
 use crate::AnyMode;
 use crate::numbers::first_of;
-use ct_change::UpsertBy;
+use ct_change::{KindSet, UpsertBy};
 use ct_value::{Cols, Memory, Numbers};
 use phys_plan::{Edge, Plan, Update};
 use std::alloc::Global;
@@ -41,26 +43,60 @@ fn key_of(update: &Update) -> Result<Option<Cols>, Memory>
     }
 }
 
-// The mode in which the changes of the edge of a number are written.
-pub(crate) fn mode_at(alloc: Global, plan: &Plan, number: u32) -> Result<AnyMode, Memory>
+// The mode in which the node of a number writes its changes.
+pub(crate) fn written_at(alloc: Global, plan: &Plan, number: u32) -> Result<AnyMode, Memory>
     ensures { IfOk result (λ mode. mode_in mode ≡ mode_told (update_in (numbered plan.now.edges number))) }
 {
     match edge_at(plan, number) {
         None => Ok(AnyMode::Retract),
-        Some(edge) => mode_by(alloc, &edge.update),
+        Some(edge) => written_by(alloc, &edge.update),
     }
 }
 
-// The mode of an edge that tells updates so.
-fn mode_by(alloc: Global, update: &Update) -> Result<AnyMode, Memory>
+// The mode in which the changes of the edge of a number are read.
+pub(crate) fn read_at(alloc: Global, plan: &Plan, number: u32) -> Result<AnyMode, Memory>
+    ensures { IfOk result (λ mode. mode_in mode ≡ mode_read (kinds_in (numbered plan.now.edges number)) (update_in (numbered plan.now.edges number))) }
+{
+    match edge_at(plan, number) {
+        None => Ok(AnyMode::Retract),
+        Some(edge) => read_by(alloc, edge.kinds, &edge.update),
+    }
+}
+
+fn written_by(alloc: Global, update: &Update) -> Result<AnyMode, Memory>
     ensures { IfOk result (λ mode. mode_in mode ≡ mode_told update.now) }
 {
     match update {
         Update::Absent => Ok(AnyMode::Retract),
-        Update::After(columns) => Ok(AnyMode::UpsertBy(UpsertBy {
-            alloc,
-            key: columns.dup()?,
-        })),
+        Update::After(columns) => upsert_by(alloc, columns),
         Update::Both => Ok(AnyMode::Retract),
     }
+}
+
+fn read_by(alloc: Global, kinds: KindSet, update: &Update) -> Result<AnyMode, Memory>
+    ensures { IfOk result (λ mode. mode_in mode ≡ mode_read kinds update.now) }
+{
+    match update {
+        Update::Absent => Ok(read_whole(kinds)),
+        Update::After(columns) => upsert_by(alloc, columns),
+        Update::Both => Ok(AnyMode::Retract),
+    }
+}
+
+// Of an edge without updates.
+fn read_whole(kinds: KindSet) -> AnyMode
+    ensures { mode_in result ≡ mode_read kinds Absent }
+{
+    if kinds.ub || kinds.ua || kinds.d {
+        AnyMode::Retract
+    } else {
+        AnyMode::Append
+    }
+}
+
+fn upsert_by(alloc: Global, columns: &Cols) -> Result<AnyMode, Memory>
+    ensures { IfOk result (λ mode. mode_in mode ≡ upsert columns.now) }
+{
+    let key = columns.dup()?;
+    Ok(AnyMode::UpsertBy(UpsertBy { alloc, key }))
 }

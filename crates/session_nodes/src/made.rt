@@ -13,7 +13,7 @@ ghost use Rattle.plan_rules.specs.Doings.{after_key, around_of, first_input, sec
 ghost use Rattle.session_nodes.specs.Modes.{mode_in};
 ghost use Rattle.session_nodes.specs.Running.{IsBuilt, IsBuiltPlan, IsNew, IsOperatorOf, second_input};
 
-use crate::edges::{after_of, mode_at};
+use crate::edges::{after_of, written_at};
 use crate::inputs::{Input, both_inputs, only_input};
 use crate::numbers::{count_of, node_at};
 use crate::types::range_types_of;
@@ -78,12 +78,12 @@ fn operator_of(
         Op::Project { items } => Ok(Some(project_to(alloc, plan, &node.inputs, items)?)),
         Op::Union => Ok(Some(union_of(alloc, &node.inputs)?)),
         Op::Normalize { key } => {
-            let own = mode_at(alloc, plan, number)?;
+            let own = written_at(alloc, plan, number)?;
             Ok(Some(normalize_by(alloc, key, own)?))
         }
         Op::Group { keys, aggs } => {
             let input = only_input(alloc, plan, columns, &node.inputs)?;
-            let own = mode_at(alloc, plan, number)?;
+            let own = written_at(alloc, plan, number)?;
             Ok(Some(group_by(alloc, input, own, *keys, aggs)?))
         }
         Op::Join { kind, on, rest } => {
@@ -101,7 +101,7 @@ fn operator_of(
             ranked,
         } => {
             let input = only_input(alloc, plan, columns, &node.inputs)?;
-            let own = mode_at(alloc, plan, number)?;
+            let own = written_at(alloc, plan, number)?;
             let made = top_by(alloc, input, own, partition, order, *bound, *ranked)?;
             Ok(Some(made))
         }

@@ -1,11 +1,13 @@
 use ct_change::{
-    Change, ChangeMode, Changes, Diff, InMode, Kind, LastRows, OutMode, Retract, UpsertBy,
+    Append, Change, ChangeMode, Changes, Diff, InMode, Kind, LastRows, OutMode, Retract, UpsertBy,
 };
 use ct_value::{Memory, Row};
 
-/// The mode of an edge, which is known when the job opens: both rows of an update are told, or the new row alone by a key.
+/// The mode of an edge, which is known when the job opens: inserts alone come, or both rows of an update are told, or the new
+/// row alone by a key.
 #[derive(Drop)]
 pub enum AnyMode {
+    Append,
     Retract,
     UpsertBy(UpsertBy),
 }
@@ -24,6 +26,7 @@ impl ChangeMode for AnyMode {
 
     fn admits(&self, kind: Kind) -> bool {
         match self {
+            AnyMode::Append => Append.admits(kind),
             AnyMode::Retract => Retract.admits(kind),
             AnyMode::UpsertBy(by) => by.admits(kind),
         }
@@ -40,6 +43,7 @@ impl InMode for AnyMode {
 
     fn fresh(&self) -> Result<AnyKept, Memory> {
         match self {
+            AnyMode::Append => Ok(AnyKept::Nothing),
             AnyMode::Retract => Ok(AnyKept::Nothing),
             AnyMode::UpsertBy(by) => Ok(AnyKept::LastRows(by.fresh()?)),
         }
@@ -47,6 +51,7 @@ impl InMode for AnyMode {
 
     fn absorb(&self, kept: &mut AnyKept, change: Change) -> Result<Diff, Memory> {
         match (self, kept) {
+            (AnyMode::Append, AnyKept::Nothing) => Append.absorb(&mut (), change),
             (AnyMode::Retract, AnyKept::Nothing) => Retract.absorb(&mut (), change),
             (AnyMode::UpsertBy(by), AnyKept::LastRows(rows)) => by.absorb(rows, change),
             _ => unreachable!(),
@@ -57,6 +62,7 @@ impl InMode for AnyMode {
 impl OutMode for AnyMode {
     fn emit(&self, old: Option<Row>, fresh: Option<Row>, to: &mut Changes) -> Result<(), Memory> {
         match self {
+            AnyMode::Append => Append.emit(old, fresh, to),
             AnyMode::Retract => Retract.emit(old, fresh, to),
             AnyMode::UpsertBy(by) => by.emit(old, fresh, to),
         }

@@ -68,10 +68,11 @@ doing_by_seen _ around = refl
 module _ (plan : Plan) where
   around_seen : (v : ℕ) (inputs : List ℕ) → around_of (plan_as_seen plan) v inputs ≡ around_of plan v inputs
   around_seen v inputs = λ i. record {
+    kinds = kinds_in (numbered plan.edges (first_input inputs));
     input = update_in (numbered plan.edges (first_input inputs));
     own = update_in (numbered plan.edges v);
     columns = columns_seen plan.sources plan.nodes i (first_input inputs);
-    others = map (λ input. record { input = update_in (numbered plan.edges input); columns = columns_seen plan.sources plan.nodes i input }) (other_inputs inputs);
+    others = map (λ input. record { kinds = kinds_in (numbered plan.edges input); input = update_in (numbered plan.edges input); columns = columns_seen plan.sources plan.nodes i input }) (other_inputs inputs);
     inputs = length inputs;
     declared = plan.sink.mode;
   }

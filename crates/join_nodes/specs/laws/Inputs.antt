@@ -3,11 +3,11 @@ use Rattle.std.specs.Prelude.{◌≡◌, ℕ, ◌<◌, List, length}
 use Rattle.std.proofs.Common.{true, refl, sym, ap, subst, ◌∙◌, Some}
 use Rattle.std.specs.List.{AllByRecursion}
 use Rattle.ct_value.specs.declared.row.Row.{Row}
-use Rattle.ct_change.specs.Changelog.{HasKey, has}
+use Rattle.ct_change.specs.Changelog.{HasKey, Mode, admits, has}
 use Rattle.ct_catalog.specs.declared.table.TableDef.{TableDef}
 use Rattle.rel_clauses.specs.Clauses.{Fits}
 use Rattle.rel_clauses.specs.laws.Fits.{fits-length}
-use Rattle.op_rules.specs.Edges.{IsKeyedBy, KeepsKeys, hash, last_rows, meaning_of}
+use Rattle.op_rules.specs.Edges.{IsKeyedBy, KeepsKeys, hash, last_rows}
 use Rattle.join_rules.specs.Fits.{SaysUpdates, SideFits}
 use Rattle.phys_plan.specs.declared.edge.Exchange.TheVariants.{Hash}
 use Rattle.phys_plan.specs.declared.edge.Update.{Update}
@@ -20,18 +20,14 @@ use Rattle.mode_infer.specs.Modes.{edge_kinds}
 use Rattle.mode_infer.specs.Updates.{takes}
 use Rattle.plan_inferred.specs.Rules.{by_columns}
 use Rattle.plan_network.specs.Plans.{exchange_of, meaning_by, route_by}
-use Rattle.plan_rules.specs.Doings.{mode_told}
+use Rattle.plan_rules.specs.Doings.{mode_read}
+use Rattle.plan_rules.specs.laws.Reading.{meaning_read, of_no_updates}
 use Rattle.plan_nodes.specs.Agrees.{IsAsked}
 use Rattle.plan_nodes.specs.Outputs.{Output, edge_of}
 use Rattle.key_laws.specs.laws.Sets.{lies_within}
 use Rattle.join_nodes.specs.Fits.{EdgesAreKeyed}
 use Rattle.join_nodes.specs.laws.Kinds.{are_admitted, of_asked}
 use Rattle.join_nodes.specs.laws.Routes.{routed}
-
-pub reads_told : (update : Update) → meaning_by update ≡ meaning_of (mode_told update)
-reads_told Absent = refl
-reads_told (After columns) = refl
-reads_told Both = refl
 
 -- ---- an input that is asked for by columns
 
@@ -46,24 +42,30 @@ module _ (many : ℕ) (some : 0 < many) (sink : TableDef) (o : Op) (own : Update
   pub route_is : (key : Row) → route_by many input.columns (exchange_of input.edge.exchange) key ≡ route_by many input.columns (hash columns) key
   route_is key = ap (λ x. route_by many input.columns x key) hashed
 
+  -- the mode in which it is read
+  abbrev pub mode : Mode
+  mode = mode_read input.edge.kinds input.edge.update
+
   -- where new rows come alone, there are some
-  updates : SaysUpdates (mode_told input.edge.update) input.edge.kinds
+  updates : SaysUpdates mode input.edge.kinds
   updates =
-      subst (λ kinds. SaysUpdates (mode_told input.edge.update) kinds) (sym is_asked.carries)
-      (of_asked (λ update. SaysUpdates (mode_told update) (edge_kinds input.sent update)) sink o own port input is_asked tt tt (λ key is told taken. told))
+      subst (λ kinds. SaysUpdates (mode_read kinds input.edge.update) kinds) (sym is_asked.carries)
+      (of_asked (λ update. SaysUpdates (mode_read (edge_kinds input.sent update) update) (edge_kinds input.sent update)) sink o own port input is_asked
+      (of_no_updates (λ mode. SaysUpdates mode input.sent) input.sent tt tt) tt (λ key is told taken. told))
 
   -- and each has the columns by which they tell what they replace
-  has_key : (row : Row) → Fits input.columns row → HasKey (mode_told input.edge.update) row
+  has_key : (row : Row) → Fits input.columns row → HasKey mode row
   has_key row h =
-      of_asked (λ update. HasKey (mode_told update) row) sink o own port input is_asked tt tt
+      of_asked (λ update. HasKey (mode_read input.edge.kinds update) row) sink o own port input is_asked (of_no_updates (λ mode. HasKey mode row) input.edge.kinds tt tt) tt
       (λ key is told taken. subst (λ n. AllByRecursion (λ column. column < n) key) (sym (fits-length input.columns row h)) (is_asked.proper.update_key key is))
 
-  pub input_fits : SideFits many (mode_told input.edge.update) input.columns columns (edge_of many input)
+  pub input_fits : SideFits many mode input.columns columns (edge_of many input)
   input_fits = record {
-    reads = reads_told input.edge.update;
+    reads = meaning_read input.edge.kinds input.edge.update;
     hashed = hashed;
     routed = λ key. subst (λ n. n < many) (sym (route_is key)) (routed many some input.columns columns key);
-    kinds = λ kind h. are_admitted input.sent input.edge.update kind (subst (λ kinds. has kinds kind ≡ true) is_asked.carries h);
+    kinds = λ kind h.
+        subst (λ kinds. admits (mode_read kinds input.edge.update) kind ≡ true) (sym is_asked.carries) (are_admitted input.sent input.edge.update kind (subst (λ kinds. has kinds kind ≡ true) is_asked.carries h));
     updates = updates;
     fits = λ change h. h;
     keyed = λ change h. has_key change.row h;
@@ -71,8 +73,10 @@ module _ (many : ℕ) (some : 0 < many) (sink : TableDef) (o : Op) (own : Update
   }
 
   -- where the consumer takes new rows alone by keys that have the columns, rows of one key agree on them
-  pub keeps : ((key : List ℕ) → takes sink o port own key ≡ true → is_within columns key ≡ true) → KeepsKeys (mode_told input.edge.update) columns
-  keeps within = of_asked (λ update. KeepsKeys (mode_told update) columns) sink o own port input is_asked tt tt (λ key is told taken. lies_within columns key (within key taken))
+  pub keeps : ((key : List ℕ) → takes sink o port own key ≡ true → is_within columns key ≡ true) → KeepsKeys mode columns
+  keeps within =
+      of_asked (λ update. KeepsKeys (mode_read input.edge.kinds update) columns) sink o own port input is_asked (of_no_updates (λ mode. KeepsKeys mode columns) input.edge.kinds tt tt) tt
+      (λ key is told taken. lies_within columns key (within key taken))
 
 -- ---- each key in one channel
 

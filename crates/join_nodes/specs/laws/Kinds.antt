@@ -1,7 +1,7 @@
 -- How an edge tells updates, and the kinds that it carries.
 use Rattle.std.specs.Prelude.{◌≡◌, ℕ, ◌⊎◌, Bool, cond, ◌&&◌, ◌||◌, List, Option}
 use Rattle.std.proofs.Common.{true, false, refl, sym, subst, ◌∙◌, inl, inr, ⊎_elim, Some, None}
-use Rattle.ct_change.specs.Changelog.{admits, has, retract}
+use Rattle.ct_change.specs.Changelog.{admits, has}
 use Rattle.ct_change.specs.declared.kind.Kind.{Kind}
 use Rattle.ct_change.specs.declared.kind.Kind.TheVariants.{I, UB, UA, D}
 use Rattle.ct_change.specs.declared.kind.KindSet.{KindSet}
@@ -13,7 +13,8 @@ use Rattle.join_rules.specs.Fits.{kinds_by}
 use Rattle.phys_plan.specs.declared.edge.Update.{Update}
 use Rattle.phys_plan.specs.declared.edge.Update.TheVariants.{Absent, After, Both}
 use Rattle.phys_plan.specs.declared.node.Op.{Op}
-use Rattle.plan_rules.specs.Doings.{mode_told}
+use Rattle.plan_rules.specs.Doings.{mode_read}
+use Rattle.plan_rules.specs.laws.Reading.{kinds_read, retract_admits}
 use Rattle.mode_infer.specs.Kinds.{either, has_more, inserts, join_kinds, semi_kinds, with_old}
 use Rattle.mode_infer.specs.Modes.{edge_kinds}
 use Rattle.mode_infer.specs.Updates.{in_full, takes, told}
@@ -60,21 +61,14 @@ are_sent sent (After columns) UA h = h
 are_sent sent (After columns) D h = h
 are_sent sent Both kind h = h
 
--- every kind belongs to a mode with old rows
-all_admitted : (kind : Kind) → admits retract kind ≡ true
-all_admitted I = refl
-all_admitted UB = refl
-all_admitted UA = refl
-all_admitted D = refl
-
--- nothing that doesn't belong to its mode
-pub are_admitted : (sent : KindSet) (update : Update) (kind : Kind) → has (edge_kinds sent update) kind ≡ true → admits (mode_told update) kind ≡ true
-are_admitted sent Absent kind h = all_admitted kind
+-- nothing that doesn't belong to the mode in which it is read
+pub are_admitted : (sent : KindSet) (update : Update) (kind : Kind) → has (edge_kinds sent update) kind ≡ true → admits (mode_read (edge_kinds sent update) update) kind ≡ true
+are_admitted sent Absent kind h = kinds_read sent kind h
 are_admitted sent (After columns) I h = refl
 are_admitted sent (After columns) UB h = absurd (cc)
 are_admitted sent (After columns) UA h = refl
 are_admitted sent (After columns) D h = refl
-are_admitted sent Both kind h = all_admitted kind
+are_admitted sent Both kind h = retract_admits kind
 
 -- ---- choices
 

@@ -28,7 +28,8 @@ use Rattle.upsert_keys.specs.Keys.{top_keys}
 use Rattle.upsert_keys.specs.Seen.{everywhere, families}
 use Rattle.mode_infer.specs.Kinds.{has_more, kind_set, top_kinds}
 use Rattle.mode_infer.specs.Modes.{edge_kinds}
-use Rattle.plan_rules.specs.Doings.{mode_told, ranking_of}
+use Rattle.plan_rules.specs.Doings.{mode_read, mode_told, ranking_of}
+use Rattle.plan_rules.specs.laws.Reading.{meaning_told}
 use Rattle.plan_nodes.specs.Agrees.{Agrees, IsAsked}
 use Rattle.plan_nodes.specs.Outputs.{AreWithin, IsProper, Output, around_by, edge_of}
 use Rattle.key_laws.specs.laws.Families.{each_family, of_family}
@@ -37,7 +38,7 @@ use Rattle.key_laws.specs.laws.Seen.{everywhere_within, seen_hashed, seen_over_a
 use Rattle.key_laws.specs.laws.Sets.{lies_in_set}
 use Rattle.key_laws.specs.laws.Widths.{each_appended, each_wider, set_within, wider}
 use Rattle.join_nodes.specs.Fits.{TopNsFit}
-use Rattle.join_nodes.specs.laws.Inputs.{exchanged, input_fits, keeps, reads_told}
+use Rattle.join_nodes.specs.laws.Inputs.{exchanged, input_fits, keeps}
 use Rattle.join_nodes.specs.laws.Kinds.{more_sent, of_told}
 use Rattle.join_nodes.specs.laws.Columns.{made_if}
 use Rattle.join_nodes.specs.laws.Names.{key_of_rows, keys_are, local_sets, local_within, named, named_within, of_named, of_top_key, rank_width, ranks, top_key_within}
@@ -230,7 +231,7 @@ module _ (many : ℕ) (some : 0 < many) (sources : List TableDef) (sink : TableD
   -- ---- between the edges
 
   -- the input fits as a side of a join does
-  abbrev side : SideFits many (mode_told input.edge.update) input.columns partition (edge_of many input)
+  abbrev side : SideFits many (mode_read input.edge.kinds input.edge.update) input.columns partition (edge_of many input)
   side = input_fits many some sink top own.edge.update 0 partition input input_asked refl
 
   out_kinds : (kind : Kind) → has (output_kinds r input.edge.kinds) kind ≡ true → has own.edge.kinds kind ≡ true
@@ -249,7 +250,7 @@ module _ (many : ℕ) (some : 0 < many) (sources : List TableDef) (sink : TableD
     fits = side.fits;
     keyed = side.keyed;
     holds = side.holds;
-    writes = reads_told own.edge.update;
+    writes = meaning_told own.edge.update;
     out_kinds = out_kinds;
     out_fits = λ change h. subst (λ columns. row_fits columns change.row ≡ true) typed.1 h;
     out_holds = λ row h. subst (λ columns. row_fits columns row ≡ true) typed.1 h;

@@ -12,7 +12,7 @@ use Rattle.ct_value.specs.declared.ty.ColTy.{ColTy}
 use Rattle.ct_change.specs.declared.kind.Kind.{Kind}
 use Rattle.ct_change.specs.declared.kind.Kind.TheVariants.{I, UB, UA, D}
 use Rattle.ct_change.specs.declared.kind.KindSet.{KindSet}
-use Rattle.ct_change.specs.Changelog.{Mode, retract, has, admits, HasKey}
+use Rattle.ct_change.specs.Changelog.{Mode, append, retract, has, admits, HasKey}
 use Rattle.ct_catalog.specs.declared.table.TableDef.{TableDef}
 use Rattle.rel_clauses.specs.declared.agg.Agg.{Agg}
 use Rattle.rel_clauses.specs.Groups.{group_columns}
@@ -34,7 +34,8 @@ use Rattle.mode_infer.specs.Modes.{edge_kinds}
 use Rattle.mode_infer.specs.UpdateKeys.{group_key}
 use Rattle.mode_infer.specs.Updates.{in_full, told}
 use Rattle.plan_network.specs.Plans.{exchange_of, route_by}
-use Rattle.plan_rules.specs.Doings.{mode_told, grouping_of}
+use Rattle.plan_rules.specs.Doings.{grouping_of, mode_read, mode_told}
+use Rattle.plan_rules.specs.laws.Reading.{meaning_read, meaning_told}
 use Rattle.plan_nodes.specs.Outputs.{Output, AreWithin, IsProper, around_by, edge_of}
 use Rattle.plan_nodes.specs.Agrees.{Agrees, taken_by}
 use Rattle.key_laws.specs.laws.Sets.{lies_in_set}
@@ -42,7 +43,7 @@ use Rattle.key_laws.specs.laws.Widths.{first_within, first_columns_are, set_with
 use Rattle.row_nodes.specs.Fits.{GroupsFit}
 use Rattle.row_nodes.specs.laws.Families.{the_only, each_from_family}
 use Rattle.row_nodes.specs.laws.Inputs.{comes_by, comes_full, carries_full, routed}
-use Rattle.row_nodes.specs.laws.Updates.{mode_full, KeyIs, told_keyed, meaning_told, retract_admits}
+use Rattle.row_nodes.specs.laws.Updates.{mode_full, kinds_full_read, KeyIs, told_keyed}
 
 -- ---- the first columns
 
@@ -152,8 +153,15 @@ module _ (many : ℕ) (some : 0 < many) (sources : List TableDef) (sink : TableD
   full : input.edge.update ≡ in_full input.sent
   full = comes_full sink (op.Group keys aggs) own.edge.update 0 input agrees.inputs_asked.0 (untaken sink keys aggs own.edge.update input.update_key)
 
-  comes_retract : retract ≡ mode_told input.edge.update
-  comes_retract = sym (ap mode_told full ∙ mode_full input.sent)
+  -- so they are read as inserts or as a bag
+  abbrev mode : Mode
+  mode = mode_read input.edge.kinds input.edge.update
+
+  comes_whole : (P : Mode → Type 0) → P append → P retract → P mode
+  comes_whole P inserts whole = subst (λ update. P (mode_read input.edge.kinds update)) (sym full) (mode_full P input.edge.kinds input.sent inserts whole)
+
+  comes_kind : (kind : Kind) → has input.edge.kinds kind ≡ true → admits mode kind ≡ true
+  comes_kind kind h = subst (λ update. admits (mode_read input.edge.kinds update) kind ≡ true) (sym full) (kinds_full_read input.edge.kinds input.sent kind h)
 
   own_keyed : KeyIs (group_key keys aggs) own.edge.update
   own_keyed =
@@ -180,21 +188,21 @@ module _ (many : ℕ) (some : 0 < many) (sources : List TableDef) (sink : TableD
     sound = record {
       made = own.columns;
       typed = typed;
-      keeps = subst (KeepsGroups keys) comes_retract tt;
-      tells = tells keys aggs input.columns (mode_told input.edge.update) own.edge.update own_keyed;
+      keeps = comes_whole (KeepsGroups keys) tt tt;
+      tells = tells keys aggs input.columns mode own.edge.update own_keyed;
     };
-    reads = meaning_told input.edge.update;
+    reads = meaning_read input.edge.kinds input.edge.update;
     hashed = ap exchange_of hashed ∙ ap hash (sym (same_first keys));
     routed = λ key. routed many some input.columns input.edge.exchange key;
     home = λ e. ap (λ x. route_by many input.columns (exchange_of x) []) hashed ∙ goes_home many input.columns (first_columns keys);
-    kinds = λ kind h. subst (λ (m : Mode). admits m kind ≡ true) comes_retract (retract_admits kind);
+    kinds = comes_kind;
     fits = λ change h. h;
-    keyed = λ change h. subst (λ (m : Mode). HasKey m change.row) comes_retract tt;
+    keyed = λ change h. comes_whole (λ m. HasKey m change.row) tt tt;
     holds = λ row h. h;
     writes = meaning_told own.edge.update;
     out_kinds = λ kind h.
         subst (λ (k : KindSet). has k kind ≡ true) (sym own_kinds)
-        (leaves keys aggs input.columns (mode_told input.edge.update) own.edge.update input.sent kind
+        (leaves keys aggs input.columns mode own.edge.update input.sent kind
         (subst (λ (k : KindSet). has (output_kinds (grouping_of keys aggs (around_by sink (input ∷ []) own)) k) kind ≡ true) input_kinds h));
     out_fits = λ change h. h;
     out_holds = λ row h. h;

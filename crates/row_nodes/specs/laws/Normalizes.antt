@@ -18,13 +18,14 @@ use Rattle.mode_infer.specs.Modes.{edge_kinds}
 use Rattle.mode_infer.specs.Updates.{told}
 use Rattle.plan_network.specs.Plans.{exchange_of, meaning_by}
 use Rattle.plan_rules.specs.Doings.{mode_told, normalize_of}
+use Rattle.plan_rules.specs.laws.Reading.{meaning_told}
 use Rattle.plan_nodes.specs.Outputs.{Output, AreWithin, IsProper, around_by, edge_of}
 use Rattle.plan_nodes.specs.Agrees.{IsOrdered, NormalizeAgrees}
 use Rattle.key_laws.specs.laws.Sets.{lies_itself}
 use Rattle.row_nodes.specs.Fits.{NormalizesFit}
 use Rattle.row_nodes.specs.laws.Families.{the_only, each_from_family}
 use Rattle.row_nodes.specs.laws.Inputs.{routed}
-use Rattle.row_nodes.specs.laws.Updates.{KeyIs, told_keyed, meaning_told, columns_there}
+use Rattle.row_nodes.specs.laws.Updates.{KeyIs, told_keyed, columns_there}
 
 -- it leaves out old rows by its key alone
 tells : (key : List ℕ) → IsOrdered key → (update : Update) → KeyIs (Some (set_of key)) update → TellsKey key (mode_told update)

@@ -27,6 +27,7 @@ use Rattle.sink_ways.specs.Ways.{holds_everywhere, holds_in_answers, tells_by}
 use Rattle.plan_inferred.specs.Rules.{is_direct}
 use Rattle.plan_network.specs.Plans.{exchange_of, meaning_by, table_mode}
 use Rattle.plan_rules.specs.Doings.{after_key, sink_of}
+use Rattle.plan_rules.specs.laws.Reading.{retract_admits}
 use Rattle.plan_nodes.specs.Outputs.{Output, AreWithin, IsProper, around_by, edge_of, printed_edge}
 use Rattle.plan_nodes.specs.Agrees.{taken_by, Suits, SinkAgrees}
 use Rattle.key_laws.specs.laws.Families.{one_within}
@@ -35,7 +36,7 @@ use Rattle.key_laws.specs.laws.Sets.{lies_within, lies_same, lies_through}
 use Rattle.row_nodes.specs.Fits.{SinksFit}
 use Rattle.row_nodes.specs.laws.Families.{from_none, each_from_none}
 use Rattle.row_nodes.specs.laws.Inputs.{comes_by, comes_keyed}
-use Rattle.row_nodes.specs.laws.Updates.{meaning_full, told_untaken, meaning_after, retract_admits, kinds_admitted, mode_keyed}
+use Rattle.row_nodes.specs.laws.Updates.{meaning_full, told_untaken, meaning_after, kinds_admitted, mode_keyed}
 
 -- ---- kinds
 

@@ -6,7 +6,7 @@ use Rattle.ct_value.specs.declared.ty.ColTy.{ColTy}
 use Rattle.ct_change.specs.declared.kind.Kind.{Kind}
 use Rattle.ct_change.specs.declared.kind.Kind.TheVariants.{I, UB, UA, D}
 use Rattle.ct_change.specs.declared.kind.KindSet.{KindSet}
-use Rattle.ct_change.specs.Changelog.{retract, has, admits, HasKey}
+use Rattle.ct_change.specs.Changelog.{Mode, append, retract, has, admits, HasKey}
 use Rattle.rel_clauses.specs.Clauses.{Fits}
 use Rattle.rel_clauses.specs.laws.Fits.{fits-length}
 use Rattle.phys_plan.specs.declared.edge.Update.{Update}
@@ -16,7 +16,8 @@ use Rattle.row_rules.specs.Changes.{mode_after}
 use Rattle.mode_infer.specs.Modes.{edge_kinds}
 use Rattle.mode_infer.specs.Updates.{in_full, told}
 use Rattle.plan_network.specs.Plans.{meaning_by}
-use Rattle.plan_rules.specs.Doings.{after_key, mode_told}
+use Rattle.plan_rules.specs.Doings.{after_key, mode_read}
+use Rattle.plan_rules.specs.laws.Reading.{kinds_read, of_no_updates, retract_admits}
 use Rattle.plan_nodes.specs.Outputs.{AreWithin}
 
 -- ---- in full
@@ -25,8 +26,13 @@ use Rattle.plan_nodes.specs.Outputs.{AreWithin}
 pub meaning_full : (kinds : KindSet) → meaning_by (in_full kinds) ≡ bag
 meaning_full kinds = elim kinds.ua as (λ b. meaning_by (cond b Both Absent) ≡ bag) [ true ↦ refl | false ↦ refl ]
 
-pub mode_full : (kinds : KindSet) → mode_told (in_full kinds) ≡ retract
-mode_full kinds = elim kinds.ua as (λ b. mode_told (cond b Both Absent) ≡ retract) [ true ↦ refl | false ↦ refl ]
+-- by inserts or by both rows of an update
+pub mode_full : (P : Mode → Type 0) (kinds sent : KindSet) → P append → P retract → P (mode_read kinds (in_full sent))
+mode_full P kinds sent inserts whole = elim sent.ua as (λ b. P (mode_read kinds (cond b Both Absent))) [ true ↦ whole | false ↦ of_no_updates P kinds inserts whole ]
+
+-- and are of kinds that belong to it
+pub kinds_full_read : (kinds sent : KindSet) (kind : Kind) → has kinds kind ≡ true → admits (mode_read kinds (in_full sent)) kind ≡ true
+kinds_full_read kinds sent kind h = elim sent.ua as (λ b. admits (mode_read kinds (cond b Both Absent)) kind ≡ true) [ true ↦ retract_admits kind | false ↦ kinds_read kinds kind h ]
 
 -- and an edge in full carries all that its node sends
 pub kinds_full : (own kinds : KindSet) → edge_kinds own (in_full kinds) ≡ own
@@ -59,17 +65,6 @@ pub meaning_after : (update : Update) → meaning_by update ≡ meaning_of (mode
 meaning_after Absent = refl
 meaning_after (After key) = refl
 meaning_after Both = refl
-
-pub meaning_told : (update : Update) → meaning_by update ≡ meaning_of (mode_told update)
-meaning_told Absent = refl
-meaning_told (After key) = refl
-meaning_told Both = refl
-
-pub retract_admits : (kind : Kind) → admits retract kind ≡ true
-retract_admits I = refl
-retract_admits UB = refl
-retract_admits UA = refl
-retract_admits D = refl
 
 -- and are of kinds of its mode
 pub kinds_admitted : (kinds : KindSet) (update : Update) (kind : Kind) → has (edge_kinds kinds update) kind ≡ true → admits (mode_after (after_key update)) kind ≡ true

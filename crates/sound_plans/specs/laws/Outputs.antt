@@ -93,9 +93,13 @@ module _ (plan : Plan) where
   update_is None = refl
   update_is (Some edge) = refl
 
+  pub kinds_is : (edge : Option PlanEdge) → kinds_in edge ≡ (edge_or edge).kinds
+  kinds_is None = refl
+  kinds_is (Some edge) = refl
+
   sides : (inputs : List ℕ) → map (side_of plan) inputs ≡ map output_side (map output_at inputs)
   sides [] = refl
-  sides (input ∷ inputs) = λ i. record { input = update_is (numbered plan.edges input) i; columns = columns_at plan.sources plan.nodes input } ∷ sides inputs i
+  sides (input ∷ inputs) = λ i. record { kinds = kinds_is (numbered plan.edges input) i; input = update_is (numbered plan.edges input) i; columns = columns_at plan.sources plan.nodes input } ∷ sides inputs i
 
   many : (inputs : List ℕ) → length inputs ≡ length (map output_at inputs)
   many [] = refl
@@ -103,6 +107,7 @@ module _ (plan : Plan) where
 
   pub around_is : (v first : ℕ) (inputs : List ℕ) → around_of plan v (first ∷ inputs) ≡ around_by plan.sink (map output_at (first ∷ inputs)) (output_at v)
   around_is v first inputs = λ i. record {
+    kinds = kinds_is (numbered plan.edges first) i;
     input = update_is (numbered plan.edges first) i;
     own = update_is (numbered plan.edges v) i;
     columns = columns_at plan.sources plan.nodes first;

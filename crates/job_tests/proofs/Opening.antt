@@ -1,0 +1,31 @@
+-- A sound plan over a table of words takes words.
+use Rattle.std.proofs.Common.{◌≡◌, true, false, List, [], ◌∷◌, Some, refl, sym, ap, subst, ◌∙◌}
+use Rattle.std.specs.Prelude.{option_map, slice_get}
+use Rattle.ct_value.specs.declared.ty.ColTy.{ColTy}
+use Rattle.ct_value.specs.declared.ty.Ty.TheVariants.{Text as Texts}
+use Rattle.ct_value.specs.declared.value.Value.{Value}
+use Rattle.ct_field.specs.Typed.{row_fits}
+use Rattle.ct_catalog.specs.declared.table.TableDef.{TableDef}
+use Rattle.phys_plan.specs.declared.plan.Plan.{Plan}
+use Rattle.plan_network.specs.Plans.{table_of}
+use Rattle.plan_rules.specs.Doings.{network}
+use Rattle.sound_plans.specs.Sound.{IsRuled}
+use Rattle.stream_model.specs.Tables.{Table}
+use Rattle.job_tests.specs.Standing.{CountsWords, HasWords, TakesWords}
+
+abbrev word : ColTy
+word = record { ty = Texts; nullable = false }
+
+takes : (plan : Plan) (sources : List TableDef) → plan.sources ≡ sources → HasWords sources → TakesWords (network plan)
+takes plan [] are has = absurd has
+takes plan (source ∷ sources) are has = λ change is t told.
+    let same : option_map (table_of plan.parallelism) (slice_get (source ∷ sources) 0) ≡ Some t = ap (λ (s : List TableDef). option_map (table_of plan.parallelism) (slice_get s 0)) (sym are) ∙ told in
+    let h : table_of plan.parallelism source ≡ t = cc in
+    subst (λ (u : Table). u.fits change ≡ true) h (ap (λ (ts : List ColTy). row_fits ts change.row) has ∙ ap (λ (r : List Value). row_fits (word ∷ []) r) is.1)
+
+pub counts : (plan : Plan) → IsRuled plan → HasWords plan.sources → CountsWords plan
+counts plan ruled has = record { ruled = ruled; takes = takes plan plan.sources refl has }
+
+-- the tables of a plan, asked for by its sources
+pub has_of : (plan held : Plan) (sources : List TableDef) → plan ≡ held → sources ≡ plan.sources → HasWords sources → HasWords held.sources
+has_of plan held sources same are has = subst (λ (p : Plan). HasWords p.sources) same (subst HasWords are has)

@@ -1,0 +1,15 @@
+use Rattle.std.proofs.Common.{[], ◌∷◌, ◌++◌}
+use Rattle.stream_model.specs.Runs.{happens}
+use Rattle.stream_model.specs.declared.events.Event.TheVariants.{Take}
+use Rattle.job_tests.proofs.events.take.Goals as goal
+
+pub step-requires : goal.step-requires
+step-requires b c =
+    let s = c.requires.ready in
+    record { ready = (s.of, s.limit, s.handed, s.items, s.stands_for, s.takes c.in_ok-change.change c.in_ok-change.ensures) }
+
+pub returns-in-Ok : goal.returns-in-Ok
+returns-in-Ok b c =
+    let s = c.requires.ready in
+    let m = c.in-Ok.ensures.ok s.of s.limit s.handed s.items s.stands_for (s.takes c.in_ok-change.change c.in_ok-change.ensures) in
+    record { of = s.of; limit = s.limit; handed = s.handed; items = s.items ++ happens (Take 0 c.in_ok-change.change) ∷ []; stands_for = m.2; takes = s.takes }

@@ -1,0 +1,90 @@
+// The plans of made scripts are checked again, and each change of one thing is named by its rule.
+use crate::changes::{Change, changed};
+use crate::judging::script_of;
+use crate::made::{SCRIPTS, made};
+use ct_value::Memory;
+use job_ending::Halt;
+use job_plan::planned;
+use phys_plan::{Plan, Rule};
+use plan_check::{PlanFault, check_plan};
+use std::alloc::Global;
+
+// The plan of a made script, where it isn't refused and waits for nothing.
+fn plan_of(alloc: Global, number: usize) -> Result<Option<Plan>, Halt> {
+    let Ok(text) = made(alloc, number) else {
+        return Err(Halt::Memory);
+    };
+    let script = script_of(alloc, &text)?;
+    match planned(alloc, &script)? {
+        Some(checked) => Ok(Some(checked.into_plan())),
+        None => Ok(None),
+    }
+}
+
+// The rule that a plan breaks first, if it breaks one.
+fn broken(alloc: Global, plan: Plan) -> Result<Option<Rule>, Memory> {
+    match check_plan(alloc, plan) {
+        Ok(_) => Ok(None),
+        Err(PlanFault::Broken { rule, .. }) => Ok(Some(rule)),
+        Err(PlanFault::Memory) => Err(Memory),
+    }
+}
+
+// Whether a made plan with a change breaks this rule.
+fn breaks(alloc: Global, number: usize, change: Change, rule: Rule) -> bool {
+    match plan_of(alloc, number) {
+        Ok(Some(plan)) => match changed(alloc, plan, change) {
+            Ok(plan) => matches!(broken(alloc, plan), Ok(Some(found)) if found == rule),
+            Err(_) => false,
+        },
+        _ => false,
+    }
+}
+
+// Whether each change at a node is named by its rule.
+fn names_changes(alloc: Global, number: usize, place: usize) -> bool {
+    breaks(alloc, number, Change::Keys(place), Rule::Keys)
+        && breaks(alloc, number, Change::Kinds(place), Rule::Kinds)
+        && breaks(alloc, number, Change::Update(place), Rule::UpdateKind)
+}
+
+fn is_sound(alloc: Global, plan: Plan) -> bool {
+    matches!(broken(alloc, plan), Ok(None))
+}
+
+#[test]
+fn made_plans_are_checked_again(rt: HostRuntime) {
+    let alloc = rt.alloc();
+    let mut plans = 0u32;
+    for number in 0..SCRIPTS {
+        match plan_of(alloc, number) {
+            Ok(Some(plan)) => {
+                plans = plans.saturating_add(1);
+                assert!(rt; is_sound(alloc, plan), "script {number}");
+            }
+            Ok(None) => {}
+            Err(halt) => assert!(rt; matches!(halt, Halt::Script { .. }), "script {number}"),
+        }
+    }
+    assert!(rt; plans > 200, "{plans} plans");
+}
+
+#[test]
+fn changes_are_named_by_their_rules(rt: HostRuntime) {
+    let alloc = rt.alloc();
+    for number in 0..SCRIPTS {
+        if let Ok(Some(plan)) = plan_of(alloc, number) {
+            let nodes = plan.nodes.len();
+            assert!(rt;
+                breaks(alloc, number, Change::Subtasks, Rule::Shape),
+                "script {number}"
+            );
+            for place in 0..nodes {
+                assert!(rt;
+                    names_changes(alloc, number, place),
+                    "script {number}, place {place}"
+                );
+            }
+        }
+    }
+}

@@ -1,0 +1,34 @@
+-- Rows of two values that fit, and operators of joins of such rows.
+use Rattle.std.proofs.Common.{◌≡◌, ◌&&◌, Bool, true, false, List, [], ◌∷◌, Option, refl}
+use Rattle.ct_value.specs.declared.ty.Ty.TheVariants.{BigInt}
+use Rattle.ct_value.specs.declared.ty.ColTy.{ColTy}
+use Rattle.ct_value.specs.declared.value.Value.{Value}
+use Rattle.ct_change.specs.Changelog.{Mode}
+use Rattle.ct_expr.specs.Expr.{Expr}
+use Rattle.ct_field.specs.Typed.{value_fits, row_fits}
+use Rattle.rel_clauses.specs.declared.join.Pair.{Pair}
+use Rattle.op_rules.specs.Rules.{Rule}
+use Rattle.join_rules.specs.Joining.{Shape, join_rule}
+use Rattle.op_tests.specs.declared.join_feed.Reads.{Reads}
+use Rattle.op_tests.specs.JoinFed.{IsOfRows, mode_of}
+use Rattle.op_tests.specs.JoinTables.{columns}
+
+two : (a b : Bool) → a ≡ true → b ≡ true → ((a && true) && ((b && true) && true)) ≡ true
+two true true p q = refl
+two false b p q = p
+two true false p q = q
+
+pub two_fit : (first second : Value) → value_fits BigInt first ≡ true → value_fits BigInt second ≡ true → row_fits columns (first ∷ second ∷ []) ≡ true
+two_fit first second p q = two (value_fits BigInt first) (value_fits BigInt second) p q
+
+pub of_rows : (rule : Rule) (shape : Shape) (on : List Pair) (rest : Option Expr) (lefts rights : List ColTy) (left_mode right_mode : Mode) (left right : Reads)
+    → rule ≡ join_rule (record { shape = shape; on = on; rest = rest; left_columns = lefts; right_columns = rights; left = left_mode; right = right_mode })
+    → left_mode ≡ mode_of left → right_mode ≡ mode_of right → lefts ≡ columns → rights ≡ columns → IsOfRows rule left right
+of_rows rule shape on rest lefts rights left_mode right_mode left right is l r e f = record {
+  joining = record { shape = shape; on = on; rest = rest; left_columns = lefts; right_columns = rights; left = left_mode; right = right_mode };
+  is = is;
+  left_mode = l;
+  right_mode = r;
+  left_columns_are = e;
+  right_columns_are = f;
+}

@@ -1,0 +1,147 @@
+ghost use Rattle.std.specs.Prelude.{◌≡◌, ◌∷◌, [], true, false, IfOk};
+ghost use Rattle.ct_field.specs.Typed.{col_fits, value_fits, row_fits};
+ghost use Rattle.op_tests.specs.GroupTables.{columns, on, five_calls, count_calls, all_calls};
+
+use ct_change::{Change, Kind};
+use ct_field::in_range;
+use ct_value::{ColTy, ColTys, Memory, Row, Ty, Value, Values};
+use rel_clauses::{Agg, AggCall, Aggs};
+use std::alloc::Global;
+
+/// A change of a row with an id, a number, whether it is to be kept, and a price in hundredths.
+#[derive(Clone, Copy, Debug)]
+pub struct Step {
+    pub kind: Kind,
+    pub id: i64,
+    pub n: Option<i64>,
+    pub keep: Option<bool>,
+    pub price: Option<i32>,
+}
+
+fn id_value(id: i64) -> Value
+    ensures { col_fits (record { ty = Ty.BigInt; nullable = false }) result ≡ true }
+{
+    let id = i128::from(id);
+    if in_range(Ty::BigInt, id) {
+        Value::Num(id)
+    } else {
+        Value::Num(0)
+    }
+}
+
+fn number(n: Option<i64>) -> Value
+    ensures { value_fits Ty.BigInt result ≡ true }
+{
+    match n {
+        Some(n) if in_range(Ty::BigInt, i128::from(n)) => Value::Num(i128::from(n)),
+        _ => Value::Null,
+    }
+}
+
+fn truth(keep: Option<bool>) -> Value
+    ensures { value_fits Ty.Bool result ≡ true }
+{
+    match keep {
+        Some(keep) => Value::Bool(keep),
+        None => Value::Null,
+    }
+}
+
+fn money(price: Option<i32>) -> Value
+    ensures { value_fits (Ty.Decimal 10 2) result ≡ true }
+{
+    match price {
+        Some(price) if in_range(Ty::Decimal { p: 10, s: 2 }, i128::from(price)) => {
+            Value::Num(i128::from(price))
+        }
+        _ => Value::Null,
+    }
+}
+
+/// The change of a step.
+#[tactic(auto, using(crate::proofs::GroupFitting::four_fit))]
+pub fn change_of(alloc: Global, step: Step) -> Result<Change, Memory>
+    ensures kind { IfOk result (λ change. change.kind ≡ step.kind) }
+    ensures fits { IfOk result (λ change. row_fits columns change.row ≡ true) }
+{
+    let mut values = Values::with_capacity(alloc, 4)?;
+    values.push(id_value(step.id))?;
+    values.push(number(step.n))?;
+    values.push(truth(step.keep))?;
+    values.push(money(step.price))?;
+    Ok(Change::new(step.kind, Row::from_values(values)))
+}
+
+/// The types of the rows' columns.
+pub fn row_columns(alloc: Global) -> Result<ColTys, Memory>
+    ensures { IfOk result (λ tys. tys ≡ columns) }
+{
+    let mut tys = ColTys::with_capacity(alloc, 4)?;
+    tys.push(column(Ty::BigInt, false))?;
+    tys.push(column(Ty::BigInt, true))?;
+    tys.push(column(Ty::Bool, true))?;
+    tys.push(column(Ty::Decimal { p: 10, s: 2 }, true))?;
+    Ok(tys)
+}
+
+fn column(ty: Ty, nullable: bool) -> ColTy
+    ensures { result ≡ record { ty = ty; nullable = nullable } }
+{
+    ColTy { ty, nullable }
+}
+
+fn on(call: AggCall, column: u32) -> Agg
+    ensures { result ≡ on call column }
+{
+    Agg {
+        call,
+        arg: Some(column),
+        filter: None,
+    }
+}
+
+/// `SUM(n)`, `AVG(n)`, `COUNT(DISTINCT n)`, `MIN(n)`, `MAX(n)`.
+pub fn five(alloc: Global) -> Result<Aggs, Memory>
+    ensures { IfOk result (λ aggs. aggs ≡ five_calls) }
+{
+    let mut aggs = Aggs::with_capacity(alloc, 5)?;
+    aggs.push(on(AggCall::Sum, 1))?;
+    aggs.push(on(AggCall::Avg, 1))?;
+    aggs.push(on(AggCall::CountDistinct, 1))?;
+    aggs.push(on(AggCall::Min, 1))?;
+    aggs.push(on(AggCall::Max, 1))?;
+    Ok(aggs)
+}
+
+/// `COUNT(*)`, `COUNT(n)`, `COUNT(DISTINCT n)`, `SUM(n)`, `AVG(n)`, `MIN(n)`, `MAX(n)`, `SUM(n) FILTER (WHERE keep)`,
+/// `AVG(price)`.
+pub fn all(alloc: Global) -> Result<Aggs, Memory>
+    ensures { IfOk result (λ aggs. aggs ≡ all_calls) }
+{
+    let mut aggs = counts(alloc)?;
+    aggs.push(on(AggCall::Sum, 1))?;
+    aggs.push(on(AggCall::Avg, 1))?;
+    aggs.push(on(AggCall::Min, 1))?;
+    aggs.push(on(AggCall::Max, 1))?;
+    aggs.push(Agg {
+        call: AggCall::Sum,
+        arg: Some(1),
+        filter: Some(2),
+    })?;
+    aggs.push(on(AggCall::Avg, 3))?;
+    Ok(aggs)
+}
+
+fn counts(alloc: Global) -> Result<Aggs, Memory>
+    ensures { IfOk result (λ aggs. aggs ≡ count_calls) }
+{
+    let mut aggs = Aggs::with_capacity(alloc, 9)?;
+    aggs.push(Agg {
+        call: AggCall::CountAll,
+        arg: None,
+        filter: None,
+    })?;
+    aggs.push(on(AggCall::Count, 1))?;
+    aggs.push(on(AggCall::CountDistinct, 1))?;
+    Ok(aggs)
+}

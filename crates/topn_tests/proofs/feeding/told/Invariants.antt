@@ -1,7 +1,0 @@
-use Rattle.std.proofs.Common.{◌≡◌, false}
-use Rattle.topn_tests.specs.Fed.{IsFed}
-use Rattle.topn_tests.specs.Tables.{mode_of}
-use Rattle.topn_tests.proofs.feeding.told.Given as goal
-
-abbrev pub invariant-loop-step : goal.invariant-loop-step
-invariant-loop-step g l = (g.O.Operator.broken l.operator ≡ false) × IsFed (mode_of l.reads) (g.O.Operator.rule l.operator) (g.O.Operator.stands_for l.operator) l.standing l.taken
