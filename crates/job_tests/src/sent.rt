@@ -1,24 +1,45 @@
 // A run that may send few changes.
+ghost use Rattle.std.specs.Prelude.{IfOk};
+ghost use Rattle.plan_check.specs.Checked.{plan_in};
+ghost use Rattle.sound_plans.specs.Sound.{IsRuled};
+
 use crate::judging::{bytes_of, script_of};
 use crate::scripts::{COUNT_APPEND, KEEPS_NOTHING};
 use ct_io::SureSink;
 use job_ending::{Halt, LimitName};
 use job_plan::runnable;
 use job_stream::stream_within;
+use phys_plan::Plan;
+use plan_check::CheckedPlan;
 use std::alloc::Global;
 
-// Runs a script over the lines of a text, where so many changes are sent at most.
-fn runs_within(alloc: Global, script: &str, changes: &str, sent_limit: u32) -> Result<(), Halt> {
-    let script = script_of(alloc, &bytes_of(alloc, script)?)?;
-    let checked = runnable(alloc, &script)?;
+// Runs a plan over the lines of a text, where so many changes are sent at most.
+fn streams_within(alloc: Global, plan: &Plan, changes: &str, sent_limit: u32) -> Result<(), Halt>
+    requires ruled { IsRuled plan.now }
+{
     let bytes = bytes_of(alloc, changes)?;
     if bytes.len() > 1000 {
         return Err(Halt::Limit(LimitName::Changes));
     }
     match SureSink::new(alloc) {
-        Ok(mut out) => stream_within(alloc, checked.plan(), bytes, sent_limit, &mut out),
+        Ok(mut out) => stream_within(alloc, plan, bytes, sent_limit, &mut out),
         Err(_) => Err(Halt::Memory),
     }
+}
+
+// The plan of a script.
+fn plan_of(alloc: Global, script: &str) -> Result<CheckedPlan, Halt>
+    ensures { IfOk result (λ checked. IsRuled (plan_in checked)) }
+{
+    let text = bytes_of(alloc, script)?;
+    let script = script_of(alloc, &text)?;
+    runnable(alloc, &script)
+}
+
+// The same of a script.
+fn runs_within(alloc: Global, script: &str, changes: &str, sent_limit: u32) -> Result<(), Halt> {
+    let checked = plan_of(alloc, script)?;
+    streams_within(alloc, checked.plan(), changes, sent_limit)
 }
 
 // Whether that stops since a change more would be sent.
