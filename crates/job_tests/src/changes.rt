@@ -1,16 +1,21 @@
 // Plans in which one thing is changed.
-use ct_change::KindSet;
-use ct_value::{Cols, List, Memory};
-use phys_plan::{Edge, Edges, KeyInfo, Node, Nodes, Plan, Update};
+use ct_catalog::{ColDef, ColDefs, TableDef};
+use ct_change::{Declared, KindSet};
+use ct_value::{ColTy, Cols, List, Memory, Ty};
+use phys_plan::{Edge, Edges, Exchange, KeyInfo, Node, Nodes, Plan, Update};
 use std::alloc::Global;
 
-/// What is changed: the subtasks, or the keys of a node, the kinds of its edge or how this tells updates, by the node's place from 0.
+/// What is changed: the subtasks, the types of the sink's columns, its mode, or the keys of a node, the kinds of its edge, how this tells
+/// updates or how it goes on, by the node's place from 0.
 #[derive(Clone, Copy, Debug)]
 pub(crate) enum Change {
     Subtasks,
+    SinkTypes,
+    SinkMode,
     Keys(usize),
     Kinds(usize),
     Update(usize),
+    Exchange(usize),
 }
 
 /// The plan with that change.
@@ -25,7 +30,7 @@ pub(crate) fn changed(alloc: Global, plan: Plan, change: Change) -> Result<Plan,
     } = plan;
     Ok(Plan {
         sources,
-        sink,
+        sink: sink_with(alloc, sink, change)?,
         nodes: nodes_with(alloc, nodes, change)?,
         edges: edges_with(alloc, edges, change)?,
         parallelism: if matches!(change, Change::Subtasks) {
@@ -35,6 +40,43 @@ pub(crate) fn changed(alloc: Global, plan: Plan, change: Change) -> Result<Plan,
         },
         mini_batch,
     })
+}
+
+fn sink_with(alloc: Global, sink: TableDef, change: Change) -> Result<TableDef, Memory> {
+    let TableDef {
+        name,
+        cols,
+        key,
+        mode,
+    } = sink;
+    let cols = match change {
+        Change::SinkTypes => truths(alloc, cols)?,
+        _ => cols,
+    };
+    let mode = match change {
+        Change::SinkMode => Declared::Append,
+        _ => mode,
+    };
+    Ok(TableDef {
+        name,
+        cols,
+        key,
+        mode,
+    })
+}
+
+// The columns as ones of BOOLEAN.
+fn truths(alloc: Global, cols: ColDefs) -> Result<ColDefs, Memory> {
+    let mut changed = List::new(alloc);
+    for column in cols.into_vec() {
+        let ColDef { name, ty } = column;
+        let ty = ColTy {
+            ty: Ty::Bool,
+            nullable: ty.nullable,
+        };
+        changed.push(ColDef { name, ty })?;
+    }
+    Ok(changed)
 }
 
 fn nodes_with(alloc: Global, nodes: Nodes, change: Change) -> Result<Nodes, Memory> {
@@ -85,6 +127,10 @@ fn edge_with(alloc: Global, edge: Edge, place: usize, change: Change) -> Result<
         kinds,
         update,
     } = edge;
+    let exchange = match change {
+        Change::Exchange(at) if at == place => other_exchange(alloc, exchange)?,
+        _ => exchange,
+    };
     let kinds = match change {
         Change::Kinds(at) if at == place => without_inserts(kinds),
         _ => kinds,
@@ -103,6 +149,17 @@ fn edge_with(alloc: Global, edge: Edge, place: usize, change: Change) -> Result<
 // Every edge carries inserts.
 fn without_inserts(kinds: KindSet) -> KindSet {
     KindSet { i: false, ..kinds }
+}
+
+fn other_exchange(alloc: Global, exchange: Exchange) -> Result<Exchange, Memory> {
+    match exchange {
+        Exchange::Forward => {
+            let mut columns = Cols::new(alloc);
+            columns.push(0)?;
+            Ok(Exchange::Hash(columns))
+        }
+        Exchange::Hash(_) => Ok(Exchange::Forward),
+    }
 }
 
 fn other_update(alloc: Global, update: Update) -> Result<Update, Memory> {

@@ -2,6 +2,7 @@
 use crate::changes::{Change, changed};
 use crate::judging::script_of;
 use crate::made::{SCRIPTS, made};
+use ct_change::Declared;
 use ct_value::Memory;
 use job_ending::Halt;
 use job_plan::planned;
@@ -48,6 +49,23 @@ fn names_changes(alloc: Global, number: usize, place: usize) -> bool {
         && breaks(alloc, number, Change::Update(place), Rule::UpdateKind)
 }
 
+// Whether the sink is a retract table to which more comes than inserts.
+fn takes_updates(plan: &Plan) -> bool {
+    match plan.edges.as_slice().last() {
+        Some(edge) => {
+            plan.sink.mode == Declared::Retract && (edge.kinds.ub || edge.kinds.ua || edge.kinds.d)
+        }
+        None => false,
+    }
+}
+
+// Whether each change at the sink is named by its rule. No consumer's keys hang on how its own edge goes on.
+fn names_sink(alloc: Global, number: usize, last: usize, updates: bool) -> bool {
+    breaks(alloc, number, Change::SinkTypes, Rule::Types)
+        && breaks(alloc, number, Change::Exchange(last), Rule::Exchanged)
+        && (!updates || breaks(alloc, number, Change::SinkMode, Rule::SinkKey))
+}
+
 fn is_sound(alloc: Global, plan: Plan) -> bool {
     matches!(broken(alloc, plan), Ok(None))
 }
@@ -75,8 +93,13 @@ fn changes_are_named_by_their_rules(rt: HostRuntime) {
     for number in 0..SCRIPTS {
         if let Ok(Some(plan)) = plan_of(alloc, number) {
             let nodes = plan.nodes.len();
+            let updates = takes_updates(&plan);
             assert!(rt;
                 breaks(alloc, number, Change::Subtasks, Rule::Shape),
+                "script {number}"
+            );
+            assert!(rt;
+                names_sink(alloc, number, nodes.saturating_sub(1), updates),
                 "script {number}"
             );
             for place in 0..nodes {
