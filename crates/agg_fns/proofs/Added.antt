@@ -5,15 +5,16 @@ use Rattle.std.specs.Prelude.{ℤ, ◌+ℤ◌}
 use Rattle.std.specs.Ordering.{eq_by_cmp}
 use Rattle.std.specs.Cmp.{Equal-is}
 use Rattle.std.proofs.lemmas.Bool.{eqb-true}
-use Rattle.ct_value.specs.Bag.{none, add, remove, copies, one_at, total-none, total-add, total-le, copies-occurs, copies-add, remove-add, add-remove, same_bag}
+use Rattle.ct_value.specs.Bag.{none, add, remove, copies, one_at}
+use Rattle.ct_value.proofs.laws.Bags.{total-none, total-add, total-le, copies-occurs, copies-add, remove-add, add-remove, same_bag}
 use Rattle.ct_value.specs.Order.{value_cmp, value_total, value_exact, number_of}
 use Rattle.ct_value.specs.declared.value.Value.{Value}
 use Rattle.ct_value.specs.declared.value.Value.TheVariants.{Null, Bool as Truth, Num, Text}
 use Rattle.ct_field.specs.Typed.{is_null}
-use Rattle.rel_clauses.specs.Sums.{add_where, distinct}
-use Rattle.rel_clauses.specs.Aggregates.{Values, size, known, sum_of}
-use Rattle.rel_clauses.specs.laws.Aggregates.{sum_of-add}
-use Rattle.rel_clauses.specs.laws.Bags.{by_items, restrict-none, restrict-add, copies-restrict, copies-distinct, distinct-none}
+use Rattle.rel_algebra.specs.Sums.{add_where, distinct}
+use Rattle.rel_algebra.specs.Aggregates.{Values, size, known, sum_of}
+use Rattle.rel_algebra.proofs.laws.Aggregates.{sum_of-add}
+use Rattle.rel_algebra.proofs.laws.Bags.{by_items, restrict-none, restrict-add, copies-restrict, copies-distinct, distinct-none}
 use Rattle.agg_fns.specs.Standing.{gained, lost}
 
 pub size_add : (values : Values) (value : Value) → size (add values value) ≡ 1 + size values

@@ -5,10 +5,11 @@ use Rattle.std.specs.declared.cmp.Ordering.TheVariants.{Less, Equal, Greater}
 use Rattle.std.specs.Cmp.{Equal-is, alike_right}
 use Rattle.std.specs.Option.{unwrap_or, IsSome}
 use Rattle.std.specs.BTreeMap.{BTreeMap, get, IsLowerBound, IsUpperBound}
-use Rattle.ct_value.specs.Bag.{put, at_most_all, in_order, in_order-put, occurs, one_at_itself, items, items-none, items-add, items_in_order, add, bag_of_counts, copies-occurs}
+use Rattle.ct_value.specs.Bag.{put, at_most_all, in_order, occurs, items, items_in_order, add, bag_of_counts}
+use Rattle.ct_value.proofs.laws.Bags.{in_order-put, one_at_itself, items-none, items-add, copies-occurs}
 use Rattle.ct_value.specs.Order.{value_cmp, value_total, value_exact}
 use Rattle.ct_value.specs.declared.value.Value.{Value}
-use Rattle.rel_clauses.specs.Aggregates.{Values}
+use Rattle.rel_algebra.specs.Aggregates.{Values}
 use Rattle.agg_fns.specs.Counts.{AreCounts}
 use Rattle.agg_fns.specs.Standing.{first_item, last_item, is_below, is_above}
 use Rattle.agg_fns.proofs.Counts.{bag_in, count_at, copies_in}

@@ -1,5 +1,11 @@
-pub mod Counts
-pub mod Ends
 pub mod Added
-pub mod Stands
+pub mod Averages
+pub mod Counts
+pub mod Different
+pub mod Ends
+pub mod ExtremeItems
+pub mod Products
 pub mod Replaced
+pub mod Sizes
+pub mod Stands
+pub mod Weights

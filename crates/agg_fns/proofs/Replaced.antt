@@ -1,13 +1,14 @@
 -- What a bag of values is with one value in the place of another.
 use Rattle.std.proofs.Common.{◌≡◌, ℕ, ◌+◌, ◌-◌, ◌<◌, ◌≤◌, ◌^◌, true, false, cond, refl, sym, ap, ◌∙◌, arith}
 use Rattle.std.specs.Prelude.{◌+ℤ◌, ◌-ℤ◌}
-use Rattle.ct_value.specs.Bag.{add, remove, copies, copies-add, add-remove, remove-add, same_bag}
+use Rattle.ct_value.specs.Bag.{add, remove, copies}
+use Rattle.ct_value.proofs.laws.Bags.{copies-add, add-remove, remove-add, same_bag}
 use Rattle.ct_value.specs.Order.{value_total, value_exact, number_of}
 use Rattle.ct_value.specs.declared.value.Value.{Value}
 use Rattle.ct_field.specs.Typed.{is_null}
-use Rattle.rel_clauses.specs.Aggregates.{Values, size, known, sum_of}
+use Rattle.rel_algebra.specs.Aggregates.{Values, size, known, sum_of}
 use Rattle.ct_value.specs.declared.ty.Ty.{Ty}
-use Rattle.rel_clauses.specs.declared.agg.AggCall.{AggCall}
+use Rattle.rel_algebra.specs.declared.agg.AggCall.{AggCall}
 use Rattle.agg_fns.specs.Standing.{gained, lost, StandsFor}
 use Rattle.agg_fns.specs.declared.distinct.Distinct.{Distinct}
 use Rattle.agg_fns.specs.declared.numbers.Numbers.{Numbers}

@@ -3,17 +3,18 @@ use Rattle.std.proofs.Common.{◌≡◌, ℕ, ◌+◌, ◌<◌, ◌≤◌, cond,
 use Rattle.std.specs.Prelude.{ℤ, pos, ◌+ℤ◌, ◌-ℤ◌}
 use Rattle.std.specs.Option.{unwrap_or}
 use Rattle.std.proofs.lemmas.Int.{ints}
-use Rattle.ct_value.specs.Bag.{items, items-none, none, remove, copies, total-none, add-remove}
+use Rattle.ct_value.specs.Bag.{items, none, remove, copies}
+use Rattle.ct_value.proofs.laws.Bags.{items-none, total-none, add-remove}
 use Rattle.ct_value.specs.Order.{value_cmp, value_total, value_exact, number_of}
 use Rattle.ct_value.specs.declared.ty.Ty.{Ty}
 use Rattle.ct_value.specs.declared.value.Value.{Value}
 use Rattle.ct_value.specs.declared.value.Value.TheVariants.{Null}
 use Rattle.ct_field.specs.Typed.{is_null}
-use Rattle.rel_clauses.specs.declared.agg.AggCall.{AggCall}
-use Rattle.rel_clauses.specs.Sums.{distinct}
-use Rattle.rel_clauses.specs.Aggregates.{Values, size, known, sum_of, first_value, last_value}
-use Rattle.rel_clauses.specs.laws.Aggregates.{sum_of-none}
-use Rattle.rel_clauses.specs.laws.Bags.{distinct-none}
+use Rattle.rel_algebra.specs.declared.agg.AggCall.{AggCall}
+use Rattle.rel_algebra.specs.Sums.{distinct}
+use Rattle.rel_algebra.specs.Aggregates.{Values, size, known, sum_of, first_value, last_value}
+use Rattle.rel_algebra.proofs.laws.Aggregates.{sum_of-none}
+use Rattle.rel_algebra.proofs.laws.Bags.{distinct-none}
 use Rattle.agg_fns.specs.Standing.{first_item, last_item, StandsFor}
 use Rattle.agg_fns.specs.declared.numbers.Numbers.{Numbers}
 use Rattle.agg_fns.specs.declared.acc.Acc.TheVariants.{RowCount, ValueCount, Total, Average}

@@ -7,23 +7,13 @@ use Rattle.ct_value.specs.declared.ty.Ty.{Ty}
 use Rattle.ct_value.specs.declared.value.Value.{Value}
 use Rattle.ct_field.specs.Numbers.{in_range, has_38_digits}
 use Rattle.ct_field.specs.Typed.{is_null}
-use Rattle.rel_clauses.specs.declared.agg.AggCall.{AggCall}
-use Rattle.rel_clauses.specs.declared.agg.AggCall.TheVariants.{CountAll, Count, CountDistinct, Sum, Min, Max, Avg}
-use Rattle.rel_clauses.specs.Aggregates.{Values, size, known, sum_of, sum_type}
-use Rattle.rel_clauses.specs.Sums.{distinct}
+use Rattle.rel_algebra.specs.declared.agg.AggCall.{AggCall}
+use Rattle.rel_algebra.specs.declared.agg.AggCall.TheVariants.{CountAll, Count, CountDistinct, Sum, Min, Max, Avg}
+use Rattle.rel_algebra.specs.Aggregates.{Values, size, known, sum_of, sum_type}
+use Rattle.rel_algebra.specs.Sums.{distinct}
 use Rattle.agg_fns.specs.declared.acc.Acc.{Acc}
 use Rattle.agg_fns.specs.declared.numbers.Numbers.{Numbers}
 use Rattle.agg_fns.specs.declared.acc.Acc.TheVariants.{RowCount, ValueCount, DistinctCount, Total, Average, Least, Greatest, LeastOf, GreatestOf}
-
--- whether the sum that a call keeps of values is within its limit: a SUM in its type, an AVG's sum within 38 digits
-abbrev pub sum_fits : AggCall → Ty → Values → Bool
-sum_fits CountAll ty values = true
-sum_fits Count ty values = true
-sum_fits CountDistinct ty values = true
-sum_fits Sum ty values = in_range (sum_type ty) (sum_of (known values))
-sum_fits Min ty values = true
-sum_fits Max ty values = true
-sum_fits Avg ty values = has_38_digits (sum_of (known values))
 
 abbrev pub first_item : List Value → Option Value
 first_item [] = None

@@ -3,9 +3,9 @@ ghost use Rattle.ct_value.specs.Bag as bag;
 ghost use Rattle.ct_value.specs.declared.value.Value.{Value};
 ghost use Rattle.ct_value.specs.declared.ty.Ty.{Ty};
 ghost use Rattle.ct_field.specs.Typed.{is_null};
-ghost use Rattle.rel_clauses.specs.declared.agg.AggCall.{AggCall};
-ghost use Rattle.rel_clauses.specs.Aggregates.{Values, size, known, agg_value};
-ghost use Rattle.agg_fns.specs.Standing.{StandsFor, retracts, sum_fits};
+ghost use Rattle.rel_algebra.specs.declared.agg.AggCall.{AggCall};
+ghost use Rattle.rel_algebra.specs.Aggregates.{Values, size, known, agg_value, sum_fits};
+ghost use Rattle.agg_fns.specs.Standing.{StandsFor, retracts};
 ghost use Rattle.agg_fns.specs.declared.acc.AccFault.TheVariants.{Out};
 
 use crate::distinct::Distinct;
@@ -14,7 +14,7 @@ use crate::number::{counted, known_count};
 use crate::numbers::Numbers;
 use crate::value_bag::ValueBag;
 use ct_value::{Memory, Ty, Value};
-use rel_clauses::AggCall;
+use rel_algebra::AggCall;
 use std::alloc::Global;
 
 /// Why an accumulator refused: a number is out of range, or memory was wanting.

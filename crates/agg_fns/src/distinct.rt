@@ -1,8 +1,8 @@
 ghost use Rattle.std.specs.Prelude.{◌≡◌, ◌+◌, ◌<◌, ◌^◌, false, OnOk, OnErr};
 ghost use Rattle.ct_value.specs.Bag as bag;
 ghost use Rattle.ct_field.specs.Typed.{is_null};
-ghost use Rattle.rel_clauses.specs.Aggregates.{size};
-ghost use Rattle.rel_clauses.specs.Sums.{distinct};
+ghost use Rattle.rel_algebra.specs.Aggregates.{size};
+ghost use Rattle.rel_algebra.specs.Sums.{distinct};
 ghost use Rattle.agg_fns.specs.Standing.{gained, lost};
 
 use crate::kept::is_null;

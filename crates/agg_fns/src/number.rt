@@ -6,7 +6,7 @@ ghost use Rattle.ct_field.specs.Typed.{is_null};
 ghost use Rattle.ct_value.specs.Order.{number_of};
 ghost use Rattle.ct_value.specs.declared.value.Value.TheVariants.{Null};
 ghost use Rattle.ct_value.specs.declared.ty.Ty.TheVariants.{Decimal};
-ghost use Rattle.rel_clauses.specs.Aggregates.{sum_type, in_type, count_value, average, rounded, truncated};
+ghost use Rattle.rel_algebra.specs.Aggregates.{sum_type, in_type, count_value, average, rounded, truncated};
 
 use crate::acc::AccFault;
 use ct_field::{in_range, rescale};

@@ -3,7 +3,7 @@ ghost use Rattle.ct_value.specs.Order.{number_of};
 ghost use Rattle.ct_value.specs.declared.value.Value.TheVariants.{Null};
 ghost use Rattle.ct_field.specs.Numbers.{in_range, has_38_digits};
 ghost use Rattle.ct_field.specs.Typed.{is_null};
-ghost use Rattle.rel_clauses.specs.Aggregates.{sum_type, in_type, average};
+ghost use Rattle.rel_algebra.specs.Aggregates.{sum_type, in_type, average};
 ghost use Rattle.agg_fns.specs.declared.acc.AccFault.TheVariants.{Out};
 
 use crate::acc::AccFault;

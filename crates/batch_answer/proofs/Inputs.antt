@@ -6,14 +6,14 @@ use Rattle.ct_value.specs.Order.{row_total, row_exact}
 use Rattle.ct_value.specs.declared.ty.ColTy.{ColTy}
 use Rattle.ct_change.specs.Changelog.{Rows}
 use Rattle.ct_expr.specs.Types.{both_of}
-use Rattle.rel_clauses.specs.Sums.{plus, together}
-use Rattle.rel_clauses.specs.laws.Bags.{copies-together, plus-none, plus-none-right, plus-assoc}
+use Rattle.rel_algebra.specs.Sums.{plus, together}
+use Rattle.rel_algebra.proofs.laws.Bags.{copies-together, plus-none, plus-none-right, plus-assoc}
 use Rattle.rel_algebra.specs.declared.rel.Rel.{Rel as Tree}
 use Rattle.rel_algebra.specs.Rel.{Rel, Rels, Union, no_rels, rel_and, rels}
 use Rattle.rel_algebra.specs.View.{rel_view, rels_view}
 use Rattle.rel_algebra.specs.Answer.{Table, types_in, answers, too_many, any_wide}
 use Rattle.rel_algebra.specs.Types.{columns_of, common_columns, common_from, union_columns}
-use Rattle.rel_answer.specs.Tallies.{Unfit}
+use Rattle.batch_answer.specs.Tallies.{Unfit}
 use Rattle.batch_answer.specs.Parts.{IsFew, IsPart, begun}
 use Rattle.batch_answer.specs.Tables.{IsTyped, IsOut}
 use Rattle.batch_answer.proofs.Parts.{unfit-whole, narrow-whole}

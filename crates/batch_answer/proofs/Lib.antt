@@ -1,6 +1,16 @@
-pub mod Bags
+pub mod TalliedBags
+pub mod ByKey
+pub mod Cells
+pub mod Found
+pub mod Indexes
 pub mod Inputs
+pub mod Lists
 pub mod Makings
+pub mod Pairs
 pub mod Parts
+pub mod Ranking
 pub mod Scans
+pub mod Sums
+pub mod Tallies
+pub mod Turns
 pub mod Views

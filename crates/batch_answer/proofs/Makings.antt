@@ -3,18 +3,18 @@ use Rattle.std.proofs.Common.{◌≡◌, ℕ, Bool, List, Option, Some, sym, ap,
 use Rattle.ct_value.specs.declared.ty.ColTy.{ColTy}
 use Rattle.ct_change.specs.Changelog.{Rows}
 use Rattle.ct_expr.specs.Expr.{Expr}
-use Rattle.rel_clauses.specs.declared.agg.Agg.{Agg}
-use Rattle.rel_clauses.specs.declared.join.JoinKind.{JoinKind}
-use Rattle.rel_clauses.specs.declared.join.Pair.{Pair}
-use Rattle.rel_clauses.specs.declared.sort.SortCol.{SortCol}
-use Rattle.rel_clauses.specs.Groups.{group_columns}
-use Rattle.rel_clauses.specs.Joins.{join_columns}
-use Rattle.rel_clauses.specs.Ranks.{rank_columns, rank_rows}
+use Rattle.rel_algebra.specs.declared.agg.Agg.{Agg}
+use Rattle.rel_algebra.specs.declared.join.JoinKind.{JoinKind}
+use Rattle.rel_algebra.specs.declared.join.Pair.{Pair}
+use Rattle.rel_algebra.specs.declared.sort.SortCol.{SortCol}
+use Rattle.rel_algebra.specs.Groups.{group_columns}
+use Rattle.rel_algebra.specs.Joins.{join_columns}
+use Rattle.rel_algebra.specs.Ranks.{rank_columns, rank_rows}
 use Rattle.rel_algebra.specs.Rel.{Rel, Filter, Project, Group, Join, Semi, Rank}
 use Rattle.rel_algebra.specs.Batch.{filter_answer, project_answer, group_answer, join_answer, semi_answer}
 use Rattle.rel_algebra.specs.Types.{columns_of, columns_if, is_condition, item_columns, match_fits, rank_fits}
 use Rattle.rel_algebra.specs.Answer.{Table, types_in, columns_in}
-use Rattle.rel_answer.specs.Tallies.{Unfit}
+use Rattle.batch_answer.specs.Tallies.{Unfit}
 use Rattle.batch_answer.specs.Parts.{IsFew, IsLost, Makes, IsOutOver, MakesOfTwo, IsOutOverTwo}
 use Rattle.batch_answer.specs.Tables.{IsTyped}
 use Rattle.batch_answer.proofs.Parts.{if_same, one-answered, one-narrow, one-out, one-typed, one-lost, left-lost, right-lost, columns_here, two-answered, two-narrow, two-out, two-typed, one-columns, left-columns, right-columns}

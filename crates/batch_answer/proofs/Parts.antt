@@ -10,11 +10,11 @@ use Rattle.ct_value.specs.declared.row.Row.{Row}
 use Rattle.ct_value.specs.declared.ty.ColTy.{ColTy}
 use Rattle.ct_change.specs.Changelog.{Rows}
 use Rattle.ct_expr.specs.Types.{both_of}
-use Rattle.rel_clauses.specs.laws.Bags.{each-copies}
+use Rattle.rel_algebra.proofs.laws.Bags.{each-copies}
 use Rattle.rel_algebra.specs.Rel.{Rel}
 use Rattle.rel_algebra.specs.Answer.{Table, types_in, columns_in, answer, too_many, wide}
 use Rattle.rel_algebra.specs.Types.{columns_of, columns_if}
-use Rattle.rel_answer.specs.Tallies.{Unfit}
+use Rattle.batch_answer.specs.Tallies.{Unfit}
 use Rattle.batch_answer.specs.Parts.{IsFew, IsPart}
 use Rattle.batch_answer.specs.Tables.{IsOut}
 

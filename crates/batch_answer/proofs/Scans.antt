@@ -7,7 +7,7 @@ use Rattle.ct_value.specs.declared.ty.ColTy.{ColTy}
 use Rattle.ct_change.specs.Changelog.{Rows}
 use Rattle.rel_algebra.specs.Rel.{Scan}
 use Rattle.rel_algebra.specs.Answer.{types_in, rows_in, answer, too_many}
-use Rattle.rel_answer.specs.Tallies.{Unfit}
+use Rattle.batch_answer.specs.Tallies.{Unfit}
 use Rattle.batch_answer.specs.Parts.{IsFew, IsPart}
 use Rattle.batch_answer.specs.Tables.{IsTyped, IsOut, tables_of}
 use Rattle.batch_answer.proofs.Parts.{few-narrow, unfit-lost}

@@ -4,15 +4,15 @@ use Rattle.std.specs.Prelude.{Box, option_map}
 use Rattle.std.specs.declared.alloc.Global.{Global}
 use Rattle.ct_expr.specs.declared.expr.Expr.{Expr}
 use Rattle.ct_expr.specs.View.{expr_view, exprs_view}
-use Rattle.rel_clauses.specs.declared.agg.Agg.{Agg}
-use Rattle.rel_clauses.specs.declared.join.JoinKind.{JoinKind}
-use Rattle.rel_clauses.specs.declared.join.Pair.{Pair}
-use Rattle.rel_clauses.specs.declared.sort.SortCol.{SortCol}
+use Rattle.rel_algebra.specs.declared.agg.Agg.{Agg}
+use Rattle.rel_algebra.specs.declared.join.JoinKind.{JoinKind}
+use Rattle.rel_algebra.specs.declared.join.Pair.{Pair}
+use Rattle.rel_algebra.specs.declared.sort.SortCol.{SortCol}
 use Rattle.rel_algebra.specs.declared.rel.Rel.{Rel as Tree}
 use Rattle.rel_algebra.specs.declared.rel.Rel.TheVariants as v
 use Rattle.rel_algebra.specs.Rel as r
 use Rattle.rel_algebra.specs.View.{rel_view}
-use Rattle.rel_algebra.specs.laws.Views.{view_project, view_group, view_rank, view_join, view_semi}
+use Rattle.rel_algebra.proofs.laws.Views.{view_project, view_group, view_rank, view_join, view_semi}
 
 module _ (rel : Tree) (held : Box Tree Global) (input : Tree) (is : input ≡ held.value) where
   pub project-view : (items : List Expr) → rel ≡ v.Project held items → rel_view rel ≡ r.Project (rel_view input) (exprs_view items)

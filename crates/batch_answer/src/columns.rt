@@ -3,12 +3,12 @@ ghost use Rattle.std.specs.Prelude.{◌≡◌, List as Seq, Some, IfOk};
 ghost use Rattle.ct_expr.specs.View.{exprs_view};
 ghost use Rattle.ct_value.specs.declared.ty.ColTy.{ColTy as Column};
 ghost use Rattle.rel_algebra.specs.Types as t;
-ghost use Rattle.rel_clauses.specs.Groups as g;
+ghost use Rattle.rel_algebra.specs.Groups as g;
 ghost use Rattle.batch_answer.specs.Parts.{begun};
 
 use ct_expr::Exprs;
 use ct_value::{ColTys, Memory};
-use rel_clauses::Aggs;
+use rel_algebra::Aggs;
 use rel_columns::{common_columns, group_columns, item_columns};
 
 /// The columns of items over these columns.

@@ -1,12 +1,12 @@
 //! Tables, and bags of rows to and fro.
 ghost use Rattle.std.specs.Prelude.{◌≡◌, ◌<◌, [], IfOk, IsErrOf, slice_get, unwrap_or, Some};
 ghost use Rattle.ct_value.specs.Bag as bag;
-ghost use Rattle.rel_answer.specs.Tallies.{Unfit};
+ghost use Rattle.batch_answer.specs.Tallies.{Unfit};
 
+use crate::Tally;
 use ct_change::{Bag, Steps};
 use ct_expr::EvalFault;
 use ct_value::{ColTys, List, Memory};
-use rel_answer::Tally;
 use std::alloc::Global;
 use std::marker::Brand;
 use std::sync::ledger::{Blank, Ledger};

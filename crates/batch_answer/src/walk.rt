@@ -12,12 +12,11 @@ use crate::nodes::{
     Part, filter_part, group_part, join_part, project_part, rank_part, scan_part, semi_part,
 };
 use crate::tables::bag_of;
-use crate::{Bags, TypeLists};
+use crate::{Bags, Tally, TypeLists, union_rows};
 use ct_change::Bag;
 use ct_expr::EvalFault;
 use ct_value::ColTys;
 use rel_algebra::{Rel, Rels};
-use rel_answer::{Tally, union_rows};
 use std::alloc::Global;
 
 /// The batch answer of a tree over tables: each bag holds a table's rows, and each list of types beside it is of the table's

@@ -6,8 +6,8 @@ use Rattle.query_answer.specs.Answer as a
 use Rattle.query_answer.specs.declared.scope.ScopeColumn.{ScopeColumn}
 use Rattle.bind_nodes.specs.declared.bound.Bound.{Bound}
 use Rattle.bind_nodes.specs.Views.{bounds_view}
-use Rattle.bind_clauses.specs.declared.entries.Entry.{Entry}
-use Rattle.bind_clauses.specs.Views.{entries_view}
+use Rattle.bind_names.specs.declared.entries.Entry.{Entry}
+use Rattle.bind_names.specs.Entries.{entries_view}
 
 none-behind : (es : List a.Entry) → headed es [] ≡ []
 none-behind [] = refl

@@ -4,5 +4,4 @@ pub mod Grouped
 pub mod Heads
 pub mod InTurn
 pub mod Projects
-pub mod Stars
 pub mod Unites

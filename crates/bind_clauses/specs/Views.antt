@@ -1,24 +1,7 @@
--- Relations and entries of the code, as the definitions see them.
-use Rattle.std.specs.Prelude.{List, map}
-use Rattle.sql_syntax.specs.View.{view}
+-- Relations of the code, as the definitions see them.
 use Rattle.rel_algebra.specs.View.{rel_view}
-use Rattle.query_answer.specs.Answer as a
 use Rattle.binding.specs.Queries as q
-use Rattle.bind_clauses.specs.declared.entries.Entry.{Entry}
-use Rattle.bind_clauses.specs.declared.entries.Listed.{Listed}
-use Rattle.bind_clauses.specs.declared.entries.Listed.TheVariants as l
 use Rattle.bind_clauses.specs.declared.relation.Relation.{Relation}
 
 abbrev pub relation_view : Relation → q.Relation
 relation_view x = record { rel = rel_view x.rel.value; scope = x.scope }
-
-abbrev pub listed_view : Listed → a.Listed
-listed_view (l.Placed n) = a.Placed n
-listed_view (l.Written x) = a.Written (view x.now)
-listed_view l.NoSource = a.NoSource
-
-abbrev pub entry_view : Entry → a.Entry
-entry_view e = record { listed = listed_view e.listed; name = e.name }
-
-abbrev pub entries_view : List Entry → List a.Entry
-entries_view = map entry_view

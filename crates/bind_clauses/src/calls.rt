@@ -4,10 +4,9 @@ ghost use Rattle.sql_syntax.specs.Tree.{optional_tree};
 ghost use Rattle.sql_syntax.specs.View.{view, trees_view};
 ghost use Rattle.query_answer.specs.Answer.{is_grouped, listed_calls, select_calls};
 ghost use Rattle.bind_names.specs.Calls.{call_view};
-ghost use Rattle.bind_clauses.specs.Views.{entries_view, entry_view};
+ghost use Rattle.bind_names.specs.Entries.{entries_view, entry_view};
 
-use crate::entries::{Entries, Entry, Listed};
-use bind_names::{CallRefs, push_calls};
+use bind_names::{CallRefs, Entries, Entry, Listed, push_calls};
 use ct_value::Memory;
 use sql_syntax::Tree;
 use std::alloc::Global;

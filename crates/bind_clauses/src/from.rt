@@ -11,7 +11,7 @@ ghost use Rattle.bind_clauses.specs.Conditions.{one_or_all};
 ghost use Rattle.bind_clauses.specs.Views.{relation_view};
 
 use crate::relation::Relation;
-use bind_names::BindFault;
+use bind_names::{BindFault, dup_name, next_number};
 use bind_nodes::{Bounds, operands};
 use ct_catalog::{ColDef, Sources, TableDef};
 use ct_expr::{Expr, Exprs};
@@ -19,13 +19,6 @@ use ct_value::{Memory, ScriptCode, Text};
 use query_answer::{Scope, ScopeColumn};
 use rel_algebra::Rel;
 use std::alloc::Global;
-
-/// The next number; no list has more items than a number of 32 bits tells.
-pub(crate) fn next(number: u32) -> Result<u32, Memory>
-    ensures { IfOk result (λ next. next ≡ number + 1) }
-{
-    number.checked_add(1).ok_or(Memory)
-}
 
 // A table of this name, with its number.
 #[tactic(auto, using(crate::proofs::Finds::here, crate::proofs::Finds::not_here))]
@@ -37,7 +30,7 @@ fn find_source<'a>(sources: &'a Sources, name: &Text) -> Result<Option<(u32, &'a
         if name.is(table.name.as_slice()) {
             return Ok(Some((number, table)));
         }
-        number = next(number)?;
+        number = next_number(number)?;
     }
     Ok(None)
 }
@@ -58,7 +51,7 @@ pub fn read(
     }
 }
 
-#[tactic(auto, using(rel_algebra::specs::laws::Views::view_scan))]
+#[tactic(auto, using(rel_algebra::proofs::laws::Views::view_scan))]
 fn scan(
     alloc: Global,
     source: u32,
@@ -103,16 +96,6 @@ fn column_under(source: &Text, column: &ColDef) -> Result<ScopeColumn, Memory>
     })
 }
 
-/// A name again, where there is one.
-pub(crate) fn dup_name(name: &Option<Text>) -> Result<Option<Text>, Memory>
-    ensures { IfOk result (λ copy. copy ≡ name.now) }
-{
-    match name {
-        None => Ok(None),
-        Some(name) => Ok(Some(name.dup()?)),
-    }
-}
-
 /// The rows of a query among the sources, whose columns are of its alias, if it has one.
 pub fn renamed(alloc: Global, alias: &Option<Text>, relation: Relation) -> Result<Relation, Memory>
     ensures { IfOk result (λ x. relation_view x ≡ q.renamed alias.now (relation_view relation)) }
@@ -155,7 +138,7 @@ pub fn all_of(alloc: Global, bounds: Bounds) -> Result<Expr, Memory>
     Ok(one_or_all(exprs))
 }
 
-#[tactic(auto, using(ct_expr::specs::laws::Views::view_and, crate::proofs::Finds::only_one, crate::proofs::Finds::not_one))]
+#[tactic(auto, using(ct_expr::proofs::laws::Views::view_and, crate::proofs::Finds::only_one, crate::proofs::Finds::not_one))]
 fn one_or_all(exprs: Exprs) -> Expr
     ensures { expr_view result ≡ one_or_all (exprs_view exprs) }
 {

@@ -7,12 +7,11 @@ ghost use Rattle.rel_algebra.specs.View.{rel_view};
 ghost use Rattle.query_answer.specs.Answer.{under};
 ghost use Rattle.binding.specs.Queries.{few, headed, is_column, is_in_place, projected};
 ghost use Rattle.bind_nodes.specs.Views.{bounds_view};
-ghost use Rattle.bind_clauses.specs.Views.{entries_view, relation_view};
+ghost use Rattle.bind_clauses.specs.Views.{relation_view};
+ghost use Rattle.bind_names.specs.Entries.{entries_view};
 
-use crate::entries::Entries;
-use crate::from::dup_name;
 use crate::relation::Relation;
-use bind_names::BindFault;
+use bind_names::{BindFault, Entries, dup_name};
 use bind_nodes::{Bounds, operands};
 use ct_expr::{Expr, Exprs};
 use ct_value::{ColTy, Memory, ScriptCode, Text};
@@ -57,7 +56,7 @@ fn is_in_place(width: usize, items: &Exprs) -> bool
 }
 
 /// A Project of an input with so many columns, which is left out where its items are these columns in place.
-#[tactic(auto, using(rel_algebra::specs::laws::Views::view_project))]
+#[tactic(auto, using(rel_algebra::proofs::laws::Views::view_project))]
 pub fn projected(
     alloc: Global,
     width: usize,

@@ -8,13 +8,13 @@ ghost use Rattle.binding.specs.Expressions as e;
 ghost use Rattle.binding.specs.Queries as q;
 ghost use Rattle.bind_nodes.specs.Views.{bound_view, bounds_view};
 ghost use Rattle.bind_clauses.specs.Lists.{one_listed};
-ghost use Rattle.bind_clauses.specs.Views.{entries_view, listed_view, relation_view};
+ghost use Rattle.bind_clauses.specs.Views.{relation_view};
+ghost use Rattle.bind_names.specs.Entries.{entries_view, listed_view};
 
-use crate::entries::{Entries, Listed};
 use crate::lists::{few, finished};
 use crate::relation::Relation;
 use bind_expressions::bind_over;
-use bind_names::BindFault;
+use bind_names::{BindFault, Entries, Listed};
 use bind_nodes::{Bound, Bounds, column};
 use ct_value::ScriptCode;
 use query_answer::{Scope, ScopeColumn};

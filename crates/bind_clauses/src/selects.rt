@@ -7,9 +7,8 @@ ghost use Rattle.binding.specs.Queries as q;
 ghost use Rattle.bind_clauses.specs.Unions.{one_united};
 ghost use Rattle.bind_clauses.specs.Views.{relation_view};
 
-use crate::from::dup_name;
 use crate::relation::Relation;
-use bind_names::BindFault;
+use bind_names::{BindFault, dup_name};
 use ct_expr::common_ty;
 use ct_value::{ColTy, Memory, ScriptCode};
 use query_answer::{Scope, ScopeColumn};
@@ -17,7 +16,7 @@ use rel_algebra::{Aggs, Rel};
 use std::alloc::Global;
 
 /// DISTINCT, which is a Group of all columns.
-#[tactic(auto, using(rel_algebra::specs::laws::Views::view_group))]
+#[tactic(auto, using(rel_algebra::proofs::laws::Views::view_group))]
 pub fn once(alloc: Global, distinct: bool, relation: Relation) -> Result<Relation, Memory>
     ensures { IfOk result (λ x. relation_view x ≡ q.once distinct (relation_view relation)) }
 {

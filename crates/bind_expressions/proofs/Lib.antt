@@ -1,5 +1,7 @@
 pub mod Counts
 pub mod Exits
+pub mod Found
 pub mod Leaves
 pub mod Lists
 pub mod Nodes
+pub mod Operands

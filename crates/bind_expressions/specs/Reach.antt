@@ -4,7 +4,7 @@ use Rattle.binding.specs.Expressions.{Leaf, names_by}
 use Rattle.binding.specs.InGroups.{in_group}
 use Rattle.bind_names.specs.Lookups.{lookup_of}
 use Rattle.bind_nodes.specs.Views.{bounds_view}
-use Rattle.bind_columns.specs.declared.group.Group.{Group}
+use Rattle.bind_expressions.specs.declared.group.Group.{Group}
 use Rattle.bind_expressions.specs.declared.reach.Reach.{Reach}
 use Rattle.bind_expressions.specs.declared.reach.Reach.TheVariants as r
 

@@ -10,9 +10,9 @@ ghost use Rattle.bind_nodes.specs.Views.{bound_view, bounds_view};
 ghost use Rattle.bind_expressions.specs.Reach.{group_leaf};
 ghost use Rattle.bind_expressions.specs.Walk.{only_conjunct};
 
+use crate::Group;
 use crate::reach::Reach;
 use crate::walk::bind;
-use bind_columns::Group;
 use bind_names::{BindFault, Lookup};
 use bind_nodes::{Bound, Bounds, columns_are_truths};
 use ct_value::ScriptCode;

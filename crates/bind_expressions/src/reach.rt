@@ -9,12 +9,12 @@ ghost use Rattle.binding.specs.InGroups as g;
 ghost use Rattle.bind_names.specs.Lookups.{lookup_of};
 ghost use Rattle.bind_nodes.specs.Views.{bound_view, bounds_view};
 
-use bind_columns::{Group, call_column, has_no_keys, plus};
+use crate::{Group, call_column, has_no_keys, plus};
 use bind_names::{BindFault, Lookup, function_of, is_changing};
 use bind_nodes::{Bound, Bounds, found_column};
 use ct_value::{ScriptCode, Text};
 use query_answer::Scope;
-use rel_clauses::AggCall;
+use rel_algebra::AggCall;
 use sql_syntax::{Args, Tree};
 use std::alloc::Global;
 

@@ -16,7 +16,7 @@ ghost use Rattle.bind_expressions.specs.Reach.{leaf_of, group_leaf};
 ghost use Rattle.bind_expressions.specs.Walk.{node};
 
 use crate::reach::{Reach, named, numbered, ungrouped};
-use bind_columns::{Group, is_distinct, key_of, plus};
+use crate::{Group, is_distinct, key_of, plus};
 use bind_names::{
     BindFault, CallRefs, Lookup, aggregate_of, function_of, is_null, is_short, number_of,
     push_args, push_calls, push_whens,

@@ -3,14 +3,14 @@ use Rattle.std.proofs.Common.{◌≡◌, ℕ, ◌+◌, ◌<◌, ◌≤◌, List,
 use Rattle.std.specs.Borrow.{Bor}
 use Rattle.std.specs.Prelude.{option_copied, option_map, slice_get}
 use Rattle.std.proofs.lemmas.List.{at_drop_more, drop_all}
-use Rattle.rel_clauses.specs.declared.agg.AggCall.{AggCall}
+use Rattle.rel_algebra.specs.declared.agg.AggCall.{AggCall}
 use Rattle.sql_syntax.specs.declared.tree.SumTail.{SumTail}
 use Rattle.sql_syntax.specs.declared.tree.ProductTail.{ProductTail}
 use Rattle.sql_syntax.specs.declared.tree.Tree.{Tree}
 use Rattle.sql_syntax.specs.declared.tree.TreeWhen.{TreeWhen}
 use Rattle.sql_syntax.specs.Tree as t
 use Rattle.sql_syntax.specs.View.{view, trees_view, sum_tails_view, product_tails_view, whens_view}
-use Rattle.sql_syntax.specs.laws.Views.{sum_tail, product_tail, tree_when}
+use Rattle.sql_syntax.proofs.laws.Views.{sum_tail, product_tail, tree_when}
 use Rattle.query_answer.specs.Calls.{Call, aggregate_of, call_of, call_or, calls, all_calls, sum_calls, product_calls, when_calls, args_calls, optional_calls, first_tree}
 use Rattle.query_answer.specs.Functions.{function_of}
 

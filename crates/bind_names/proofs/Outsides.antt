@@ -7,7 +7,7 @@ use Rattle.sql_syntax.specs.declared.tree.SumTail.{SumTail}
 use Rattle.sql_syntax.specs.declared.tree.TreeWhen.{TreeWhen}
 use Rattle.sql_syntax.specs.Tree as t
 use Rattle.sql_syntax.specs.View.{view, product_tails_view, sum_tails_view, whens_view}
-use Rattle.sql_syntax.specs.laws.Views.{product_tail, sum_tail, tree_when}
+use Rattle.sql_syntax.proofs.laws.Views.{product_tail, sum_tail, tree_when}
 use Rattle.query_answer.specs.declared.scope.Found.{Found}
 use Rattle.query_answer.specs.declared.scope.Found.TheVariants.{Absent, At, Several}
 use Rattle.query_answer.specs.declared.scope.ScopeColumn.{ScopeColumn}

@@ -8,7 +8,7 @@ ghost use Rattle.bind_names.specs.Calls.{call_view};
 use crate::functions::function_of;
 use ct_value::{List, Memory};
 use query_answer::Function;
-use rel_clauses::AggCall;
+use rel_algebra::AggCall;
 use sql_syntax::{Args, Over, ProductTails, SumTails, Tree, TreeWhens, Trees};
 
 /// An aggregate call as it is written, with its argument and its FILTER condition, where it has them.

@@ -5,7 +5,7 @@ ghost use Rattle.query_answer.specs.Functions.{function_in, function_of, functio
 
 use ct_value::Text;
 use query_answer::Function;
-use rel_clauses::AggCall;
+use rel_algebra::AggCall;
 
 /// What a function's name means, read in any case of letters.
 #[tactic(auto, unfolding(query_answer::specs::Functions::function_of))]

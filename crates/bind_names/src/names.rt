@@ -106,3 +106,20 @@ fn also(place: u32, ty: ColTy, others: Found) -> Found
         _ => Found::Several,
     }
 }
+
+/// A name again, where there is one.
+pub fn dup_name(name: &Option<Text>) -> Result<Option<Text>, Memory>
+    ensures { IfOk result (λ copy. copy ≡ name.now) }
+{
+    match name {
+        None => Ok(None),
+        Some(name) => Ok(Some(name.dup()?)),
+    }
+}
+
+/// The next number; no list has more items than a number of 32 bits tells.
+pub fn next_number(number: u32) -> Result<u32, Memory>
+    ensures { IfOk result (λ next. next ≡ number + 1) }
+{
+    number.checked_add(1).ok_or(Memory)
+}

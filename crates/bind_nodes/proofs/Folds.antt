@@ -7,7 +7,7 @@ use Rattle.ct_expr.specs.Types.{gather, both_of, begun, joined, logic_col, compa
 use Rattle.ct_expr.specs.Expr as e
 use Rattle.ct_expr.specs.View.{expr_view, when_view, whens_view}
 use Rattle.ct_expr.specs.declared.expr.When.{When}
-use Rattle.ct_expr.specs.laws.Views.{view_when}
+use Rattle.ct_expr.proofs.laws.Views.{view_when}
 use Rattle.binding.specs.Nodes as n
 use Rattle.binding.specs.Nodes.{columns, known_columns, results_of}
 use Rattle.bind_nodes.specs.declared.bound.Bound.{Bound}

@@ -13,7 +13,7 @@ use bind_names::BindFault;
 use ct_expr::{Expr, char_length_col, coalesce_col, null_if_col};
 use ct_value::{ColTy, ScriptCode};
 use query_answer::Function;
-use rel_clauses::AggCall;
+use rel_algebra::AggCall;
 use std::alloc::Global;
 
 /// What stands at a call besides its operands.
@@ -52,7 +52,7 @@ fn with_operand(all: Option<ColTy>, operand: ColTy) -> Option<ColTy>
     }
 }
 
-#[tactic(auto, using(ct_expr::specs::laws::Views::view_coalesce))]
+#[tactic(auto, using(ct_expr::proofs::laws::Views::view_coalesce))]
 fn coalesce(alloc: Global, bounds: Bounds) -> Result<Bound, BindFault>
     ensures ok { IfOk result (λ x. n.applied v.Coalesce (bounds_view bounds) ≡ Ok (bound_view x)) }
     ensures refused { (code : ScriptCode) → IsErrOf result (f.Refused code) → n.applied v.Coalesce (bounds_view bounds) ≡ Err code }
@@ -90,7 +90,7 @@ fn both(bounds: Bounds) -> Option<(Bound, Bound)>
     Some((first, last))
 }
 
-#[tactic(auto, using(ct_expr::specs::laws::Views::view_char_length, crate::proofs::OneOrTwo::not_one))]
+#[tactic(auto, using(ct_expr::proofs::laws::Views::view_char_length, crate::proofs::OneOrTwo::not_one))]
 fn char_length(alloc: Global, bounds: Bounds) -> Result<Bound, BindFault>
     ensures ok { IfOk result (λ x. n.applied v.CharLength (bounds_view bounds) ≡ Ok (bound_view x)) }
     ensures refused { (code : ScriptCode) → IsErrOf result (f.Refused code) → n.applied v.CharLength (bounds_view bounds) ≡ Err code }
@@ -105,7 +105,7 @@ fn char_length(alloc: Global, bounds: Bounds) -> Result<Bound, BindFault>
     }
 }
 
-#[tactic(auto, using(ct_expr::specs::laws::Views::view_null_if, crate::proofs::OneOrTwo::not_two))]
+#[tactic(auto, using(ct_expr::proofs::laws::Views::view_null_if, crate::proofs::OneOrTwo::not_two))]
 fn null_if(alloc: Global, bounds: Bounds) -> Result<Bound, BindFault>
     ensures ok { IfOk result (λ x. n.applied v.NullIf (bounds_view bounds) ≡ Ok (bound_view x)) }
     ensures refused { (code : ScriptCode) → IsErrOf result (f.Refused code) → n.applied v.NullIf (bounds_view bounds) ≡ Err code }

@@ -28,7 +28,7 @@ pub struct Branch {
 pub type Branches = List<Branch>;
 
 /// CAST to a type, where its name means one.
-#[tactic(auto, using(ct_expr::specs::laws::Views::view_cast))]
+#[tactic(auto, using(ct_expr::proofs::laws::Views::view_cast))]
 pub fn cast_to(alloc: Global, ty: Option<Ty>, value: Option<Bound>) -> Result<Bound, BindFault>
     ensures ok { IfOk result (λ x. n.cast_to ty (option_map bound_view value) ≡ Ok (bound_view x)) }
     ensures refused { (code : ScriptCode) → IsErrOf result (f.Refused code) → n.cast_to ty (option_map bound_view value) ≡ Err code }
@@ -141,7 +141,7 @@ fn otherwise_with_null(
     }
 }
 
-#[tactic(auto, using(ct_expr::specs::laws::Views::view_case))]
+#[tactic(auto, using(ct_expr::proofs::laws::Views::view_case))]
 fn whole_case(alloc: Global, choices: Choices, otherwise: Option<Bound>) -> Result<Bound, BindFault>
     ensures ok { IfOk result (λ x. n.choice (choices_view choices) (option_map bound_view otherwise) ≡ Ok (bound_view x)) }
     ensures refused { (code : ScriptCode) → IsErrOf result (f.Refused code) → n.choice (choices_view choices) (option_map bound_view otherwise) ≡ Err code }

@@ -20,7 +20,7 @@ use sql_syntax::{ProductWord, SumWord};
 use std::alloc::Global;
 
 /// A value of a type.
-#[tactic(auto, using(ct_expr::specs::laws::Views::view_literal))]
+#[tactic(auto, using(ct_expr::proofs::laws::Views::view_literal))]
 pub fn literal(alloc: Global, value: Value, ty: Ty) -> Result<Bound, BindFault>
     ensures ok { IfOk result (λ x. n.literal value ty ≡ Ok (bound_view x)) }
     ensures refused { (code : ScriptCode) → IsErrOf result (f.Refused code) → n.literal value ty ≡ Err code }
@@ -41,7 +41,7 @@ pub fn number(alloc: Global, number: Option<(i128, Ty)>) -> Result<Bound, BindFa
 }
 
 /// A column at its place, counted from 0.
-#[tactic(auto, using(ct_expr::specs::laws::Views::view_column))]
+#[tactic(auto, using(ct_expr::proofs::laws::Views::view_column))]
 pub fn column(alloc: Global, place: u32, column: ColTy) -> Result<Bound, BindFault>
     ensures ok { IfOk result (λ x. e.column place column ≡ bound_view x) }
     ensures refused { (code : ScriptCode) → IsErrOf result (f.Refused code) → ⊥ }
@@ -70,7 +70,7 @@ pub fn found_column(alloc: Global, changing: bool, found: Found) -> Result<Bound
 }
 
 /// A number with a sign before it.
-#[tactic(auto, using(ct_expr::specs::laws::Views::view_neg))]
+#[tactic(auto, using(ct_expr::proofs::laws::Views::view_neg))]
 pub fn signed(alloc: Global, minus: bool, bound: Bound) -> Result<Bound, BindFault>
     ensures ok { IfOk result (λ x. n.signed minus (bound_view bound) ≡ Ok (bound_view x)) }
     ensures refused { (code : ScriptCode) → IsErrOf result (f.Refused code) → n.signed minus (bound_view bound) ≡ Err code }
@@ -88,7 +88,7 @@ pub fn signed(alloc: Global, minus: bool, bound: Bound) -> Result<Bound, BindFau
     }
 }
 
-#[tactic(auto, using(ct_expr::specs::laws::Views::view_arith))]
+#[tactic(auto, using(ct_expr::proofs::laws::Views::view_arith))]
 fn arith(alloc: Global, op: ArithOp, left: Bound, right: Bound) -> Result<Bound, BindFault>
     ensures ok { IfOk result (λ x. n.arith op (bound_view left) (bound_view right) ≡ Ok (bound_view x)) }
     ensures refused { (code : ScriptCode) → IsErrOf result (f.Refused code) → n.arith op (bound_view left) (bound_view right) ≡ Err code }
@@ -102,7 +102,7 @@ fn arith(alloc: Global, op: ArithOp, left: Bound, right: Bound) -> Result<Bound,
     typed(alloc, column, expr)
 }
 
-#[tactic(auto, using(ct_expr::specs::laws::Views::view_concat))]
+#[tactic(auto, using(ct_expr::proofs::laws::Views::view_concat))]
 fn concat(alloc: Global, left: Bound, right: Bound) -> Result<Bound, BindFault>
     ensures ok { IfOk result (λ x. n.added SumWord.Concat (bound_view left) (bound_view right) ≡ Ok (bound_view x)) }
     ensures refused { (code : ScriptCode) → IsErrOf result (f.Refused code) → n.added SumWord.Concat (bound_view left) (bound_view right) ≡ Err code }
@@ -146,7 +146,7 @@ pub fn multiplied(
 }
 
 /// A comparison.
-#[tactic(auto, using(ct_expr::specs::laws::Views::view_compare))]
+#[tactic(auto, using(ct_expr::proofs::laws::Views::view_compare))]
 pub fn compare(alloc: Global, op: CompareOp, left: Bound, right: Bound) -> Result<Bound, BindFault>
     ensures ok { IfOk result (λ x. n.compare op (bound_view left) (bound_view right) ≡ Ok (bound_view x)) }
     ensures refused { (code : ScriptCode) → IsErrOf result (f.Refused code) → n.compare op (bound_view left) (bound_view right) ≡ Err code }
@@ -161,7 +161,7 @@ pub fn compare(alloc: Global, op: CompareOp, left: Bound, right: Bound) -> Resul
 }
 
 /// AND of conditions.
-#[tactic(auto, using(ct_expr::specs::laws::Views::view_and))]
+#[tactic(auto, using(ct_expr::proofs::laws::Views::view_and))]
 pub fn conjunction(alloc: Global, bounds: Bounds) -> Result<Bound, BindFault>
     ensures ok { IfOk result (λ x. n.conjunction (bounds_view bounds) ≡ Ok (bound_view x)) }
     ensures refused { (code : ScriptCode) → IsErrOf result (f.Refused code) → n.conjunction (bounds_view bounds) ≡ Err code }
@@ -172,7 +172,7 @@ pub fn conjunction(alloc: Global, bounds: Bounds) -> Result<Bound, BindFault>
 }
 
 /// OR of conditions.
-#[tactic(auto, using(ct_expr::specs::laws::Views::view_or))]
+#[tactic(auto, using(ct_expr::proofs::laws::Views::view_or))]
 pub fn disjunction(alloc: Global, bounds: Bounds) -> Result<Bound, BindFault>
     ensures ok { IfOk result (λ x. n.disjunction (bounds_view bounds) ≡ Ok (bound_view x)) }
     ensures refused { (code : ScriptCode) → IsErrOf result (f.Refused code) → n.disjunction (bounds_view bounds) ≡ Err code }
@@ -183,7 +183,7 @@ pub fn disjunction(alloc: Global, bounds: Bounds) -> Result<Bound, BindFault>
 }
 
 /// NOT.
-#[tactic(auto, using(ct_expr::specs::laws::Views::view_not))]
+#[tactic(auto, using(ct_expr::proofs::laws::Views::view_not))]
 pub fn negation(alloc: Global, bound: Bound) -> Result<Bound, BindFault>
     ensures ok { IfOk result (λ x. n.negation (bound_view bound) ≡ Ok (bound_view x)) }
     ensures refused { (code : ScriptCode) → IsErrOf result (f.Refused code) → n.negation (bound_view bound) ≡ Err code }
@@ -203,7 +203,7 @@ pub fn negated_if(alloc: Global, negated: bool, bound: Bound) -> Result<Bound, B
 }
 
 /// IS NULL.
-#[tactic(auto, using(ct_expr::specs::laws::Views::view_is_null))]
+#[tactic(auto, using(ct_expr::proofs::laws::Views::view_is_null))]
 pub fn null_test(alloc: Global, bound: Bound) -> Result<Bound, BindFault>
     ensures ok { IfOk result (λ x. n.null_test (bound_view bound) ≡ Ok (bound_view x)) }
     ensures refused { (code : ScriptCode) → IsErrOf result (f.Refused code) → n.null_test (bound_view bound) ≡ Err code }
@@ -266,7 +266,7 @@ fn equalities(value: ColTy, items: &Bounds) -> Option<ColTy>
 }
 
 /// IN of a list.
-#[tactic(auto, using(ct_expr::specs::laws::Views::view_in_list))]
+#[tactic(auto, using(ct_expr::proofs::laws::Views::view_in_list))]
 pub fn in_list(alloc: Global, value: Bound, items: Bounds) -> Result<Bound, BindFault>
     ensures ok { IfOk result (λ x. n.in_list (bound_view value) (bounds_view items) ≡ Ok (bound_view x)) }
     ensures refused { (code : ScriptCode) → IsErrOf result (f.Refused code) → n.in_list (bound_view value) (bounds_view items) ≡ Err code }
@@ -281,7 +281,7 @@ pub fn in_list(alloc: Global, value: Bound, items: Bounds) -> Result<Bound, Bind
 }
 
 /// LIKE.
-#[tactic(auto, using(ct_expr::specs::laws::Views::view_like))]
+#[tactic(auto, using(ct_expr::proofs::laws::Views::view_like))]
 pub fn like(alloc: Global, value: Bound, pattern: Bound) -> Result<Bound, BindFault>
     ensures ok { IfOk result (λ x. n.like (bound_view value) (bound_view pattern) ≡ Ok (bound_view x)) }
     ensures refused { (code : ScriptCode) → IsErrOf result (f.Refused code) → n.like (bound_view value) (bound_view pattern) ≡ Err code }

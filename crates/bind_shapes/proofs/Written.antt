@@ -7,7 +7,7 @@ use Rattle.sql_syntax.specs.declared.tree.Tree.{Tree}
 use Rattle.sql_syntax.specs.declared.tree.TreeWhen.{TreeWhen}
 use Rattle.sql_syntax.specs.Tree as t
 use Rattle.sql_syntax.specs.View.{view, trees_view, sum_tails_view, product_tails_view, whens_view}
-use Rattle.sql_syntax.specs.laws.Views.{sum_tail, product_tail, tree_when}
+use Rattle.sql_syntax.proofs.laws.Views.{sum_tail, product_tail, tree_when}
 use Rattle.query_answer.specs.Names.{Lookup}
 use Rattle.query_answer.specs.Shapes.{shape, all_shapes, sum_shapes, product_shapes, when_shapes, one_shape, sum_number, product_number}
 use Rattle.bind_shapes.specs.Codes.{code, codes, word}

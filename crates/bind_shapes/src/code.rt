@@ -10,7 +10,7 @@ use bind_names::{find, function_of};
 use ct_catalog::type_of;
 use ct_value::{CompareOp, List, Memory, Text, Ty};
 use query_answer::{Found, Function, Scope};
-use rel_clauses::AggCall;
+use rel_algebra::AggCall;
 use sql_syntax::{
     Args, Over, ProductTails, ProductWord, SumTails, SumWord, Tree, TreeWhens, Trees,
 };

@@ -6,9 +6,7 @@
 #![tactic(auto)]
 
 mod code;
-mod laws;
 mod lookup;
 
 pub use code::{Code, column_code, shape_code};
-pub use laws::codes_tell_shapes;
 pub use lookup::{Codes, place};

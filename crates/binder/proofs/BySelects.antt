@@ -11,7 +11,7 @@ use Rattle.sql_syntax.specs.declared.tree.Query.{Query}
 use Rattle.sql_syntax.specs.declared.tree.Sort.{Sort}
 use Rattle.sql_syntax.specs.Tree as t
 use Rattle.sql_syntax.specs.View.{query_view, selects_view, sorts_view}
-use Rattle.sql_syntax.specs.laws.Views.{query}
+use Rattle.sql_syntax.proofs.laws.Views.{query}
 use Rattle.query_answer.specs.Names.{Scope}
 use Rattle.binding.specs.Checked.{Checked, ◌>>=◌}
 use Rattle.binding.specs.Queries.{Relation, is_plain, query_bound, select_bound, selects_bound, union_of, united}

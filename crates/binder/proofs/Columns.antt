@@ -4,7 +4,7 @@ use Rattle.std.proofs.lemmas.List.{at_drop_more, drop_all}
 use Rattle.ct_catalog.specs.declared.table.ColDef.{ColDef}
 use Rattle.query_answer.specs.declared.scope.ScopeColumn.{ScopeColumn}
 use Rattle.query_answer.specs.Answer.{types}
-use Rattle.binding.specs.Inserts.{go_into, goes_into}
+use Rattle.rel_algebra.specs.GoesInto.{go_into, goes_into}
 
 abbrev pub into_from : List ScopeColumn → List ColDef → ℕ → Bool
 into_from xs ys i = go_into (types (drop i xs)) (map (λ c. c.ty) (drop i ys))

@@ -7,7 +7,7 @@ use Rattle.sql_syntax.specs.declared.tree.Query.{Query}
 use Rattle.sql_syntax.specs.declared.tree.Select.{Select}
 use Rattle.sql_syntax.specs.Tree as t
 use Rattle.sql_syntax.specs.View.{query_view, selects_view, sorts_view}
-use Rattle.sql_syntax.specs.laws.Views.{query}
+use Rattle.sql_syntax.proofs.laws.Views.{query}
 use Rattle.query_answer.specs.Names.{Scope}
 use Rattle.query_answer.specs.Forms.{is_simple}
 use Rattle.binding.specs.Queries.{exists_bound, inside_bound, is_plain}

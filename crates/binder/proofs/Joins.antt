@@ -6,7 +6,7 @@ use Rattle.ct_catalog.specs.declared.table.TableDef.{TableDef}
 use Rattle.sql_syntax.specs.declared.tree.JoinItem.{JoinItem}
 use Rattle.sql_syntax.specs.Tree as t
 use Rattle.sql_syntax.specs.View.{joins_view, source_view, view}
-use Rattle.sql_syntax.specs.laws.Views.{join_item}
+use Rattle.sql_syntax.proofs.laws.Views.{join_item}
 use Rattle.query_answer.specs.Joins.{kind_of}
 use Rattle.binding.specs.Checked.{Checked, ◌>>=◌}
 use Rattle.binding.specs.Queries.{Relation, joined, joins_bound, source_bound}

@@ -5,7 +5,6 @@ pub mod IntoSinks
 pub mod Joins
 pub mod Lefts
 pub mod OnlySources
-pub mod Pops
 pub mod Selects
 pub mod Unions
 pub mod Wheres

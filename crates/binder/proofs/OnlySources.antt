@@ -10,7 +10,7 @@ use Rattle.sql_syntax.specs.declared.tree.Select.{Select}
 use Rattle.sql_syntax.specs.Tree.{Text}
 use Rattle.sql_syntax.specs.Tree as t
 use Rattle.sql_syntax.specs.View.{items_view, join_view, joins_view, query_view, select_view, selects_view, sorts_view, source_view, trees_view, view}
-use Rattle.sql_syntax.specs.laws.Views.{query, select}
+use Rattle.sql_syntax.proofs.laws.Views.{query, select}
 use Rattle.query_answer.specs.Ranks.{Ranked, ranked_select, with_rank}
 use Rattle.binding.specs.Checked.{Checked, ◌>>=◌}
 use Rattle.binding.specs.Nodes.{Bound}

@@ -6,8 +6,8 @@ use Rattle.query_answer.specs.Answer as a
 use Rattle.query_answer.specs.Answer.{listed_trees}
 use Rattle.binding.specs.Checked.{◌>>=◌}
 use Rattle.binding.specs.Queries as q
-use Rattle.bind_clauses.specs.declared.entries.Entry.{Entry}
-use Rattle.bind_clauses.specs.Views.{entries_view}
+use Rattle.bind_names.specs.declared.entries.Entry.{Entry}
+use Rattle.bind_names.specs.Entries.{entries_view}
 use Rattle.binder.specs.Steps.{listed}
 
 pub listed_all : (xs : List Tree) → listed_trees (t.trees xs) ≡ xs

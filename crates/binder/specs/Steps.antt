@@ -10,7 +10,9 @@ use Rattle.query_answer.specs.Forms.{is_simple}
 use Rattle.query_answer.specs.Names.{Scope}
 use Rattle.query_answer.specs.Ranks.{Ranked}
 use Rattle.binding.specs.Checked.{Checked, ◌>>=◌}
-use Rattle.binding.specs.Inserts.{column_types, go_into, scans}
+use Rattle.binding.specs.Inserts.{scans}
+use Rattle.rel_algebra.specs.GoesInto.{go_into}
+use Rattle.ct_catalog.specs.Columns.{column_types}
 use Rattle.binding.specs.Queries.{Outside, Part, Relation, Framed, FromWhere, Only, all_parts_bound, all_parts_but, alone, alone_bound, denied_bound, exists_bound, exists_part, framed, grouped_select, inside_bound, is_plain, joins_bound, kept, list_bound, member_part, own_value, parts_bound, parts_but, plain_listed, plain_part, plain_select, query_bound, ranked_list, read_by, select_bound, selects_bound, source_bound, united}
 
 -- a query with ORDER BY or LIMIT is refused behind its selects

@@ -8,18 +8,17 @@ ghost use Rattle.query_answer.specs.Answer.{conjuncts_if};
 ghost use Rattle.query_answer.specs.Ranks.{ranked_select};
 ghost use Rattle.binding.specs.Queries as q;
 ghost use Rattle.bind_clauses.specs.Views.{relation_view};
-ghost use Rattle.bind_subqueries.specs.Views.{part_view};
-ghost use Rattle.bind_tops.specs.Views.{conjunct_view, ranked_view};
-ghost use Rattle.bind_ranks.specs.Views.{framed_view};
+ghost use Rattle.bind_nested.specs.PartViews.{part_view};
+ghost use Rattle.bind_forms.specs.Views.{conjunct_view, ranked_view};
+ghost use Rattle.bind_nested.specs.RankViews.{framed_view};
 ghost use Rattle.binder.specs.Steps.{from_list, plain_exists, ranked_exists};
 ghost use Rattle.binder.specs.Views.{from_where_view};
 
 use crate::selected::{refuse_list, selected};
 use bind_clauses::{Relation, renamed};
+use bind_forms::{Conjuncts, Ranked, push_conjuncts, ranked_select};
 use bind_names::BindFault;
-use bind_ranks::{Framed, bounded, ranked_list, unbounded};
-use bind_subqueries::{Part, Parts, exists_part, kept};
-use bind_tops::{Conjuncts, Ranked, push_conjuncts, ranked_select};
+use bind_nested::{Framed, Part, Parts, bounded, exists_part, kept, ranked_list, unbounded};
 use ct_value::{Memory, ScriptCode, Text};
 use sql_syntax::{Select, Tree};
 use std::alloc::Global;
@@ -64,7 +63,7 @@ fn conjuncts_of<'a>(alloc: Global, condition: &'a Option<Tree>) -> Result<Conjun
 }
 
 /// A query with a rank as the only source of a select.
-#[tactic(auto, using(sql_syntax::specs::laws::Views::select))]
+#[tactic(auto, using(sql_syntax::proofs::laws::Views::select))]
 pub(crate) fn sole(
     alloc: Global,
     free: bool,
@@ -83,7 +82,7 @@ pub(crate) fn sole(
 }
 
 // The list of a select, which may have a rank.
-#[tactic(auto, using(sql_syntax::specs::laws::Views::select))]
+#[tactic(auto, using(sql_syntax::proofs::laws::Views::select))]
 fn listed_by(
     alloc: Global,
     free: bool,
@@ -126,7 +125,7 @@ pub(crate) fn select_over(
 }
 
 // The subquery of an EXISTS without a rank.
-#[tactic(auto, using(sql_syntax::specs::laws::Views::select))]
+#[tactic(auto, using(sql_syntax::proofs::laws::Views::select))]
 fn plain_exists(
     alloc: Global,
     anti: bool,

@@ -1,8 +1,11 @@
 //! Queries and INSERTs are bound to the algebra.
 //!
-//! Promised: `bind` answers what the definition of `binding` says of the INSERT, or its first refusal. It stands on bound clauses, groups and joins.
+//! Promised: `bind` answers what the definitions (`specs/Bound`) say of the names of an INSERT, or its first refusal but that of a rank
+//! without a bound; `bind_query` answers what the definition of `binding` says of a query, with free ranks or without. It stands on
+//! bound clauses, groups, joins and subqueries.
 #![tactic(auto)]
 
+mod bound;
 mod gathered;
 mod inserts;
 mod queries;
@@ -10,4 +13,6 @@ mod selected;
 mod sinks;
 mod spent;
 
-pub use inserts::{Inserted, bind};
+pub use bound::{Bound, BoundQuery};
+pub use inserts::bind;
+pub use queries::bind_query;

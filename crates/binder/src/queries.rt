@@ -7,8 +7,8 @@ ghost use Rattle.sql_syntax.specs.View.{joins_view, query_view, select_view, sel
 ghost use Rattle.rel_algebra.specs.View.{rels_view};
 ghost use Rattle.binding.specs.Queries.{all_parts_bound, all_parts_but, denied_bound, exists_bound, gathered_bound, inside_bound, is_plain, joins_bound, parts_bound, parts_but, query_bound, select_bound, source_bound, where_bound};
 ghost use Rattle.bind_clauses.specs.Views.{relation_view};
-ghost use Rattle.bind_subqueries.specs.Views.{outside_view, part_view, parts_view};
-ghost use Rattle.bind_ranks.specs.Views.{framed_view};
+ghost use Rattle.bind_nested.specs.PartViews.{outside_view, part_view, parts_view};
+ghost use Rattle.bind_nested.specs.RankViews.{framed_view};
 ghost use Rattle.binder.specs.Views.{from_where_view};
 ghost use Rattle.sql_syntax.specs.Tree as t;
 ghost use Rattle.binder.specs.Steps.{all_bound, common_scope, exists_only, exists_simple, joined_framed, left_bound, member_bound, only_framed, only_part, only_select, part_bound, read_framed, select_framed, selects_framed, union_of_rest, whole_union};
@@ -16,13 +16,10 @@ ghost use Rattle.binder.specs.Steps.{all_bound, common_scope, exists_only, exist
 use crate::gathered::{FromWhere, exists_over, select_over, side_by_side, sole, under_alias};
 use crate::spent::split_spent;
 use bind_clauses::{Relation, read, renamed, united};
-use bind_joins::{joined, kind_of};
-use bind_names::BindFault;
-use bind_ranks::Framed;
-use bind_subqueries::{
-    Outside, Part, Parts, alone, is_simple, member_part, own_value, plain_part, tests,
-};
-use bind_tops::ranked_select;
+use bind_forms::ranked_select;
+use bind_names::{BindFault, is_simple};
+use bind_nested::{Framed, Outside, Part, Parts, alone, member_part, own_value, plain_part, tests};
+use bind_sources::{joined, kind_of};
 use ct_catalog::Sources;
 use ct_value::{ScriptCode, Text};
 use query_answer::Scope;
@@ -30,9 +27,10 @@ use rel_algebra::{Rel, Rels};
 use sql_syntax::{JoinItems, Query, Select, Selects, SortList, Source, Tree, Trees};
 use std::alloc::Global;
 
-/// The algebra of a query over these tables, with the columns in reach over its rows; or the first refusal.
+/// The algebra of a query over these tables, with the columns in reach over its rows; or the first refusal. Where ranks are free, one
+/// without a bound keeps no rows, and is not refused.
 #[cycle(query)]
-pub(crate) fn bind_query(
+pub fn bind_query(
     alloc: Global,
     free: bool,
     sources: &Sources,
@@ -107,7 +105,7 @@ fn bind_union(
 }
 
 // The Union of inputs that have these columns; no text has a UNION ALL of nothing.
-#[tactic(auto, using(rel_algebra::specs::laws::Views::view_union))]
+#[tactic(auto, using(rel_algebra::proofs::laws::Views::view_union))]
 fn union_of_all(alloc: Global, inputs: Rels, scope: Option<Scope>) -> Result<Relation, BindFault>
     ensures ok { IfOk result (λ x. whole_union (rels_view inputs) scope ≡ Ok (relation_view x)) }
     ensures refused { (code : ScriptCode) → IsErrOf result (f.Refused code) → whole_union (rels_view inputs) scope ≡ Err code }
@@ -147,7 +145,7 @@ fn bind_select(
 
 // FROM and WHERE of a select.
 #[cycle(query)]
-#[tactic(auto, using(sql_syntax::specs::laws::Views::select))]
+#[tactic(auto, using(sql_syntax::proofs::laws::Views::select))]
 fn bind_from_where(
     alloc: Global,
     free: bool,
@@ -194,7 +192,7 @@ fn bind_read(
 
 // Sources side by side.
 #[cycle(query)]
-#[tactic(auto, using(sql_syntax::specs::laws::Views::select))]
+#[tactic(auto, using(sql_syntax::proofs::laws::Views::select))]
 fn bind_joined(
     alloc: Global,
     free: bool,

@@ -6,12 +6,13 @@ ghost use Rattle.sql_syntax.specs.Tree.{items as item_list, optional_tree, trees
 ghost use Rattle.sql_syntax.specs.View.{view, items_view, trees_view};
 ghost use Rattle.query_answer.specs.Answer.{entries, listed_trees};
 ghost use Rattle.binding.specs.Queries as q;
-ghost use Rattle.bind_clauses.specs.Views.{entries_view, relation_view};
+ghost use Rattle.bind_clauses.specs.Views.{relation_view};
+ghost use Rattle.bind_names.specs.Entries.{entries_view};
 ghost use Rattle.binder.specs.Steps.{IsOk, listed};
 
-use bind_clauses::{Entries, Relation, entries_of, is_grouped, list_plain, once, plain_select};
-use bind_groups::grouped_select;
-use bind_names::BindFault;
+use bind_clauses::{Relation, is_grouped, list_plain, once, plain_select};
+use bind_names::{BindFault, Entries, entries_of};
+use bind_sources::grouped_select;
 use ct_value::ScriptCode;
 use query_answer::Scope;
 use sql_syntax::{Items, Tree, Trees};

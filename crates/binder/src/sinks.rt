@@ -4,6 +4,7 @@ ghost use Rattle.rel_algebra.specs.Rel.{rels as rel_list};
 ghost use Rattle.rel_algebra.specs.View.{rel_view, rels_view};
 ghost use Rattle.query_answer.specs.Answer.{types};
 ghost use Rattle.binding.specs.Inserts as i;
+ghost use Rattle.rel_algebra.specs.GoesInto as g;
 
 use ct_catalog::ColDef;
 use ct_expr::same_ty;
@@ -41,7 +42,7 @@ fn any_scans(table: usize, inputs: &Rels) -> bool
 
 // INT goes into BIGINT, and a decimal into one of the same scale and no smaller precision.
 fn widens(ty: Ty, sink: Ty) -> bool
-    ensures { result ≡ i.widens ty sink }
+    ensures { result ≡ g.widens ty sink }
 {
     match (ty, sink) {
         (Ty::Int, Ty::BigInt) => true,
@@ -51,7 +52,7 @@ fn widens(ty: Ty, sink: Ty) -> bool
 }
 
 fn goes_into(column: ColTy, sink: ColTy) -> bool
-    ensures { result ≡ i.goes_into column sink }
+    ensures { result ≡ g.goes_into column sink }
 {
     same_ty(column.ty, sink.ty) || widens(column.ty, sink.ty)
 }
@@ -59,7 +60,7 @@ fn goes_into(column: ColTy, sink: ColTy) -> bool
 // Whether the columns are as many as the sink's, and each goes into its own.
 #[tactic(auto, using(crate::proofs::Columns::other_length, crate::proofs::Columns::stops, crate::proofs::Columns::goes_on, crate::proofs::Columns::ends))]
 pub(crate) fn go_into(scope: &Scope, sink: &[ColDef]) -> bool
-    ensures { result ≡ i.go_into (types scope.now) (map (λ c. c.ty) sink.now) }
+    ensures { result ≡ g.go_into (types scope.now) (map (λ c. c.ty) sink.now) }
 {
     if scope.len() != sink.len() {
         return false;

@@ -4,7 +4,7 @@ ghost use Rattle.sql_syntax.specs.View.{view};
 ghost use Rattle.query_answer.specs.Answer.{conjuncts};
 ghost use Rattle.binder.specs.Steps.{spent_behind, spent_here};
 
-use bind_tops::{Conjuncts, push_conjuncts};
+use bind_forms::{Conjuncts, push_conjuncts};
 use ct_value::Memory;
 use sql_syntax::Tree;
 use std::alloc::Global;

@@ -3,8 +3,8 @@
 use Rattle.std.specs.Prelude.{ℕ, ◌+◌, Bool, true, false, cond, not, ◌&&◌, ◌||◌, List, [], ◌∷◌, length, slice_get, Option, Some, None, option_map, is_some, Ok, Err}
 use Rattle.ct_value.specs.declared.codes.ScriptCode.TheVariants.{TypeMismatch, Unsupported, NotGrouped}
 use Rattle.ct_value.specs.declared.ty.ColTy.{ColTy}
-use Rattle.rel_clauses.specs.declared.agg.AggCall.{AggCall}
-use Rattle.rel_clauses.specs.Aggregates.{call_type}
+use Rattle.rel_algebra.specs.declared.agg.AggCall.{AggCall}
+use Rattle.rel_algebra.specs.Aggregates.{call_type}
 use Rattle.rel_algebra.specs.Types.{is_boolean}
 use Rattle.sql_syntax.specs.Tree.{Tree}
 use Rattle.sql_syntax.specs.Tree as t

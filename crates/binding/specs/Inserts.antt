@@ -3,12 +3,10 @@ use Rattle.std.specs.Prelude.{ℕ, ◌==◌, nat_le, Bool, true, false, not, ◌
 use Rattle.std.specs.List.{find}
 use Rattle.std.specs.Str.{bytes_eq}
 use Rattle.ct_value.specs.declared.codes.ScriptCode.TheVariants.{UnknownTable, SinkShape}
-use Rattle.ct_value.specs.declared.ty.ColTy.{ColTy}
-use Rattle.ct_value.specs.declared.ty.Ty.{Ty}
-use Rattle.ct_value.specs.declared.ty.Ty.TheVariants.{Int, BigInt, Decimal}
-use Rattle.ct_expr.specs.Types.{same_ty}
 use Rattle.ct_catalog.specs.declared.table.TableDef.{TableDef}
-use Rattle.rel_algebra.specs.Rel.{Rel, Rels, Scan, Filter, Project, Union, Group, Join, Semi, Rank, no_rels, rel_and}
+use Rattle.ct_catalog.specs.Columns.{column_types}
+use Rattle.rel_algebra.specs.GoesInto.{go_into}
+use Rattle.rel_algebra.specs.Rel.{Rel, Rels, Scan, One, Two, Many, no_rels, rel_and}
 use Rattle.sql_syntax.specs.Tree.{Query, Text}
 use Rattle.query_answer.specs.Answer.{types}
 use Rattle.binding.specs.Checked.{Checked, ◌>>=◌, or_code, refused_if}
@@ -25,37 +23,13 @@ abbrev mutual
   -- whether a table is read
   pub scans : ℕ → Rel → Bool
   scans n (Scan source) = n == source
-  scans n (Filter input condition) = scans n input
-  scans n (Project input items) = scans n input
-  scans n (Union inputs) = any_scans n inputs
-  scans n (Group input keys aggs) = scans n input
-  scans n (Join left right kind pairs rest) = scans n left || scans n right
-  scans n (Semi left right anti pairs rest) = scans n left || scans n right
-  scans n (Rank input partition order bound ranked) = scans n input
+  scans n (One how input) = scans n input
+  scans n (Two how left right) = scans n left || scans n right
+  scans n (Many inputs) = any_scans n inputs
 
   pub any_scans : ℕ → Rels → Bool
   any_scans n no_rels = false
   any_scans n (rel_and input inputs) = scans n input || any_scans n inputs
-
--- INT into BIGINT, and a decimal into one of the same scale and no smaller precision
-abbrev pub widens : Ty → Ty → Bool
-widens Int BigInt = true
-widens (Decimal p s) (Decimal q u) = nat_le p q && (s == u)
-widens _ _ = false
-
--- a column's values may go into a column of the sink
-abbrev pub goes_into : ColTy → ColTy → Bool
-goes_into column sink = same_ty column.ty sink.ty || widens column.ty sink.ty
-
--- column by column, equally many
-abbrev pub go_into : List ColTy → List ColTy → Bool
-go_into [] [] = true
-go_into [] (sink ∷ sinks) = false
-go_into (column ∷ columns) [] = false
-go_into (column ∷ columns) (sink ∷ sinks) = goes_into column sink && go_into columns sinks
-
-abbrev pub column_types : TableDef → List ColTy
-column_types table = map (λ c. c.ty) table.cols
 
 -- what an INSERT is bound to: the query over its sources, and the sink
 pub record Inserted : Type 0 where

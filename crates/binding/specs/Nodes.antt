@@ -14,8 +14,8 @@ use Rattle.ct_expr.specs.declared.expr.ArithOp.TheVariants.{Add, Sub, Mul}
 use Rattle.ct_expr.specs.Expr.{Expr, Exprs, exprs, whens, optional_expr}
 use Rattle.ct_expr.specs.Expr as e
 use Rattle.ct_expr.specs.Types.{gather_some, literal_col, number_col, arith_col, compare_col, truth_col, all_truths, null_test_col, in_list_col, case_col, coalesce_col, null_if_col, cast_col, texts_col, char_length_col}
-use Rattle.rel_clauses.specs.declared.agg.AggCall.{AggCall}
-use Rattle.rel_clauses.specs.declared.agg.AggCall.TheVariants.{Count}
+use Rattle.rel_algebra.specs.declared.agg.AggCall.{AggCall}
+use Rattle.rel_algebra.specs.declared.agg.AggCall.TheVariants.{Count}
 use Rattle.sql_syntax.specs.declared.tree.ProductWord.{ProductWord}
 use Rattle.sql_syntax.specs.declared.tree.ProductWord.TheVariants.{Times, Divide, Modulo}
 use Rattle.sql_syntax.specs.declared.tree.SumWord.{SumWord}

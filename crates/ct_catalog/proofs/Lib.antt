@@ -1,3 +1,3 @@
 pub mod Digits
 pub mod Elements
-pub mod Repeats
+pub mod laws

@@ -88,7 +88,7 @@ impl Catalog {
         }
     }
 
-    #[tactic(auto, using(crate::specs::laws::Refusals::few_columns))]
+    #[tactic(auto, using(crate::proofs::laws::Refusals::few_columns))]
     fn create(
         &mut self,
         name: &Text,

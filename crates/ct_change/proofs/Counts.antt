@@ -6,7 +6,8 @@ use Rattle.std.specs.BTreeMap.{BTreeMap, IsOrdered, get, keys}
 use Rattle.std.specs.Cmp.{eq_by_cmp_equiv, Equal-is}
 use Rattle.std.proofs.lemmas.Map.Keys.{IsDistinct-from_sorted}
 use Rattle.ct_value.specs.Order.{row_cmp, row_total, row_exact}
-use Rattle.ct_value.specs.Bag.{Bag, copies, add, add_many, remove, bag_of_counts, one_at, copies-bag_of_counts, copies-occurs, copies-add, total-add_many, copies-remove, same_bag}
+use Rattle.ct_value.specs.Bag.{Bag, copies, add, add_many, remove, bag_of_counts, one_at}
+use Rattle.ct_value.proofs.laws.Bags.{copies-bag_of_counts, copies-occurs, copies-add, total-add_many, copies-remove, same_bag}
 use Rattle.ct_value.specs.declared.row.Row.{Row}
 
 abbrev pub bag_in : BTreeMap Row ℕ → Bag row_cmp

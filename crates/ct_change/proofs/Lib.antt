@@ -1,2 +1,3 @@
 pub mod Counts
 pub mod Runs
+pub mod laws

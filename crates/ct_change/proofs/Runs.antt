@@ -10,7 +10,8 @@ use Rattle.std.specs.BTreeMap.{BTreeMap, is_at}
 use Rattle.std.proofs.lemmas.Map.Keys.{sorted_head, sorted_tail, IsDistinct-from_sorted}
 use Rattle.std.proofs.lemmas.Map.Entries.{none_past_head}
 use Rattle.std.proofs.lemmas.Map.{lookup-none}
-use Rattle.ct_value.specs.Bag.{Bag, items, put, at_most_all, add_many, bag_of_counts, items-none, items-add}
+use Rattle.ct_value.specs.Bag.{Bag, items, put, at_most_all, add_many, bag_of_counts}
+use Rattle.ct_value.proofs.laws.Bags.{items-none, items-add}
 use Rattle.ct_value.specs.Order.{row_cmp, row_total, row_exact}
 use Rattle.ct_value.specs.declared.row.Row.{Row}
 use Rattle.std.proofs.lemmas.Bool.{eq-eqb, ne_eqb}

@@ -1,5 +1,5 @@
 pub mod Changelog
 pub mod Counts
 pub mod Emission
+pub mod Kinds
 pub mod LastRows
-pub mod laws

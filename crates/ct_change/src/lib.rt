@@ -2,8 +2,8 @@
 //!
 //! Promised: what rows a list of changes leaves in append, retract and upsert mode and which lists are valid (`specs/Changelog`);
 //! what goes and what comes by a change, and which changes replace a row by another (`specs/Emission`); a `Bag` is the bag of the
-//! rows put in it; and the laws of modes, as contracts of the functions of `laws`, from which alone operators are proved.
-//! It stands on the order of rows and the bags of `ct_value`.
+//! rows put in it; and what `ChangeMode`, `InMode` and `OutMode` say of every mode, from which, with the lemmas of `proofs/laws`,
+//! operators are proved. It stands on the order of rows and the bags of `ct_value`.
 #![tactic(auto)]
 
 mod append;
@@ -11,10 +11,11 @@ mod bag;
 mod change;
 mod kind;
 mod last_rows;
-mod laws;
 mod mode;
+mod promises;
 mod retract;
 mod steps;
+mod update;
 mod upsert;
 
 pub use append::Append;
@@ -22,11 +23,9 @@ pub use bag::{Bag, BagRows};
 pub use change::{Change, Changes, Diff};
 pub use kind::{Declared, Kind, KindSet};
 pub use last_rows::LastRows;
-pub use laws::{
-    difference_settles, emission_is_admitted, emission_replaces, fold_takes_each_change,
-    valid_changelog_means_its_fold,
-};
 pub use mode::{ChangeMode, InMode, OutMode};
+pub use promises::valid_changelog_means_its_fold;
 pub use retract::Retract;
 pub use steps::Steps;
+pub use update::Update;
 pub use upsert::UpsertBy;

@@ -13,7 +13,7 @@ use Rattle.ct_expr.specs.Values.{or_of, compare_of, first_known, first_chosen, i
 use Rattle.ct_value.specs.declared.value.CompareOp.TheVariants.{Eq}
 use Rattle.ct_value.specs.declared.value.Value.{Value}
 use Rattle.ct_expr.specs.View.{expr_view, exprs_view, whens_view}
-use Rattle.ct_expr.specs.laws.Views.{view_when}
+use Rattle.ct_expr.proofs.laws.Views.{view_when}
 
 abbrev pub tys_from : Option Ty → List Expr → Option Ty
 tys_from o xs = fold (λ o t. Some (with_ty o t)) o (tys_of (exprs (exprs_view xs)))

@@ -6,4 +6,4 @@ pub mod Operands
 pub mod Types
 pub mod Values
 pub mod View
-pub mod laws
+pub mod Views

@@ -18,57 +18,56 @@ impl Expr {
                 value: value.dup()?,
                 ty: *ty,
             }),
-            Expr::Neg(value) => Ok(Expr::Neg(beside(value, value.dup()?)?)),
-            Expr::Arith { op, left, right } => {
-                let (left, right) = two_beside(left, left.dup()?, right.dup()?)?;
-                Ok(Expr::Arith {
-                    op: *op,
-                    left,
-                    right,
-                })
-            }
-            Expr::Compare { op, left, right } => {
-                let (left, right) = two_beside(left, left.dup()?, right.dup()?)?;
-                Ok(Expr::Compare {
-                    op: *op,
-                    left,
-                    right,
-                })
-            }
+            Expr::Neg(value) => Ok(Expr::Neg(dup_part(value)?)),
+            Expr::Arith { op, left, right } => Ok(Expr::Arith {
+                op: *op,
+                left: dup_part(left)?,
+                right: dup_part(right)?,
+            }),
+            Expr::Compare { op, left, right } => Ok(Expr::Compare {
+                op: *op,
+                left: dup_part(left)?,
+                right: dup_part(right)?,
+            }),
             Expr::And(exprs) => Ok(Expr::And(dup_exprs(exprs)?)),
             Expr::Or(exprs) => Ok(Expr::Or(dup_exprs(exprs)?)),
-            Expr::Not(value) => Ok(Expr::Not(beside(value, value.dup()?)?)),
-            Expr::IsNull(value) => Ok(Expr::IsNull(beside(value, value.dup()?)?)),
-            Expr::InList { value, items } => {
-                let items = dup_exprs(items)?;
-                let value = beside(value, value.dup()?)?;
-                Ok(Expr::InList { value, items })
-            }
-            Expr::Case { whens, otherwise } => {
-                let whens = dup_whens(whens)?;
-                let otherwise = dup_otherwise(otherwise)?;
-                Ok(Expr::Case { whens, otherwise })
-            }
+            Expr::Not(value) => Ok(Expr::Not(dup_part(value)?)),
+            Expr::IsNull(value) => Ok(Expr::IsNull(dup_part(value)?)),
+            Expr::InList { value, items } => Ok(Expr::InList {
+                value: dup_part(value)?,
+                items: dup_exprs(items)?,
+            }),
+            Expr::Case { whens, otherwise } => Ok(Expr::Case {
+                whens: dup_whens(whens)?,
+                otherwise: dup_otherwise(otherwise)?,
+            }),
             Expr::Coalesce(exprs) => Ok(Expr::Coalesce(dup_exprs(exprs)?)),
-            Expr::NullIf { left, right } => {
-                let (left, right) = two_beside(left, left.dup()?, right.dup()?)?;
-                Ok(Expr::NullIf { left, right })
-            }
+            Expr::NullIf { left, right } => Ok(Expr::NullIf {
+                left: dup_part(left)?,
+                right: dup_part(right)?,
+            }),
             Expr::Cast { value, ty } => Ok(Expr::Cast {
-                value: beside(value, value.dup()?)?,
+                value: dup_part(value)?,
                 ty: *ty,
             }),
-            Expr::Concat { left, right } => {
-                let (left, right) = two_beside(left, left.dup()?, right.dup()?)?;
-                Ok(Expr::Concat { left, right })
-            }
-            Expr::CharLength(value) => Ok(Expr::CharLength(beside(value, value.dup()?)?)),
-            Expr::Like { value, pattern } => {
-                let (value, pattern) = two_beside(value, value.dup()?, pattern.dup()?)?;
-                Ok(Expr::Like { value, pattern })
-            }
+            Expr::Concat { left, right } => Ok(Expr::Concat {
+                left: dup_part(left)?,
+                right: dup_part(right)?,
+            }),
+            Expr::CharLength(value) => Ok(Expr::CharLength(dup_part(value)?)),
+            Expr::Like { value, pattern } => Ok(Expr::Like {
+                value: dup_part(value)?,
+                pattern: dup_part(pattern)?,
+            }),
         }
     }
+}
+
+#[cycle(dup)]
+fn dup_part(part: &Box<Expr>) -> Result<Box<Expr>, Memory>
+    ensures { IfOk result (λ copy. expr_view copy.value ≡ expr_view part.now.value) }
+{
+    beside(part, part.dup()?)
 }
 
 /// Equal expressions, in the memory that these lie in.
@@ -95,7 +94,7 @@ fn dup_whens(whens: &Whens) -> Result<Whens, Memory>
 }
 
 #[cycle(dup)]
-#[tactic(auto, using(crate::specs::laws::Views::view_when))]
+#[tactic(auto, using(crate::proofs::laws::Views::view_when))]
 fn dup_when(when: &When) -> Result<When, Memory>
     ensures { IfOk result (λ copy. when_view copy ≡ when_view when.now) }
 {
@@ -122,13 +121,4 @@ fn beside(part: &Box<Expr>, expr: Expr) -> Result<Box<Expr>, Memory>
     ensures { IfOk result (λ made. made.value ≡ expr) }
 {
     Ok(Box::new(*Box::allocator(part), expr)?)
-}
-
-fn two_beside(part: &Box<Expr>, left: Expr, right: Expr) -> Result<(Box<Expr>, Box<Expr>), Memory>
-    ensures left { IfOk result (λ made. made.0.value ≡ left) }
-    ensures right { IfOk result (λ made. made.1.value ≡ right) }
-{
-    let left = beside(part, left)?;
-    let right = beside(part, right)?;
-    Ok((left, right))
 }

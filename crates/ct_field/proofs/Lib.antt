@@ -3,3 +3,4 @@ pub mod Bounded
 pub mod Digits
 pub mod Powers
 pub mod Texts
+pub mod laws

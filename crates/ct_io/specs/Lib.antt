@@ -1,4 +1,4 @@
-pub mod Appending
+pub mod Copies
 pub mod Counts
 pub mod Holdings
 pub mod InMemory

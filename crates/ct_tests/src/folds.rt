@@ -1,13 +1,13 @@
 // Changes of one source, taken one after another.
 ghost use Rattle.std.specs.Prelude.{◌≡◌, IfOk};
 ghost use Rattle.ct_change.specs.Changelog.{fold};
-ghost use Rattle.plan_network.specs.Plans.{table_mode};
+ghost use Rattle.ct_catalog.specs.Columns.{table_mode};
 
 use crate::tables::words;
 use ct_catalog::TableDef;
 use ct_change::{Bag, Change, Changes, Declared, Kind};
 use ct_value::{ChangeCode, Memory, Row, Text, Value, Values};
-use source_fold::{SourceChecks, SourceFault, SourceFold};
+use source_lines::{SourceChecks, SourceFault, SourceFold};
 use std::alloc::Global;
 use std::test::Fail;
 

@@ -1,6 +1,6 @@
-//! Tests of the lower floors, that memory suffices where there is enough of it: values, texts and codes, shelves and sinks in memory, fields,
-//! expressions, change lines, the longest field among them, and the folds of sources. That the definitions say what they should is shown by
-//! `expr_examples` and `line_examples`.
+//! Tests of the lower floors, that memory suffices where there is enough of it: values, texts and codes, shelves and sinks in memory,
+//! fields, expressions, change lines, the longest field among them, and the folds of sources. That the definitions say what they
+//! should is shown by `value_examples` and `text_examples`.
 #![tactic(auto)]
 
 #[cfg(test)]

@@ -1,9 +1,9 @@
 // Change files of one source.
 use crate::tables::words;
-use change_lines::{ChangeLines, Line, LineFault};
 use ct_catalog::Sources;
 use ct_change::{Declared, Kind};
 use ct_value::{Bytes, ChangeCode, Memory, Value};
+use job_text::{ChangeLines, Line, LineFault};
 use std::alloc::Global;
 use std::test::Fail;
 

@@ -20,7 +20,7 @@ pub use bytes::Bytes;
 pub use codes::{ChangeCode, OrderCode, ScriptCode};
 pub use dup::Dup;
 pub use list::List;
-pub use memory::Memory;
+pub use memory::{Memory, beside};
 pub use row::{Cols, Numbers, Row, Values};
 pub use text::{Text, TextFault};
 pub use ty::{ColTy, ColTys, Ty};

@@ -7,7 +7,7 @@ use Rattle.ct_io.specs.Holdings.{Holdings}
 use Rattle.job_ending.specs.declared.ending.Ending.{Ending}
 use Rattle.job_ending.specs.declared.ending.Ending.TheVariants as e
 use Rattle.job_ending.specs.Outcome.{Outcome}
-use Rattle.job_ending.specs.RunLaws.{completes}
+use Rattle.job_ending.proofs.laws.Runs.{completes}
 use Rattle.job_ending.specs.Runs.{IsCaused}
 
 pub done_before : (result ending : Ending) → (result ≡ ending) ⊎ (result ≡ e.Memory) → result ≡ e.Done → ending ≡ e.Done

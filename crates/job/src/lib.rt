@@ -23,10 +23,11 @@ use job_run::run;
 use std::alloc::Global;
 
 /// Does the job that the words name: it loads the script and the change file from the shelf, in this order, writes the changelog of the
-/// sink on `out`, or the rows of the batch answer, each line by itself, and where it doesn't end well one line on `err`.
+/// sink on `out`, or the rows of the batch answer, each line by itself, and where it doesn't end well one line on `err`. Or it loads the
+/// script alone and writes its plan.
 ///
 /// The words are `--script NAME --changes NAME`, in any order; `--do run` may stand there too, or `--do batch` and, where only the
-/// first so many changes count, `--first COUNT`.
+/// first so many changes count, `--first COUNT`. Those for a plan are `--script NAME --do explain`.
 pub fn run_job<F: Shelf, K: Sink, E: Sink>(
     alloc: Global,
     words: &[Text],

@@ -3,3 +3,4 @@ pub mod Tables
 pub mod Taken
 pub mod Over
 pub mod Widths
+pub mod laws

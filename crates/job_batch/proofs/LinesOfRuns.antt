@@ -2,15 +2,15 @@
 use Rattle.std.proofs.Common.{◌≡◌, ℕ, suc, Bool, true, false, cond, List, [], ◌∷◌, ◌++◌, length, Option, refl, sym, ap, subst, ◌∙◌, append_assoc, append-nil}
 use Rattle.std.specs.List.{AllByRecursion}
 use Rattle.ct_io.specs.Written.{Appends, AppendsUpTo, AppendsPart}
-use Rattle.ct_io.specs.Appending.{up_to_start}
+use Rattle.ct_io.proofs.laws.Appending.{up_to_start}
 use Rattle.ct_value.specs.declared.row.Row.{Row}
 use Rattle.ct_value.specs.declared.ty.Ty.{Ty}
 use Rattle.ct_change.specs.Changelog.{same_row}
 use Rattle.ct_change.specs.Counts.{one_more, runs}
-use Rattle.ct_change.specs.laws.Meanings.{same_row-true}
-use Rattle.line_output.specs.Copies.{copies_text}
-use Rattle.line_output.specs.Pieces.{part_in_piece, up_to_piece, whole_at_end}
-use Rattle.printed_lines.specs.Printed.{row_line, row_lines}
+use Rattle.ct_change.proofs.laws.Meanings.{same_row-true}
+use Rattle.ct_io.specs.Copies.{copies_text}
+use Rattle.ct_io.proofs.laws.Pieces.{part_in_piece, up_to_piece, whole_at_end}
+use Rattle.job_text.specs.Printed.{row_line, row_lines}
 use Rattle.job_batch.specs.Runs.{run_lines}
 
 module _ (tys : List Ty) where

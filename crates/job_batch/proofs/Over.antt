@@ -6,8 +6,8 @@ use Rattle.ct_value.specs.declared.ty.ColTy.{ColTy}
 use Rattle.ct_value.specs.declared.ty.Ty.{Ty}
 use Rattle.ct_change.specs.Changelog.{Rows}
 use Rattle.ct_catalog.specs.declared.table.TableDef.{TableDef}
-use Rattle.rel_clauses.specs.Clauses.{Fits}
-use Rattle.rel_clauses.specs.Sums.{Each}
+use Rattle.rel_algebra.specs.Clauses.{Fits}
+use Rattle.rel_algebra.specs.Sums.{Each}
 use Rattle.rel_algebra.specs.Answer.{AreTyped, Table, types_in, wide}
 use Rattle.rel_algebra.specs.Answer as algebra
 use Rattle.rel_algebra.specs.Rel.{Rel}
@@ -16,9 +16,11 @@ use Rattle.sql_syntax.specs.Tree.{Query, Text}
 use Rattle.query_answer.specs.Answer.{TableRows, types}
 use Rattle.query_answer.specs.Answer as query
 use Rattle.query_laws.specs.Statement.{declared, filled, tables_of}
-use Rattle.binding.specs.Inserts.{Inserted, column_types, go_into, insert_bound}
+use Rattle.binding.specs.Inserts.{Inserted, insert_bound}
+use Rattle.rel_algebra.specs.GoesInto.{go_into}
+use Rattle.ct_catalog.specs.Columns.{column_types}
 use Rattle.batch_answer.specs.Tables.{IsOut, IsTypedOver}
-use Rattle.source_laws.specs.Fitting.{RowsFit}
+use Rattle.source_lines.specs.Fitting.{RowsFit}
 use Rattle.job_ending.specs.declared.ending.Ending.TheVariants.{Range}
 use Rattle.job_ending.specs.Outcome.{Outcome, ends}
 use Rattle.job_judgement.specs.Judged.{IsBound}

@@ -6,15 +6,15 @@ use Rattle.ct_value.specs.Order.{row_total, row_exact}
 use Rattle.ct_value.specs.declared.ty.ColTy.{ColTy}
 use Rattle.ct_change.specs.Changelog.{Rows}
 use Rattle.ct_catalog.specs.declared.table.TableDef.{TableDef}
-use Rattle.rel_clauses.specs.Clauses.{Fits}
-use Rattle.rel_clauses.specs.Sums.{Each}
-use Rattle.rel_clauses.specs.laws.Bags.{each-none}
+use Rattle.rel_algebra.specs.Clauses.{Fits}
+use Rattle.rel_algebra.specs.Sums.{Each}
+use Rattle.rel_algebra.proofs.laws.Bags.{each-none}
 use Rattle.rel_algebra.specs.Answer.{AreTyped, Table, types_in}
-use Rattle.binding.specs.Inserts.{column_types}
+use Rattle.ct_catalog.specs.Columns.{column_types}
 use Rattle.query_answer.specs.Answer.{TableRows}
 use Rattle.query_laws.specs.Statement.{declared, filled, tables_of}
 use Rattle.batch_answer.specs.Tables as batch
-use Rattle.source_laws.specs.Fitting.{RowsFit}
+use Rattle.source_lines.specs.Fitting.{RowsFit}
 use Rattle.job_batch.specs.Batch.{with_rows}
 
 -- the program's two lists are these tables

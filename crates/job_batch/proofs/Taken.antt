@@ -2,7 +2,7 @@
 use Rattle.std.proofs.Common.{◌≡◌, ℕ, List, Option, Result, Ok, Err, IfOk, IfErr, sym, ap, subst, ◌∙◌}
 use Rattle.ct_change.specs.Changelog.{Rows}
 use Rattle.ct_catalog.specs.declared.table.TableDef.{TableDef}
-use Rattle.source_laws.specs.Fitting.{RowsFit}
+use Rattle.source_lines.specs.Fitting.{RowsFit}
 use Rattle.ct_value.specs.declared.codes.ChangeCode.{ChangeCode}
 use Rattle.source_lines.specs.Taken.{Taken, refused, rows_of, taken_of}
 use Rattle.job_ending.specs.declared.ending.Ending.TheVariants.{Change}

@@ -12,14 +12,16 @@ use Rattle.ct_field.specs.Typed.{col_fits, row_fits}
 use Rattle.ct_change.specs.Changelog.{Rows}
 use Rattle.ct_catalog.specs.declared.table.ColDef.{ColDef}
 use Rattle.ct_catalog.specs.declared.table.TableDef.{TableDef}
-use Rattle.rel_clauses.specs.Clauses.{Fits}
-use Rattle.rel_clauses.specs.Sums.{Each}
+use Rattle.rel_algebra.specs.Clauses.{Fits}
+use Rattle.rel_algebra.specs.Sums.{Each}
 use Rattle.sql_syntax.specs.Tree.{Query, Text}
 use Rattle.query_answer.specs.Answer.{types}
 use Rattle.binding.specs.Checked.{Checked, or_code, refused_if, ◌>>=◌}
-use Rattle.binding.specs.Inserts.{Inserted, column_types, go_into, goes_into, insert_bound, into_sink, sunk, is_table, scans, sources_for}
+use Rattle.binding.specs.Inserts.{Inserted, insert_bound, into_sink, sunk, is_table, scans, sources_for}
+use Rattle.rel_algebra.specs.GoesInto.{go_into, goes_into}
+use Rattle.ct_catalog.specs.Columns.{column_types}
 use Rattle.binding.specs.Queries.{Relation, query_bound}
-use Rattle.table_laws.specs.Declared.{HasTypes}
+use Rattle.judge.specs.WellDeclared.{HasTypes}
 use Rattle.job_batch.specs.Runs.{AreWide}
 
 both_right : (a b : Bool) → (a && b) ≡ true → b ≡ true

@@ -5,7 +5,7 @@ use Rattle.ct_change.specs.Changelog.{Rows}
 use Rattle.rel_algebra.specs.Answer as algebra
 use Rattle.query_answer.specs.Answer.{answer}
 use Rattle.query_laws.specs.Statement.{filled, tables_of}
-use Rattle.source_laws.specs.Fitting.{RowsFit}
+use Rattle.source_lines.specs.Fitting.{RowsFit}
 use Rattle.job_judgement.specs.Judged.{IsJudged}
 use Rattle.job_judgement.specs.Judgement.{Accepted}
 use Rattle.job_batch.specs.Batch.{with_rows}

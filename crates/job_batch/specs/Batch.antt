@@ -8,7 +8,7 @@ use Rattle.rel_algebra.specs.Answer.{wide}
 use Rattle.query_answer.specs.Answer.{TableRows, answer}
 use Rattle.query_laws.specs.Statement.{filled, tables_of}
 use Rattle.source_lines.specs.Taken.{Taken, RefusedLine, rows_of, taken_of}
-use Rattle.printed_lines.specs.Printed.{row_lines}
+use Rattle.job_text.specs.Printed.{row_lines}
 use Rattle.job_ending.specs.declared.ending.Ending.TheVariants.{Done, Change, Range}
 use Rattle.job_ending.specs.Outcome.{Outcome, ends}
 use Rattle.job_judgement.specs.Judgement.{Accepted}

@@ -5,8 +5,8 @@ use Rattle.ct_value.specs.Bag.{items}
 use Rattle.ct_value.specs.declared.row.Row.{Row}
 use Rattle.ct_value.specs.declared.ty.Ty.{Ty}
 use Rattle.ct_change.specs.Changelog.{Rows}
-use Rattle.line_output.specs.Copies.{copies_text}
-use Rattle.printed_lines.specs.Printed.{row_line}
+use Rattle.ct_io.specs.Copies.{copies_text}
+use Rattle.job_text.specs.Printed.{row_line}
 
 -- each row as a line, so many times as it stands
 abbrev pub run_lines : List Ty → List (Row × ℕ) → List ℕ

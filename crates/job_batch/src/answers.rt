@@ -1,13 +1,13 @@
 //! The rows of a batch answer.
 ghost use Rattle.std.specs.Prelude.{◌≡◌, ◌≤◌, [], length, map, IfOk, IfErr, IsErrOf};
-ghost use Rattle.binding.specs.Inserts.{column_types};
+ghost use Rattle.ct_catalog.specs.Columns.{column_types};
 ghost use Rattle.job_ending.specs.Endings.{IsPrintable};
 ghost use Rattle.job_ending.specs.Outcome.{ends};
 ghost use Rattle.job_ending.specs.Runs.{IsBefore, ending_of_halt};
 ghost use Rattle.job_ending.specs.declared.ending.Ending.TheVariants as Ending;
 ghost use Rattle.job_judgement.specs.Judged.{IsJudged};
 ghost use Rattle.job_judgement.specs.Views.{accepted_view};
-ghost use Rattle.source_laws.specs.Fitting.{RowsFit};
+ghost use Rattle.source_lines.specs.Fitting.{RowsFit};
 ghost use Rattle.job_batch.specs.Batch.{done, over_tables, sink_types, with_changes, with_rows};
 ghost use Rattle.job_batch.specs.Runs.{AreWide};
 
@@ -17,10 +17,7 @@ use ct_change::Bag;
 use ct_expr::EvalFault;
 use ct_value::{Bytes, ColTys, Memory, Row, Values};
 use job_ending::Halt;
-use job_judgement::{Accepted, accepted_is_bound};
-use query_laws::{bound_inserts_are_well_typed, inserts_keep_the_answer};
-use rel_laws::answers_fit;
-use source_laws::taken_rows_fit;
+use job_judgement::Accepted;
 use source_lines::{Bags, TakeFault, bags_of};
 use std::alloc::Global;
 
@@ -39,7 +36,6 @@ pub(crate) fn answer_rows(
     ensures halts { IfErr result (λ halt. IsBefore halt (with_changes (accepted_view script.now) first bytes)) }
     ensures printable { IfErr result (λ halt. IsPrintable (ending_of_halt halt)) }
 {
-    taken_rows_fit();
     match bags_of(alloc, bytes, &script.inserted.sources, first) {
         Ok(tables) => answer_over(alloc, script, &tables),
         Err(TakeFault::Refused { code, line }) => Err(Halt::Change { code, line }),
@@ -71,10 +67,6 @@ fn evaluated(alloc: Global, script: &Accepted, tables: &Bags) -> Result<Bag, Eva
     ensures wide { IfOk result (λ rows. AreWide (length (sink_types (accepted_view script.now))) rows) }
     ensures out { IsErrOf result EvalFault.Out → over_tables (accepted_view script.now) (with_rows script.now.inserted.sources tables.now) ≡ ends (Ending.Range 0 0 [] []) }
 {
-    accepted_is_bound();
-    inserts_keep_the_answer();
-    bound_inserts_are_well_typed();
-    answers_fit();
     let types = types_of(alloc, script.inserted.sources.as_slice())?;
     answer_of(alloc, &script.inserted.query.rel, tables, &types)
 }

@@ -6,9 +6,7 @@
 #![tactic(auto)]
 
 mod answers;
-mod laws;
 mod lines;
 mod writing;
 
-pub use laws::accepted_queries_keep_their_answers;
 pub use writing::batch;

@@ -5,15 +5,14 @@ ghost use Rattle.ct_io.specs.Counts.{Rose};
 ghost use Rattle.ct_io.specs.Written.{Appends, AppendsPart};
 ghost use Rattle.ct_field.specs.Numbers.{is_type};
 ghost use Rattle.ct_value.specs.Bag.{items};
-ghost use Rattle.line_output.specs.Copies.{copies_text};
-ghost use Rattle.printed_lines.specs.Printed.{row_line, row_lines};
+ghost use Rattle.ct_io.specs.Copies.{copies_text};
+ghost use Rattle.job_text.specs.Printed.{row_line, row_lines};
 ghost use Rattle.job_batch.specs.Runs.{AreWide};
 
 use ct_change::{Bag, Steps};
-use ct_io::Sink;
+use ct_io::{Sink, put_copies};
 use ct_value::{Memory, Row, Ty};
-use line_output::put_copies;
-use printed_lines::row_line;
+use job_text::row_line;
 use std::alloc::Global;
 use std::sync::ledger::{Blank, Ledger};
 

@@ -15,11 +15,10 @@ use ct_change::Bag;
 use ct_io::Sink;
 use ct_value::{Bytes, Ty};
 use job_ending::Halt;
-use job_judgement::{Accepted, accepted_is_bound};
+use job_judgement::Accepted;
 use std::alloc::{AllocError, Global};
 use std::marker::Brand;
 use std::sync::ledger::Blank;
-use table_laws::tables_are_well_declared;
 
 /// Writes the batch answer of an accepted script over the first `first` lines of a change file, or over all: its rows in their order,
 /// each copy by itself. A file has at most 67,108,864 bytes.
@@ -51,8 +50,6 @@ fn write_rows<K: Sink>(
     ensures runs { RunsThere (done (sink_types (accepted_view script.now)) rows.now) (Rose (K.faults out.old) (K.faults out.new)) (K.written out.old) (K.written out.new) result }
     ensures printable { IsPrintable (ending_of result) }
 {
-    accepted_is_bound();
-    tables_are_well_declared();
     let Ok(tys) = tys_of(alloc, script.inserted.sink.cols.as_slice()) else {
         return Err(Halt::Memory);
     };

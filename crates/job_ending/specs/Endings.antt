@@ -11,7 +11,7 @@ use Rattle.ct_value.specs.declared.codes.ChangeCode.TheVariants.{BadField, NullN
 use Rattle.ct_value.specs.declared.codes.OrderCode.{OrderCode}
 use Rattle.ct_value.specs.declared.codes.OrderCode.TheVariants.{TooFew}
 use Rattle.ct_field.specs.Numbers.{is_type}
-use Rattle.printed_lines.specs.Printed.{row_text}
+use Rattle.job_text.specs.Printed.{row_text}
 use Rattle.job_ending.specs.declared.ending.Ending.{Ending}
 use Rattle.job_ending.specs.declared.ending.Ending.TheVariants.{Done, Usage, Script, Change, Order, Range, Limit, ReadFault, WriteFault, Memory}
 use Rattle.job_ending.specs.declared.ending.LimitName.{LimitName}

@@ -1,5 +1,4 @@
 pub mod Endings
 pub mod Outcome
-pub mod RunLaws
 pub mod Runs
 pub mod Status

@@ -3,7 +3,7 @@ ghost use Rattle.job_ending.specs.Endings.{AreTypes, IsPrintable, ending_line, s
 ghost use Rattle.job_ending.specs.Status.{status_of};
 
 use ct_value::{Bytes, ChangeCode, ColTy, ColTys, Memory, OrderCode, Row, ScriptCode, Ty};
-use printed_lines::row_text;
+use job_text::row_text;
 use std::alloc::{AllocError, Global};
 
 /// How a run ends.

@@ -1,5 +1,5 @@
-//! How a run ends: its endings, each with the line that it writes and its exit status, and what it means that an ending
-//! has its cause. It stands on printed rows (`printed_lines`) and on what sinks take (`line_output`), and says nothing of scripts.
+//! How a run ends: its endings, each with the line that it writes and its exit status, and what it means that an ending has its
+//! cause. It stands on printed rows (`job_text`) and on what sinks take (`ct_io`), and says nothing of scripts.
 #![tactic(auto)]
 
 mod ending;

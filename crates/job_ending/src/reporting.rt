@@ -4,8 +4,7 @@ ghost use Rattle.ct_io.specs.Written.{Appends};
 ghost use Rattle.job_ending.specs.Endings.{IsPrintable, ending_line};
 
 use crate::ending::{Ending, ending_line};
-use ct_io::Sink;
-use line_output::put_all;
+use ct_io::{Sink, put_all};
 use std::alloc::Global;
 
 /// Writes the ending's line, and answers the ending. Where it finds no memory for the line, the ending is want of memory,

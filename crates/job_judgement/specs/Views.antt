@@ -1,6 +1,6 @@
 -- An accepted script as the definitions see it.
 use Rattle.sql_syntax.specs.View.{query_view}
-use Rattle.binder.specs.Views.{inserted_view}
+use Rattle.rewrite.specs.Views.{inserted_view}
 use Rattle.job_judgement.specs.declared.accepted.Accepted.{Accepted as AcceptedValue}
 use Rattle.job_judgement.specs.Judgement.{Accepted}
 

@@ -1,5 +1,5 @@
-use binder::Inserted;
 use ct_catalog::Catalog;
+use rewrite::Inserted;
 use sql_syntax::Query;
 
 /// An accepted script: the number of its INSERT, its tables and settings, and the INSERT's query with what it is bound to.

@@ -6,8 +6,8 @@ ghost use Rattle.job_judgement.specs.Judgement.{accepted_of, bound_insert, bound
 ghost use Rattle.job_judgement.specs.Views.{accepted_view};
 
 use crate::Accepted;
+use crate::inserts::insert_bound;
 use bind_names::BindFault;
-use binder::bind;
 use ct_catalog::Catalog;
 use ct_value::{Bytes, ScriptCode, Text};
 use job_ending::Halt;
@@ -15,7 +15,7 @@ use judge::{Asked, JudgeFault, judge};
 use sql_syntax::{Query, Statement};
 use std::alloc::Global;
 
-/// What a script is judged to be: its text and its catalogue first, then the walk of the binder. A text has at most 262,144 bytes.
+/// What a script is judged to be: its text and its catalogue first, then the two walks over its query. A text has at most 262,144 bytes.
 pub fn judged(alloc: Global, text: &Bytes) -> Result<Accepted, Halt>
     requires { length text.now ≤ 262144 }
     ensures ok { IfOk result (λ script. judgement text.now ≡ Ok (accepted_view script)) }
@@ -69,7 +69,7 @@ fn bound_query(
     ensures ok { IfOk result (λ script. bound_query catalog number table (query_view query) ≡ Ok (accepted_view script)) }
     ensures halts { IfErr result (λ halt. IsHalt halt (bound_query catalog number table (query_view query))) }
 {
-    match bind(alloc, catalog.tables(), &table, &query) {
+    match insert_bound(alloc, catalog.tables(), &table, &query) {
         Ok(inserted) => Ok(Accepted {
             statement: number,
             catalog,

@@ -10,29 +10,30 @@ use Rattle.rel_algebra.specs.Types.{columns_of}
 use Rattle.sql_syntax.specs.Tree.{Query, Text}
 use Rattle.query_answer.specs.Answer.{types}
 use Rattle.binding.specs.Checked.{Checked}
-use Rattle.binding.specs.Inserts.{Inserted, column_types, insert_bound}
+use Rattle.binding.specs.Inserts.{Inserted, insert_bound}
+use Rattle.ct_catalog.specs.Columns.{column_types}
 use Rattle.judge.specs.Judgement.{Judged, then}
 use Rattle.phys_plan.specs.declared.plan.Plan.{Plan}
-use Rattle.plan_build.specs.Faults.{lacks_table}
-use Rattle.plan_trees.specs.Laws.{TreesHaveOnePlan, TreesHavePlans}
-use Rattle.plan_trees.specs.Seen.{plan_as_seen}
-use Rattle.plan_trees.specs.Trees.{plan_of_tree}
+use Rattle.planner.specs.Faults.{lacks_table}
+use Rattle.planner.specs.Promises.{TreesHaveOnePlan, TreesHavePlans}
+use Rattle.planner.specs.Seen.{plan_as_seen}
+use Rattle.planner.specs.Trees.{plan_of_tree}
 use Rattle.plan_inferred.specs.declared.inferred.Inferred.{Inferred}
 use Rattle.plan_check.specs.declared.checked.CheckedPlan.{CheckedPlan}
 use Rattle.plan_check.specs.Checked.{plan_in}
 use Rattle.plan_check.specs.Sound.{inferred_of}
-use Rattle.plan_refusals.specs.Refusals.{has_materializer, refusal, sink_way}
+use Rattle.planner.specs.Refusals.{has_materializer, refusal, sink_way}
 use Rattle.sound_plans.specs.Sound.{IsRuled}
-use Rattle.inferred_plans.specs.Inferred.{with_inferred}
-use Rattle.seen_plans.specs.Seen.{InferredAsSeen, PlansInferAsSeen, RefusedAsSeen, TakenAsSeen}
+use Rattle.laid_plans.specs.Inferred.{with_inferred}
+use Rattle.job_plan.specs.Seen.{InferredAsSeen, PlansInferAsSeen, RefusedAsSeen, TakenAsSeen}
 use Rattle.planner.specs.declared.fault.PlannerFault.{PlannerFault}
 use Rattle.planner.specs.declared.fault.PlannerFault.TheVariants as fault
 use Rattle.planner.specs.Planned.{IsLaidPlan, Made, Refused, Waits, Planned, PlannedPlansAreRuled, Says, made, made_by}
-use Rattle.planned_inserts.specs.Inserts.{InsertsHaveLaidPlans}
+use Rattle.job_plan.specs.Inserts.{InsertsHaveLaidPlans}
 use Rattle.job_judgement.specs.Judged.{IsBound, IsJudged}
 use Rattle.job_judgement.specs.Judgement.{Accepted}
 use Rattle.job_plan.specs.Laid.{IsLaidFor}
-use Rattle.job_plan.specs.Laws.{RunnableScriptsArePlanned}
+use Rattle.job_plan.specs.Promises.{RunnableScriptsArePlanned}
 use Rattle.job_plan.specs.Planned.{built, keeps_bundles, laid, planned, planned_by}
 use Rattle.job_plan.specs.Views.{plan_view, planned_view}
 

@@ -1,4 +1,8 @@
+pub mod Inserts
 pub mod Laid
-pub mod Laws
+pub mod Networks
 pub mod Planned
+pub mod Promises
+pub mod Seen
+pub mod Shown
 pub mod Views

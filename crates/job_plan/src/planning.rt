@@ -14,15 +14,10 @@ ghost use Rattle.job_plan.specs.Views.{plan_view, planned_view};
 use crate::groups::has_keyed_group;
 use ct_value::{Memory, ScriptCode};
 use job_ending::Halt;
-use job_judgement::{Accepted, accepted_is_bound};
+use job_judgement::Accepted;
 use phys_plan::Plan;
-use plan_build::{PlanFault, plan_of, typed_trees_have_tables};
 use plan_check::CheckedPlan;
-use plan_trees::trees_have_one_plan;
-use planned_inserts::inserts_have_laid_plans;
-use planner::{PlannerFault, plan, planned_plans_are_ruled};
-use query_laws::bound_inserts_are_well_typed;
-use seen_plans::{plans_are_refused_as_seen, plans_infer_as_seen};
+use planner::{LayingFault, PlannerFault, plan, plan_of};
 use std::alloc::Global;
 
 /// The plan of an accepted script, or none where that waits for what isn't built: for a materializer, or for groups that keep bundles. The
@@ -72,12 +67,6 @@ fn made(alloc: Global, script: &Accepted) -> Result<CheckedPlan, PlannerFault>
     ensures ruled { IfOk result (λ checked. IsRuled (plan_in checked)) }
     ensures fault { IfErr result (λ fault. Says (made (laid (accepted_view script.now)) (accepted_view script.now).catalogue.settings.materialize) fault) }
 {
-    accepted_is_bound();
-    inserts_have_laid_plans();
-    planned_plans_are_ruled();
-    plans_are_refused_as_seen();
-    plans_infer_as_seen();
-    trees_have_one_plan();
     let laid = laid_of(alloc, script)?;
     plan(alloc, laid, script.catalog.settings().materialize)
 }
@@ -87,17 +76,14 @@ fn laid_of(alloc: Global, script: &Accepted) -> Result<Plan, Memory>
     requires judged { IsJudged (accepted_view script.now) }
     ensures { IfOk result (λ plan. IsLaidFor (accepted_view script.now) plan) }
 {
-    accepted_is_bound();
-    bound_inserts_are_well_typed();
-    typed_trees_have_tables();
     let sources = script.inserted.sources.dup()?;
     let sink = script.inserted.sink.dup()?;
     let parallelism = script.catalog.settings().parallelism;
     let rel = &script.inserted.query.rel;
     match plan_of(alloc, rel, sources, sink, parallelism) {
         Ok(plan) => Ok(plan),
-        Err(PlanFault::Memory) => Err(Memory),
-        Err(PlanFault::NoTable) => unreachable!(),
+        Err(LayingFault::Memory) => Err(Memory),
+        Err(LayingFault::NoTable) => unreachable!(),
     }
 }
 

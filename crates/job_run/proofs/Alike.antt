@@ -1,9 +1,9 @@
 -- A plan has the outcome of the plan as it is seen.
 use Rattle.std.proofs.Common.{◌≡◌}
 use Rattle.phys_plan.specs.declared.plan.Plan.{Plan}
-use Rattle.plan_trees.specs.Seen.{plan_as_seen}
-use Rattle.stream_run.specs.Run.{whole_run}
-use Rattle.tree_networks.specs.Networks.{PlansRunAsSeen}
+use Rattle.planner.specs.Seen.{plan_as_seen}
+use Rattle.source_lines.specs.Run.{whole_run}
+use Rattle.job_plan.specs.Networks.{PlansRunAsSeen}
 use Rattle.job_stream.specs.Stream.{most_sent, outcome_of, sink_types, streamed}
 
 pub streamed_as_seen : PlansRunAsSeen → (plan : Plan) → streamed (plan_as_seen plan) ≡ streamed plan

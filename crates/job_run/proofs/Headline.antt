@@ -6,13 +6,13 @@ use Rattle.ct_catalog.specs.declared.table.TableDef.{TableDef}
 use Rattle.ct_change.specs.declared.change.Change.{Change}
 use Rattle.ct_change.specs.Changelog.{Rows}
 use Rattle.ct_io.specs.Holdings.{Holdings, Loaded, Missing, Long, Whole, loaded}
-use Rattle.change_lines.specs.Lines.{records_of}
+use Rattle.job_text.specs.Lines.{records_of}
 use Rattle.judge.specs.Judgement.{Judged}
 use Rattle.rel_algebra.specs.Answer.{Table, answer}
 use Rattle.rel_algebra.specs.Rel.{Rel}
 use Rattle.ct_change.specs.Changelog.{Mode}
 use Rattle.query_laws.specs.Statement.{tables_of}
-use Rattle.source_laws.specs.Fitting.{RowsFit}
+use Rattle.source_lines.specs.Fitting.{RowsFit}
 use Rattle.source_lines.specs.Taken.{RefusedLine, Taken, rows_of, taken_of}
 use Rattle.job_ending.specs.declared.ending.Ending.TheVariants as e
 use Rattle.job_ending.specs.declared.ending.LimitName.TheVariants.{Script as ScriptLimit, Changes as ChangesLimit}
@@ -22,19 +22,19 @@ use Rattle.stream_model.specs.declared.events.PrintItem.{PrintItem}
 use Rattle.stream_model.specs.declared.events.StepFault.TheVariants as fault
 use Rattle.stream_model.specs.Machine.{State}
 use Rattle.stream_model.specs.Runs.{changes_in}
-use Rattle.plan_network.specs.Plans.{column_types, table_mode}
+use Rattle.ct_catalog.specs.Columns.{table_mode, column_types}
 use Rattle.plan_rules.specs.Doings.{network}
-use Rattle.stream_run.specs.Headline.{Headline, IsAnswered, RunsPrintAnswers, with_rows as rows_in}
-use Rattle.stream_run.specs.Run.{Ran, ended, refused, stopped, whole_run}
-use Rattle.printed_lines.specs.Printed.{item_lines}
+use Rattle.run_laws.specs.Headline.{Headline, IsAnswered, RunsPrintAnswers, with_rows as rows_in}
+use Rattle.source_lines.specs.Run.{Ran, ended, refused, stopped, whole_run}
+use Rattle.job_text.specs.Printed.{item_lines}
 use Rattle.job_judgement.specs.Judged.{IsJudged}
 use Rattle.job_judgement.specs.Judgement.{Accepted, judgement}
 use Rattle.job_batch.specs.Agree.{AnswersAgree, query_answer}
 use Rattle.job_batch.specs.Batch.{after_lines, answered, sink_types as answer_types, with_changes as batch_changes, with_rows}
-use Rattle.job_explain.specs.Shown.{shown}
+use Rattle.job_plan.specs.Shown.{shown}
 use Rattle.job_stream.specs.Stream.{most_sent, outcome_of, sink_types, streamed}
-use Rattle.plan_answers.specs.Answers.{Answers, InferredPlansAnswer}
-use Rattle.job_plan.specs.Laws.{IsScriptPlan, RunnableScriptsArePlanned}
+use Rattle.laid_plans.specs.Answers.{Answers, InferredPlansAnswer}
+use Rattle.job_plan.specs.Promises.{IsScriptPlan, RunnableScriptsArePlanned}
 use Rattle.job_plan.specs.Planned.{laid, planned, runnable}
 use Rattle.job_run.specs.Headline.{HasAnswered, HasExplained, HasRun, IsHeadline, IsHeadlineOf}
 use Rattle.job_run.specs.Held.{AreHeld}

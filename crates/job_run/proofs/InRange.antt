@@ -7,13 +7,13 @@ use Rattle.ct_value.specs.declared.ty.ColTy.{ColTy}
 use Rattle.command_line.specs.Words.{FileNames, Request}
 use Rattle.ct_io.specs.Holdings.{Holdings, Loaded, Missing, Long, Whole, loaded}
 use Rattle.sql_syntax.specs.Tree as t
-use Rattle.sql_rules.specs.ReadsScripts as s
-use Rattle.sql_rules.specs.Scripts.{IsScript}
+use Rattle.sql_grammar.specs.ReadsScripts as s
+use Rattle.sql_grammar.specs.Scripts.{IsScript}
 use Rattle.ct_catalog.specs.Catalogue.{Catalogue, applied, empty}
 use Rattle.judge.specs.Judgement.{Asked, Insert, Judged, asked_after, asked_by, asked_from, asked_of, declared_then, then}
 use Rattle.binding.specs.Checked.{Checked}
 use Rattle.binding.specs.Inserts.{Inserted, insert_bound}
-use Rattle.arithmetic.specs.Arithmetic.{in_query, in_statement, in_statements}
+use Rattle.range_rules.specs.Arithmetic.{in_query, in_statement, in_statements}
 use Rattle.phys_plan.specs.declared.plan.Plan.{Plan}
 use Rattle.job_ending.specs.declared.ending.Ending.TheVariants as e
 use Rattle.job_ending.specs.declared.ending.LimitName.TheVariants.{Script as ScriptLimit, Changes as ChangesLimit}
@@ -21,10 +21,10 @@ use Rattle.job_judgement.specs.Judged.{IsBound, IsJudged}
 use Rattle.job_judgement.specs.Judgement.{Accepted, accepted_of, at_statement, bound_insert, first_bound, judgement}
 use Rattle.job_stream.specs.Stream.{most_sent, sink_types, streamed}
 use Rattle.plan_rules.specs.Doings.{network}
-use Rattle.stream_run.specs.Run.{whole_run}
-use Rattle.tame_queries.specs.Statement.{InsertsAreTame}
-use Rattle.tame_runs.specs.Runs.{RunsStayInRange, TreesHaveTamePlans, is_tame_plan}
-use Rattle.job_plan.specs.Laws.{RunnableScriptsArePlanned}
+use Rattle.source_lines.specs.Run.{whole_run}
+use Rattle.range_rules.specs.Statement.{InsertsAreTame}
+use Rattle.run_laws.specs.Runs.{RunsStayInRange, TreesHaveTamePlans, is_tame_plan}
+use Rattle.job_plan.specs.Promises.{RunnableScriptsArePlanned}
 use Rattle.job_plan.specs.Planned.{laid, runnable}
 use Rattle.job_run.specs.Complete.{HasNoArithmetic}
 use Rattle.job_run.specs.Outcome.{after_judgement, after_load, changes_limit, outcome, over_changes, run_script, script_limit, with_request}

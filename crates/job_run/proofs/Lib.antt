@@ -4,3 +4,4 @@ pub mod Headline
 pub mod InRange
 pub mod Loads
 pub mod Printable
+pub mod laws

@@ -11,9 +11,9 @@ use Rattle.stream_model.specs.declared.events.PrintItem.{PrintItem}
 use Rattle.stream_model.specs.declared.events.StepFault.{StepFault}
 use Rattle.stream_model.specs.declared.events.StepFault.TheVariants as fault
 use Rattle.plan_rules.specs.Doings.{network}
-use Rattle.stream_run.specs.Run.{Ran, ended, refused, stopped, whole_run}
+use Rattle.source_lines.specs.Run.{Ran, ended, refused, stopped, whole_run}
 use Rattle.sound_plans.specs.Sound.{IsRuled}
-use Rattle.stopped_runs.specs.Stops.{RunsStopAtRows, StopsHaveTypes}
+use Rattle.run_laws.specs.Stops.{RunsStopAtRows, StopsHaveTypes}
 use Rattle.judge.specs.Judgement.{Judged}
 use Rattle.job_ending.specs.declared.ending.Ending.TheVariants as e
 use Rattle.job_ending.specs.declared.halt.Halt.{Halt}

@@ -7,16 +7,16 @@ use Rattle.ct_io.specs.Holdings.{Holdings, Whole, loaded}
 use Rattle.ct_value.specs.Bag.{items}
 use Rattle.ct_change.specs.Changelog.{Rows}
 use Rattle.source_lines.specs.Taken.{Taken, rows_of, taken_of}
-use Rattle.change_lines.specs.Lines.{records_of}
+use Rattle.job_text.specs.Lines.{records_of}
 use Rattle.phys_plan.specs.declared.plan.Plan.{Plan}
 use Rattle.stream_model.specs.Machine.{State}
-use Rattle.plan_network.specs.Plans.{table_mode}
+use Rattle.ct_catalog.specs.Columns.{table_mode}
 use Rattle.plan_rules.specs.Doings.{network}
 use Rattle.sound_plans.specs.Sound.{IsRuled}
-use Rattle.stream_run.specs.Headline.{Headline}
-use Rattle.stream_run.specs.Run.{ended, whole_run}
-use Rattle.printed_lines.specs.Printed.{item_lines, row_lines}
-use Rattle.explain_text.specs.Explained.{explained}
+use Rattle.run_laws.specs.Headline.{Headline}
+use Rattle.source_lines.specs.Run.{ended, whole_run}
+use Rattle.job_text.specs.Printed.{item_lines, row_lines}
+use Rattle.phys_plan.specs.Explained.{explained}
 use Rattle.job_judgement.specs.Judgement.{Accepted, judgement}
 use Rattle.job_batch.specs.Agree.{query_answer}
 use Rattle.job_batch.specs.Batch.{sink_types}

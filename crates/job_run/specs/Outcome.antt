@@ -1,7 +1,7 @@
 -- What a job answers and writes, composed of the script's judgement, its plan, and the run of that or the batch answer over its change file;
 -- or the plan itself.
 use Rattle.std.specs.Prelude.{ℕ, List, Option, Some, None, Ok, Err}
-use Rattle.command_line.specs.Words.{Request, run, batch, explain, request_of}
+use Rattle.command_line.specs.Words.{FileNames, Request, run, batch, explain, request_of}
 use Rattle.ct_io.specs.Holdings.{Holdings, Loaded, Missing, Long, Whole, loaded}
 use Rattle.judge.specs.Judgement.{Judged}
 use Rattle.job_ending.specs.declared.ending.Ending.TheVariants.{Usage, Script, Limit, ReadFault}
@@ -10,7 +10,7 @@ use Rattle.job_ending.specs.declared.ending.LimitName.TheVariants.{Script as Scr
 use Rattle.job_ending.specs.Outcome.{Outcome, ends}
 use Rattle.job_judgement.specs.Judgement.{Accepted, judgement}
 use Rattle.job_batch.specs.Batch.{with_changes as batch_changes}
-use Rattle.job_explain.specs.Shown.{shown}
+use Rattle.job_plan.specs.Shown.{shown}
 use Rattle.job_plan.specs.Planned.{planned, runnable}
 use Rattle.job_stream.specs.Stream.{streamed}
 
@@ -46,14 +46,21 @@ run_script holdings changes script = after_judgement (λ plan. over_changes hold
 abbrev pub batch_script : Holdings → List ℕ → Option ℕ → Accepted → Outcome
 batch_script holdings changes first script = after_judgement (λ plan. over_changes holdings changes (batch_changes script first)) (planned script)
 
+-- the same of the script of a name
+abbrev pub run_named : FileNames → Holdings → Outcome
+run_named names holdings = with_script holdings names.script (run_script holdings names.changes)
+
+abbrev pub batch_named : FileNames → Option ℕ → Holdings → Outcome
+batch_named names first holdings = with_script holdings names.script (batch_script holdings names.changes first)
+
 -- the script's plan
 abbrev pub explain_script : Accepted → Outcome
 explain_script script = after_judgement shown (runnable script)
 
 abbrev pub with_request : Holdings → Option Request → Outcome
 with_request holdings None = ends Usage
-with_request holdings (Some (run names)) = with_script holdings names.script (run_script holdings names.changes)
-with_request holdings (Some (batch names first)) = with_script holdings names.script (batch_script holdings names.changes first)
+with_request holdings (Some (run names)) = run_named names holdings
+with_request holdings (Some (batch names first)) = batch_named names first holdings
 with_request holdings (Some (explain name)) = with_script holdings name explain_script
 
 -- what a job on these words and holdings answers and writes

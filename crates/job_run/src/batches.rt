@@ -6,7 +6,7 @@ ghost use Rattle.job_ending.specs.Runs.{Runs, ending_of};
 ghost use Rattle.job_judgement.specs.Judged.{IsJudged};
 ghost use Rattle.job_judgement.specs.Views.{accepted_view};
 ghost use Rattle.job_batch.specs.Batch.{with_changes};
-ghost use Rattle.job_run.specs.Outcome.{batch_script, over_changes, with_script};
+ghost use Rattle.job_run.specs.Outcome.{batch_named, batch_script, over_changes};
 
 use crate::load::{load, load_script};
 use crate::requests::CHANGES_LIMIT;
@@ -27,7 +27,7 @@ pub fn batch_names<F: Shelf, K: Sink>(
     shelf: &mut F,
     out: &mut K,
 ) -> Result<(), Halt>
-    ensures runs { Runs (F.holdings shelf.old) (λ h. with_script h names.now.script (batch_script h names.now.changes first)) (Rose (F.faults shelf.old) (F.faults shelf.new)) (Rose (K.faults out.old) (K.faults out.new)) (K.written out.old) (K.written out.new) (ending_of result) }
+    ensures runs { Runs (F.holdings shelf.old) (batch_named names.now first) (Rose (F.faults shelf.old) (F.faults shelf.new)) (Rose (K.faults out.old) (K.faults out.new)) (K.written out.old) (K.written out.new) (ending_of result) }
     ensures printable { IsPrintable (ending_of result) }
 {
     let script = load_script(alloc, shelf, &names.script)?;

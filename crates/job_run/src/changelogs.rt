@@ -7,7 +7,7 @@ ghost use Rattle.job_judgement.specs.Judged.{IsJudged};
 ghost use Rattle.job_judgement.specs.Views.{accepted_view};
 ghost use Rattle.sound_plans.specs.Sound.{IsRuled};
 ghost use Rattle.job_stream.specs.Stream.{streamed};
-ghost use Rattle.job_run.specs.Outcome.{over_changes, run_script, with_script};
+ghost use Rattle.job_run.specs.Outcome.{over_changes, run_named, run_script};
 
 use crate::load::{load, load_script};
 use crate::requests::CHANGES_LIMIT;
@@ -20,8 +20,6 @@ use job_plan::runnable;
 use job_stream::stream;
 use phys_plan::Plan;
 use std::alloc::Global;
-use stopped_runs::{runs_stop_at_rows, stops_have_types};
-use tree_networks::plans_run_as_seen;
 
 /// Runs the script of these names over the change file.
 pub fn run_names<F: Shelf, K: Sink>(
@@ -30,7 +28,7 @@ pub fn run_names<F: Shelf, K: Sink>(
     shelf: &mut F,
     out: &mut K,
 ) -> Result<(), Halt>
-    ensures runs { Runs (F.holdings shelf.old) (λ h. with_script h names.now.script (run_script h names.now.changes)) (Rose (F.faults shelf.old) (F.faults shelf.new)) (Rose (K.faults out.old) (K.faults out.new)) (K.written out.old) (K.written out.new) (ending_of result) }
+    ensures runs { Runs (F.holdings shelf.old) (run_named names.now) (Rose (F.faults shelf.old) (F.faults shelf.new)) (Rose (K.faults out.old) (K.faults out.new)) (K.written out.old) (K.written out.new) (ending_of result) }
     ensures printable { IsPrintable (ending_of result) }
 {
     let script = load_script(alloc, shelf, &names.script)?;
@@ -49,7 +47,6 @@ fn run_script<F: Shelf, K: Sink>(
     ensures printable { IsPrintable (ending_of result) }
     ensures later { F.faults shelf.old ≤ F.faults shelf.new }
 {
-    plans_run_as_seen();
     let checked = runnable(alloc, script)?;
     run_plan(alloc, checked.plan(), changes, shelf, out)
 }
@@ -77,7 +74,5 @@ fn run_lines<K: Sink>(alloc: Global, plan: &Plan, bytes: Bytes, out: &mut K) -> 
     ensures runs { RunsThere (streamed plan.now bytes) (Rose (K.faults out.old) (K.faults out.new)) (K.written out.old) (K.written out.new) result }
     ensures printable { IsPrintable (ending_of result) }
 {
-    runs_stop_at_rows();
-    stops_have_types();
     stream(alloc, plan, bytes, out)
 }

@@ -10,9 +10,8 @@ use crate::load::load_script;
 use ct_io::{Shelf, Sink};
 use ct_value::Text;
 use job_ending::Halt;
-use job_explain::{explain, plans_are_shown_as_seen};
 use job_judgement::Accepted;
-use job_plan::runnable;
+use job_plan::{explain, runnable};
 use std::alloc::Global;
 
 /// Writes the plan of the script of this name.
@@ -34,7 +33,6 @@ fn explain_script<K: Sink>(alloc: Global, script: &Accepted, out: &mut K) -> Res
     ensures runs { RunsThere (explain_script (accepted_view script.now)) (Rose (K.faults out.old) (K.faults out.new)) (K.written out.old) (K.written out.new) result }
     ensures printable { IsPrintable (ending_of result) }
 {
-    plans_are_shown_as_seen();
     let checked = runnable(alloc, script)?;
     explain(alloc, checked.plan(), out)
 }

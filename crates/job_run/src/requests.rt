@@ -17,17 +17,8 @@ use crate::explains::explain_name;
 use command_line::{Request, WordsFault, request_of};
 use ct_io::{Shelf, Sink};
 use ct_value::Text;
-use job_batch::accepted_queries_keep_their_answers;
 use job_ending::{Ending, ending_of};
-use job_judgement::accepted_is_bound;
-use job_plan::runnable_scripts_are_planned;
-use plan_answers::inferred_plans_answer;
-use source_laws::taken_rows_fit;
-use sql_grammar::text_is_script;
 use std::alloc::Global;
-use stream_run::runs_print_answers;
-use tame_queries::inserts_are_tame;
-use tame_runs::{runs_stay_in_range, trees_have_tame_plans};
 
 /// The largest change file, in bytes.
 pub const CHANGES_LIMIT: u64 = 67108864;
@@ -41,16 +32,6 @@ pub fn run<F: Shelf, K: Sink>(alloc: Global, words: &[Text], shelf: &mut F, out:
     ensures headline { result ≡ Ending.Done → (h : Holdings) → F.holdings shelf.old ≡ Some h → IsHeadline words.now h (outcome words.now h).bytes }
     ensures range { (h : Holdings) → F.holdings shelf.old ≡ Some h → HasNoArithmetic words.now h → (node subtask : ℕ) (row : Row) (columns : List ColTy) → result ≡ Ending.Range node subtask row columns → ⊥ }
 {
-    accepted_is_bound();
-    accepted_queries_keep_their_answers();
-    inferred_plans_answer();
-    inserts_are_tame();
-    runnable_scripts_are_planned();
-    runs_print_answers();
-    runs_stay_in_range();
-    taken_rows_fit();
-    text_is_script();
-    trees_have_tame_plans();
     run_asked(alloc, words, shelf, out)
 }
 

@@ -4,7 +4,7 @@ use Rattle.std.specs.Prelude.{max, nat_le}
 use Rattle.std.proofs.lemmas.Bool.{le-leb, leb-true}
 use Rattle.std.specs.List.{AllByRecursion, list_all}
 use Rattle.ct_io.specs.Written.{Appends, AppendsPart}
-use Rattle.ct_io.specs.Appending.{appends_nothing, part_none}
+use Rattle.ct_io.proofs.laws.Appending.{appends_nothing, part_none}
 use Rattle.ct_value.specs.declared.codes.ChangeCode.{ChangeCode}
 use Rattle.ct_value.specs.declared.ty.Ty.{Ty}
 use Rattle.ct_value.specs.declared.ty.ColTy.{ColTy}
@@ -13,8 +13,9 @@ use Rattle.ct_field.specs.Numbers.{is_type}
 use Rattle.ct_field.specs.Typed.{col_fits, row_fits}
 use Rattle.ct_catalog.specs.declared.table.ColDef.{ColDef}
 use Rattle.ct_catalog.specs.declared.table.TableDef.{TableDef}
-use Rattle.binding.specs.Inserts.{column_types, go_into, goes_into}
-use Rattle.change_lines.specs.Lines.{records_of}
+use Rattle.rel_algebra.specs.GoesInto.{go_into, goes_into}
+use Rattle.ct_catalog.specs.Columns.{column_types}
+use Rattle.job_text.specs.Lines.{records_of}
 use Rattle.stream_model.specs.Network.{Network}
 use Rattle.stream_model.specs.Machine.{opened}
 use Rattle.stream_model.specs.Runs.{changes_in}
@@ -23,22 +24,23 @@ use Rattle.stream_model.specs.declared.events.PrintItem.TheVariants.{Change as P
 use Rattle.stream_model.specs.declared.events.StepFault.{StepFault}
 use Rattle.stream_model.specs.declared.events.StepFault.TheVariants as fault
 use Rattle.stream_model.specs.Drain.{IsDrainFault}
-use Rattle.printed_lines.specs.Printed.{IsWide, item_lines}
-use Rattle.stream_run.specs.Run.{Ran, ended, refused, stopped, and_then, take_lines, drained, whole_run}
-use Rattle.stream_run.specs.laws.Ends.{IsStop, printed_by}
-use Rattle.session_runs.specs.Goes.{HasPrinted, run_of}
+use Rattle.job_text.specs.Printed.{IsWide, item_lines}
+use Rattle.source_lines.specs.Run.{Ran, ended, refused, stopped, and_then, take_lines, drained, whole_run}
+use Rattle.source_lines.specs.Run.{IsStop}
+use Rattle.source_lines.specs.Run.{printed_by}
+use Rattle.exec_core.specs.Goes.{HasPrinted, run_of}
 use Rattle.job_ending.specs.declared.halt.Halt.{Halt}
 use Rattle.job_ending.specs.declared.halt.Halt.TheVariants as h
 use Rattle.job_ending.specs.Outcome.{Outcome}
 use Rattle.job_ending.specs.Runs.{IsCausedThere, RunsThere}
 use Rattle.phys_plan.specs.declared.plan.Plan.{Plan}
 use Rattle.phys_plan.specs.declared.plan.Rule.TheVariants as rule
-use Rattle.plan_network.specs.Plans.{numbered}
+use Rattle.phys_plan.specs.Reading.{numbered}
 use Rattle.plan_shape.specs.Shape.{has_sizes, is_shaped, is_whole}
 use Rattle.plan_shape.specs.Tables.{are_tables, has_columns, has_type, is_declarable, key_fits}
 use Rattle.plan_check.specs.Sound.{IsSound}
 use Rattle.plan_check.specs.Types.{fit_sink, keep_nulls}
-use Rattle.sound_plans.specs.laws.Lists.{both}
+use Rattle.sound_plans.proofs.laws.Lists.{both}
 use Rattle.job_stream.specs.Stream.{outcome_of, halt_of, sink_types}
 use Rattle.job_stream.specs.Writing.{Finishes}
 use Rattle.job_stream.proofs.Items.{lines_both}

@@ -3,9 +3,9 @@ use Rattle.std.proofs.Common.{◌≡◌, ℕ, List, [], ◌∷◌, ◌++◌, len
 use Rattle.std.specs.List.{AllByRecursion}
 use Rattle.ct_io.specs.Written.{Appends, AppendsUpTo, AppendsPart}
 use Rattle.ct_value.specs.declared.ty.Ty.{Ty}
-use Rattle.line_output.specs.Pieces.{part_in_piece, up_to_piece, whole_at_end}
+use Rattle.ct_io.proofs.laws.Pieces.{part_in_piece, up_to_piece, whole_at_end}
 use Rattle.stream_model.specs.declared.events.PrintItem.{PrintItem}
-use Rattle.printed_lines.specs.Printed.{IsWide, item_line, item_lines}
+use Rattle.job_text.specs.Printed.{IsWide, item_line, item_lines}
 
 module _ (tys : List Ty) (a b c : Option (List ℕ)) (whole : List ℕ) (old left : List PrintItem) (item : PrintItem) (is : old ≡ item ∷ left) (so_far : AppendsUpTo a b whole (item_lines tys old)) where
   pub item_more : Appends b c (item_line tys item) → AppendsUpTo a c whole (item_lines tys left)

@@ -6,8 +6,8 @@ use Rattle.phys_plan.specs.declared.plan.Plan.{Plan}
 use Rattle.plan_rules.specs.Doings.{network}
 use Rattle.stream_model.specs.declared.events.StepFault.{StepFault}
 use Rattle.stream_model.specs.declared.events.StepFault.TheVariants as fault
-use Rattle.printed_lines.specs.Printed.{item_lines}
-use Rattle.stream_run.specs.Run.{Ran, ended, refused, stopped, whole_run}
+use Rattle.job_text.specs.Printed.{item_lines}
+use Rattle.source_lines.specs.Run.{Ran, ended, refused, stopped, whole_run}
 use Rattle.job_ending.specs.declared.ending.Ending.{Ending}
 use Rattle.job_ending.specs.declared.ending.Ending.TheVariants.{Done, Change, Order, Range, Limit, Memory}
 use Rattle.job_ending.specs.declared.ending.LimitName.TheVariants.{Sent}

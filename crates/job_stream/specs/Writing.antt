@@ -2,7 +2,7 @@
 use Rattle.std.specs.Prelude.{◌≡◌, ℕ, false, List, ◌++◌, Result}
 use Rattle.ct_value.specs.declared.ty.Ty.{Ty}
 use Rattle.stream_model.specs.declared.events.PrintItem.{PrintItem}
-use Rattle.printed_lines.specs.Printed.{item_lines}
+use Rattle.job_text.specs.Printed.{item_lines}
 use Rattle.job_ending.specs.declared.halt.Halt.{Halt}
 use Rattle.job_ending.specs.Outcome.{Outcome}
 use Rattle.job_ending.specs.Runs.{ending_of, is_free, IsCausedThere}

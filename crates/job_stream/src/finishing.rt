@@ -3,7 +3,7 @@ ghost use Rattle.std.specs.Prelude.{◌≡◌, IsTrue, length};
 ghost use Rattle.std.specs.List.{AllByRecursion};
 ghost use Rattle.ct_io.specs.Counts.{Rose};
 ghost use Rattle.ct_field.specs.Numbers.{is_type};
-ghost use Rattle.printed_lines.specs.Printed.{IsWide};
+ghost use Rattle.job_text.specs.Printed.{IsWide};
 ghost use Rattle.job_ending.specs.Outcome.{Outcome};
 ghost use Rattle.job_ending.specs.Runs.{RunsThere};
 ghost use Rattle.job_stream.specs.Writing.{Finishes};

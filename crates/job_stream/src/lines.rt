@@ -4,12 +4,11 @@ ghost use Rattle.std.specs.List.{AllByRecursion};
 ghost use Rattle.ct_io.specs.Counts.{Rose};
 ghost use Rattle.ct_io.specs.Written.{Appends, AppendsPart};
 ghost use Rattle.ct_field.specs.Numbers.{is_type};
-ghost use Rattle.printed_lines.specs.Printed.{IsWide, item_line, item_lines};
+ghost use Rattle.job_text.specs.Printed.{IsWide, item_line, item_lines};
 
-use ct_io::Sink;
+use ct_io::{Sink, put_all};
 use ct_value::{Memory, Ty};
-use line_output::put_all;
-use printed_lines::item_line;
+use job_text::item_line;
 use std::alloc::Global;
 use stream_model::{PrintItem, PrintList};
 

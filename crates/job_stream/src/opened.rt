@@ -2,20 +2,16 @@
 ghost use Rattle.std.specs.Prelude.{◌≡◌, ◌<◌, ◌≤◌, length, IfOk, IfErr};
 ghost use Rattle.plan_rules.specs.Doings.{network};
 ghost use Rattle.sound_plans.specs.Sound.{IsRuled};
-ghost use Rattle.stream_run.specs.Run.{whole_run};
-ghost use Rattle.session_runs.specs.Faults.{IsRan};
-ghost use Rattle.session_runs.specs.Goes.{HasPrinted};
+ghost use Rattle.source_lines.specs.Run.{whole_run};
+ghost use Rattle.exec_core.specs.Faults.{IsRan};
+ghost use Rattle.exec_core.specs.Goes.{HasPrinted};
 
-use change_lines::ChangeLines;
 use ct_change::Steps;
 use ct_value::Bytes;
+use exec_core::{RunFault, Session, run_lines};
+use job_text::ChangeLines;
 use phys_plan::Plan;
-use plan_columns::columns_of;
-use plan_opens::plans_open;
-use session_nodes::AnyOperator;
-use session_open::{OpenFault, open_job};
-use session_runs::{RunFault, run_lines};
-use session_sources::TableCheck;
+use session_open::OpenFault;
 use std::alloc::Global;
 use std::sync::ledger::{Blank, Ledger};
 use stream_model::{PrintList, StepFault, Stopped};
@@ -37,12 +33,10 @@ pub(crate) fn printed_of<L: Ledger>(
     ensures ok { IfOk result (λ items. HasPrinted (whole_run (network plan.now) sent_limit plan.now.sources bytes) items) }
     ensures refused { IfErr result (λ fault. IsRan fault (whole_run (network plan.now) sent_limit plan.now.sources bytes)) }
 {
-    plans_open();
-    let columns = columns_of(alloc, plan)?;
     let lines = ChangeLines::new(alloc, bytes)?;
     let mut steps = Steps::<L>::new(blank);
-    match open_job::<AnyOperator, TableCheck>(alloc, plan, &columns, sent_limit) {
-        Ok(session) => run_lines(session, lines, &plan.sources, &mut steps),
+    match Session::open_job(alloc, plan, sent_limit) {
+        Ok(session) => run_lines(session, lines, plan, &mut steps),
         Err(OpenFault::Limit) => Err(RunFault::Stopped(Stopped {
             cause: StepFault::Limit,
             printed: PrintList::new(alloc),

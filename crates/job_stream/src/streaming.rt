@@ -11,14 +11,13 @@ use crate::opened::printed_of;
 use ct_catalog::ColDef;
 use ct_io::Sink;
 use ct_value::{Bytes, Ty};
+use exec_core::RunFault;
 use job_ending::{Halt, LimitName};
 use phys_plan::Plan;
-use session_runs::RunFault;
 use std::alloc::{AllocError, Global};
 use std::marker::Brand;
 use std::sync::ledger::Blank;
 use stream_model::StepFault;
-use stream_run::{runs_print_rows, sinks_take_columns};
 
 const MOST_SENT: u32 = 4294967295;
 
@@ -44,8 +43,6 @@ pub fn stream_within<K: Sink>(
     requires within { length bytes ≤ 67108864 }
     ensures { RunsThere (streamed_within sent_limit plan.now bytes) (Rose (K.faults out.old) (K.faults out.new)) (K.written out.old) (K.written out.new) result }
 {
-    runs_print_rows();
-    sinks_take_columns();
     let Ok(tys) = tys_of(alloc, plan.sink.cols.as_slice()) else {
         return Err(Halt::Memory);
     };

@@ -7,7 +7,7 @@ use Rattle.ct_catalog.specs.declared.table.TableDef.{TableDef}
 use Rattle.op_rules.specs.History.{Arrival}
 use Rattle.op_rules.specs.Rules.{Rule}
 use Rattle.phys_plan.specs.declared.plan.Plan.{Plan}
-use Rattle.plan_network.specs.Plans.{column_types}
+use Rattle.ct_catalog.specs.Columns.{column_types}
 use Rattle.plan_rules.specs.Doings.{network}
 use Rattle.sound_plans.specs.Sound.{IsRuled}
 use Rattle.stream_model.specs.declared.events.Event.TheVariants.{Take}

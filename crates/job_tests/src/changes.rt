@@ -1,8 +1,8 @@
 // Plans in which one thing is changed.
 use ct_catalog::{ColDef, ColDefs, TableDef};
-use ct_change::{Declared, KindSet};
+use ct_change::{Declared, KindSet, Update};
 use ct_value::{ColTy, Cols, List, Memory, Ty};
-use phys_plan::{Edge, Edges, Exchange, KeyInfo, Node, Nodes, Plan, Update};
+use phys_plan::{Edge, Edges, Exchange, KeyInfo, Node, Nodes, Plan};
 use std::alloc::Global;
 
 /// What is changed: the subtasks, the types of the sink's columns, its mode, or the keys of a node, the kinds of its edge, how this tells

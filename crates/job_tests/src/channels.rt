@@ -3,7 +3,7 @@ ghost use Rattle.std.specs.Prelude.{◌<◌, length};
 use crate::rows::comes;
 use ct_change::{Change, Changes};
 use ct_value::Memory;
-use session_channels::{Channels, Route, send_all};
+use session_core::{Channels, Route, send_all};
 use std::alloc::Global;
 
 // What a channel hands out that was sent a change, where it holds just that one.

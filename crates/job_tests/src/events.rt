@@ -6,14 +6,12 @@ use crate::rows::comes;
 use ct_change::{Change, Kind, Steps};
 use ct_field::number_text;
 use ct_value::{Bytes, Memory, Value};
+use exec_core::TableCheck;
 use op_rules::Operator;
 use phys_plan::Plan;
-use plan_columns::columns_of;
-use plan_opens::plans_open;
+use plan_shape::columns_of;
 use session_core::{Session, SourceCheck};
-use session_nodes::AnyOperator;
-use session_open::{OpenFault, open_job};
-use session_sources::TableCheck;
+use session_open::{AnyOperator, OpenFault, open_job};
 use std::alloc::Global;
 use std::sync::ledger::{Blank, Ledger};
 use stream_model::{Event, PrintItem, PrintList, StepFault, Stopped};
@@ -42,7 +40,6 @@ pub(crate) fn driven<L: Ledger>(
     requires some { 0 < L.parts }
     requires counts { CountsWords plan.now }
 {
-    plans_open();
     let columns = columns_of(alloc, plan)?;
     let mut steps = Steps::<L>::new(blank);
     match open_job::<AnyOperator, TableCheck>(alloc, plan, &columns, limit) {

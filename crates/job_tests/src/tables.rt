@@ -1,14 +1,15 @@
 ghost use Rattle.std.specs.Prelude.{◌≡◌, [], ◌∷◌, true, IfOk};
 ghost use Rattle.ct_value.specs.declared.ty.Ty.TheVariants.{Text as Texts};
-ghost use Rattle.plan_network.specs.Plans.{column_types, table_of};
+ghost use Rattle.plan_rules.specs.Plans.{table_of};
+ghost use Rattle.ct_catalog.specs.Columns.{column_types};
 
 use crate::rows::comes;
 use ct_catalog::{ColDef, ColDefs, TableDef};
 use ct_change::{Change, Declared};
 use ct_value::{ChangeCode, ColTy, Cols, Memory, Text, Ty};
+use exec_core::TableCheck;
 use session_core::{SourceCheck, SourceFault};
 use session_open::PlanSource;
-use session_sources::TableCheck;
 use std::alloc::Global;
 
 // A table of words, with the word as its key.

@@ -1,2 +1,5 @@
+pub mod Created
 pub mod Tables
 pub mod Texts
+pub mod Walk
+pub mod laws

@@ -7,8 +7,8 @@ use Rattle.sql_syntax.specs.declared.statement.Element.{Element}
 use Rattle.sql_syntax.specs.declared.statement.Element.TheVariants as el
 use Rattle.sql_syntax.specs.declared.statement.TextPair.{TextPair}
 use Rattle.sql_syntax.specs.Tree as t
-use Rattle.sql_rules.specs.ReadsScripts as s
-use Rattle.sql_rules.specs.ReadsScripts.{read_text}
+use Rattle.sql_grammar.specs.ReadsScripts as s
+use Rattle.sql_grammar.specs.ReadsScripts.{read_text}
 use Rattle.ct_catalog.specs.Catalogue.{Catalogue, applied, empty, with_table, with_settings}
 use Rattle.ct_catalog.specs.Setting.{set_of}
 use Rattle.ct_catalog.specs.Tables.{column_names, columns, create_refusal, first_key, table_of, with_column}
@@ -16,7 +16,7 @@ use Rattle.ct_catalog.specs.Types.{type_of}
 use Rattle.ct_catalog.specs.declared.settings.Settings.{Settings}
 use Rattle.ct_catalog.specs.declared.table.ColDef.{ColDef}
 use Rattle.ct_catalog.specs.declared.table.TableDef.{TableDef}
-use Rattle.ct_catalog.specs.laws.Refusals.{few_columns}
+use Rattle.ct_catalog.proofs.laws.Refusals.{few_columns}
 use Rattle.judge.specs.Judgement.{Judged, Asked, asked_by, asked_after, asked_from, asked_of, declared_then}
 use Rattle.judge.specs.Tables.{AreFew}
 

@@ -2,8 +2,8 @@
 use Rattle.std.proofs.Common.{◌≡◌, ◌⊎◌, inl, inr, ℕ, List, refl}
 use Rattle.ct_value.specs.declared.codes.ScriptCode.{ScriptCode}
 use Rattle.sql_syntax.specs.Tree.{Script}
-use Rattle.sql_rules.specs.ReadsScripts.{Answer, answered, refused, read_text}
-use Rattle.sql_rules.specs.Scripts.{IsScript, TextRefusal}
+use Rattle.sql_grammar.specs.ReadsScripts.{Answer, answered, refused, read_text}
+use Rattle.sql_grammar.specs.Scripts.{IsScript, TextRefusal}
 
 module _ (script_read : (text : List ℕ) (x : Script) → read_text text ≡ answered x.statements → IsScript text x)
     (read_refusal : (text : List ℕ) (code : ScriptCode) (number : ℕ) → read_text text ≡ refused code number → TextRefusal text code number) where

@@ -6,8 +6,8 @@ use Rattle.ct_value.specs.declared.codes.ScriptCode.{ScriptCode}
 use Rattle.ct_value.specs.declared.codes.ScriptCode.TheVariants.{NotOneInsert}
 use Rattle.sql_syntax.specs.Tree as t
 use Rattle.sql_syntax.specs.View.{statement_view}
-use Rattle.sql_rules.specs.ReadsScripts as s
-use Rattle.sql_rules.specs.ReadsScripts.{read_text}
+use Rattle.sql_grammar.specs.ReadsScripts as s
+use Rattle.sql_grammar.specs.ReadsScripts.{read_text}
 use Rattle.ct_catalog.specs.Catalogue.{Catalogue, empty, applied}
 use Rattle.judge.specs.declared.asked.Asked.{Asked as AskedValue}
 use Rattle.judge.specs.declared.asked.Insert.{Insert as InsertValue}

@@ -1,3 +1,4 @@
+pub mod WellDeclared
 pub mod Judgement
 pub mod Statements
 pub mod Tables

@@ -7,7 +7,6 @@ ghost use Rattle.judge.specs.Judgement.{Asked as Asking, Judged, IsRefused, aske
 ghost use Rattle.judge.specs.Statements.{EndsWithInsert};
 
 use crate::asked::{Asked, Insert, Inserts};
-use crate::laws::{script_is_judged, text_refusal_is_judged};
 use ct_catalog::{Catalog, CatalogFault};
 use ct_value::{Bytes, Memory, ScriptCode};
 use sql_parse::{ParseFault, parse_script};
@@ -35,13 +34,12 @@ impl From<Memory> for JudgeFault {
 
 /// What a script asks for, or the first reason of its text and of its tables and settings to refuse it. A text has at most
 /// 262,144 bytes.
+#[tactic(auto, using(crate::proofs::laws::Theorems::text_refusal_is_judged))]
 pub fn judge(alloc: Global, text: &Bytes) -> Result<Asked, JudgeFault>
     requires { length text.now ≤ 262144 }
     ensures ok { IfOk result (λ asked. asked_of text.now ≡ Ok (asked_view asked)) }
     ensures refused { IfErr result (λ fault. IsRefused fault (asked_of text.now)) }
 {
-    script_is_judged();
-    text_refusal_is_judged();
     match parse_script(alloc, text) {
         Ok(script) => asked_by(alloc, script.statements),
         Err(ParseFault::Refused { code, statement }) => {

@@ -3,9 +3,9 @@ use Rattle.std.proofs.Common.{◌≡◌, ℕ, zero, suc, ◌+◌, ◌<◌, ◌�
 use Rattle.std.proofs.lemmas.List.{at_drop_more}
 use Rattle.ct_change.specs.declared.kind.Declared.{Declared}
 use Rattle.ct_catalog.specs.declared.table.TableDef.{TableDef}
-use Rattle.phys_plan.specs.declared.edge.Update.{Update}
+use Rattle.ct_change.specs.declared.update.Update.{Update}
 use Rattle.phys_plan.specs.declared.node.Node.{Node}
-use Rattle.plan_reading.specs.Reading.{wires}
+use Rattle.phys_plan.specs.Reading.{wires}
 use Rattle.mode_infer.specs.declared.kinds.Flow.{Flow}
 use Rattle.mode_infer.specs.declared.modes.EdgeMode.{EdgeMode}
 use Rattle.mode_infer.specs.Updates.{is_input, port_of, takes, takes_after}

@@ -1,10 +1,10 @@
 -- By which columns operators ask for their inputs.
 use Rattle.std.specs.Prelude.{ℕ, zero, suc, List, [], Option, None, Some, slice_get}
-use Rattle.rel_clauses.specs.declared.join.Pair.{Pair}
+use Rattle.rel_algebra.specs.declared.join.Pair.{Pair}
 use Rattle.phys_plan.specs.declared.node.Op.{Op}
 use Rattle.phys_plan.specs.declared.node.Op.TheVariants as op
 use Rattle.column_sets.specs.Places.{first_columns}
-use Rattle.plan_reading.specs.Columns.{left_columns, right_columns}
+use Rattle.phys_plan.specs.Columns.{left_columns, right_columns}
 
 -- port 0 is the left input
 abbrev pub side_columns : List Pair → ℕ → List ℕ

@@ -4,13 +4,14 @@ use Rattle.std.specs.List.{list_any}
 use Rattle.ct_change.specs.declared.kind.KindSet.{KindSet}
 use Rattle.ct_change.specs.Changelog as changelog
 use Rattle.ct_catalog.specs.declared.table.TableDef.{TableDef}
-use Rattle.rel_clauses.specs.declared.agg.Agg.{Agg}
-use Rattle.rel_clauses.specs.declared.join.JoinKind.{JoinKind}
-use Rattle.rel_clauses.specs.declared.join.JoinKind.TheVariants.{Inner, Left, Right, Full}
+use Rattle.rel_algebra.specs.declared.agg.Agg.{Agg}
+use Rattle.rel_algebra.specs.declared.join.JoinKind.{JoinKind}
+use Rattle.rel_algebra.specs.declared.join.JoinKind.TheVariants.{Inner, Left, Right, Full}
 use Rattle.phys_plan.specs.declared.node.Op.{Op}
 use Rattle.phys_plan.specs.declared.node.Op.TheVariants as op
-use Rattle.plan_reading.specs.Reading.{Wire, read_up}
+use Rattle.phys_plan.specs.Reading.{Wire, read_up}
 use Rattle.mode_infer.specs.declared.kinds.Flow.{Flow}
+use Rattle.ct_change.specs.Kinds.{has_more_than_inserts}
 
 -- ---- sets of kinds
 
@@ -22,10 +23,6 @@ no_kinds = kind_set false false false false
 
 abbrev pub inserts : KindSet
 inserts = kind_set true false false false
-
--- whether there are other kinds than +I
-abbrev pub has_more : KindSet → Bool
-has_more kinds = kinds.ub || (kinds.ua || kinds.d)
 
 abbrev pub either : KindSet → KindSet → KindSet
 either one other = kind_set (one.i || other.i) (one.ub || other.ub) (one.ua || other.ua) (one.d || other.d)
@@ -45,29 +42,29 @@ scan_kinds (Some table) = changelog.kinds_of (changelog.mode_of table.mode [])
 
 -- a row of a group without aggregates never changes; the only row of a global group never goes
 abbrev pub group_kinds : ℕ → List Agg → KindSet → KindSet
-group_kinds keys [] below = kind_set true false false (has_more below)
-group_kinds keys (agg ∷ aggs) below = kind_set true true true (not (keys == 0) && has_more below)
+group_kinds keys [] below = kind_set true false false (has_more_than_inserts below)
+group_kinds keys (agg ∷ aggs) below = kind_set true true true (not (keys == 0) && has_more_than_inserts below)
 
 -- those of several inputs whose rows stand side by side
 abbrev pub inner_kinds : List KindSet → KindSet
-inner_kinds inputs = cond (list_any has_more inputs) (with_old (fold either no_kinds inputs)) inserts
+inner_kinds inputs = cond (list_any has_more_than_inserts inputs) (with_old (fold either no_kinds inputs)) inserts
 
 abbrev pub join_kinds : JoinKind → KindSet → KindSet → KindSet
-join_kinds Inner left right = cond (has_more left || has_more right) (with_old (either left right)) inserts
+join_kinds Inner left right = cond (has_more_than_inserts left || has_more_than_inserts right) (with_old (either left right)) inserts
 join_kinds Left left right = kind_set true false false true
 join_kinds Right left right = kind_set true false false true
 join_kinds Full left right = kind_set true false false true
 
 -- a row that passes goes where its match comes, or with `anti` where it goes
 abbrev pub semi_kinds : Bool → KindSet → KindSet → KindSet
-semi_kinds anti left right = with_deletes (anti || has_more right) (with_old left)
+semi_kinds anti left right = with_deletes (anti || has_more_than_inserts right) (with_old left)
 
 -- rows at a rank change; without ranks they come and go
 abbrev pub top_kinds : Bool → ℕ → KindSet → KindSet
-top_kinds ranked bound below = cond (ranked || (bound == 1)) (kind_set true true true (has_more below)) (kind_set true false false true)
+top_kinds ranked bound below = cond (ranked || (bound == 1)) (kind_set true true true (has_more_than_inserts below)) (kind_set true false false true)
 
 abbrev pub set_kinds : Bool → KindSet → KindSet → KindSet
-set_kinds except left right = kind_set true false false (except || (has_more left || has_more right))
+set_kinds except left right = kind_set true false false (except || (has_more_than_inserts left || has_more_than_inserts right))
 
 -- ---- all operators
 

@@ -6,11 +6,11 @@ use Rattle.ct_change.specs.declared.kind.Declared.{Declared}
 use Rattle.ct_change.specs.declared.kind.Declared.TheVariants.{Append, Retract, Upsert}
 use Rattle.ct_catalog.specs.declared.table.TableDef.{TableDef}
 use Rattle.phys_plan.specs.declared.edge.Edge.{Edge}
-use Rattle.phys_plan.specs.declared.edge.Update.{Update}
-use Rattle.phys_plan.specs.declared.edge.Update.TheVariants.{Absent, After, Both}
+use Rattle.ct_change.specs.declared.update.Update.{Update}
+use Rattle.ct_change.specs.declared.update.Update.TheVariants.{Absent, After, Both}
 use Rattle.phys_plan.specs.declared.node.Op.{Op}
 use Rattle.phys_plan.specs.declared.node.Op.TheVariants as op
-use Rattle.plan_reading.specs.Reading.{Wire, at}
+use Rattle.phys_plan.specs.Reading.{Wire, at}
 use Rattle.mode_infer.specs.declared.modes.EdgeMode.{EdgeMode}
 use Rattle.mode_infer.specs.declared.kinds.Flow.{Flow}
 use Rattle.mode_infer.specs.Kinds.{flows, no_kinds, kind_set}

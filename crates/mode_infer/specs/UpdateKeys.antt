@@ -1,13 +1,13 @@
 -- The update key of each node, read from the inputs up: the columns by which the new row of an update tells which row it replaces.
 use Rattle.std.specs.Prelude.{ℕ, ◌==◌, Bool, cond, List, [], ◌∷◌, ◌++◌, length, Option, None, Some, option_and_then}
 use Rattle.ct_value.specs.declared.ty.ColTy.{ColTy}
-use Rattle.rel_clauses.specs.declared.agg.Agg.{Agg}
+use Rattle.rel_algebra.specs.declared.agg.Agg.{Agg}
 use Rattle.phys_plan.specs.declared.node.Op.{Op}
 use Rattle.phys_plan.specs.declared.node.Op.TheVariants as op
 use Rattle.column_sets.specs.Sets.{set_of}
 use Rattle.column_sets.specs.Places.{first_columns, image}
-use Rattle.plan_reading.specs.Reading.{Wire, read_up}
-use Rattle.plan_reading.specs.Columns.{plain_columns}
+use Rattle.phys_plan.specs.Reading.{Wire, read_up}
+use Rattle.phys_plan.specs.Columns.{plain_columns}
 
 -- without aggregates a group's row never changes
 abbrev pub group_key : ℕ → List Agg → Option (List ℕ)

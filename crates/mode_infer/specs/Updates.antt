@@ -5,17 +5,18 @@ use Rattle.ct_change.specs.declared.kind.KindSet.{KindSet}
 use Rattle.ct_change.specs.declared.kind.Declared.{Declared}
 use Rattle.ct_change.specs.declared.kind.Declared.TheVariants.{Append, Retract, Upsert}
 use Rattle.ct_catalog.specs.declared.table.TableDef.{TableDef}
-use Rattle.phys_plan.specs.declared.edge.Update.{Update}
-use Rattle.phys_plan.specs.declared.edge.Update.TheVariants.{Absent, After, Both}
+use Rattle.ct_change.specs.declared.update.Update.{Update}
+use Rattle.ct_change.specs.declared.update.Update.TheVariants.{Absent, After, Both}
 use Rattle.phys_plan.specs.declared.node.Op.{Op}
 use Rattle.phys_plan.specs.declared.node.Op.TheVariants as op
 use Rattle.column_sets.specs.Sets.{is_within, same_set}
 use Rattle.column_sets.specs.Places.{image}
-use Rattle.plan_reading.specs.Reading.{Wire, at}
-use Rattle.plan_reading.specs.Columns.{plain_columns}
+use Rattle.phys_plan.specs.Reading.{Wire, at}
+use Rattle.phys_plan.specs.Columns.{plain_columns}
 use Rattle.mode_infer.specs.declared.kinds.Flow.{Flow}
 use Rattle.mode_infer.specs.Kinds.{no_flow}
 use Rattle.mode_infer.specs.Exchanges.{side_columns, chain_columns}
+use Rattle.ct_change.specs.Kinds.{is_upsert}
 
 -- ---- who takes an edge
 
@@ -28,11 +29,6 @@ abbrev pub is_input : ℕ → List ℕ → Bool
 is_input v inputs = list_any (λ input. input == v) inputs
 
 -- ---- who takes new rows alone
-
-abbrev pub is_upsert : Declared → Bool
-is_upsert Append = false
-is_upsert Retract = false
-is_upsert Upsert = true
 
 abbrev pub same_key : Option (List ℕ) → List ℕ → Bool
 same_key None key = false

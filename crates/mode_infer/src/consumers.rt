@@ -1,21 +1,21 @@
 //! Who takes new rows alone.
 ghost use Rattle.std.specs.Prelude.{◌≡◌, option_copied, IfOk};
-ghost use Rattle.plan_reading.specs.Reading.{wires};
-ghost use Rattle.plan_reading.specs.Columns as c;
+ghost use Rattle.phys_plan.specs.Reading.{wires};
+ghost use Rattle.phys_plan.specs.Columns as c;
 ghost use Rattle.column_sets.specs.Places as p;
 ghost use Rattle.mode_infer.specs.Exchanges as x;
 ghost use Rattle.mode_infer.specs.Updates as u;
+ghost use Rattle.ct_change.specs.Kinds.{is_upsert};
 ghost use Rattle.column_sets.specs.Sets as s;
 
 use crate::exchanges::{chain_columns, side_columns};
 use column_sets::{image, is_within, same_set};
 use ct_catalog::TableDef;
-use ct_change::Declared;
+use ct_change::{Declared, Update};
 use ct_expr::Exprs;
 use ct_value::{Cols, Memory};
-use phys_plan::{Node, Op, PairLists, Update};
-use plan_reading::plain_columns;
-use rel_clauses::Pairs;
+use phys_plan::{Node, Op, PairLists, plain_columns};
+use rel_algebra::Pairs;
 use std::alloc::Global;
 
 /// Whether the edge of a number may tell new rows alone by a key, if there is one: whether the first of the nodes behind it that has it
@@ -151,7 +151,7 @@ fn sink_takes(sink: &TableDef, key: &Cols) -> bool
 }
 
 fn is_upsert(mode: Declared) -> bool
-    ensures { result ≡ u.is_upsert mode }
+    ensures { result ≡ is_upsert mode }
 {
     match mode {
         Declared::Append => false,

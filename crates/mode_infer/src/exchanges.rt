@@ -4,9 +4,8 @@ ghost use Rattle.mode_infer.specs.Exchanges as x;
 
 use column_sets::first_columns;
 use ct_value::{Cols, Memory};
-use phys_plan::Op;
-use plan_reading::{left_columns, right_columns};
-use rel_clauses::Pairs;
+use phys_plan::{Op, left_columns, right_columns};
+use rel_algebra::Pairs;
 use std::alloc::Global;
 
 /// The columns by which an operator asks for the rows of a port, of which each has `width` columns: those by which the edge is to be

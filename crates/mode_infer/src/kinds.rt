@@ -1,15 +1,15 @@
 //! The kinds of each node's output.
 ghost use Rattle.std.specs.Prelude.{◌≡◌, [], fold, map, option_copied, IfOk};
-ghost use Rattle.plan_reading.specs.Reading.{at, wires};
+ghost use Rattle.phys_plan.specs.Reading.{at, wires};
 ghost use Rattle.std.specs.List.{list_any};
 ghost use Rattle.mode_infer.specs.Kinds as k;
+ghost use Rattle.ct_change.specs.Kinds.{has_more_than_inserts};
 
 use ct_catalog::TableDef;
 use ct_change::{Declared, KindSet};
 use ct_value::{List, Memory};
-use phys_plan::{Node, Op};
-use plan_reading::numbered;
-use rel_clauses::{Agg, JoinKind};
+use phys_plan::{Node, Op, numbered};
+use rel_algebra::{Agg, JoinKind};
 use std::alloc::Global;
 
 /// What an edge carries: the kinds that are sent, and those of the rows that they stand for, which are others only above a local group.
@@ -20,7 +20,7 @@ pub struct Flow {
 }
 
 /// What each node sends, as long as no edge leaves out the old rows.
-#[tactic(auto, using(plan_reading::specs::laws::Reading::read_more))]
+#[tactic(auto, using(phys_plan::proofs::laws::Reading::read_more))]
 pub fn flows(alloc: Global, sources: &[TableDef], nodes: &[Node]) -> Result<List<Flow>, Memory>
     ensures { IfOk result (λ table. table ≡ k.flows sources.now (wires nodes.now)) }
 {
@@ -83,8 +83,8 @@ pub(crate) fn kind_set(i: bool, ub: bool, ua: bool, d: bool) -> KindSet
     KindSet { i, ub, ua, d }
 }
 
-fn has_more(kinds: KindSet) -> bool
-    ensures { result ≡ k.has_more kinds }
+fn has_more_than_inserts(kinds: KindSet) -> bool
+    ensures { result ≡ has_more_than_inserts kinds }
 {
     kinds.ub || kinds.ua || kinds.d
 }
@@ -154,8 +154,8 @@ fn group_kinds(keys: u32, aggs: &[Agg], below: KindSet) -> KindSet
     ensures { result ≡ k.group_kinds keys aggs.now below }
 {
     match aggs {
-        [] => kind_set(true, false, false, has_more(below)),
-        [_, ..] => kind_set(true, true, true, keys != 0 && has_more(below)),
+        [] => kind_set(true, false, false, has_more_than_inserts(below)),
+        [_, ..] => kind_set(true, true, true, keys != 0 && has_more_than_inserts(below)),
     }
 }
 
@@ -200,10 +200,10 @@ fn inner_kinds(inputs: &[Flow]) -> KindSet
 }
 
 fn any_has_more(inputs: &[Flow]) -> bool
-    ensures { result ≡ list_any k.has_more (map k.sent_of inputs.now) }
+    ensures { result ≡ list_any has_more_than_inserts (map k.sent_of inputs.now) }
 {
     for input in inputs {
-        if has_more(input.sent) {
+        if has_more_than_inserts(input.sent) {
             return true;
         }
     }
@@ -233,7 +233,7 @@ fn join_kinds(kind: JoinKind, left: KindSet, right: KindSet) -> KindSet
 fn pair_kinds(left: KindSet, right: KindSet) -> KindSet
     ensures { result ≡ k.join_kinds JoinKind.Inner left right }
 {
-    if has_more(left) || has_more(right) {
+    if has_more_than_inserts(left) || has_more_than_inserts(right) {
         with_old(either(left, right))
     } else {
         kind_set(true, false, false, false)
@@ -257,7 +257,7 @@ fn semi_kinds(anti: bool, left: KindSet, right: KindSet) -> KindSet
         kinds.i,
         kinds.ub,
         kinds.ua,
-        kinds.d || anti || has_more(right),
+        kinds.d || anti || has_more_than_inserts(right),
     )
 }
 
@@ -274,7 +274,7 @@ fn top_kinds(ranked: bool, bound: u32, below: KindSet) -> KindSet
     ensures { result ≡ k.top_kinds ranked bound below }
 {
     if ranked || bound == 1 {
-        kind_set(true, true, true, has_more(below))
+        kind_set(true, true, true, has_more_than_inserts(below))
     } else {
         kind_set(true, false, false, true)
     }
@@ -296,6 +296,6 @@ fn set_kinds(except: bool, left: KindSet, right: KindSet) -> KindSet
         true,
         false,
         false,
-        except || has_more(left) || has_more(right),
+        except || has_more_than_inserts(left) || has_more_than_inserts(right),
     )
 }

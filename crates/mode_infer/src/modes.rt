@@ -1,17 +1,16 @@
 //! The mode of each edge.
 ghost use Rattle.std.specs.Prelude.{◌≡◌, ◌+◌, IfOk};
-ghost use Rattle.plan_reading.specs.Reading.{at, wires};
-ghost use Rattle.plan_reading.specs.Columns.{columns_in};
+ghost use Rattle.phys_plan.specs.Reading.{at, wires};
+ghost use Rattle.phys_plan.specs.Columns.{columns_in};
 ghost use Rattle.mode_infer.specs.Modes as m;
 
 use crate::kinds::{Flow, flows, kind_set};
 use crate::row_keys::update_keys;
 use crate::updates::updates_behind;
 use ct_catalog::TableDef;
-use ct_change::{Declared, KindSet};
+use ct_change::{Declared, KindSet, Update};
 use ct_value::{ColTys, List, Memory};
-use phys_plan::{Edge, Edges, Node, Op, Update};
-use plan_reading::numbered;
+use phys_plan::{Edge, Edges, Node, Op, numbered};
 use std::alloc::Global;
 
 /// What is inferred of an edge: the kinds that it carries, and how it tells updates. The edge of a sink carries what it prints.

@@ -2,20 +2,19 @@
 ghost use Rattle.std.specs.Prelude.{◌≡◌, [], ◌∷◌, ◌++◌, None, length, map, option_copied, option_and_then, IfOk};
 ghost use Rattle.column_sets.specs.Sets as s;
 ghost use Rattle.column_sets.specs.Places as p;
-ghost use Rattle.plan_reading.specs.Reading.{at, wires};
-ghost use Rattle.plan_reading.specs.Columns as c;
+ghost use Rattle.phys_plan.specs.Reading.{at, wires};
+ghost use Rattle.phys_plan.specs.Columns as c;
 ghost use Rattle.mode_infer.specs.UpdateKeys as u;
 
 use column_sets::{first_columns, image, set_of};
 use ct_expr::Exprs;
 use ct_value::{ColTys, Cols, List, Memory};
-use phys_plan::{Node, Op};
-use plan_reading::{numbered, plain_columns};
-use rel_clauses::Agg;
+use phys_plan::{Node, Op, numbered, plain_columns};
+use rel_algebra::Agg;
 use std::alloc::Global;
 
 /// The update key that each node gives, if it gives one. `columns` are those that each node sends, by its number, with an empty list at 0.
-#[tactic(auto, using(plan_reading::specs::laws::Reading::read_more))]
+#[tactic(auto, using(phys_plan::proofs::laws::Reading::read_more))]
 pub fn update_keys(
     alloc: Global,
     columns: &[ColTys],

@@ -1,15 +1,15 @@
 //! How each edge tells updates.
 ghost use Rattle.std.specs.Prelude.{◌≡◌, Some, option_copied, IfOk};
-ghost use Rattle.plan_reading.specs.Reading.{wires};
+ghost use Rattle.phys_plan.specs.Reading.{wires};
 ghost use Rattle.mode_infer.specs.Updates as u;
 
 use crate::consumers::is_taken;
 use crate::kinds::{Flow, flow_at};
 use crate::row_keys::key_at;
 use ct_catalog::TableDef;
-use ct_change::{Declared, KindSet};
+use ct_change::{Declared, KindSet, Update};
 use ct_value::{Cols, Memory};
-use phys_plan::{Node, Op, Update};
+use phys_plan::{Node, Op};
 use std::alloc::Global;
 
 /// The updates of the edges of nodes behind so many others.

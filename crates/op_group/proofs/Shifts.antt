@@ -3,7 +3,8 @@ use Rattle.std.proofs.Common.{◌≡◌, ℕ, zero, suc, ◌<◌, ◌≤◌, ◌
 use Rattle.std.specs.Prelude.{IsSome, is_some, option_map, option_copied}
 use Rattle.std.specs.List.{list_all, AllByRecursion}
 use Rattle.std.proofs.lemmas.Bool.{and_parts}
-use Rattle.ct_value.specs.Bag.{none, add, remove, copies, one_at_itself, total-add, total-le, copies-none, same_bag, copies-add, add-remove, remove-add}
+use Rattle.ct_value.specs.Bag.{none, add, remove, copies}
+use Rattle.ct_value.proofs.laws.Bags.{one_at_itself, total-add, total-le, copies-none, same_bag, copies-add, add-remove, remove-add}
 use Rattle.ct_value.specs.Order.{value_cmp, value_total, value_exact, row_cmp, row_total, row_exact}
 use Rattle.ct_value.specs.declared.row.Row.{Row}
 use Rattle.ct_value.specs.declared.ty.Ty.{Ty}
@@ -11,14 +12,14 @@ use Rattle.ct_value.specs.declared.ty.ColTy.{ColTy}
 use Rattle.ct_value.specs.declared.value.Value.{Value}
 use Rattle.ct_change.specs.Changelog.{Rows}
 use Rattle.ct_change.specs.Emission.{replaced}
-use Rattle.rel_clauses.specs.declared.agg.Agg.{Agg}
-use Rattle.rel_clauses.specs.Aggregates.{Values, size, values_of, argument, passes, agg_result, agg_results}
-use Rattle.rel_clauses.specs.Clauses.{collect}
-use Rattle.rel_clauses.specs.Sums.{add_where, mapped, restrict}
-use Rattle.rel_clauses.specs.laws.Bags.{restrict-add, restrict-none, mapped-add, mapped-none, total-mapped, total-restrict, each-copies, nothing_weighs}
-use Rattle.agg_fns.specs.Standing.{StandsFor, retracts, sum_fits}
-use Rattle.group_rules.specs.Grouping.{row_count}
-use Rattle.group_rules.specs.laws.Pieces.{counted_none}
+use Rattle.rel_algebra.specs.declared.agg.Agg.{Agg}
+use Rattle.rel_algebra.specs.Aggregates.{Values, size, values_of, argument, passes, agg_result, agg_results, sum_fits}
+use Rattle.rel_algebra.specs.Clauses.{collect}
+use Rattle.rel_algebra.specs.Sums.{add_where, mapped, restrict}
+use Rattle.rel_algebra.proofs.laws.Bags.{restrict-add, restrict-none, mapped-add, mapped-none, total-mapped, total-restrict, each-copies, nothing_weighs}
+use Rattle.agg_fns.specs.Standing.{StandsFor, retracts}
+use Rattle.emission_rules.specs.Grouping.{row_count}
+use Rattle.emission_rules.proofs.laws.Pieces.{counted_none}
 use Rattle.op_group.specs.declared.counter.Counter.{Counter}
 use Rattle.op_group.specs.declared.kept.Kept.{Kept}
 use Rattle.op_group.specs.Kept.{picked, shifted, HasValue, HasRow, type_among, Stands, AllStand, AllRetract, calls, all_fit, all_counted, IsKept}

@@ -5,7 +5,8 @@ use Rattle.std.specs.BTreeMap.{BTreeMap}
 use Rattle.std.specs.Cmp.{eq_by_cmp_equiv}
 use Rattle.std.proofs.lemmas.Bool.{eqb-true, eq-eqb, false≢true}
 use Rattle.std.proofs.lemmas.List.{length-take-le}
-use Rattle.ct_value.specs.Bag.{copies, total-le}
+use Rattle.ct_value.specs.Bag.{copies}
+use Rattle.ct_value.proofs.laws.Bags.{total-le}
 use Rattle.ct_value.specs.Order.{row_cmp, row_total, row_exact}
 use Rattle.ct_value.specs.declared.row.Row.{Row}
 use Rattle.ct_value.specs.Rows.{project}
@@ -13,22 +14,22 @@ use Rattle.ct_change.specs.declared.kind.Kind.TheVariants.{D}
 use Rattle.ct_change.specs.declared.change.Change.{Change}
 use Rattle.ct_change.specs.Changelog.{Mode, append, retract, upsert, Rows, same_row, adds, admits, kinds_of, apply, fold, MayCome}
 use Rattle.ct_change.specs.Emission.{difference, as_it_is, emission, row_of, replaced, CanTell}
-use Rattle.ct_change.specs.laws.Folds.{fold-push, append_only, total-apply, weight-come}
-use Rattle.ct_change.specs.laws.Meanings.{same_row-itself, same_row-true}
-use Rattle.rel_clauses.specs.declared.agg.Agg.{Agg}
-use Rattle.rel_clauses.specs.Aggregates.{agg_results}
-use Rattle.rel_clauses.specs.Clauses.{Fits}
-use Rattle.rel_algebra.specs.Groups.{in_group, in_it, group_size, AreWide}
+use Rattle.ct_change.proofs.laws.Folds.{fold-push, append_only, total-apply, weight-come}
+use Rattle.ct_change.proofs.laws.Meanings.{same_row-itself, same_row-true}
+use Rattle.rel_algebra.specs.declared.agg.Agg.{Agg}
+use Rattle.rel_algebra.specs.Aggregates.{agg_results}
+use Rattle.rel_algebra.specs.Clauses.{Fits}
+use Rattle.rel_algebra.specs.GroupedCounts.{in_group, in_it, group_size, AreWide}
 use Rattle.op_rules.specs.History.{Arrival, arrival, at_port}
 use Rattle.op_rules.specs.Rules.{Answer, appended, MayArrive}
 use Rattle.op_rules.specs.declared.operator.OpFault.{OpFault}
 use Rattle.op_rules.specs.declared.operator.OpFault.TheVariants.{Range, Memory}
 use Rattle.op_rules.specs.Faults.{IfRange}
-use Rattle.op_rules.specs.laws.Histories.{at_port-push, at_port-one}
-use Rattle.group_rules.specs.Grouping.{Grouping, members, row_count, is_shown, results as calls_over, row_of as row_with, group_row, sums_fit, is_counted, groups_of, answers, group_emits, emits, group_rule, TellsGroups, IsSound}
-use Rattle.group_rules.specs.laws.Answers.{row_of_group}
-use Rattle.group_rules.specs.laws.Members.{copies-members, row_count-members, other_members, wide_after, grows}
-use Rattle.group_rules.specs.laws.Pieces.{fits_wide}
+use Rattle.op_rules.proofs.laws.Histories.{at_port-push, at_port-one}
+use Rattle.emission_rules.specs.Grouping.{Grouping, members, row_count, is_shown, results as calls_over, row_of as row_with, group_row, sums_fit, is_counted, groups_of, answers, group_emits, emits, group_rule, TellsGroups, IsSound}
+use Rattle.emission_rules.proofs.laws.GroupAnswers.{row_of_group}
+use Rattle.emission_rules.proofs.laws.Members.{copies-members, row_count-members, other_members, wide_after, grows}
+use Rattle.emission_rules.proofs.laws.Pieces.{fits_wide}
 use Rattle.op_group.specs.declared.kept.Kept.{Kept}
 use Rattle.op_group.specs.declared.groups.GroupBy.{GroupBy}
 use Rattle.op_group.specs.declared.groups.Results.{Results}

@@ -7,8 +7,8 @@ use Rattle.ct_value.specs.Order.{row_cmp}
 use Rattle.ct_value.specs.declared.row.Row.{Row}
 use Rattle.ct_change.specs.Changelog.{Rows, same_row}
 use Rattle.ct_change.specs.Emission.{replaced}
-use Rattle.ct_change.specs.laws.Meanings.{same_row-true, same_row-itself}
-use Rattle.group_rules.specs.Grouping.{row_count}
+use Rattle.ct_change.proofs.laws.Meanings.{same_row-true, same_row-itself}
+use Rattle.emission_rules.specs.Grouping.{row_count}
 use Rattle.op_group.specs.declared.kept.Kept.{Kept}
 use Rattle.op_group.specs.declared.groups.GroupBy.{GroupBy}
 use Rattle.op_group.specs.Kept.{AllRetract, KeptAt, IsKept}

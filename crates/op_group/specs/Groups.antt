@@ -8,14 +8,14 @@ use Rattle.ct_change.specs.declared.kind.Kind.TheVariants.{D}
 use Rattle.ct_change.specs.declared.change.Change.{Change}
 use Rattle.ct_change.specs.Changelog.{Mode, Rows, same_row, admits, MayCome, HasKey}
 use Rattle.ct_change.specs.Emission.{replaced}
-use Rattle.rel_clauses.specs.declared.agg.Agg.{Agg}
-use Rattle.rel_clauses.specs.Clauses.{Fits}
-use Rattle.rel_algebra.specs.Groups.{AreWide}
-use Rattle.group_rules.specs.Grouping.{Grouping, members, row_count, sums_fit, is_counted, IsSound}
+use Rattle.rel_algebra.specs.declared.agg.Agg.{Agg}
+use Rattle.rel_algebra.specs.Clauses.{Fits}
+use Rattle.rel_algebra.specs.GroupedCounts.{AreWide}
+use Rattle.emission_rules.specs.Grouping.{Grouping, members, row_count, sums_fit, is_counted, IsSound}
 use Rattle.op_group.specs.declared.kept.Kept.{Kept}
 use Rattle.op_group.specs.declared.groups.GroupBy.{GroupBy}
 use Rattle.op_group.specs.declared.groups.Results.{Results}
-use Rattle.op_group.specs.Kept.{KeptAt, all_fit, all_counted, row_in}
+use Rattle.op_group.specs.Kept.{HasRow, KeptAt, all_fit, is_in_range, row_in}
 
 -- a group that has no rows isn't kept
 abbrev pub unless_empty : Bool → Kept → Option Kept
@@ -34,13 +34,21 @@ pub record IsTurned (key : Row) (of after : Row → Rows) (gone come : Option Ro
 
 -- whether the sums and the calls of a group with these rows are in range
 abbrev pub in_range : GroupBy → Rows → Bool
-in_range by rows = all_fit by.tys by.aggs rows && all_counted by.tys by.aggs rows
+in_range by rows = is_in_range by.tys by.aggs rows
 
 -- the rows of a group whose members were these, and are those, where nothing is out of range
 pub record IsTold (by : GroupBy) (key : Row) (before after : Rows) (results : Results) : Type 0 where
   pub old : results.old ≡ row_in by.keys by.tys by.aggs key before
   pub fresh : results.fresh ≡ row_in by.keys by.tys by.aggs key after
   pub fine : all_fit by.tys by.aggs before ≡ true → in_range by after ≡ true
+
+-- what is kept of all groups stands for some rows, of which one of the group with this key may go, and there is room for another
+abbrev pub MayTurn : GroupBy → BTreeMap Row Kept → Row → Option Row → Type 0
+MayTurn by groups key gone = (of : Row → Rows) × AreKept by groups of × HasRow (of key) gone × (row_count (of key) + 1 < 2 ^ 63)
+
+-- so it is, whatever groups what is kept stands for, of the rows of this one, and of these after one went and another came
+abbrev pub ForTurned : GroupBy → BTreeMap Row Kept → Row → Option Row → Option Row → (Rows → Rows → Type 0) → Type 0
+ForTurned by groups key gone come P = (of : Row → Rows) → AreKept by groups of → HasRow (of key) gone → P (of key) (replaced (of key) gone come)
 
 -- ---- as a rule's
 

@@ -1,5 +1,5 @@
 -- What is kept of a group, and what it is for rows of which one gives way to another.
-use Rattle.std.specs.Prelude.{◌≡◌, ◌<◌, ◌==◌, ◌||◌, ◌++◌, not, ℕ, Bool, true, cond, List, map, Option, Some, None, option_map, is_some}
+use Rattle.std.specs.Prelude.{◌≡◌, ◌<◌, ◌+◌, ◌^◌, ◌==◌, ◌||◌, ◌&&◌, ◌++◌, not, ℕ, Bool, true, cond, List, map, Option, Some, None, option_map, is_some}
 use Rattle.std.specs.List.{list_all, AllByRecursion}
 use Rattle.ct_value.specs.Bag.{copies, add, remove}
 use Rattle.ct_value.specs.declared.row.Row.{Row}
@@ -7,10 +7,11 @@ use Rattle.ct_value.specs.declared.ty.Ty.{Ty}
 use Rattle.ct_value.specs.declared.ty.ColTy.{ColTy}
 use Rattle.ct_value.specs.declared.value.Value.{Value}
 use Rattle.ct_change.specs.Changelog.{Rows}
-use Rattle.rel_clauses.specs.declared.agg.Agg.{Agg}
-use Rattle.rel_clauses.specs.Aggregates.{Values, values_of, argument, passes, type_in, ty_or_bigint, agg_results}
-use Rattle.agg_fns.specs.Standing.{StandsFor, retracts, sum_fits}
-use Rattle.group_rules.specs.Grouping.{row_count}
+use Rattle.ct_change.specs.Emission.{replaced}
+use Rattle.rel_algebra.specs.declared.agg.Agg.{Agg}
+use Rattle.rel_algebra.specs.Aggregates.{Values, values_of, argument, passes, type_in, ty_or_bigint, agg_results, sum_fits}
+use Rattle.agg_fns.specs.Standing.{StandsFor, retracts}
+use Rattle.emission_rules.specs.Grouping.{row_count}
 use Rattle.op_group.specs.declared.counter.Counter.{Counter}
 use Rattle.op_group.specs.declared.kept.Kept.{Kept}
 
@@ -76,3 +77,29 @@ all_counted columns aggs rows = is_some (agg_results columns aggs rows)
 abbrev pub KeptAt : List ColTy → List Agg → Bool → Rows → Option Kept → Type 0
 KeptAt columns aggs retracting rows None = row_count rows ≡ 0
 KeptAt columns aggs retracting rows (Some kept) = IsKept columns aggs kept rows × (retracting ≡ true → AllRetract kept.counters.items)
+
+-- whether the sums and the calls over rows are in range
+abbrev pub is_in_range : List ColTy → List Agg → Rows → Bool
+is_in_range columns aggs rows = all_fit columns aggs rows && all_counted columns aggs rows
+
+-- ---- the rows of a group before and after one goes and another comes
+
+-- the calls of a group
+abbrev pub calls_of : Kept → List Agg
+calls_of kept = calls kept.counters.items
+
+-- what is kept of a group stands for some rows
+abbrev pub IsOfSome : Kept → Type 0
+IsOfSome kept = (columns : List ColTy) × (rows : Rows) × IsKept columns (calls_of kept) kept rows
+
+-- so it is of all rows for which what is kept stands
+abbrev pub ForRows : Kept → (List ColTy → Rows → Type 0) → Type 0
+ForRows kept P = (columns : List ColTy) (rows : Rows) → IsKept columns (calls_of kept) kept rows → P columns rows
+
+-- what is kept of a group stands for some rows, of which one may go, and there is room for another
+abbrev pub MayShift : Kept → Option Row → Type 0
+MayShift kept gone = (columns : List ColTy) × (rows : Rows) × IsKept columns (calls_of kept) kept rows × HasRow rows gone × (row_count rows + 1 < 2 ^ 63)
+
+-- so it is of all rows for which what is kept stands, and of these after one went and another came
+abbrev pub ForShifted : Kept → Option Row → Option Row → (List ColTy → Rows → Rows → Type 0) → Type 0
+ForShifted kept gone come P = (columns : List ColTy) (rows : Rows) → IsKept columns (calls_of kept) kept rows → HasRow rows gone → P columns rows (replaced rows gone come)

@@ -3,15 +3,15 @@ ghost use Rattle.ct_value.specs.Bag as bag;
 ghost use Rattle.ct_value.specs.declared.ty.Ty.{Ty};
 ghost use Rattle.ct_value.specs.declared.value.Value.TheVariants.{Null};
 ghost use Rattle.ct_field.specs.Typed.{cell, is_true};
-ghost use Rattle.rel_clauses.specs.declared.agg.AggCall.{AggCall};
-ghost use Rattle.rel_clauses.specs.Aggregates.{Values, size, argument, passes};
-ghost use Rattle.agg_fns.specs.Standing.{StandsFor, retracts, sum_fits};
+ghost use Rattle.rel_algebra.specs.declared.agg.AggCall.{AggCall};
+ghost use Rattle.rel_algebra.specs.Aggregates.{Values, size, argument, passes, sum_fits};
+ghost use Rattle.agg_fns.specs.Standing.{StandsFor, retracts};
 ghost use Rattle.agg_fns.specs.declared.acc.AccFault.TheVariants.{Out};
 ghost use Rattle.op_group.specs.Kept.{picked, shifted, HasValue, type_among};
 
 use agg_fns::{Acc, AccFault};
 use ct_value::{ColTys, Row, Ty, Value};
-use rel_clauses::Agg;
+use rel_algebra::Agg;
 use std::alloc::Global;
 
 /// A call of an aggregate function, with what it keeps of the values of a group.

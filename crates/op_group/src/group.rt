@@ -8,7 +8,7 @@ use crate::kept::Kept;
 use ct_change::{Change, Changes, InMode, Kind, OutMode, Steps};
 use ct_value::{ColTys, Memory, Row};
 use op_rules::{OpFault, Operator};
-use rel_clauses::Aggs;
+use rel_algebra::Aggs;
 use std::alloc::Global;
 use std::collections::BTreeMap;
 use std::sync::ledger::Ledger;
@@ -27,7 +27,7 @@ pub struct Group<I: InMode, O: OutMode> {
 }
 
 impl<I: InMode, O: OutMode> Group<I, O> {
-    ghost use Rattle.group_rules.specs.Grouping.{Grouping, group_rule, group_emits, IsSound};
+    ghost use Rattle.emission_rules.specs.Grouping.{Grouping, group_rule, group_emits, IsSound};
     ghost use Rattle.op_group.specs.Groups.{grouping, MayTake, IsGrouped};
 
     /// A group of no rows, by the first `keys` columns of rows with columns of these types, with these calls. The calls have
@@ -101,7 +101,7 @@ impl<I: InMode, O: OutMode> Operator for Group<I, O> {
     ghost use Rattle.std.specs.Prelude.{length};
     ghost use Rattle.ct_change.specs.Changelog.{fold};
     ghost use Rattle.op_rules.specs.History.{at_port};
-    ghost use Rattle.group_rules.specs.Grouping.{group_rule};
+    ghost use Rattle.emission_rules.specs.Grouping.{group_rule};
     ghost use Rattle.op_group.specs.Groups.{grouping, IsSet, IsGrouped};
 
     ghost rule = { λ s. group_rule (grouping s.by (I.mode s.input) (O.mode s.output)) };

@@ -4,18 +4,16 @@ ghost use Rattle.ct_value.specs.Bag.{none};
 ghost use Rattle.ct_value.specs.Order.{row_cmp};
 ghost use Rattle.ct_value.specs.declared.row.Row.{Row};
 ghost use Rattle.ct_change.specs.Changelog.{Rows, same_row};
-ghost use Rattle.ct_change.specs.Emission.{replaced};
-ghost use Rattle.group_rules.specs.Grouping.{row_count};
 ghost use Rattle.op_rules.specs.Faults.{IfRange};
 ghost use Rattle.op_group.specs.Kept.{HasRow, AllRetract, IsKept, all_counted, row_in};
-ghost use Rattle.op_group.specs.Groups.{unless_empty, AreKept, IsTurned, IsTold, in_range};
+ghost use Rattle.op_group.specs.Groups.{AreKept, ForTurned, IsTold, IsTurned, MayTurn, in_range, unless_empty};
 
 use crate::kept::Kept;
 use crate::turn::take_turn;
 use agg_fns::AccFault;
 use ct_value::{ColTys, Memory, Row, Values};
 use op_rules::OpFault;
-use rel_clauses::Aggs;
+use rel_algebra::Aggs;
 use std::alloc::Global;
 use std::collections::BTreeMap;
 
@@ -59,11 +57,11 @@ pub fn turn_group(
     gone: Option<&Row>,
     come: Option<&Row>,
 ) -> Result<Results, OpFault>
-    requires kept { (of : Row → Rows) × AreKept by.now groups.old of × HasRow (of key) (option_copied gone) × (row_count (of key) + 1 < 2 ^ 63) }
+    requires kept { MayTurn by.now groups.old key (option_copied gone) }
     requires retracts { IsSome (option_copied gone) → by.now.retracting ≡ true }
-    ensures told { IfOk result (λ results. (of : Row → Rows) → AreKept by.now groups.old of → HasRow (of key) (option_copied gone.entry) → IsTold by.now key (of key) (replaced (of key) (option_copied gone.entry) (option_copied come.entry)) results) }
+    ensures told { IfOk result (λ results. ForTurned by.now groups.old key (option_copied gone.entry) (option_copied come.entry) (λ before after. IsTold by.now key before after results)) }
     ensures kept { OnOk result ((of after : Row → Rows) → AreKept by.now groups.old of → HasRow (of key) (option_copied gone.entry) → IsTurned key of after (option_copied gone.entry) (option_copied come.entry) → AreKept by.now groups.new after) }
-    ensures range { IfRange result (λ row. (row ≡ key) × ((of : Row → Rows) → AreKept by.now groups.old of → HasRow (of key) (option_copied gone.entry) → all_counted by.now.tys by.now.aggs (of key) ≡ true → in_range by.now (replaced (of key) (option_copied gone.entry) (option_copied come.entry)) ≡ false)) }
+    ensures range { IfRange result (λ row. (row ≡ key) × ForTurned by.now groups.old key (option_copied gone.entry) (option_copied come.entry) (λ before after. all_counted by.now.tys by.now.aggs before ≡ true → in_range by.now after ≡ false)) }
 {
     let kept = take_out(by, groups, &key)?;
     let turn = match take_turn(kept, &key, by.keys, gone, come) {

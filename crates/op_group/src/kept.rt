@@ -3,15 +3,15 @@ ghost use Rattle.ct_value.specs.Bag.{none};
 ghost use Rattle.ct_value.specs.declared.ty.ColTy.{ColTy};
 ghost use Rattle.ct_change.specs.Changelog.{Rows};
 ghost use Rattle.ct_change.specs.Emission.{replaced};
-ghost use Rattle.rel_clauses.specs.Aggregates.{agg_results};
+ghost use Rattle.rel_algebra.specs.Aggregates.{agg_results};
 ghost use Rattle.agg_fns.specs.declared.acc.AccFault.TheVariants.{Out};
-ghost use Rattle.group_rules.specs.Grouping.{row_count};
-ghost use Rattle.op_group.specs.Kept.{HasRow, AllStand, AllRetract, calls, all_fit, all_counted, row_in, IsKept};
+ghost use Rattle.emission_rules.specs.Grouping.{row_count};
+ghost use Rattle.op_group.specs.Kept.{AllRetract, AllStand, ForRows, ForShifted, HasRow, IsKept, IsOfSome, MayShift, all_counted, all_fit, calls, calls_of, row_in};
 
 use crate::counter::Counter;
 use agg_fns::AccFault;
 use ct_value::{ColTys, Memory, Row};
-use rel_clauses::Aggs;
+use rel_algebra::Aggs;
 use std::alloc::Global;
 
 /// What is kept of a group: how many rows it has, and a counter for each call.
@@ -36,11 +36,11 @@ impl Kept {
     /// Takes a row, which has to stand, away from the group, and adds another. It is out of range exactly where a sum of the
     /// group then is.
     pub fn shift(&mut self, gone: Option<&Row>, come: Option<&Row>) -> Result<(), AccFault>
-        requires kept { (columns : List ColTy) × (rows : Rows) × IsKept columns (calls self.old.counters.items) self.old rows × HasRow rows (option_copied gone) × (row_count rows + 1 < 2 ^ 63) }
+        requires kept { MayShift self.old (option_copied gone) }
         requires retracts { IsSome (option_copied gone) → AllRetract self.old.counters.items }
-        ensures kept { OnOk result ((columns : List ColTy) (rows : Rows) → IsKept columns (calls self.old.counters.items) self.old rows → HasRow rows (option_copied gone.entry) → IsKept columns (calls self.old.counters.items) self.new (replaced rows (option_copied gone.entry) (option_copied come.entry))) }
-        ensures fits { OnOk result ((columns : List ColTy) (rows : Rows) → IsKept columns (calls self.old.counters.items) self.old rows → HasRow rows (option_copied gone.entry) → all_fit columns (calls self.old.counters.items) rows ≡ true → all_fit columns (calls self.old.counters.items) (replaced rows (option_copied gone.entry) (option_copied come.entry)) ≡ true) }
-        ensures out { IfErr result (λ fault. fault ≡ Out → (columns : List ColTy) (rows : Rows) → IsKept columns (calls self.old.counters.items) self.old rows → HasRow rows (option_copied gone.entry) → all_fit columns (calls self.old.counters.items) (replaced rows (option_copied gone.entry) (option_copied come.entry)) ≡ false) }
+        ensures kept { OnOk result (ForShifted self.old (option_copied gone.entry) (option_copied come.entry) (λ columns before after. IsKept columns (calls_of self.old) self.new after)) }
+        ensures fits { OnOk result (ForShifted self.old (option_copied gone.entry) (option_copied come.entry) (λ columns before after. all_fit columns (calls_of self.old) before ≡ true → all_fit columns (calls_of self.old) after ≡ true)) }
+        ensures out { IfErr result (λ fault. fault ≡ Out → ForShifted self.old (option_copied gone.entry) (option_copied come.entry) (λ columns before after. all_fit columns (calls_of self.old) after ≡ false)) }
         ensures retracts { OnOk result (AllRetract self.old.counters.items → AllRetract self.new.counters.items) }
     {
         if let Err(fault) = shift_all(&mut self.counters, gone, come) {
@@ -53,10 +53,10 @@ impl Kept {
     /// The row of a group with this key; none where the group has no rows, unless it is the group of all rows, of no key
     /// columns. It is out of range exactly where a call is.
     pub fn row(&self, key: &Row, keys: u32) -> Result<Option<Row>, AccFault>
-        requires { (columns : List ColTy) × (rows : Rows) × IsKept columns (calls self.now.counters.items) self.now rows }
-        ensures row { IfOk result (λ row. (columns : List ColTy) (rows : Rows) → IsKept columns (calls self.now.counters.items) self.now rows → row ≡ row_in keys columns (calls self.now.counters.items) key.now rows) }
-        ensures counted { OnOk result ((columns : List ColTy) (rows : Rows) → IsKept columns (calls self.now.counters.items) self.now rows → all_counted columns (calls self.now.counters.items) rows ≡ true) }
-        ensures out { IfErr result (λ fault. fault ≡ Out → (columns : List ColTy) (rows : Rows) → IsKept columns (calls self.now.counters.items) self.now rows → all_counted columns (calls self.now.counters.items) rows ≡ false) }
+        requires { IsOfSome self.now }
+        ensures row { IfOk result (λ row. ForRows self.now (λ columns rows. row ≡ row_in keys columns (calls_of self.now) key.now rows)) }
+        ensures counted { OnOk result (ForRows self.now (λ columns rows. all_counted columns (calls_of self.now) rows ≡ true)) }
+        ensures out { IfErr result (λ fault. fault ≡ Out → ForRows self.now (λ columns rows. all_counted columns (calls_of self.now) rows ≡ false)) }
     {
         if keys != 0 && self.rows == 0 {
             return Ok(None);

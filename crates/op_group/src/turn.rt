@@ -1,10 +1,6 @@
-ghost use Rattle.std.specs.Prelude.{◌≡◌, ◌+◌, ◌<◌, ◌^◌, ◌&&◌, true, false, List, Some, None, IsSome, IfOk, IfErr, OnOk, option_copied};
-ghost use Rattle.ct_value.specs.declared.ty.ColTy.{ColTy};
-ghost use Rattle.ct_change.specs.Changelog.{Rows};
-ghost use Rattle.ct_change.specs.Emission.{replaced};
+ghost use Rattle.std.specs.Prelude.{◌≡◌, true, false, IsSome, IfOk, IfErr, OnOk, option_copied};
 ghost use Rattle.agg_fns.specs.declared.acc.AccFault.TheVariants.{Out};
-ghost use Rattle.group_rules.specs.Grouping.{row_count};
-ghost use Rattle.op_group.specs.Kept.{HasRow, AllRetract, calls, all_fit, all_counted, row_in, IsKept};
+ghost use Rattle.op_group.specs.Kept.{AllRetract, ForRows, ForShifted, IsKept, MayShift, all_counted, all_fit, calls_of, is_in_range, row_in};
 
 use crate::kept::Kept;
 use agg_fns::AccFault;
@@ -26,13 +22,13 @@ pub fn take_turn(
     gone: Option<&Row>,
     come: Option<&Row>,
 ) -> Result<Turn, AccFault>
-    requires kept { (columns : List ColTy) × (rows : Rows) × IsKept columns (calls kept.counters.items) kept rows × HasRow rows (option_copied gone) × (row_count rows + 1 < 2 ^ 63) }
+    requires kept { MayShift kept (option_copied gone) }
     requires retracts { IsSome (option_copied gone) → AllRetract kept.counters.items }
-    ensures kept { IfOk result (λ turn. (columns : List ColTy) (rows : Rows) → IsKept columns (calls kept.counters.items) kept rows → HasRow rows (option_copied gone.entry) → IsKept columns (calls kept.counters.items) turn.kept (replaced rows (option_copied gone.entry) (option_copied come.entry))) }
-    ensures old { IfOk result (λ turn. (columns : List ColTy) (rows : Rows) → IsKept columns (calls kept.counters.items) kept rows → turn.old ≡ row_in keys columns (calls kept.counters.items) key.now rows) }
-    ensures fresh { IfOk result (λ turn. (columns : List ColTy) (rows : Rows) → IsKept columns (calls kept.counters.items) kept rows → HasRow rows (option_copied gone.entry) → turn.fresh ≡ row_in keys columns (calls kept.counters.items) key.now (replaced rows (option_copied gone.entry) (option_copied come.entry))) }
-    ensures fine { OnOk result ((columns : List ColTy) (rows : Rows) → IsKept columns (calls kept.counters.items) kept rows → HasRow rows (option_copied gone.entry) → all_fit columns (calls kept.counters.items) rows ≡ true → (all_fit columns (calls kept.counters.items) (replaced rows (option_copied gone.entry) (option_copied come.entry)) && all_counted columns (calls kept.counters.items) (replaced rows (option_copied gone.entry) (option_copied come.entry))) ≡ true) }
-    ensures out { IfErr result (λ fault. fault ≡ Out → (columns : List ColTy) (rows : Rows) → IsKept columns (calls kept.counters.items) kept rows → HasRow rows (option_copied gone.entry) → all_counted columns (calls kept.counters.items) rows ≡ true → (all_fit columns (calls kept.counters.items) (replaced rows (option_copied gone.entry) (option_copied come.entry)) && all_counted columns (calls kept.counters.items) (replaced rows (option_copied gone.entry) (option_copied come.entry))) ≡ false) }
+    ensures kept { IfOk result (λ turn. ForShifted kept (option_copied gone.entry) (option_copied come.entry) (λ columns before after. IsKept columns (calls_of kept) turn.kept after)) }
+    ensures old { IfOk result (λ turn. ForRows kept (λ columns rows. turn.old ≡ row_in keys columns (calls_of kept) key.now rows)) }
+    ensures fresh { IfOk result (λ turn. ForShifted kept (option_copied gone.entry) (option_copied come.entry) (λ columns before after. turn.fresh ≡ row_in keys columns (calls_of kept) key.now after)) }
+    ensures fine { OnOk result (ForShifted kept (option_copied gone.entry) (option_copied come.entry) (λ columns before after. all_fit columns (calls_of kept) before ≡ true → is_in_range columns (calls_of kept) after ≡ true)) }
+    ensures out { IfErr result (λ fault. fault ≡ Out → ForShifted kept (option_copied gone.entry) (option_copied come.entry) (λ columns before after. all_counted columns (calls_of kept) before ≡ true → is_in_range columns (calls_of kept) after ≡ false)) }
     ensures retracts { IfOk result (λ turn. AllRetract kept.counters.items → AllRetract turn.kept.counters.items) }
 {
     let mut kept = kept;

@@ -2,8 +2,8 @@
 use Rattle.std.proofs.Common.{◌≡◌, [], ◌∷◌, ◌∙◌}
 use Rattle.ct_change.specs.declared.change.Change.{Change}
 use Rattle.op_rules.specs.Rules.{Answer}
-use Rattle.row_rules.specs.Changes.{each_change}
-use Rattle.row_rules.specs.laws.Answers.{each_change-one}
+use Rattle.emission_rules.specs.Changes.{each_change}
+use Rattle.emission_rules.proofs.laws.RowAnswers.{each_change-one}
 
 pub answer_alone : (answer : Change → Answer) (change : Change) (given : Answer) → answer change ≡ given → each_change answer (change ∷ []) ≡ given
 answer_alone answer change given e = each_change-one answer change ∙ e

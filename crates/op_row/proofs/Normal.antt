@@ -5,13 +5,13 @@ use Rattle.ct_change.specs.declared.change.Change.{Change}
 use Rattle.ct_change.specs.declared.change.Diff.{Diff}
 use Rattle.ct_change.specs.Changelog.{Mode, upsert, Rows, adds, row_at, apply, fold}
 use Rattle.ct_change.specs.Emission.{difference, replaced_by, put_in, put_over, emission, row_of, CanTell}
-use Rattle.ct_change.specs.laws.Folds.{fold-push}
+use Rattle.ct_change.proofs.laws.Folds.{fold-push}
 use Rattle.op_rules.specs.History.{Arrival}
 use Rattle.op_rules.specs.Rules.{Answer}
-use Rattle.row_rules.specs.Changes.{changes_of}
-use Rattle.row_rules.specs.Normalize.{Normalize, normalize_emits, normalized, row_left, TellsKey}
-use Rattle.row_rules.specs.laws.Normalizing.{can-normalize}
-use Rattle.row_rules.specs.laws.RowFacts.{changes_of-append}
+use Rattle.emission_rules.specs.Changes.{changes_of}
+use Rattle.emission_rules.specs.Normalize.{Normalize, normalize_emits, normalized, row_left, TellsKey}
+use Rattle.emission_rules.proofs.laws.Normalizing.{can-normalize}
+use Rattle.emission_rules.proofs.laws.RowFacts.{changes_of-append}
 
 gone-in : (b : Bool) (change : Change) → row_of (put_in b change).gone ≡ None
 gone-in true change = refl

@@ -7,7 +7,7 @@ use Rattle.ct_value.specs.declared.row.Row.{Row}
 use Rattle.ct_expr.specs.declared.expr.Expr.{Expr}
 use Rattle.ct_expr.specs.Eval.{eval}
 use Rattle.ct_expr.specs.View.{expr_view, exprs_view}
-use Rattle.rel_clauses.specs.Clauses.{collect, row_of}
+use Rattle.rel_algebra.specs.Clauses.{collect, row_of}
 
 -- these values, and behind them those of the items
 abbrev pub row_from : List Value → Row → List Expr → Option Row

@@ -2,7 +2,7 @@ ghost use Rattle.std.specs.Prelude.{◌≡◌, [], ◌∷◌, false, IfOk, Some,
 ghost use Rattle.ct_field.specs.Typed as t;
 ghost use Rattle.ct_expr.specs.View.{expr_view};
 ghost use Rattle.op_rules.specs.Faults.{IfRange};
-ghost use Rattle.row_rules.specs.Filter.{kept_where, filter_change};
+ghost use Rattle.emission_rules.specs.Filter.{kept_where, filter_change};
 
 use ct_change::{Change, Changes, Steps};
 use ct_expr::{EvalFault, Expr, eval};
@@ -21,7 +21,7 @@ pub struct FilterOp {
 }
 
 impl FilterOp {
-    ghost use Rattle.row_rules.specs.Filter.{filter_rule};
+    ghost use Rattle.emission_rules.specs.Filter.{filter_rule};
 
     /// The filter by this condition. It takes no memory.
     pub fn new(alloc: Global, cond: Expr) -> FilterOp
@@ -38,7 +38,7 @@ impl FilterOp {
 }
 
 impl Operator for FilterOp {
-    ghost use Rattle.row_rules.specs.Filter.{filter_rule};
+    ghost use Rattle.emission_rules.specs.Filter.{filter_rule};
 
     ghost rule = { λ s. filter_rule (record { condition = expr_view s.cond }) };
 

@@ -2,7 +2,7 @@ ghost use Rattle.std.specs.Prelude.{◌≡◌, [], ◌∷◌, false, IfOk};
 ghost use Rattle.ct_change.specs.Changelog.{Rows, upsert, adds, apply, MayCome, HasKey};
 ghost use Rattle.ct_change.specs.Emission.{emission, row_of, CanTell};
 ghost use Rattle.ct_change.specs.LastRows.{AreLast};
-ghost use Rattle.row_rules.specs.Normalize.{normalized, TellsKey};
+ghost use Rattle.emission_rules.specs.Normalize.{normalized, TellsKey};
 
 use ct_change::{Change, Changes, InMode, LastRows, OutMode, Steps, UpsertBy};
 use ct_value::{Cols, Memory, Row};
@@ -22,7 +22,7 @@ pub struct NormalizeOp<O: OutMode> {
 }
 
 impl<O: OutMode> NormalizeOp<O> {
-    ghost use Rattle.row_rules.specs.Normalize.{normalize_rule};
+    ghost use Rattle.emission_rules.specs.Normalize.{normalize_rule};
 
     /// The normalizer by this key, with no rows. Its output has to be able to tell that the row of a key gives way to another:
     /// both rows of an update, or the row of the same key.
@@ -65,8 +65,8 @@ impl<O: OutMode> NormalizeOp<O> {
 
 impl<O: OutMode> Operator for NormalizeOp<O> {
     ghost use Rattle.ct_change.specs.Changelog.{fold};
-    ghost use Rattle.row_rules.specs.Changes.{changes_of};
-    ghost use Rattle.row_rules.specs.Normalize.{normalize_rule};
+    ghost use Rattle.emission_rules.specs.Changes.{changes_of};
+    ghost use Rattle.emission_rules.specs.Normalize.{normalize_rule};
 
     ghost rule = { λ s. normalize_rule (record { key = s.input.key; output = O.mode s.output }) };
 

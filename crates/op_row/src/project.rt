@@ -1,9 +1,9 @@
 ghost use Rattle.std.specs.Prelude.{◌≡◌, [], ◌∷◌, false, map, IfOk, IsErrOf, Some, None, Ok, Err};
 ghost use Rattle.ct_expr.specs.Eval as e;
 ghost use Rattle.ct_expr.specs.View.{exprs_view};
-ghost use Rattle.rel_clauses.specs.Clauses.{row_of};
+ghost use Rattle.rel_algebra.specs.Clauses.{row_of};
 ghost use Rattle.op_rules.specs.Faults.{IfRange};
-ghost use Rattle.row_rules.specs.Project.{with_row};
+ghost use Rattle.emission_rules.specs.Project.{with_row};
 
 use crate::change::alone;
 use ct_change::{Change, Changes, Steps};
@@ -23,7 +23,7 @@ pub struct ProjectOp {
 }
 
 impl ProjectOp {
-    ghost use Rattle.row_rules.specs.Project.{project_rule};
+    ghost use Rattle.emission_rules.specs.Project.{project_rule};
 
     /// The project of these items, over an edge that is after-only by the key `after`, or over one that isn't after-only. It
     /// takes no memory.
@@ -42,7 +42,7 @@ impl ProjectOp {
 }
 
 impl Operator for ProjectOp {
-    ghost use Rattle.row_rules.specs.Project.{project_rule};
+    ghost use Rattle.emission_rules.specs.Project.{project_rule};
 
     ghost rule = { λ s. project_rule (record { items = exprs_view s.items; after = s.after }) };
 

@@ -17,7 +17,7 @@ pub struct UnionOp {
 }
 
 impl UnionOp {
-    ghost use Rattle.row_rules.specs.Union.{union_rule};
+    ghost use Rattle.emission_rules.specs.Union.{union_rule};
 
     /// The union of so many inputs. It takes no memory.
     pub fn new(alloc: Global, inputs: u32) -> UnionOp
@@ -34,7 +34,7 @@ impl UnionOp {
 }
 
 impl Operator for UnionOp {
-    ghost use Rattle.row_rules.specs.Union.{union_rule};
+    ghost use Rattle.emission_rules.specs.Union.{union_rule};
 
     ghost rule = { λ s. union_rule (record { inputs = s.inputs }) };
 

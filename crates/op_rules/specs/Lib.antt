@@ -5,4 +5,3 @@ pub mod Partials
 pub mod Ports
 pub mod Rules
 pub mod Tasks
-pub mod laws

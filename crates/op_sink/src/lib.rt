@@ -1,6 +1,6 @@
 //! The writer of a sink.
 //!
-//! Promised: `SinkWriter` is an `Operator` by its rule of `row_rules`, whose changes are those printed.
+//! Promised: `SinkWriter` is an `Operator` by its rule of `emission_rules`, whose changes are those printed.
 #![tactic(auto)]
 
 mod writer;

@@ -1,5 +1,5 @@
 ghost use Rattle.std.specs.Prelude.{◌≡◌, [], ◌∷◌, false, IfOk, option_map};
-ghost use Rattle.row_rules.specs.Sink as r;
+ghost use Rattle.emission_rules.specs.Sink as r;
 
 use ct_change::{Change, Changes, Declared, Kind, Steps};
 use ct_value::{Cols, Memory};

@@ -3,12 +3,12 @@ use Rattle.std.proofs.Common.{◌≡◌, ℕ, ◌+◌, ◌<◌, ◌≤◌, ◌^�
 use Rattle.std.proofs.lemmas.List.{length-append}
 use Rattle.ct_change.specs.declared.change.Change.{Change}
 use Rattle.ct_change.specs.Changelog.{Rows, retract, apply, fold, MayCome, HasKey}
-use Rattle.ct_change.specs.laws.Folds.{fold-push}
+use Rattle.ct_change.proofs.laws.Folds.{fold-push}
 use Rattle.ct_field.specs.Typed.{row_fits}
 use Rattle.op_rules.specs.History.{Arrival, arrival, at_port}
 use Rattle.op_rules.specs.Rules.{Rule, MayArrive}
-use Rattle.op_rules.specs.laws.Histories.{at_port-push}
-use Rattle.group_rules.specs.Grouping.{Grouping, group_rule}
+use Rattle.op_rules.proofs.laws.Histories.{at_port-push}
+use Rattle.emission_rules.specs.Grouping.{Grouping, group_rule}
 use Rattle.op_tests.specs.GroupFed.{IsFed, IsOfRows}
 use Rattle.op_tests.specs.GroupTables.{columns}
 

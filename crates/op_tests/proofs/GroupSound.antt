@@ -10,12 +10,12 @@ use Rattle.ct_field.specs.Typed.{row_fits}
 use Rattle.ct_change.specs.declared.kind.Kind.TheVariants.{I}
 use Rattle.ct_change.specs.declared.change.Change.{Change}
 use Rattle.ct_change.specs.Changelog.{Mode, append, retract, upsert, adds, admits, Rows, MayCome, HasKey}
-use Rattle.rel_clauses.specs.declared.agg.Agg.{Agg}
-use Rattle.rel_clauses.specs.laws.Fits.{fits-length}
+use Rattle.rel_algebra.specs.declared.agg.Agg.{Agg}
+use Rattle.rel_algebra.proofs.laws.Fits.{fits-length}
 use Rattle.op_rules.specs.History.{arrival}
 use Rattle.op_rules.specs.Rules.{Rule, MayArrive}
-use Rattle.group_rules.specs.Grouping.{Grouping, group_rule, IsSound}
-use Rattle.group_rules.specs.laws.Columns.{project-first}
+use Rattle.emission_rules.specs.Grouping.{Grouping, group_rule, IsSound}
+use Rattle.emission_rules.proofs.laws.Columns.{project-first}
 use Rattle.op_tests.specs.GroupFed.{IsOfRows}
 use Rattle.op_tests.specs.GroupTables.{columns, five_calls, all_calls, grouped}
 

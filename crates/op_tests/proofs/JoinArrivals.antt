@@ -5,10 +5,10 @@ use Rattle.ct_change.specs.declared.change.Change.{Change}
 use Rattle.ct_change.specs.Changelog.{Rows, apply, fold, MayCome, HasKey}
 use Rattle.ct_field.specs.Typed.{row_fits}
 use Rattle.ct_value.specs.Bag.{none}
-use Rattle.rel_clauses.specs.laws.Fits.{fits-length}
+use Rattle.rel_algebra.proofs.laws.Fits.{fits-length}
 use Rattle.op_rules.specs.History.{Arrival, arrival, at_port}
 use Rattle.op_rules.specs.Rules.{Rule, MayArrive}
-use Rattle.join_rules.specs.laws.Walks.{rows-push}
+use Rattle.emission_rules.proofs.laws.Walks.{rows-push}
 use Rattle.op_tests.specs.declared.join_feed.Feed.{Feed}
 use Rattle.op_tests.specs.declared.join_feed.Reads.{Reads}
 use Rattle.op_tests.specs.declared.join_feed.Reads.TheVariants.{Append, Retract, LastRows}

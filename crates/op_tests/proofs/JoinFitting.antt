@@ -6,9 +6,9 @@ use Rattle.ct_value.specs.declared.value.Value.{Value}
 use Rattle.ct_change.specs.Changelog.{Mode}
 use Rattle.ct_expr.specs.Expr.{Expr}
 use Rattle.ct_field.specs.Typed.{value_fits, row_fits}
-use Rattle.rel_clauses.specs.declared.join.Pair.{Pair}
+use Rattle.rel_algebra.specs.declared.join.Pair.{Pair}
 use Rattle.op_rules.specs.Rules.{Rule}
-use Rattle.join_rules.specs.Joining.{Shape, join_rule}
+use Rattle.emission_rules.specs.Joining.{Shape, join_rule}
 use Rattle.op_tests.specs.declared.join_feed.Reads.{Reads}
 use Rattle.op_tests.specs.JoinFed.{IsOfRows, mode_of}
 use Rattle.op_tests.specs.JoinTables.{columns}

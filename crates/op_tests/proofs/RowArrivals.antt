@@ -6,8 +6,8 @@ use Rattle.std.specs.List.{AllByRecursion}
 use Rattle.ct_change.specs.Changelog.{retract, upsert, adds, admits}
 use Rattle.op_rules.specs.History.{arrival}
 use Rattle.op_rules.specs.Rules.{Answer, MayArrive}
-use Rattle.row_rules.specs.Changes.{row_rule}
-use Rattle.row_rules.specs.Normalize.{Normalize, normalize_rule}
+use Rattle.emission_rules.specs.Changes.{row_rule}
+use Rattle.emission_rules.specs.Normalize.{Normalize, normalize_rule}
 
 adding : (change : Change) → change.kind ≡ I → adds change.kind ≡ true
 adding change e = ap adds e

@@ -5,11 +5,11 @@ use Rattle.ct_field.specs.Typed.{row_fits}
 use Rattle.ct_value.specs.declared.row.Row.{Row}
 use Rattle.ct_change.specs.declared.change.Change.{Change}
 use Rattle.ct_change.specs.Changelog.{Rows, apply, fold, MayCome, HasKey}
-use Rattle.ct_change.specs.laws.Folds.{fold-push}
-use Rattle.rel_clauses.specs.laws.Fits.{fits-length}
+use Rattle.ct_change.proofs.laws.Folds.{fold-push}
+use Rattle.rel_algebra.proofs.laws.Fits.{fits-length}
 use Rattle.op_rules.specs.History.{Arrival, arrival, at_port}
 use Rattle.op_rules.specs.Rules.{Rule, MayArrive}
-use Rattle.op_rules.specs.laws.Histories.{at_port-push}
+use Rattle.op_rules.proofs.laws.Histories.{at_port-push}
 use Rattle.op_tests.specs.declared.top_reads.Reads.{Reads}
 use Rattle.op_tests.specs.declared.top_reads.Reads.TheVariants.{Retract, LastRows}
 use Rattle.op_tests.specs.TopFed.{IsFed, Keeps}

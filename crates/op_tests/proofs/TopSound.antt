@@ -2,9 +2,9 @@
 use Rattle.std.proofs.Common.{◌≡◌, ℕ, ◌<◌, ◌^◌, Bool, true, List, [], ◌∷◌, refl, sym, subst, arith}
 use Rattle.ct_value.specs.declared.ty.ColTy.{ColTy}
 use Rattle.ct_change.specs.Changelog.{Mode, retract, upsert}
-use Rattle.rel_clauses.specs.declared.sort.SortCol.{SortCol}
+use Rattle.rel_algebra.specs.declared.sort.SortCol.{SortCol}
 use Rattle.op_rules.specs.Rules.{Rule}
-use Rattle.topn_rules.specs.Ranking.{Ranking, topn_rule, IsSound}
+use Rattle.emission_rules.specs.Ranking.{Ranking, topn_rule, IsSound}
 use Rattle.op_tests.specs.TopFed.{IsOfRows}
 use Rattle.op_tests.specs.TopTables.{columns}
 

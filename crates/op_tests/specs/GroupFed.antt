@@ -3,7 +3,7 @@ use Rattle.std.specs.Prelude.{◌≡◌, ℕ, List, length}
 use Rattle.ct_change.specs.Changelog.{Rows, retract, fold}
 use Rattle.op_rules.specs.History.{Arrival, at_port}
 use Rattle.op_rules.specs.Rules.{Rule}
-use Rattle.group_rules.specs.Grouping.{Grouping, group_rule}
+use Rattle.emission_rules.specs.Grouping.{Grouping, group_rule}
 use Rattle.op_tests.specs.GroupTables.{columns}
 
 -- a rule of a group of the tests' rows from a retract changelog

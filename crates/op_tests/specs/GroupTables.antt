@@ -3,10 +3,10 @@ use Rattle.std.specs.Prelude.{ℕ, true, false, List, [], ◌∷◌, Option, Som
 use Rattle.ct_value.specs.declared.ty.Ty.TheVariants.{Bool as Truths, BigInt, Decimal}
 use Rattle.ct_value.specs.declared.ty.ColTy.{ColTy}
 use Rattle.ct_change.specs.Changelog.{Mode}
-use Rattle.rel_clauses.specs.declared.agg.Agg.{Agg}
-use Rattle.rel_clauses.specs.declared.agg.AggCall.{AggCall}
-use Rattle.rel_clauses.specs.declared.agg.AggCall.TheVariants.{CountAll, Count, CountDistinct, Sum, Min, Max, Avg}
-use Rattle.group_rules.specs.Grouping.{Grouping}
+use Rattle.rel_algebra.specs.declared.agg.Agg.{Agg}
+use Rattle.rel_algebra.specs.declared.agg.AggCall.{AggCall}
+use Rattle.rel_algebra.specs.declared.agg.AggCall.TheVariants.{CountAll, Count, CountDistinct, Sum, Min, Max, Avg}
+use Rattle.emission_rules.specs.Grouping.{Grouping}
 
 -- id BIGINT NOT NULL, n BIGINT, keep BOOLEAN, price DECIMAL(10,2)
 abbrev pub columns : List ColTy

@@ -3,7 +3,7 @@ use Rattle.std.specs.Prelude.{◌≡◌, List, [], ◌∷◌, length}
 use Rattle.ct_change.specs.Changelog.{Mode, append, retract, upsert, Rows, fold}
 use Rattle.op_rules.specs.History.{Arrival, at_port}
 use Rattle.op_rules.specs.Rules.{Rule}
-use Rattle.join_rules.specs.Joining.{Joining, join_rule}
+use Rattle.emission_rules.specs.Joining.{Joining, join_rule}
 use Rattle.op_tests.specs.declared.join_feed.Reads.{Reads}
 use Rattle.op_tests.specs.declared.join_feed.Reads.TheVariants.{Append, Retract, LastRows}
 use Rattle.op_tests.specs.declared.join_feed.Feed.{Feed}

@@ -3,7 +3,7 @@ use Rattle.std.specs.Prelude.{◌≡◌, ℕ, List, length}
 use Rattle.ct_change.specs.Changelog.{Mode, append, retract, upsert, Rows, fold}
 use Rattle.op_rules.specs.History.{Arrival, at_port}
 use Rattle.op_rules.specs.Rules.{Rule}
-use Rattle.topn_rules.specs.Ranking.{Ranking, topn_rule}
+use Rattle.emission_rules.specs.Ranking.{Ranking, topn_rule}
 use Rattle.op_tests.specs.TopTables.{columns}
 
 -- a rule of a Top-N of the tests' rows from a changelog in a mode

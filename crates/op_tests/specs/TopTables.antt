@@ -3,7 +3,7 @@ use Rattle.std.specs.Prelude.{Bool, true, false, List, [], ◌∷◌}
 use Rattle.ct_value.specs.declared.ty.Ty.TheVariants.{BigInt}
 use Rattle.ct_value.specs.declared.ty.ColTy.{ColTy}
 use Rattle.ct_change.specs.Changelog.{Mode, retract, upsert}
-use Rattle.rel_clauses.specs.declared.sort.SortCol.{SortCol}
+use Rattle.rel_algebra.specs.declared.sort.SortCol.{SortCol}
 use Rattle.op_tests.specs.declared.top_reads.Reads.{Reads}
 use Rattle.op_tests.specs.declared.top_reads.Reads.TheVariants.{Retract, LastRows}
 

@@ -9,7 +9,7 @@ use ct_change::{Append, Change, Changes, Kind, Retract, Steps, UpsertBy};
 use ct_value::{Cols, Memory};
 use op_group::Group;
 use op_rules::{OpFault, Operator};
-use rel_clauses::Aggs;
+use rel_algebra::Aggs;
 use std::alloc::Global;
 use std::marker::Brand;
 use std::sync::ledger::{Blank, Ledger};

@@ -5,7 +5,7 @@ ghost use Rattle.op_tests.specs.GroupTables.{columns, on, five_calls, count_call
 use ct_change::{Change, Kind};
 use ct_field::in_range;
 use ct_value::{ColTy, ColTys, Memory, Row, Ty, Value, Values};
-use rel_clauses::{Agg, AggCall, Aggs};
+use rel_algebra::{Agg, AggCall, Aggs};
 use std::alloc::Global;
 
 /// A change of a row with an id, a number, whether it is to be kept, and a price in hundredths.

@@ -6,7 +6,7 @@ use ct_change::{Change, Kind};
 use ct_expr::{ArithOp, Expr};
 use ct_field::in_range;
 use ct_value::{ColTy, ColTys, CompareOp, Memory, Row, Ty, Value, Values};
-use rel_clauses::{Pair, Pairs};
+use rel_algebra::{Pair, Pairs};
 use std::alloc::Global;
 
 /// A change at the left, or at the right, of a row of two numbers.

@@ -9,9 +9,10 @@ use crate::join_shown::{out, shown};
 use ct_change::{Append, Changes, Kind, Retract, UpsertBy};
 use ct_expr::Expr;
 use ct_value::{Cols, Memory};
-use op_join::{Join, SemiJoin};
+use op_join::Join;
 use op_rules::{OpFault, Operator};
-use rel_clauses::JoinKind;
+use op_semi::SemiJoin;
+use rel_algebra::JoinKind;
 use std::alloc::Global;
 use std::test::Fail;
 

@@ -1,6 +1,6 @@
-//! Tests of what is kept and of the operators: that memory suffices where there is enough of it, histories whose answers were worked out
-//! by hand, and many changes. What the calls answer is in their contracts, and that the definitions say what they should is shown by
-//! `op_examples`, `row_examples` and `join_examples`.
+//! Tests of what is kept and of the operators: that memory suffices where there is enough of it, histories whose answers were worked
+//! out by hand, and many changes. What the calls answer is in their contracts, and that the definitions say what they should is shown
+//! by `value_examples` and `run_examples`.
 #![tactic(auto)]
 
 #[cfg(test)]

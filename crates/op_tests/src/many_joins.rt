@@ -5,7 +5,7 @@ use crate::join_shown::shown;
 use crate::joins::{joined, matched};
 use ct_change::{Changes, Kind};
 use ct_value::Memory;
-use rel_clauses::JoinKind;
+use rel_algebra::JoinKind;
 use std::alloc::Global;
 use std::test::Fail;
 

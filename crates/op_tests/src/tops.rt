@@ -9,7 +9,7 @@ use ct_field::in_range;
 use ct_value::{ColTy, ColTys, Cols, Memory, Row, Ty, Value, Values};
 use op_rules::Operator;
 use op_topn::TopN;
-use rel_clauses::{SortCol, Sorts};
+use rel_algebra::{SortCol, Sorts};
 use std::alloc::Global;
 
 /// A change of a row with an id, a group and a number.

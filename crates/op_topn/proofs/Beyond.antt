@@ -12,10 +12,11 @@ use Rattle.ct_value.specs.declared.row.Row.{Row}
 use Rattle.ct_change.specs.declared.kind.Kind.{Kind}
 use Rattle.ct_change.specs.declared.change.Change.{Change}
 use Rattle.ct_change.specs.Changelog.{same_row}
-use Rattle.ct_change.specs.laws.Meanings.{same_row-true, same_row-itself}
-use Rattle.rel_clauses.specs.declared.sort.SortCol.{SortCol}
-use Rattle.rel_clauses.specs.Ranks.{rank_cmp, rank_total, rank_exact}
-use Rattle.topn_rules.specs.Ranking.{beyond}
+use Rattle.ct_change.proofs.laws.Meanings.{same_row-true, same_row-itself}
+use Rattle.rel_algebra.specs.declared.sort.SortCol.{SortCol}
+use Rattle.rel_algebra.specs.Ranks.{rank_cmp}
+use Rattle.rel_algebra.proofs.laws.Ranks.{rank_total, rank_exact}
+use Rattle.emission_rules.specs.Ranking.{beyond}
 use Rattle.op_topn.specs.Tells.{past, heads, AreRanked}
 
 first : (a b : Bool) → T (a && b) → T a

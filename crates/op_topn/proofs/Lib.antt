@@ -1,6 +1,9 @@
 pub mod Beyond
+pub mod Cells
+pub mod FirstRows
+pub mod Links
 pub mod Members
-pub mod Walks
 pub mod Shifts
-pub mod Turns
 pub mod Taken
+pub mod Turns
+pub mod Walks

@@ -1,61 +1,21 @@
 -- The rows of a change's own partition after the change: without what goes, and with what comes.
 use Rattle.std.proofs.Common.{◌≡◌, ◌<◌, Bool, true, false, cond, Option, Some, None, refl, sym, ap, subst, ◌∙◌}
-use Rattle.ct_value.specs.Bag.{copies, add, remove, add-remove, remove-add}
+use Rattle.ct_value.specs.Bag.{copies, add, remove}
+use Rattle.ct_value.proofs.laws.Bags.{add-remove, remove-add}
 use Rattle.ct_value.specs.Order.{row_total, row_exact}
 use Rattle.ct_value.specs.declared.row.Row.{Row}
 use Rattle.ct_change.specs.declared.change.Change.{Change}
 use Rattle.ct_change.specs.Changelog.{Mode, append, retract, upsert, Rows, same_row, adds, apply, row_at, MayCome}
 use Rattle.ct_change.specs.Emission.{difference, as_it_is, put_in, put_over, replaced_by, row_of, replaced, Stands as GoneStands}
-use Rattle.ct_change.specs.laws.Folds.{settle-difference, gone_stands, row_at-key}
-use Rattle.ct_change.specs.laws.Meanings.{same_row-itself}
+use Rattle.ct_change.proofs.laws.Differences.{come-row, gone_as_it_is, gone_replaced_by}
+use Rattle.ct_change.proofs.laws.Folds.{settle-difference, gone_stands, row_at-key}
+use Rattle.ct_change.proofs.laws.Meanings.{same_row-itself}
 use Rattle.op_rules.specs.Edges.{KeepsKeys}
-use Rattle.rel_clauses.specs.Sums.{add_where}
-use Rattle.rel_clauses.specs.laws.Bags.{restrict-add}
-use Rattle.topn_rules.specs.Ranking.{Ranking, key_of, members}
-use Rattle.topn_rules.specs.laws.Ranked.{copies-members}
+use Rattle.rel_algebra.specs.Sums.{add_where}
+use Rattle.rel_algebra.proofs.laws.Bags.{restrict-add}
+use Rattle.emission_rules.specs.Ranking.{Ranking, key_of, members}
+use Rattle.emission_rules.proofs.laws.Ranked.{copies-members}
 use Rattle.op_topn.specs.Kept.{HasRow}
-
--- ---- the rows of a difference are of the change's partition
-
-row-some : (a b : Change) → (let o : Option Change = Some a in o ≡ Some b) → b.row ≡ a.row
-row-some a b e = let r : (let o : Option Row = Some a.row in o ≡ Some b.row) = ap row_of e in let same : a.row ≡ b.row = cc in sym same
-
-come_as_it_is : (b : Bool) (change c : Change) → (as_it_is b change).come ≡ Some c → c.row ≡ change.row
-come_as_it_is true change c e = row-some change c e
-come_as_it_is false change c e = absurd (cc)
-
-come_put_in : (b : Bool) (change c : Change) → (put_in b change).come ≡ Some c → c.row ≡ change.row
-come_put_in true change c e = row-some change c e
-come_put_in false change c e = absurd (cc)
-
-come_put_over : (old : Row) (b : Bool) (change c : Change) → (put_over old b change).come ≡ Some c → c.row ≡ change.row
-come_put_over old true change c e = row-some _ c e
-come_put_over old false change c e = absurd (cc)
-
-come_replaced_by : (o : Option Row) (change c : Change) → (replaced_by o change).come ≡ Some c → c.row ≡ change.row
-come_replaced_by None change c e = come_put_in (adds change.kind) change c e
-come_replaced_by (Some old) change c e = come_put_over old (adds change.kind) change c e
-
-pub come-row : (mode : Mode) (rows : Rows) (change c : Change) → (difference mode rows change).come ≡ Some c → c.row ≡ change.row
-come-row append rows change c e = come_as_it_is (adds change.kind) change c e
-come-row retract rows change c e = come_as_it_is (adds change.kind) change c e
-come-row (upsert key) rows change c e = come_replaced_by (row_at rows key change.row) change c e
-
-gone_as_it_is : (b : Bool) (change g : Change) → (as_it_is b change).gone ≡ Some g → g.row ≡ change.row
-gone_as_it_is true change g e = absurd (cc)
-gone_as_it_is false change g e = row-some change g e
-
-gone_put_over : (old : Row) (b : Bool) (change g : Change) → (put_over old b change).gone ≡ Some g → g.row ≡ old
-gone_put_over old true change g e = row-some _ g e
-gone_put_over old false change g e = row-some _ g e
-
-gone_put_in : (b : Bool) (change g : Change) → (put_in b change).gone ≡ Some g → ⊥
-gone_put_in true change g e = cc
-gone_put_in false change g e = cc
-
-gone_replaced_by : (P : Row → Type 0) (o : Option Row) (change g : Change) → (replaced_by o change).gone ≡ Some g → ((old : Row) → o ≡ Some old → P old) → P g.row
-gone_replaced_by P None change g e h = absurd (gone_put_in (adds change.kind) change g e)
-gone_replaced_by P (Some old) change g e h = subst P (sym (gone_put_over old (adds change.kind) change g e)) (h old refl)
 
 gone-key : (r : Ranking) (mode : Mode) (rows : Rows) (change g : Change) → KeepsKeys mode r.partition → (difference mode rows change).gone ≡ Some g → key_of r g.row ≡ key_of r change.row
 gone-key r append rows change g keeps e = ap (key_of r) (gone_as_it_is (adds change.kind) change g e)

@@ -2,13 +2,14 @@
 use Rattle.std.proofs.Common.{◌≡◌, ℕ, ◌+◌, ◌<◌, ◌≤◌, ◌^◌, true, false, cond, List, Option, Some, None, sym, ap, subst, ◌∙◌, arith}
 use Rattle.std.specs.Option.{unwrap_or}
 use Rattle.std.specs.BTreeMap.{BTreeMap, get}
-use Rattle.ct_value.specs.Bag.{copies, copies-occurs, total, total-le, total-remove, one_at, add, remove}
+use Rattle.ct_value.specs.Bag.{copies, total, one_at, add, remove}
+use Rattle.ct_value.proofs.laws.Bags.{copies-occurs, total-le, total-remove}
 use Rattle.ct_value.specs.Order.{row_cmp, row_total, row_exact}
 use Rattle.ct_value.specs.declared.row.Row.{Row}
 use Rattle.ct_change.specs.Changelog.{Rows, same_row, with, without}
-use Rattle.rel_clauses.specs.declared.sort.SortCol.{SortCol}
-use Rattle.ranked_rows.specs.Keys.{Key, key_cmp, rank_key}
-use Rattle.ranked_rows.specs.Kept.{IsRanked}
+use Rattle.rel_algebra.specs.declared.sort.SortCol.{SortCol}
+use Rattle.op_topn.specs.Keys.{Key, key_cmp, rank_key}
+use Rattle.op_topn.specs.RankedRows.{IsRanked}
 use Rattle.op_topn.specs.Kept.{HasRow}
 
 -- what is kept at a row's key

@@ -4,7 +4,8 @@ use Rattle.std.specs.List.{AllByRecursion}
 use Rattle.std.specs.BTreeMap.{BTreeMap, IsOrdered, IsEmpty, is_at}
 use Rattle.std.specs.Cmp.{eq_by_cmp_equiv}
 use Rattle.std.specs.Map.{lookup}
-use Rattle.ct_value.specs.Bag.{items, copies, total, total-none, copies-none, none, weigh}
+use Rattle.ct_value.specs.Bag.{items, copies, total, none, weigh}
+use Rattle.ct_value.proofs.laws.Bags.{total-none, copies-none}
 use Rattle.ct_value.specs.Order.{row_cmp, row_total, row_exact}
 use Rattle.ct_value.specs.Rows.{project}
 use Rattle.ct_value.specs.declared.row.Row.{Row}
@@ -12,20 +13,20 @@ use Rattle.ct_value.specs.declared.value.Value.TheVariants.{Null, Num}
 use Rattle.ct_change.specs.declared.change.Change.{Change}
 use Rattle.ct_change.specs.Changelog.{Mode, append, retract, upsert, Rows, same_row, apply, fold, MayCome}
 use Rattle.ct_change.specs.Emission.{difference, row_of, replaced, CanTell}
-use Rattle.ct_change.specs.laws.Folds.{fold-push, total-apply, weight-come}
-use Rattle.rel_clauses.specs.Clauses.{Fits}
-use Rattle.rel_clauses.specs.Ranks.{in_rank_order}
-use Rattle.rel_clauses.specs.laws.Bags.{restrict-none, total-restrict}
-use Rattle.rel_clauses.specs.laws.Fits.{fits-length}
+use Rattle.ct_change.proofs.laws.Folds.{fold-push, total-apply, weight-come}
+use Rattle.rel_algebra.specs.Clauses.{Fits}
+use Rattle.rel_algebra.specs.Ranks.{in_rank_order}
+use Rattle.rel_algebra.proofs.laws.Bags.{restrict-none, total-restrict}
+use Rattle.rel_algebra.proofs.laws.Fits.{fits-length}
 use Rattle.op_rules.specs.History.{Arrival, arrival, at_port}
 use Rattle.op_rules.specs.Rules.{Answer, MayArrive}
-use Rattle.op_rules.specs.laws.Histories.{at_port-push, at_port-one}
-use Rattle.topn_rules.specs.Ranking.{Ranking, key_of, members, first, told, tells, tells_all, topn_rule, names, TellsRanks, IsSound}
-use Rattle.topn_rules.specs.laws.Answers.{IsWide}
-use Rattle.topn_rules.specs.laws.Histories.{length-take}
-use Rattle.topn_rules.specs.laws.Places.{entry, key-entry, cell-behind, project-at}
-use Rattle.topn_rules.specs.laws.Ranked.{all-first, all_after, other_members, cond-le}
-use Rattle.ranked_rows.specs.declared.rows.RankedRows.{RankedRows}
+use Rattle.op_rules.proofs.laws.Histories.{at_port-push, at_port-one}
+use Rattle.emission_rules.specs.Ranking.{Ranking, key_of, members, first, told, tells, tells_all, topn_rule, names, TellsRanks, IsSound}
+use Rattle.emission_rules.proofs.laws.TopAnswers.{IsWide}
+use Rattle.emission_rules.proofs.laws.TopHistories.{length-take}
+use Rattle.emission_rules.proofs.laws.Places.{entry, key-entry, cell-behind, project-at}
+use Rattle.emission_rules.proofs.laws.Ranked.{all-first, all_after, other_members, cond-le}
+use Rattle.op_topn.specs.declared.rows.RankedRows.{RankedRows}
 use Rattle.op_topn.specs.Kept.{HasRow, KeptAt, AreKept, IsTurned}
 use Rattle.op_topn.specs.Tells.{shown_at, CanTellFrom, AreRanked}
 use Rattle.op_topn.specs.Tops.{IsHeld, MayTake}

@@ -4,16 +4,17 @@ use Rattle.std.specs.BTreeMap.{BTreeMap, IsOrdered, get, is_at}
 use Rattle.std.specs.Map.{lookup}
 use Rattle.std.specs.Option.{unwrap_or}
 use Rattle.std.proofs.lemmas.Bool.{eqb-true}
-use Rattle.ct_value.specs.Bag.{none, copies-none, same_bag}
+use Rattle.ct_value.specs.Bag.{none}
+use Rattle.ct_value.proofs.laws.Bags.{copies-none, same_bag}
 use Rattle.ct_value.specs.Order.{row_cmp, row_total, row_exact}
 use Rattle.ct_value.specs.declared.row.Row.{Row}
 use Rattle.ct_change.specs.Changelog.{Rows, same_row}
 use Rattle.ct_change.specs.Emission.{replaced}
-use Rattle.ct_change.specs.laws.Meanings.{same_row-true, same_row-itself}
-use Rattle.rel_clauses.specs.declared.sort.SortCol.{SortCol}
-use Rattle.ranked_rows.specs.Keys.{Key, key_cmp, rank_key}
-use Rattle.ranked_rows.specs.Kept.{IsRanked, is_empty}
-use Rattle.ranked_rows.specs.declared.rows.RankedRows.{RankedRows}
+use Rattle.ct_change.proofs.laws.Meanings.{same_row-true, same_row-itself}
+use Rattle.rel_algebra.specs.declared.sort.SortCol.{SortCol}
+use Rattle.op_topn.specs.Keys.{Key, key_cmp, rank_key}
+use Rattle.op_topn.specs.RankedRows.{IsRanked, is_empty}
+use Rattle.op_topn.specs.declared.rows.RankedRows.{RankedRows}
 use Rattle.op_topn.specs.Kept.{KeptAt, unless_empty, AreKept, IsTurned}
 
 module _ (order : List SortCol) (partitions : BTreeMap Row RankedRows) (of : Row → Rows) (all : AreKept order partitions of) (key : Row) where

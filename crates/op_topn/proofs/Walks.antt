@@ -5,9 +5,9 @@ use Rattle.ct_value.specs.declared.row.Row.{Row}
 use Rattle.ct_change.specs.declared.change.Change.{Change}
 use Rattle.ct_change.specs.Changelog.{Mode, append, retract, upsert, Rows}
 use Rattle.ct_change.specs.Emission.{emission, CanTell}
-use Rattle.rel_clauses.specs.declared.sort.SortCol.{SortCol}
-use Rattle.rel_clauses.specs.Ranks.{rank_cmp, in_rank_order}
-use Rattle.topn_rules.specs.Ranking.{told_by_rank}
+use Rattle.rel_algebra.specs.declared.sort.SortCol.{SortCol}
+use Rattle.rel_algebra.specs.Ranks.{rank_cmp, in_rank_order}
+use Rattle.emission_rules.specs.Ranking.{told_by_rank}
 use Rattle.op_topn.specs.Tells.{shown_at, CanTellFrom, IsNext, AreRanked}
 
 -- ---- one rank, and then the others

@@ -6,9 +6,9 @@ use Rattle.ct_value.specs.Order.{row_cmp}
 use Rattle.ct_value.specs.declared.row.Row.{Row}
 use Rattle.ct_change.specs.Changelog.{Rows, same_row}
 use Rattle.ct_change.specs.Emission.{replaced}
-use Rattle.rel_clauses.specs.declared.sort.SortCol.{SortCol}
-use Rattle.ranked_rows.specs.Kept.{IsRanked, is_empty}
-use Rattle.ranked_rows.specs.declared.rows.RankedRows.{RankedRows}
+use Rattle.rel_algebra.specs.declared.sort.SortCol.{SortCol}
+use Rattle.op_topn.specs.RankedRows.{IsRanked, is_empty}
+use Rattle.op_topn.specs.declared.rows.RankedRows.{RankedRows}
 
 -- the row stands, if there is one
 abbrev pub HasRow : Rows → Option Row → Type 0

@@ -1,3 +1,5 @@
 pub mod Kept
+pub mod Keys
+pub mod RankedRows
 pub mod Tells
 pub mod Tops

@@ -5,8 +5,8 @@ use Rattle.ct_value.specs.Bag.{in_order}
 use Rattle.ct_value.specs.declared.row.Row.{Row}
 use Rattle.ct_change.specs.Changelog.{Mode, same_row}
 use Rattle.ct_change.specs.Emission.{CanTell}
-use Rattle.rel_clauses.specs.declared.sort.SortCol.{SortCol}
-use Rattle.rel_clauses.specs.Ranks.{rank_cmp, shown}
+use Rattle.rel_algebra.specs.declared.sort.SortCol.{SortCol}
+use Rattle.rel_algebra.specs.Ranks.{rank_cmp, shown}
 
 -- a row of this rank as it is shown, if there is one
 abbrev pub shown_at : Bool → ℕ → Option Row → Option Row

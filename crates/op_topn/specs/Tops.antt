@@ -5,9 +5,9 @@ use Rattle.ct_value.specs.Bag.{copies, total}
 use Rattle.ct_value.specs.declared.row.Row.{Row}
 use Rattle.ct_change.specs.declared.change.Change.{Change}
 use Rattle.ct_change.specs.Changelog.{Mode, Rows, MayCome, HasKey}
-use Rattle.rel_clauses.specs.Clauses.{Fits}
-use Rattle.topn_rules.specs.Ranking.{Ranking, members, IsSound}
-use Rattle.ranked_rows.specs.declared.rows.RankedRows.{RankedRows}
+use Rattle.rel_algebra.specs.Clauses.{Fits}
+use Rattle.emission_rules.specs.Ranking.{Ranking, members, IsSound}
+use Rattle.op_topn.specs.declared.rows.RankedRows.{RankedRows}
 use Rattle.op_topn.specs.declared.partitions.TopBy.{TopBy}
 use Rattle.op_topn.specs.Kept.{AreKept}
 

@@ -6,14 +6,14 @@ ghost use Rattle.ct_value.specs.Order.{row_cmp};
 ghost use Rattle.ct_value.specs.declared.row.Row.{Row};
 ghost use Rattle.ct_change.specs.Changelog.{Rows, same_row, with, without};
 ghost use Rattle.ct_change.specs.Emission.{replaced};
-ghost use Rattle.rel_clauses.specs.Ranks.{in_rank_order};
-ghost use Rattle.ranked_rows.specs.Kept.{IsRanked, is_empty};
+ghost use Rattle.rel_algebra.specs.Ranks.{in_rank_order};
+ghost use Rattle.op_topn.specs.RankedRows.{IsRanked, is_empty};
 ghost use Rattle.op_topn.specs.Kept.{HasRow, unless_empty, AreKept, IsTurned};
 
+use crate::{RankKey, RankedRows};
 use ct_change::Steps;
 use ct_value::{ColTys, Cols, Memory, Row};
-use ranked_rows::{RankKey, RankedRows};
-use rel_clauses::Sorts;
+use rel_algebra::Sorts;
 use std::alloc::Global;
 use std::collections::BTreeMap;
 use std::sync::ledger::Ledger;

@@ -1,8 +1,8 @@
 //! What is told rank by rank.
 ghost use Rattle.std.specs.Prelude.{◌≡◌, ◌+◌, ◌<◌, ◌^◌, ◌++◌, [], length, IfOk, OnOk, IfSome, IfNone};
 ghost use Rattle.ct_change.specs.Emission.{emission, CanTell};
-ghost use Rattle.rel_clauses.specs.Ranks as r;
-ghost use Rattle.topn_rules.specs.Ranking.{told_by_rank};
+ghost use Rattle.rel_algebra.specs.Ranks as r;
+ghost use Rattle.emission_rules.specs.Ranking.{told_by_rank};
 ghost use Rattle.op_topn.specs.Tells.{shown_at, CanTellFrom, IsNext};
 
 use crate::partitions::Firsts;

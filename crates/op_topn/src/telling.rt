@@ -1,18 +1,18 @@
 //! What is told of the first rows of a partition before and after a change.
 ghost use Rattle.std.specs.Prelude.{◌≡◌, ◌<◌, ◌≤◌, ◌^◌, ◌++◌, ◌==◌, ◌||◌, true, length, map, drop, IfOk, OnOk};
 ghost use Rattle.ct_change.specs.Changelog.{Mode};
-ghost use Rattle.topn_rules.specs.Ranking as rule;
-ghost use Rattle.topn_rules.specs.Ranking.{beyond, told_by_row};
+ghost use Rattle.emission_rules.specs.Ranking as rule;
+ghost use Rattle.emission_rules.specs.Ranking.{beyond, told_by_row};
 ghost use Rattle.op_topn.specs.Tells as t;
 ghost use Rattle.op_topn.specs.Tells.{CanTellFrom, AreRanked};
 ghost use Rattle.op_topn.specs.Tops.{ranking};
 
 use crate::partitions::{Firsts, TopBy};
+use crate::rank_compare;
 use crate::ranks::tell_ranks;
 use ct_change::{Change, Changes, Kind, OutMode};
 use ct_value::{Memory, Row};
-use ranked_rows::rank_compare;
-use rel_clauses::Sorts;
+use rel_algebra::Sorts;
 use std::alloc::Global;
 use std::cmp::Ordering;
 

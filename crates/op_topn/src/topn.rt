@@ -3,13 +3,13 @@ ghost use Rattle.std.specs.Prelude.{◌≡◌, ℕ, ◌+◌, ◌*◌, ◌≤◌,
 ghost use Rattle.ct_change.specs.Changelog.{Rows, apply};
 ghost use Rattle.ct_change.specs.Emission as e;
 
+use crate::RankedRows;
 use crate::partitions::{TopBy, turn_partition};
 use crate::telling::told;
 use ct_change::{Change, Changes, InMode, OutMode, Steps};
 use ct_value::{ColTys, Cols, Memory, Row};
 use op_rules::{OpFault, Operator};
-use ranked_rows::RankedRows;
-use rel_clauses::Sorts;
+use rel_algebra::Sorts;
 use std::alloc::Global;
 use std::collections::BTreeMap;
 use std::sync::ledger::Ledger;
@@ -28,7 +28,7 @@ pub struct TopN<I: InMode, O: OutMode> {
 }
 
 impl<I: InMode, O: OutMode> TopN<I, O> {
-    ghost use Rattle.topn_rules.specs.Ranking.{topn_rule, tells, IsSound};
+    ghost use Rattle.emission_rules.specs.Ranking.{topn_rule, tells, IsSound};
     ghost use Rattle.op_topn.specs.Tops.{ranking, IsHeld, MayTake};
 
     /// A Top-N of no rows: of rows of these columns the first `bound` of each partition in this order, with `ranked` their rank as
@@ -89,7 +89,7 @@ impl<I: InMode, O: OutMode> Operator for TopN<I, O> {
     ghost use Rattle.std.specs.Prelude.{length};
     ghost use Rattle.ct_change.specs.Changelog.{fold};
     ghost use Rattle.op_rules.specs.History.{at_port};
-    ghost use Rattle.topn_rules.specs.Ranking.{topn_rule, IsSound};
+    ghost use Rattle.emission_rules.specs.Ranking.{topn_rule, IsSound};
     ghost use Rattle.op_topn.specs.Tops.{ranking, IsHeld};
 
     ghost rule = { λ s. topn_rule (ranking s.by (I.mode s.input) (O.mode s.output)) };

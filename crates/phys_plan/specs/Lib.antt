@@ -1,0 +1,4 @@
+pub mod Columns
+pub mod Explained
+pub mod Parts
+pub mod Reading

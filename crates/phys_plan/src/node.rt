@@ -1,6 +1,6 @@
 use ct_expr::{Expr, Exprs};
 use ct_value::{Cols, List, Numbers};
-use rel_clauses::{Aggs, JoinKind, Pairs, Sorts};
+use rel_algebra::{Aggs, JoinKind, Pairs, Sorts};
 
 /// Sets of columns.
 pub type Keys = List<Cols>;

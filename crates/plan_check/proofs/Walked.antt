@@ -5,7 +5,7 @@ use Rattle.std.proofs.lemmas.List.{at_drop_more, drop_all}
 use Rattle.ct_catalog.specs.declared.table.TableDef.{TableDef}
 use Rattle.ct_value.specs.declared.ty.ColTy.{ColTy}
 use Rattle.phys_plan.specs.declared.node.Node.{Node}
-use Rattle.rel_clauses.specs.declared.join.Pair.{Pair}
+use Rattle.rel_algebra.specs.declared.join.Pair.{Pair}
 use Rattle.plan_check.specs.declared.chains.Chain.{Chain}
 use Rattle.plan_check.specs.Chains.{begun, chain_columns, ended, longer}
 use Rattle.plan_check.specs.Types.{next_types, types_after}

@@ -2,7 +2,7 @@
 use Rattle.std.specs.Prelude.{ℕ, ◌+◌, ◌==◌, Bool, true, false, ◌&&◌, cond, List, [], ◌∷◌, ◌++◌, drop, length, map, slice_get, Option, Some, None}
 use Rattle.std.specs.List.{list_any}
 use Rattle.ct_value.specs.declared.ty.ColTy.{ColTy}
-use Rattle.rel_clauses.specs.declared.join.Pair.{Pair}
+use Rattle.rel_algebra.specs.declared.join.Pair.{Pair}
 use Rattle.rel_algebra.specs.Types.{pairs_fit}
 use Rattle.plan_check.specs.declared.chains.Chain.{Chain}
 

@@ -4,11 +4,11 @@ use Rattle.ct_value.specs.declared.ty.ColTy.{ColTy}
 use Rattle.ct_value.specs.declared.ty.Ty.{Ty}
 use Rattle.ct_value.specs.declared.ty.Ty.TheVariants.{Bool as Truths, Int, BigInt, Decimal, Text as Texts}
 use Rattle.ct_expr.specs.Types.{both_of}
-use Rattle.rel_clauses.specs.declared.agg.Agg.{Agg}
-use Rattle.rel_clauses.specs.declared.agg.AggCall.{AggCall}
-use Rattle.rel_clauses.specs.declared.agg.AggCall.TheVariants.{CountAll, Count, Sum, Min, Max, Avg}
-use Rattle.rel_clauses.specs.Aggregates.{count_column, type_in}
-use Rattle.rel_clauses.specs.Groups.{group_columns}
+use Rattle.rel_algebra.specs.declared.agg.Agg.{Agg}
+use Rattle.rel_algebra.specs.declared.agg.AggCall.{AggCall}
+use Rattle.rel_algebra.specs.declared.agg.AggCall.TheVariants.{CountAll, Count, Sum, Min, Max, Avg}
+use Rattle.rel_algebra.specs.Aggregates.{count_column, type_in}
+use Rattle.rel_algebra.specs.Groups.{group_columns}
 
 abbrev pub scale_of : Ty → ℕ
 scale_of (Decimal p s) = s

@@ -4,14 +4,15 @@ use Rattle.std.specs.List.{list_all}
 use Rattle.ct_value.specs.declared.ty.ColTy.{ColTy}
 use Rattle.ct_catalog.specs.declared.table.TableDef.{TableDef}
 use Rattle.ct_expr.specs.Types.{both_of, common_ty}
-use Rattle.rel_clauses.specs.Groups.{group_columns}
+use Rattle.rel_algebra.specs.Groups.{group_columns}
 use Rattle.rel_algebra.specs.Types.{columns_if, is_column}
-use Rattle.binding.specs.Inserts.{go_into}
+use Rattle.rel_algebra.specs.GoesInto.{go_into}
 use Rattle.phys_plan.specs.declared.node.Op.{Op}
 use Rattle.phys_plan.specs.declared.node.Op.TheVariants as op
 use Rattle.phys_plan.specs.declared.node.Node.{Node}
 use Rattle.phys_plan.specs.declared.plan.Plan.{Plan}
-use Rattle.plan_network.specs.Plans.{column_types, numbered}
+use Rattle.phys_plan.specs.Reading.{numbered}
+use Rattle.ct_catalog.specs.Columns.{column_types}
 use Rattle.plan_rules.specs.Columns.{columns_by, numbered_columns, only}
 use Rattle.plan_check.specs.Chains.{chain_columns}
 use Rattle.plan_check.specs.Partials.{partial_columns}

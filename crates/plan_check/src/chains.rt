@@ -6,8 +6,8 @@ ghost use Rattle.plan_check.specs.Chains as h;
 
 use ct_value::{ColTys, List, Memory, Numbers};
 use phys_plan::PairLists;
-use plan_columns::{NodeColumns, numbered_columns, pairs_fit, same_columns};
-use rel_clauses::Pairs;
+use plan_shape::{NodeColumns, numbered_columns, pairs_fit, same_columns};
+use rel_algebra::Pairs;
 
 /// Inputs that are joined so far: their columns, the places of each one's key among them, and how many pairs join an input.
 #[derive(Drop)]

@@ -1,7 +1,8 @@
 //! What edges carry.
 ghost use Rattle.std.specs.Prelude.{◌≡◌, ◌<◌, ◌≤◌, length};
 ghost use Rattle.ct_change.specs.Changelog.{has};
-ghost use Rattle.plan_network.specs.Plans.{kinds_in, numbered};
+ghost use Rattle.plan_rules.specs.Plans.{kinds_in};
+ghost use Rattle.phys_plan.specs.Reading.{numbered};
 
 use ct_change::Kind;
 use phys_plan::Plan;

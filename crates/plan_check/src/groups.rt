@@ -1,16 +1,16 @@
 //! The columns of groups in bundles and of local groups.
 ghost use Rattle.std.specs.Prelude.{◌≡◌, [], ◌∷◌, ◌++◌, map, take, option_and_then, option_copied, Some, None, IfOk};
-ghost use Rattle.plan_network.specs.Plans.{numbered};
+ghost use Rattle.phys_plan.specs.Reading.{numbered};
 ghost use Rattle.plan_rules.specs.Columns as c;
-ghost use Rattle.rel_clauses.specs.Aggregates.{count_column, type_in};
-ghost use Rattle.rel_clauses.specs.Groups as g;
+ghost use Rattle.rel_algebra.specs.Aggregates.{count_column, type_in};
+ghost use Rattle.rel_algebra.specs.Groups as g;
 ghost use Rattle.plan_check.specs.Partials as p;
 ghost use Rattle.plan_check.specs.Types as t;
 
 use ct_value::{ColTy, ColTys, Memory, Numbers, Ty};
 use phys_plan::{Node, Nodes, Op};
-use plan_columns::{NodeColumns, numbered_columns, only_input};
-use rel_clauses::{Agg, AggCall, Aggs};
+use plan_shape::{NodeColumns, numbered_columns, only_input};
+use rel_algebra::{Agg, AggCall, Aggs};
 use rel_columns::group_columns;
 
 /// The columns of the rows that a group in bundles sums up: those of an only input, or of what a local group sends parts of.

@@ -7,8 +7,8 @@ ghost use Rattle.plan_check.specs.Sound.{columns_or_none, inferred_of, sent_colu
 use crate::nodes::plan_types;
 use ct_value::{ColTys, List, Memory};
 use phys_plan::Plan;
-use plan_columns::NodeColumns;
 use plan_inferred::{Inferred, infer};
+use plan_shape::NodeColumns;
 use std::alloc::Global;
 
 /// The columns of all nodes, and what is inferred from them; empty where a rule doesn't ask for it yet.

@@ -1,6 +1,6 @@
 //! The columns of nodes.
 ghost use Rattle.std.specs.Prelude.{◌≡◌, option_copied, IfOk};
-ghost use Rattle.plan_network.specs.Plans.{numbered};
+ghost use Rattle.phys_plan.specs.Reading.{numbered};
 ghost use Rattle.plan_check.specs.Types as t;
 
 use crate::operators::next_types;
@@ -8,7 +8,7 @@ use crate::sinks::is_typed_by;
 use ct_catalog::Sources;
 use ct_value::{ColTys, Memory};
 use phys_plan::{Node, Nodes, Plan};
-use plan_columns::{NodeColumns, numbered_columns, same_columns};
+use plan_shape::{NodeColumns, numbered_columns, same_columns};
 use std::alloc::Global;
 
 /// The types of a node's columns, by its number, from 1; a sink has its input's. None where there is no such node, or it or a node

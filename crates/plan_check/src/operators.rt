@@ -9,7 +9,7 @@ use crate::sets::set_joined;
 use ct_catalog::Sources;
 use ct_value::{ColTys, Cols, Memory};
 use phys_plan::{Node, Nodes, Op};
-use plan_columns::{NodeColumns, are_columns, next_columns, only_input};
+use plan_shape::{NodeColumns, are_columns, next_columns, only_input};
 
 /// The columns of a node behind these.
 pub(crate) fn next_types(

@@ -6,7 +6,7 @@ ghost use Rattle.plan_check.specs.Types as t;
 
 use ct_expr::common_ty;
 use ct_value::{ColTy, ColTys, Memory, Numbers};
-use plan_columns::{NodeColumns, numbered_columns};
+use plan_shape::{NodeColumns, numbered_columns};
 
 /// The columns of a set operation on two inputs.
 pub(crate) fn set_joined(

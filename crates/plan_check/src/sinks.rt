@@ -1,6 +1,6 @@
 //! What a sink takes.
 ghost use Rattle.std.specs.Prelude.{◌≡◌, map, option_copied};
-ghost use Rattle.binding.specs.Inserts as i;
+ghost use Rattle.rel_algebra.specs.GoesInto as g;
 ghost use Rattle.plan_check.specs.Types as t;
 
 use ct_catalog::{ColDef, TableDef};
@@ -35,7 +35,7 @@ fn fit_sink(columns: &ColTys, sink: &[ColDef]) -> bool
 
 // Whether the columns are as many as the sink's, and each goes into its own.
 fn go_into(columns: &[ColTy], sink: &[ColDef]) -> bool
-    ensures { result ≡ i.go_into columns.now (map (λ c. c.ty) sink.now) }
+    ensures { result ≡ g.go_into columns.now (map (λ c. c.ty) sink.now) }
 {
     match columns {
         [] => sink.is_empty(),
@@ -47,14 +47,14 @@ fn go_into(columns: &[ColTy], sink: &[ColDef]) -> bool
 }
 
 fn goes_into(column: ColTy, sink: ColTy) -> bool
-    ensures { result ≡ i.goes_into column sink }
+    ensures { result ≡ g.goes_into column sink }
 {
     same_ty(column.ty, sink.ty) || widens(column.ty, sink.ty)
 }
 
 // INT goes into BIGINT, and a decimal into one of the same scale and no smaller precision.
 fn widens(ty: Ty, sink: Ty) -> bool
-    ensures { result ≡ i.widens ty sink }
+    ensures { result ≡ g.widens ty sink }
 {
     match (ty, sink) {
         (Ty::Int, Ty::BigInt) => true,

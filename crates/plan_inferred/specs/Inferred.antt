@@ -2,8 +2,8 @@
 use Rattle.std.specs.Prelude.{List}
 use Rattle.ct_value.specs.declared.ty.ColTy.{ColTy}
 use Rattle.phys_plan.specs.declared.plan.Plan.{Plan}
-use Rattle.plan_reading.specs.Reading.{wires}
-use Rattle.plan_reading.specs.Columns.{columns_in}
+use Rattle.phys_plan.specs.Reading.{wires}
+use Rattle.phys_plan.specs.Columns.{columns_in}
 use Rattle.upsert_keys.specs.Keys as k
 use Rattle.mode_infer.specs.Kinds as m
 use Rattle.mode_infer.specs.UpdateKeys as u

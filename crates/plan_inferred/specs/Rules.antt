@@ -7,23 +7,23 @@ use Rattle.ct_change.specs.declared.kind.Declared.TheVariants.{Append, Retract, 
 use Rattle.phys_plan.specs.declared.edge.Edge.{Edge}
 use Rattle.phys_plan.specs.declared.edge.Exchange.{Exchange}
 use Rattle.phys_plan.specs.declared.edge.Exchange.TheVariants.{Forward, Hash}
-use Rattle.phys_plan.specs.declared.edge.Update.{Update}
-use Rattle.phys_plan.specs.declared.edge.Update.TheVariants.{Absent, After, Both}
+use Rattle.ct_change.specs.declared.update.Update.{Update}
+use Rattle.ct_change.specs.declared.update.Update.TheVariants.{Absent, After, Both}
 use Rattle.phys_plan.specs.declared.node.KeyInfo.{KeyInfo}
 use Rattle.phys_plan.specs.declared.node.Node.{Node}
 use Rattle.phys_plan.specs.declared.node.Op.{Op}
 use Rattle.phys_plan.specs.declared.node.Op.TheVariants as op
 use Rattle.phys_plan.specs.declared.plan.Plan.{Plan}
-use Rattle.plan_reading.specs.Reading.{numbered}
-use Rattle.plan_reading.specs.Columns.{columns_in}
+use Rattle.phys_plan.specs.Reading.{numbered, first_input}
+use Rattle.phys_plan.specs.Columns.{columns_in}
 use Rattle.mode_infer.specs.declared.kinds.Flow.{Flow}
 use Rattle.mode_infer.specs.declared.modes.EdgeMode.{EdgeMode}
-use Rattle.mode_infer.specs.Kinds.{has_more}
+use Rattle.ct_change.specs.Kinds.{has_more_than_inserts}
 use Rattle.mode_infer.specs.Exchanges.{asked}
 use Rattle.mode_infer.specs.Updates.{is_input, port_of}
-use Rattle.sink_ways.specs.declared.ways.Way.{Way}
-use Rattle.sink_ways.specs.declared.ways.Way.TheVariants.{Forced, NewRows, Direct, Materialized, Refused}
-use Rattle.sink_ways.specs.Ways.{way_of}
+use Rattle.plan_inferred.specs.declared.ways.Way.{Way}
+use Rattle.plan_inferred.specs.declared.ways.Way.TheVariants.{Forced, NewRows, Direct, Materialized, Refused}
+use Rattle.plan_inferred.specs.Ways.{way_of}
 use Rattle.plan_inferred.specs.declared.inferred.Inferred.{Inferred}
 use Rattle.plan_inferred.specs.Same.{same_keys, same_kinds, same_update, same_exchange}
 
@@ -132,10 +132,6 @@ way_from force key _ _ _ = Refused
 abbrev pub way_at : Inferred → Bool → List ℕ → ℕ → Way
 way_at inferred force key input = way_from force key (numbered inferred.flows input) (numbered inferred.update_keys input) (numbered inferred.keys input)
 
-abbrev pub first_input : List ℕ → ℕ
-first_input [] = 0
-first_input (input ∷ inputs) = input
-
 -- a materializer shows one of several rows under a key, so that a key of the rows below it has to hold in answers, or everywhere;
 -- other changes go as they are
 abbrev pub comes_by : Inferred → List ℕ → ℕ → Op → List ℕ → Bool
@@ -152,7 +148,7 @@ comes_with_key inferred (Some key) input node = comes_keyed inferred key input n
 
 abbrev pub inserts_alone : Option EdgeMode → Bool
 inserts_alone None = true
-inserts_alone (Some mode) = not (has_more mode.kinds)
+inserts_alone (Some mode) = not (has_more_than_inserts mode.kinds)
 
 abbrev pub suits_table : Inferred → List Node → Declared → Option (List ℕ) → ℕ → Bool
 suits_table inferred nodes Append key input = inserts_alone (numbered inferred.modes input)

@@ -4,8 +4,8 @@ use Rattle.std.specs.Str.{bytes_eq as same_numbers}
 use Rattle.ct_change.specs.declared.kind.KindSet.{KindSet}
 use Rattle.phys_plan.specs.declared.edge.Exchange.{Exchange}
 use Rattle.phys_plan.specs.declared.edge.Exchange.TheVariants.{Forward, Hash}
-use Rattle.phys_plan.specs.declared.edge.Update.{Update}
-use Rattle.phys_plan.specs.declared.edge.Update.TheVariants.{Absent, After, Both}
+use Rattle.ct_change.specs.declared.update.Update.{Update}
+use Rattle.ct_change.specs.declared.update.Update.TheVariants.{Absent, After, Both}
 use Rattle.phys_plan.specs.declared.node.KeyInfo.{KeyInfo}
 
 -- set by set, in order

@@ -1,16 +1,15 @@
 //! The rules of edges.
 ghost use Rattle.std.specs.Prelude.{◌≡◌, option_copied, IfOk};
 ghost use Rattle.std.specs.List.{list_all};
-ghost use Rattle.plan_reading.specs.Reading as p;
+ghost use Rattle.phys_plan.specs.Reading as p;
 ghost use Rattle.plan_inferred.specs.Rules as r;
 ghost use Rattle.plan_inferred.specs.Same as s;
 
 use crate::Inferred;
-use ct_change::KindSet;
+use ct_change::{KindSet, Update};
 use ct_value::Memory;
 use mode_infer::{EdgeMode, asked, is_input, port_of, width_at};
-use phys_plan::{Edge, Exchange, Node, Op, Plan, Update};
-use plan_reading::numbered;
+use phys_plan::{Edge, Exchange, Node, Op, Plan, numbered};
 use std::alloc::Global;
 
 /// Whether the edge that leaves a node, by its number, from 1, carries the kinds that are inferred of it.

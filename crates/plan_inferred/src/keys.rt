@@ -5,8 +5,7 @@ ghost use Rattle.plan_inferred.specs.Same as s;
 
 use crate::Inferred;
 use column_sets::Sets;
-use phys_plan::{KeyInfo, Node, Plan};
-use plan_reading::numbered;
+use phys_plan::{KeyInfo, Node, Plan, numbered};
 
 /// Whether a node, by its number, from 1, says the keys that are inferred of it.
 pub fn has_keys(inferred: &Inferred, plan: &Plan, number: u32) -> bool

@@ -1,14 +1,13 @@
 //! The rule of sinks.
 ghost use Rattle.std.specs.Prelude.{◌≡◌, option_copied, IfOk};
 ghost use Rattle.plan_inferred.specs.Rules as r;
+ghost use Rattle.phys_plan.specs.Reading.{first_input};
 
-use crate::Inferred;
+use crate::{Inferred, Way, way_of};
 use ct_change::Declared;
 use ct_value::{Cols, Memory, Numbers};
 use mode_infer::EdgeMode;
-use phys_plan::{Node, Op, Plan};
-use plan_reading::numbered;
-use sink_ways::{Way, way_of};
+use phys_plan::{Node, Op, Plan, numbered};
 use std::alloc::Global;
 
 /// Whether what comes to a node, by its number, from 1, suits the plan's table where the node is a sink.
@@ -43,7 +42,7 @@ fn fills(
 
 /// The number of the first input; 0, which no node has, where there is none.
 pub fn first_input(inputs: &Numbers) -> u32
-    ensures { result ≡ r.first_input inputs.now }
+    ensures { result ≡ first_input inputs.now }
 {
     match inputs.get(0) {
         None => 0,

@@ -1,19 +1,20 @@
 -- The columns that each node of a plan sends.
-use Rattle.std.specs.Prelude.{ℕ, List, [], ◌∷◌, ◌++◌, map, slice_get, Option, None, option_map, option_and_then, unwrap_or}
+use Rattle.std.specs.Prelude.{◌≡◌, ℕ, List, [], ◌∷◌, ◌++◌, map, slice_get, get_or, Option, None, option_map, option_and_then, unwrap_or}
 use Rattle.ct_value.specs.declared.ty.ColTy.{ColTy}
 use Rattle.ct_catalog.specs.declared.table.TableDef.{TableDef}
 use Rattle.ct_expr.specs.View.{expr_view}
 use Rattle.ct_expr.specs.Types.{both_of}
-use Rattle.rel_clauses.specs.declared.join.Pair.{Pair}
+use Rattle.rel_algebra.specs.declared.join.Pair.{Pair}
 use Rattle.ct_expr.specs.Expr.{Expr}
-use Rattle.rel_clauses.specs.Groups.{group_columns}
-use Rattle.rel_clauses.specs.Joins.{join_columns}
-use Rattle.rel_clauses.specs.Ranks.{rank_columns}
+use Rattle.rel_algebra.specs.Groups.{group_columns}
+use Rattle.rel_algebra.specs.Joins.{join_columns}
+use Rattle.rel_algebra.specs.Ranks.{rank_columns}
 use Rattle.rel_algebra.specs.Types.{columns_if, is_condition, match_fits, item_columns, common_columns, rank_fits}
 use Rattle.phys_plan.specs.declared.node.Op.{Op}
 use Rattle.phys_plan.specs.declared.node.Op.TheVariants as op
 use Rattle.phys_plan.specs.declared.node.Node.{Node}
-use Rattle.plan_network.specs.Plans.{numbered, column_types}
+use Rattle.phys_plan.specs.Reading.{numbered}
+use Rattle.ct_catalog.specs.Columns.{column_types}
 
 -- column by column the common columns of these and of further inputs, one after the other
 abbrev pub common_with : Option (List ColTy) → List (Option (List ColTy)) → Option (List ColTy)
@@ -68,3 +69,7 @@ node_columns sources nodes v = numbered_columns (columns_after sources [] nodes)
 -- a node that isn't well-typed counts as one without columns
 abbrev pub columns_at : List TableDef → List Node → ℕ → List ColTy
 columns_at sources nodes v = unwrap_or (node_columns sources nodes v) []
+
+-- kept columns are those of each node, by its number
+abbrev pub AreColumns : List (List ColTy) → (ℕ → List ColTy) → Type 0
+AreColumns kept columns = (v : ℕ) → get_or kept v [] ≡ columns v

@@ -6,30 +6,32 @@ use Rattle.ct_change.specs.declared.kind.Declared.{Declared}
 use Rattle.ct_change.specs.declared.kind.KindSet.{KindSet}
 use Rattle.ct_expr.specs.Expr.{Expr}
 use Rattle.ct_expr.specs.View.{expr_view}
-use Rattle.rel_clauses.specs.declared.agg.Agg.{Agg}
-use Rattle.rel_clauses.specs.declared.join.Pair.{Pair}
-use Rattle.rel_clauses.specs.declared.sort.SortCol.{SortCol}
-use Rattle.rel_clauses.specs.Ranks.{rank_rows}
+use Rattle.rel_algebra.specs.declared.agg.Agg.{Agg}
+use Rattle.rel_algebra.specs.declared.join.Pair.{Pair}
+use Rattle.rel_algebra.specs.declared.sort.SortCol.{SortCol}
+use Rattle.rel_algebra.specs.Ranks.{rank_rows}
 use Rattle.rel_algebra.specs.Batch.{filter_answer, project_answer}
 use Rattle.op_rules.specs.Rules.{Rule}
-use Rattle.row_rules.specs.Filter.{Filter, filter_rule}
-use Rattle.row_rules.specs.Project.{Project, project_rule}
-use Rattle.row_rules.specs.Union.{Union, union_rule, union_answer}
-use Rattle.row_rules.specs.Normalize.{Normalize, normalize_rule}
-use Rattle.row_rules.specs.Sink.{Sink, sink_rule}
-use Rattle.group_rules.specs.Grouping.{Grouping, group_rule}
-use Rattle.group_rules.specs.Fits.{part, batch, has_more_than_inserts}
-use Rattle.join_rules.specs.Joining.{Shape, joins, matched, Joining, joined_answer, join_rule}
-use Rattle.topn_rules.specs.Ranking.{Ranking, topn_rule}
+use Rattle.emission_rules.specs.Filter.{Filter, filter_rule}
+use Rattle.emission_rules.specs.Project.{Project, project_rule}
+use Rattle.emission_rules.specs.Union.{Union, union_rule, union_answer}
+use Rattle.emission_rules.specs.Normalize.{Normalize, normalize_rule}
+use Rattle.emission_rules.specs.Sink.{Sink, sink_rule}
+use Rattle.emission_rules.specs.Grouping.{Grouping, group_rule}
+use Rattle.emission_rules.specs.GroupFits.{part, batch}
+use Rattle.ct_change.specs.Kinds.{has_more_than_inserts}
+use Rattle.emission_rules.specs.Joining.{Shape, joins, matched, Joining, joined_answer, join_rule}
+use Rattle.emission_rules.specs.Ranking.{Ranking, topn_rule}
 use Rattle.phys_plan.specs.declared.edge.Edge.{Edge as PlanEdge}
-use Rattle.phys_plan.specs.declared.edge.Update.{Update}
-use Rattle.phys_plan.specs.declared.edge.Update.TheVariants.{Absent, After, Both}
+use Rattle.ct_change.specs.declared.update.Update.{Update}
+use Rattle.ct_change.specs.declared.update.Update.TheVariants.{Absent, After, Both}
 use Rattle.phys_plan.specs.declared.node.Op.{Op}
 use Rattle.phys_plan.specs.declared.node.Op.TheVariants as op
 use Rattle.phys_plan.specs.declared.node.Node.{Node}
 use Rattle.phys_plan.specs.declared.plan.Plan.{Plan}
 use Rattle.stream_model.specs.Network.{Network}
-use Rattle.plan_network.specs.Plans.{Doing, kinds_in, network_of, no_kinds, numbered}
+use Rattle.plan_rules.specs.Plans.{Doing, kinds_in, network_of, no_kinds}
+use Rattle.phys_plan.specs.Reading.{numbered, first_input}
 use Rattle.plan_rules.specs.Columns.{columns_at}
 
 -- the key of an after-only edge
@@ -165,10 +167,6 @@ doing_by _ around = idle
 abbrev pub update_in : Option PlanEdge → Update
 update_in None = Both
 update_in (Some edge) = edge.update
-
-abbrev pub first_input : List ℕ → ℕ
-first_input [] = 0
-first_input (input ∷ inputs) = input
 
 abbrev pub other_inputs : List ℕ → List ℕ
 other_inputs [] = []

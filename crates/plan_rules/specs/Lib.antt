@@ -1,3 +1,4 @@
 pub mod Columns
 pub mod Doings
-pub mod laws
+pub mod Laid
+pub mod Plans

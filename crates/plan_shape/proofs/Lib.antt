@@ -1,2 +1,3 @@
-pub mod Repeats
+pub mod Numbered
 pub mod Shaped
+pub mod laws

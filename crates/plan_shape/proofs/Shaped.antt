@@ -8,7 +8,8 @@ use Rattle.phys_plan.specs.declared.node.Node.{Node}
 use Rattle.phys_plan.specs.declared.node.Op.{Op}
 use Rattle.phys_plan.specs.declared.node.Op.TheVariants as op
 use Rattle.phys_plan.specs.declared.plan.Plan.{Plan}
-use Rattle.plan_network.specs.Plans.{HasInput, HasShape, numbered, scan_of}
+use Rattle.plan_rules.specs.Plans.{HasInput, HasShape, scan_of}
+use Rattle.phys_plan.specs.Reading.{numbered}
 use Rattle.plan_shape.specs.Shape.{are_before, consumer, has_sizes, is_consumed, is_fed, is_shaped, is_sink, is_whole, node_has_shape, suits_consumer, suits_plan, takes, times, uses}
 use Rattle.plan_shape.specs.Shaped.{MeetsShape}
 

@@ -4,15 +4,17 @@ use Rattle.std.specs.List.{find, list_all, list_any}
 use Rattle.std.specs.Str.{bytes_eq as same_numbers}
 use Rattle.ct_change.specs.declared.kind.KindSet.{KindSet}
 use Rattle.ct_catalog.specs.declared.table.TableDef.{TableDef}
-use Rattle.rel_clauses.specs.declared.agg.Agg.{Agg}
-use Rattle.rel_clauses.specs.declared.agg.AggCall.{AggCall}
-use Rattle.rel_clauses.specs.declared.agg.AggCall.TheVariants.{CountAll, Count, CountDistinct, Sum, Min, Max, Avg}
+use Rattle.rel_algebra.specs.declared.agg.Agg.{Agg}
+use Rattle.rel_algebra.specs.declared.agg.AggCall.{AggCall}
+use Rattle.rel_algebra.specs.declared.agg.AggCall.TheVariants.{CountAll, Count, CountDistinct, Sum, Min, Max, Avg}
 use Rattle.phys_plan.specs.declared.node.Node.{Node}
 use Rattle.phys_plan.specs.declared.node.Op.{Op}
 use Rattle.phys_plan.specs.declared.node.Op.TheVariants as op
 use Rattle.phys_plan.specs.declared.plan.Plan.{Plan}
-use Rattle.plan_network.specs.Plans.{kinds_in, numbered}
-use Rattle.plan_shape.specs.Tables.{are_tables, is_upsert}
+use Rattle.plan_rules.specs.Plans.{kinds_in}
+use Rattle.phys_plan.specs.Reading.{numbered, first_input}
+use Rattle.plan_shape.specs.Tables.{are_tables}
+use Rattle.ct_change.specs.Kinds.{is_upsert}
 
 -- ---- the whole plan
 
@@ -128,10 +130,6 @@ abbrev pub suits_input : List TableDef → Op → Option Op → KindSet → Bool
 suits_input sources (op.Normalize key) below kinds = scans_by sources key below
 suits_input sources (op.LocalGroup keys aggs) below kinds = list_all (λ agg. has_parts kinds agg.call) aggs
 suits_input sources _ below kinds = true
-
-abbrev pub first_input : List ℕ → ℕ
-first_input [] = 0
-first_input (input ∷ inputs) = input
 
 -- ---- what it asks of its consumer
 

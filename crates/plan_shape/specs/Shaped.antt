@@ -1,7 +1,7 @@
 -- Plans of which each node meets the rule Shape are of the shape that the composition theorem asks.
 use Rattle.std.specs.Prelude.{◌≡◌, ℕ, ◌≤◌, max, true, length}
 use Rattle.phys_plan.specs.declared.plan.Plan.{Plan}
-use Rattle.plan_network.specs.Plans.{HasShape}
+use Rattle.plan_rules.specs.Plans.{HasShape}
 use Rattle.plan_shape.specs.Shape.{has_shape}
 
 -- each node meets the rule, and the plan what counts at node 1

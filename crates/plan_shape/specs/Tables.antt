@@ -7,6 +7,7 @@ use Rattle.ct_change.specs.declared.kind.Declared.TheVariants.{Append, Retract, 
 use Rattle.ct_catalog.specs.Tables.{repeats}
 use Rattle.ct_catalog.specs.declared.table.ColDef.{ColDef}
 use Rattle.ct_catalog.specs.declared.table.TableDef.{TableDef}
+use Rattle.ct_change.specs.Kinds.{is_upsert}
 
 abbrev pub most_columns : ℕ
 most_columns = 64
@@ -43,11 +44,6 @@ rise_from low (column ∷ columns) = nat_le low column && rise_from (column + 1)
 -- columns that are there and never NULL, in the order of their positions, so that none stands twice
 abbrev pub is_key : List ColDef → List ℕ → Bool
 is_key cols key = list_all (is_required cols) key && rise_from 0 key
-
-abbrev pub is_upsert : Declared → Bool
-is_upsert Append = false
-is_upsert Retract = false
-is_upsert Upsert = true
 
 -- an upsert table has a key; another may have one
 abbrev pub key_fits : Declared → List ColDef → Option (List ℕ) → Bool

@@ -6,7 +6,7 @@ use crate::tables::is_upsert;
 use ct_catalog::TableDef;
 use ct_value::Cols;
 use phys_plan::{Node, Op, Plan};
-use rel_clauses::{Agg, AggCall};
+use rel_algebra::{Agg, AggCall};
 
 /// Whether a node is the sink where it is the last, and else feeds one node, once, that it may feed.
 pub(crate) fn is_consumed(plan: &Plan, number: u32, op: &Op) -> bool

@@ -1,7 +1,8 @@
 //! What an operator asks of its inputs.
 ghost use Rattle.std.specs.Prelude.{◌≡◌, length, option_copied};
 ghost use Rattle.std.specs.List.{list_all};
-ghost use Rattle.plan_network.specs.Plans.{kinds_in, numbered};
+ghost use Rattle.plan_rules.specs.Plans.{kinds_in};
+ghost use Rattle.phys_plan.specs.Reading.{numbered, first_input};
 ghost use Rattle.plan_shape.specs.Shape as s;
 
 use crate::tables::is_upsert;
@@ -9,7 +10,7 @@ use ct_catalog::TableDef;
 use ct_change::KindSet;
 use ct_value::{Cols, List, Numbers};
 use phys_plan::{Edge, Node, Op, Plan};
-use rel_clauses::{Agg, AggCall};
+use rel_algebra::{Agg, AggCall};
 
 /// Whether a node has as many inputs as its operator takes, and those that it may have.
 pub(crate) fn is_fed(plan: &Plan, node: &Node) -> bool
@@ -26,7 +27,7 @@ pub(crate) fn is_fed(plan: &Plan, node: &Node) -> bool
 }
 
 fn first_input(inputs: &Numbers) -> u32
-    ensures { result ≡ s.first_input inputs.now }
+    ensures { result ≡ first_input inputs.now }
 {
     match inputs.get(0) {
         None => 0,

@@ -1,6 +1,6 @@
 //! The shape of a plan and of its nodes.
 ghost use Rattle.std.specs.Prelude.{◌≡◌, true, option_copied, IfOk};
-ghost use Rattle.plan_network.specs.Plans.{numbered};
+ghost use Rattle.phys_plan.specs.Reading.{numbered};
 ghost use Rattle.plan_shape.specs.Shape as s;
 
 use crate::consumers::is_consumed;

@@ -3,6 +3,7 @@ ghost use Rattle.std.specs.Prelude.{◌≡◌, ◌∷◌, map, IfOk};
 ghost use Rattle.std.specs.List.{list_all};
 ghost use Rattle.ct_catalog.specs.Tables.{repeats};
 ghost use Rattle.plan_shape.specs.Tables as t;
+ghost use Rattle.ct_change.specs.Kinds.{is_upsert};
 
 use ct_catalog::{ColDef, TableDef};
 use ct_change::Declared;
@@ -119,7 +120,7 @@ fn key_fits(mode: Declared, cols: &[ColDef], key: &Option<Cols>) -> bool
 
 /// Whether a table is declared as one of upserts.
 pub(crate) fn is_upsert(mode: Declared) -> bool
-    ensures { result ≡ t.is_upsert mode }
+    ensures { result ≡ is_upsert mode }
 {
     match mode {
         Declared::Append | Declared::Retract => false,

@@ -16,33 +16,33 @@ use Rattle.phys_plan.specs.declared.node.Op.TheVariants as op
 use Rattle.phys_plan.specs.declared.plan.Plan.{Plan}
 use Rattle.phys_plan.specs.declared.plan.Rule.TheVariants as rule
 use Rattle.rel_algebra.specs.Rel.{Rel}
-use Rattle.plan_reading.specs.Reading.{numbered as item}
-use Rattle.plan_reading.specs.Columns.{columns_in}
+use Rattle.phys_plan.specs.Reading.{numbered as item, numbered, first_input}
+use Rattle.phys_plan.specs.Columns.{columns_in}
 use Rattle.mode_infer.specs.declared.kinds.Flow.{Flow}
 use Rattle.mode_infer.specs.declared.modes.EdgeMode.{EdgeMode}
-use Rattle.sink_ways.specs.declared.ways.Way.{Way}
-use Rattle.sink_ways.specs.declared.ways.Way.TheVariants.{Forced, NewRows, Direct, Materialized, Refused}
-use Rattle.sink_ways.specs.Ways.{forced_way, holds_everywhere, holds_in_answers}
+use Rattle.plan_inferred.specs.declared.ways.Way.{Way}
+use Rattle.plan_inferred.specs.declared.ways.Way.TheVariants.{Forced, NewRows, Direct, Materialized, Refused}
+use Rattle.plan_inferred.specs.Ways.{forced_way, holds_everywhere, holds_in_answers}
 use Rattle.plan_inferred.specs.declared.inferred.Inferred.{Inferred}
-use Rattle.plan_inferred.specs.Rules.{comes_by, comes_keyed, fills, fills_sink, first_input, inserts_alone, is_direct, suits_sink, suits_table, way_at, way_from}
-use Rattle.plan_network.specs.Plans.{column_types, numbered}
+use Rattle.plan_inferred.specs.Rules.{comes_by, comes_keyed, fills, fills_sink, inserts_alone, is_direct, suits_sink, suits_table, way_at, way_from}
+use Rattle.ct_catalog.specs.Columns.{column_types}
 use Rattle.plan_shape.specs.Shape.{is_sink}
 use Rattle.plan_shape.specs.Shaped.{ShapedPlansHaveShape}
 use Rattle.plan_shape.specs.Tables.{is_declarable}
 use Rattle.plan_check.specs.Sound.{inferred_of, IsSound, Meets}
-use Rattle.binding.specs.Inserts.{go_into}
+use Rattle.rel_algebra.specs.GoesInto.{go_into}
 use Rattle.plan_check.specs.Types.{keep_nulls, types_at}
-use Rattle.plan_refusals.specs.Refusals.{below_sink, brings_null, changes_rows, has_materializer, inputs_in, is_forced, is_large, is_large_with, is_refused, or_else, refusal, sink_way, tells_more, way_into}
+use Rattle.planner.specs.Refusals.{below_sink, brings_null, changes_rows, has_materializer, inputs_in, is_forced, is_large, is_large_with, is_refused, or_else, refusal, sink_way, tells_more, way_into}
 use Rattle.sound_plans.specs.Sound.{IsRuled, has_rule}
-use Rattle.sound_plans.specs.laws.Columns.{inferred_columns}
-use Rattle.sound_plans.specs.laws.Consumers.{by_test}
-use Rattle.sound_plans.specs.laws.Lists.{both, the_same}
-use Rattle.sound_plans.specs.laws.Local.{alike}
-use Rattle.sound_plans.specs.laws.Shapes.{among, inner_no_sink, node_there}
-use Rattle.inferred_plans.specs.Inferred.{InferredPlansAreSound, with_inferred}
-use Rattle.inferred_plans.specs.laws.Nodes.{node_read}
-use Rattle.tree_shapes.specs.Shapes.{HasTreeShape, IsLaidWell, LaidPlansHaveShape}
-use Rattle.tree_shapes.specs.laws.Trees.{tree}
+use Rattle.sound_plans.proofs.laws.Columns.{inferred_columns}
+use Rattle.sound_plans.proofs.laws.Consumers.{by_test}
+use Rattle.sound_plans.proofs.laws.Lists.{both, the_same}
+use Rattle.sound_plans.proofs.laws.Local.{alike}
+use Rattle.sound_plans.proofs.laws.Shapes.{among, inner_no_sink, node_there}
+use Rattle.laid_plans.specs.Inferred.{InferredPlansAreSound, with_inferred}
+use Rattle.laid_plans.proofs.laws.Nodes.{node_read}
+use Rattle.laid_plans.specs.Shapes.{HasTreeShape, IsLaidWell, LaidPlansHaveShape}
+use Rattle.laid_plans.proofs.laws.Trees.{tree}
 use Rattle.planner.specs.Planned.{IsLaidPlan, Planned, PlannedPlansAreRuled, made_by}
 
 -- ---- no refusal

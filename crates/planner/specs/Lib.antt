@@ -1,1 +1,7 @@
+pub mod Faults
+pub mod Laying
 pub mod Planned
+pub mod Promises
+pub mod Refusals
+pub mod Seen
+pub mod Trees

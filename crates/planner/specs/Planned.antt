@@ -3,18 +3,18 @@ use Rattle.std.specs.Prelude.{◌≡◌, ◌<◌, ◌≤◌, Bool, true, false, 
 use Rattle.ct_value.specs.declared.codes.ScriptCode.{ScriptCode}
 use Rattle.ct_value.specs.declared.ty.ColTy.{ColTy}
 use Rattle.ct_catalog.specs.declared.settings.Materialize.{Materialize}
-use Rattle.binding.specs.Inserts.{go_into}
+use Rattle.rel_algebra.specs.GoesInto.{go_into}
 use Rattle.rel_algebra.specs.Rel.{Rel}
 use Rattle.rel_algebra.specs.Types.{columns_of}
-use Rattle.query_laws.specs.Statement.{has_full_unions}
+use Rattle.rel_algebra.specs.Unions.{has_full_unions}
 use Rattle.phys_plan.specs.declared.plan.Plan.{Plan}
-use Rattle.plan_network.specs.Plans.{column_types}
+use Rattle.ct_catalog.specs.Columns.{column_types}
 use Rattle.plan_shape.specs.Tables.{are_tables}
 use Rattle.plan_check.specs.Sound.{inferred_of}
-use Rattle.plan_refusals.specs.Refusals.{has_materializer, refusal, sink_way}
-use Rattle.inferred_plans.specs.Inferred.{with_inferred}
+use Rattle.planner.specs.Refusals.{has_materializer, refusal, sink_way}
+use Rattle.laid_plans.specs.Inferred.{with_inferred}
 use Rattle.sound_plans.specs.Sound.{IsRuled}
-use Rattle.tree_shapes.specs.Shapes.{IsLaidOut, types_of}
+use Rattle.laid_plans.specs.Shapes.{IsLaidOut, types_of}
 use Rattle.planner.specs.declared.fault.PlannerFault.{PlannerFault}
 use Rattle.planner.specs.declared.fault.PlannerFault.TheVariants as fault
 

@@ -1,24 +1,20 @@
 //! A plan made and checked.
 ghost use Rattle.std.specs.Prelude.{◌≡◌, false, None, IfOk, IfErr, OnOk};
 ghost use Rattle.rel_algebra.specs.Rel.{Rel};
-ghost use Rattle.inferred_plans.specs.Inferred.{with_inferred};
+ghost use Rattle.laid_plans.specs.Inferred.{with_inferred};
 ghost use Rattle.plan_check.specs.Checked.{plan_in};
 ghost use Rattle.plan_check.specs.Sound.{IsSound, inferred_of};
-ghost use Rattle.plan_refusals.specs.Refusals as r;
+ghost use Rattle.planner.specs.Refusals as r;
 ghost use Rattle.planner.specs.Planned.{IsLaidPlan, Planned, Says, made};
 
-use crate::PlannerFault;
+use crate::{PlannerFault, has_materializer, refusal, sink_way};
 use ct_catalog::Materialize;
 use ct_value::Memory;
-use inferred_plans::inferred_plans_are_sound;
 use mode_infer::set_modes;
 use phys_plan::Plan;
 use plan_check::{CheckedPlan, PlanFault, check_plan, infer_plan};
 use plan_inferred::Inferred;
-use plan_refusals::{has_materializer, refusal, sink_way};
-use plan_shape::shaped_plans_have_shape;
 use std::alloc::Global;
-use tree_shapes::laid_plans_have_shape;
 use upsert_keys::set_keys;
 
 /// The plan of a tree, from the nodes and exchanges that are laid of it, by the script's setting for materializers: with the keys that are inferred
@@ -29,9 +25,6 @@ pub fn plan(alloc: Global, laid: Plan, setting: Materialize) -> Result<CheckedPl
     ensures planned { IfOk result (λ checked. made laid setting ≡ Planned (plan_in checked)) }
     ensures refused { IfErr result (λ fault. Says (made laid setting) fault) }
 {
-    laid_plans_have_shape();
-    inferred_plans_are_sound();
-    shaped_plans_have_shape();
     let inferred = infer_plan(alloc, &laid)?;
     test_refusals(alloc, &inferred, &laid, setting)?;
     let plan = with_inferred(laid, &inferred)?;

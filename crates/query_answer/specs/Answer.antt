@@ -10,12 +10,12 @@ use Rattle.ct_value.specs.declared.value.CompareOp.TheVariants.{Eq}
 use Rattle.ct_change.specs.Changelog.{Rows}
 use Rattle.ct_expr.specs.Types.{col, both_of}
 use Rattle.ct_catalog.specs.declared.table.TableDef.{TableDef}
-use Rattle.rel_clauses.specs.Clauses.{Meaning, filter_rows, project_rows}
-use Rattle.rel_clauses.specs.declared.join.JoinKind.{JoinKind}
-use Rattle.rel_clauses.specs.declared.join.Pair.{Pair}
-use Rattle.rel_clauses.specs.Joins.{Matching, matching, join_rows, semi_join}
-use Rattle.rel_clauses.specs.Ranks.{rank_rows, rank_column}
-use Rattle.rel_clauses.specs.Sums.{distinct, plus}
+use Rattle.rel_algebra.specs.Clauses.{Meaning, filter_rows, project_rows}
+use Rattle.rel_algebra.specs.declared.join.JoinKind.{JoinKind}
+use Rattle.rel_algebra.specs.declared.join.Pair.{Pair}
+use Rattle.rel_algebra.specs.Joins.{Matching, matching, join_rows, semi_join}
+use Rattle.rel_algebra.specs.Ranks.{rank_rows, rank_column}
+use Rattle.rel_algebra.specs.Sums.{distinct, plus}
 use Rattle.rel_algebra.specs.Types.{common_columns}
 use Rattle.sql_syntax.specs.Tree.{Tree, Text}
 use Rattle.sql_syntax.specs.Tree as t

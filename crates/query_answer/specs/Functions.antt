@@ -1,7 +1,7 @@
 -- What the names of functions mean, read in any case of letters.
 use Rattle.std.specs.Prelude.{Bool, true, false, List, [], ◌∷◌, if◌then◌else◌, codes}
 use Rattle.std.specs.Str.{str_eq_ignore_ascii_case}
-use Rattle.rel_clauses.specs.declared.agg.AggCall.TheVariants.{Count, Sum, Min, Max, Avg}
+use Rattle.rel_algebra.specs.declared.agg.AggCall.TheVariants.{Count, Sum, Min, Max, Avg}
 use Rattle.sql_syntax.specs.Tree.{Text}
 use Rattle.query_answer.specs.declared.function.Function.{Function}
 use Rattle.query_answer.specs.declared.function.Function.TheVariants.{Aggregate, Coalesce, NullIf, CharLength, RowNumber, Changing, Unknown}

@@ -7,11 +7,11 @@ use Rattle.ct_value.specs.declared.value.Value.{Value}
 use Rattle.ct_value.specs.declared.value.Value.TheVariants.{Null}
 use Rattle.ct_change.specs.Changelog.{Rows}
 use Rattle.ct_field.specs.Typed.{cell, is_true}
-use Rattle.rel_clauses.specs.declared.agg.AggCall.{AggCall}
-use Rattle.rel_clauses.specs.Aggregates.{agg_value, call_type, column_is_truth, ty_or_bigint}
-use Rattle.rel_clauses.specs.Clauses.{Meaning, row_of, filter_rows, project_rows}
-use Rattle.rel_clauses.specs.Keys.{keys_in, rows_of_key}
-use Rattle.rel_clauses.specs.Sums.{one, mapped, restrict}
+use Rattle.rel_algebra.specs.declared.agg.AggCall.{AggCall}
+use Rattle.rel_algebra.specs.Aggregates.{agg_value, call_type, column_is_truth, ty_or_bigint}
+use Rattle.rel_algebra.specs.Clauses.{Meaning, row_of, filter_rows, project_rows}
+use Rattle.rel_algebra.specs.Keys.{keys_in, rows_of_key}
+use Rattle.rel_algebra.specs.Sums.{one, mapped, restrict}
 use Rattle.query_answer.specs.Table.{Typed}
 
 -- the key of a row on which no GROUP BY expression is out of range

@@ -3,10 +3,10 @@ use Rattle.std.specs.Prelude.{ℕ, ◌-◌, nat_lt, nat_le, Bool, cond, ◌&&◌
 use Rattle.ct_value.specs.declared.ty.ColTy.{ColTy}
 use Rattle.ct_value.specs.declared.value.CompareOp.TheVariants.{Eq}
 use Rattle.ct_expr.specs.Types.{common_ty}
-use Rattle.rel_clauses.specs.declared.join.JoinKind.{JoinKind}
-use Rattle.rel_clauses.specs.declared.join.JoinKind.TheVariants as k
-use Rattle.rel_clauses.specs.declared.join.Pair.{Pair}
-use Rattle.rel_clauses.specs.Joins.{keeps_left, keeps_right, nullable_if}
+use Rattle.rel_algebra.specs.declared.join.JoinKind.{JoinKind}
+use Rattle.rel_algebra.specs.declared.join.JoinKind.TheVariants as k
+use Rattle.rel_algebra.specs.declared.join.Pair.{Pair}
+use Rattle.rel_algebra.specs.Joins.{keeps_left, keeps_right, nullable_if}
 use Rattle.sql_syntax.specs.declared.tree.JoinWord.{JoinWord}
 use Rattle.sql_syntax.specs.declared.tree.JoinWord.TheVariants as w
 use Rattle.sql_syntax.specs.Tree.{Tree}

@@ -5,7 +5,7 @@ use Rattle.ct_value.specs.declared.ty.Ty.{Ty}
 use Rattle.ct_value.specs.declared.ty.Ty.TheVariants.{Int}
 use Rattle.ct_value.specs.declared.value.CompareOp.{CompareOp}
 use Rattle.ct_value.specs.declared.value.CompareOp.TheVariants.{Eq, Lt, Le}
-use Rattle.rel_clauses.specs.declared.sort.SortCol.{SortCol}
+use Rattle.rel_algebra.specs.declared.sort.SortCol.{SortCol}
 use Rattle.rel_algebra.specs.Types.{largest_bound}
 use Rattle.sql_syntax.specs.Tree.{Tree, Text}
 use Rattle.sql_syntax.specs.Tree as t

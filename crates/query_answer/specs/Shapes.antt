@@ -6,8 +6,8 @@ use Rattle.ct_value.specs.declared.ty.Ty.TheVariants.{Bool as Truths, Int, BigIn
 use Rattle.ct_value.specs.declared.value.CompareOp.{CompareOp}
 use Rattle.ct_value.specs.declared.value.CompareOp.TheVariants.{Eq, Ne, Lt, Le, Gt, Ge}
 use Rattle.ct_catalog.specs.Types.{type_of}
-use Rattle.rel_clauses.specs.declared.agg.AggCall.{AggCall}
-use Rattle.rel_clauses.specs.declared.agg.AggCall.TheVariants.{CountAll, Count, CountDistinct, Sum, Min, Max, Avg}
+use Rattle.rel_algebra.specs.declared.agg.AggCall.{AggCall}
+use Rattle.rel_algebra.specs.declared.agg.AggCall.TheVariants.{CountAll, Count, CountDistinct, Sum, Min, Max, Avg}
 use Rattle.sql_syntax.specs.declared.tree.ProductWord.{ProductWord}
 use Rattle.sql_syntax.specs.declared.tree.ProductWord.TheVariants.{Times, Divide, Modulo}
 use Rattle.sql_syntax.specs.declared.tree.SumWord.{SumWord}

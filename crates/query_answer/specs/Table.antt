@@ -13,7 +13,7 @@ use Rattle.ct_expr.specs.declared.expr.ArithOp.{ArithOp}
 use Rattle.ct_expr.specs.Eval.{typed}
 use Rattle.ct_expr.specs.Types.{both_of, gather_some, literal_col, number_col, arith_col, compare_col, truth_col, all_truths, null_test_col, in_list_col, case_col, coalesce_col, null_if_col, cast_col, texts_col, char_length_col, or_null}
 use Rattle.ct_expr.specs.Values as v
-use Rattle.rel_clauses.specs.Clauses.{Meaning}
+use Rattle.rel_algebra.specs.Clauses.{Meaning}
 
 -- what an expression is: its type with whether NULL may come, none where the table gives none; and its value at each row
 pub record Typed : Type 0 where

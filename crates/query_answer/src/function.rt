@@ -1,6 +1,6 @@
 //! What the names of functions mean.
 
-use rel_clauses::AggCall;
+use rel_algebra::AggCall;
 
 /// What a call's name means.
 #[derive(Clone, Copy, Debug, PartialEq, Eq)]

@@ -6,21 +6,21 @@ use Rattle.ct_value.specs.Order.{row_cmp, row_total, row_exact}
 use Rattle.ct_value.specs.declared.row.Row.{Row}
 use Rattle.ct_value.specs.declared.ty.ColTy.{ColTy}
 use Rattle.ct_field.specs.Typed.{row_fits}
-use Rattle.rel_clauses.specs.Clauses.{Fits}
-use Rattle.rel_clauses.specs.Sums.{Each}
-use Rattle.rel_clauses.specs.laws.Bags.{each-bag_of}
-use Rattle.rel_clauses.specs.laws.Fits.{first, second}
+use Rattle.rel_algebra.specs.Clauses.{Fits}
+use Rattle.rel_algebra.specs.Sums.{Each}
+use Rattle.rel_algebra.proofs.laws.Bags.{each-bag_of}
+use Rattle.rel_algebra.proofs.laws.Fits.{first, second}
 use Rattle.rel_algebra.specs.Answer.{AreTyped, answer}
 use Rattle.rel_algebra.specs.Rel.{Rel}
 use Rattle.sql_syntax.specs.Tree.{Query}
 use Rattle.query_answer.specs.Answer.{TableRows, answer as query_answer}
 use Rattle.binding.specs.Checked.{Checked, ◌>>=◌}
-use Rattle.binding.specs.Inserts.{column_types}
+use Rattle.ct_catalog.specs.Columns.{column_types}
 use Rattle.binding.specs.Queries.{Relation, query_bound}
 use Rattle.query_laws.specs.Statement.{declared, tables_of}
-use Rattle.rel_examples.specs.Listed.{ListedTable, listed, sorted}
-use Rattle.rel_examples.specs.Listed as l
-use Rattle.rel_examples.specs.laws.Computed.{items-bag_of}
+use Rattle.query_examples.specs.Listed.{ListedTable, listed, sorted}
+use Rattle.query_examples.specs.Listed as l
+use Rattle.query_examples.proofs.laws.Computed.{items-bag_of}
 use Rattle.query_examples.specs.Answered.{Answered, tables_for, rows_told}
 use Rattle.query_examples.specs.Checks.{query_text, bound_text}
 use Rattle.query_examples.specs.Tables.{all, t, u, o}

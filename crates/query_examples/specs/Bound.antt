@@ -7,11 +7,11 @@ use Rattle.ct_value.specs.declared.value.CompareOp.TheVariants.{Eq, Gt, Ge, Le}
 use Rattle.ct_value.specs.declared.value.Value.TheVariants.{Null, Bool as Truth, Num}
 use Rattle.ct_expr.specs.declared.expr.ArithOp.TheVariants.{Add, Sub}
 use Rattle.ct_expr.specs.Expr.{Expr, Column, Literal, Arith, Compare, And, Or, Not, Case, exprs, whens, some_expr}
-use Rattle.rel_clauses.specs.declared.agg.Agg.{Agg}
-use Rattle.rel_clauses.specs.declared.agg.AggCall.{AggCall}
-use Rattle.rel_clauses.specs.declared.agg.AggCall.TheVariants.{CountAll, Count, CountDistinct, Sum, Max}
-use Rattle.rel_clauses.specs.declared.join.JoinKind.TheVariants.{Inner, Left, Right}
-use Rattle.rel_clauses.specs.declared.join.Pair.{Pair}
+use Rattle.rel_algebra.specs.declared.agg.Agg.{Agg}
+use Rattle.rel_algebra.specs.declared.agg.AggCall.{AggCall}
+use Rattle.rel_algebra.specs.declared.agg.AggCall.TheVariants.{CountAll, Count, CountDistinct, Sum, Max}
+use Rattle.rel_algebra.specs.declared.join.JoinKind.TheVariants.{Inner, Left, Right}
+use Rattle.rel_algebra.specs.declared.join.Pair.{Pair}
 use Rattle.rel_algebra.specs.Rel.{Rel, Scan, Filter, Project, Union, Group, Join, Semi, rels}
 use Rattle.sql_syntax.specs.Tree.{Text}
 

@@ -8,7 +8,7 @@ use Rattle.ct_value.specs.declared.ty.Ty.{Ty}
 use Rattle.ct_value.specs.declared.value.Value.{Value}
 use Rattle.rel_algebra.specs.Rel.{Rel}
 use Rattle.sql_syntax.specs.Tree.{Query, Tree, Text, Insert, query_of, select_of, select_and, no_selects, item_and, no_items, One, All, AllOf, Selects, Select, Items, Item}
-use Rattle.sql_rules.specs.ReadsScripts.{Answer, answered, refused, read_text}
+use Rattle.sql_grammar.specs.ReadsScripts.{Answer, answered, refused, read_text}
 use Rattle.query_answer.specs.Answer.{over, table_scope}
 use Rattle.query_answer.specs.Names.{Scope}
 use Rattle.binding.specs.Checked.{Checked, ◌>>=◌}

@@ -2,7 +2,9 @@ pub mod Answered
 pub mod Bound
 pub mod Checks
 pub mod Inserts
+pub mod Listed
 pub mod Ranks
 pub mod Refused
+pub mod Relations
 pub mod Tables
 pub mod Values

@@ -6,8 +6,8 @@ use Rattle.ct_value.specs.declared.ty.Ty.TheVariants.{Int, BigInt, Text as Texts
 use Rattle.ct_value.specs.declared.value.CompareOp.TheVariants.{Eq, Gt, Le, Lt}
 use Rattle.ct_value.specs.declared.value.Value.TheVariants.{Null, Text as Words}
 use Rattle.ct_expr.specs.Expr.{Column, Literal, Compare, And, exprs}
-use Rattle.rel_clauses.specs.declared.agg.AggCall.TheVariants.{CountAll}
-use Rattle.rel_clauses.specs.declared.sort.SortCol.{SortCol}
+use Rattle.rel_algebra.specs.declared.agg.AggCall.TheVariants.{CountAll}
+use Rattle.rel_algebra.specs.declared.sort.SortCol.{SortCol}
 use Rattle.rel_algebra.specs.Rel.{Rel, Scan, Filter, Project, Group, Semi, Rank}
 use Rattle.sql_syntax.specs.Tree.{Text}
 use Rattle.query_examples.specs.Answered.{Answered, over_both, n, w}

@@ -5,8 +5,8 @@ use Rattle.std.specs.declared.cmp.Ordering.{Ordering}
 use Rattle.std.specs.Cmp.{IsTotalOrder}
 use Rattle.std.specs.FinMap.{IsAntisymmetric}
 use Rattle.ct_value.specs.Bag.{Bag, items, none, add}
-use Rattle.rel_clauses.specs.Sums.{one, together, plus, add_where, restrict, Each, mapped, sum_over}
-use Rattle.rel_clauses.specs.laws.Bags.{by_items, by_each, each-none, each-add, plus-one, plus_parts, together-one, restrict-none, restrict-add, mapped-none, mapped-add, sum_over-none, sum_over-add, copies-restrict, each-copies, copies-each}
+use Rattle.rel_algebra.specs.Sums.{one, together, plus, add_where, restrict, Each, mapped, sum_over}
+use Rattle.rel_algebra.proofs.laws.Bags.{by_items, by_each, each-none, each-add, plus-one, plus_parts, together-one, restrict-none, restrict-add, mapped-none, mapped-add, sum_over-none, sum_over-add, copies-restrict, each-copies, copies-each}
 
 -- a fact of each item that follows from another
 pub each_map : {A : Type 0} {R : A → A → Ordering} (P Q : A → Type 0) → ((x : A) → P x → Q x) → (b : Bag R) → Each P b → Each Q b

@@ -7,9 +7,9 @@ use Rattle.ct_value.specs.declared.ty.ColTy.{ColTy}
 use Rattle.ct_value.specs.declared.value.Value.TheVariants.{Null}
 use Rattle.ct_change.specs.Changelog.{Rows}
 use Rattle.ct_field.specs.Typed.{cell, is_true}
-use Rattle.rel_clauses.specs.Aggregates.{Values, agg_value, agg_result, agg_type, agg_types, call_type, column_before, column_is_truth, ty_or_bigint, type_in, argument, passes, filter_fits, arg_fits}
-use Rattle.rel_clauses.specs.Clauses.{row_of}
-use Rattle.rel_clauses.specs.Sums.{Each, mapped, restrict}
+use Rattle.rel_algebra.specs.Aggregates.{Values, agg_value, agg_result, agg_type, agg_types, call_type, column_before, column_is_truth, ty_or_bigint, type_in, argument, passes, filter_fits, arg_fits}
+use Rattle.rel_algebra.specs.Clauses.{row_of}
+use Rattle.rel_algebra.specs.Sums.{Each, mapped, restrict}
 use Rattle.sql_syntax.specs.Tree.{Tree}
 use Rattle.query_answer.specs.Answer.{over, some_column}
 use Rattle.query_answer.specs.Calls.{Call, arguments, filters, with_tree}

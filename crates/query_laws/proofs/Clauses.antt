@@ -9,16 +9,17 @@ use Rattle.ct_expr.specs.Expr.{Expr}
 use Rattle.ct_expr.specs.Expr as e
 use Rattle.ct_expr.specs.Eval.{eval}
 use Rattle.ct_expr.specs.Types.{type_of, both_of, same_ty}
-use Rattle.rel_clauses.specs.Clauses.{row_of, collect, project_rows}
-use Rattle.rel_clauses.specs.Sums.{Each}
-use Rattle.rel_clauses.specs.laws.Clauses.{each-project_rows, length-collect}
+use Rattle.rel_algebra.specs.Clauses.{row_of, collect, project_rows}
+use Rattle.rel_algebra.specs.Sums.{Each}
+use Rattle.rel_algebra.proofs.laws.Clauses.{each-project_rows, length-collect}
 use Rattle.rel_algebra.specs.Answer.{Table, answer, types_in}
 use Rattle.rel_algebra.specs.Rel.{Rel}
 use Rattle.rel_algebra.specs.Rel as r
 use Rattle.rel_algebra.specs.Types.{columns_of, item_columns}
 use Rattle.binding.specs.Nodes.{Bound, expr_list}
 use Rattle.binding.specs.Queries.{is_column, is_in_place, projected}
-use Rattle.query_laws.specs.Statement.{has_full_unions, has_idle_project}
+use Rattle.query_laws.specs.Statement.{has_idle_project}
+use Rattle.rel_algebra.specs.Unions.{has_full_unions}
 use Rattle.query_laws.proofs.Bags.{made_all, mapped_itself, each_map, each_any}
 use Rattle.query_laws.proofs.Lists.{map_length, slice_behind, cell_behind, no_length, both_true}
 use Rattle.query_laws.proofs.Options.{cond_some, and_then_parts, some_is}

@@ -8,11 +8,11 @@ use Rattle.ct_value.specs.declared.ty.ColTy.{ColTy}
 use Rattle.ct_change.specs.Changelog.{Rows}
 use Rattle.ct_expr.specs.Expr.{Expr}
 use Rattle.ct_expr.specs.Eval.{eval}
-use Rattle.rel_clauses.specs.declared.agg.Agg.{Agg}
-use Rattle.rel_clauses.specs.Aggregates.{agg_results}
-use Rattle.rel_clauses.specs.Clauses.{Meaning, project_rows}
-use Rattle.rel_clauses.specs.Groups.{group_rows, group_columns}
-use Rattle.rel_clauses.specs.Sums.{Each}
+use Rattle.rel_algebra.specs.declared.agg.Agg.{Agg}
+use Rattle.rel_algebra.specs.Aggregates.{agg_results}
+use Rattle.rel_algebra.specs.Clauses.{Meaning, project_rows}
+use Rattle.rel_algebra.specs.Groups.{group_rows, group_columns}
+use Rattle.rel_algebra.specs.Sums.{Each}
 use Rattle.rel_algebra.specs.Answer.{Table, answer}
 use Rattle.rel_algebra.specs.Rel.{Rel}
 use Rattle.rel_algebra.specs.Types.{is_boolean}

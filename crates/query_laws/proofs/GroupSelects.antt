@@ -7,13 +7,13 @@ use Rattle.ct_change.specs.Changelog.{Rows, same_row}
 use Rattle.ct_field.specs.Typed.{is_true}
 use Rattle.ct_expr.specs.Expr.{Expr}
 use Rattle.ct_expr.specs.Eval.{eval}
-use Rattle.rel_clauses.specs.declared.agg.Agg.{Agg}
-use Rattle.rel_clauses.specs.Aggregates.{agg_results, agg_types}
-use Rattle.rel_clauses.specs.Clauses.{row_of, collect, project_rows}
-use Rattle.rel_clauses.specs.Groups.{group_rows, group_columns}
-use Rattle.rel_clauses.specs.Sums.{one, mapped, sum_over, Each}
-use Rattle.rel_clauses.specs.laws.Bags.{each-sum_over, each-add, each-none}
-use Rattle.rel_clauses.specs.laws.Clauses.{length-collect}
+use Rattle.rel_algebra.specs.declared.agg.Agg.{Agg}
+use Rattle.rel_algebra.specs.Aggregates.{agg_results, agg_types}
+use Rattle.rel_algebra.specs.Clauses.{row_of, collect, project_rows}
+use Rattle.rel_algebra.specs.Groups.{group_rows, group_columns}
+use Rattle.rel_algebra.specs.Sums.{one, mapped, sum_over, Each}
+use Rattle.rel_algebra.proofs.laws.Bags.{each-sum_over, each-add, each-none}
+use Rattle.rel_algebra.proofs.laws.Clauses.{length-collect}
 use Rattle.rel_algebra.specs.Types.{is_boolean}
 use Rattle.sql_syntax.specs.Tree.{Tree}
 use Rattle.sql_syntax.specs.Tree as t

@@ -8,12 +8,12 @@ use Rattle.ct_value.specs.declared.value.Value.{Value}
 use Rattle.ct_change.specs.Changelog.{Rows, same_row}
 use Rattle.ct_expr.specs.Expr.{Expr}
 use Rattle.ct_expr.specs.Eval.{eval}
-use Rattle.rel_clauses.specs.Clauses.{Meaning, holds, row_of, collect, rows_where, filter_rows, project_rows}
-use Rattle.rel_clauses.specs.Groups.{group_rows}
-use Rattle.rel_clauses.specs.Keys.{keys_in, rows_of_key}
-use Rattle.rel_clauses.specs.Sums.{one, kept, together, plus, distinct, mapped, restrict, sum_over, Each}
-use Rattle.rel_clauses.specs.laws.Bags.{by_items, sum_over-none, sum_over-add, sum_over-one, sum_over-same, is_some-sum_over, each-distinct, each-mapped, each-none, each-add, mapped-none, mapped-add, mapped-together, restrict-none, restrict-add}
-use Rattle.rel_clauses.specs.laws.Clauses.{length-collect, each-rows_where}
+use Rattle.rel_algebra.specs.Clauses.{Meaning, holds, row_of, collect, rows_where, filter_rows, project_rows}
+use Rattle.rel_algebra.specs.Groups.{group_rows}
+use Rattle.rel_algebra.specs.Keys.{keys_in, rows_of_key}
+use Rattle.rel_algebra.specs.Sums.{one, kept, together, plus, distinct, mapped, restrict, sum_over, Each}
+use Rattle.rel_algebra.proofs.laws.Bags.{by_items, sum_over-none, sum_over-add, sum_over-one, sum_over-same, is_some-sum_over, each-distinct, each-mapped, each-none, each-add, mapped-none, mapped-add, mapped-together, restrict-none, restrict-add}
+use Rattle.rel_algebra.proofs.laws.Clauses.{length-collect, each-rows_where}
 use Rattle.query_answer.specs.Groups.{meanings, key_of, groups_of, members, filter_if}
 use Rattle.query_answer.specs.Table.{Typed}
 use Rattle.query_laws.proofs.Bags.{restrict_mapped, restrict_same, mapped_mapped, mapped_same, made_one, made_all, sum_over_mapped, each_map, each_both}

@@ -9,9 +9,9 @@ use Rattle.ct_value.specs.declared.value.Value.{Value}
 use Rattle.ct_change.specs.Changelog.{Rows}
 use Rattle.ct_field.specs.Typed.{cell, is_truths}
 use Rattle.ct_expr.specs.Types as y
-use Rattle.rel_clauses.specs.declared.agg.AggCall.{AggCall}
-use Rattle.rel_clauses.specs.Aggregates.{call_type, column_is_truth}
-use Rattle.rel_clauses.specs.Clauses.{row_of, collect}
+use Rattle.rel_algebra.specs.declared.agg.AggCall.{AggCall}
+use Rattle.rel_algebra.specs.Aggregates.{call_type, column_is_truth}
+use Rattle.rel_algebra.specs.Clauses.{row_of, collect}
 use Rattle.sql_syntax.specs.Tree.{Tree}
 use Rattle.sql_syntax.specs.Tree as t
 use Rattle.query_answer.specs.declared.scope.Found.{Found}

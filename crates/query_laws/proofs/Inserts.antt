@@ -5,15 +5,17 @@ use Rattle.ct_value.specs.Order.{row_total, row_exact}
 use Rattle.ct_value.specs.declared.codes.ScriptCode.TheVariants.{UnknownTable, SinkShape}
 use Rattle.ct_catalog.specs.declared.table.TableDef.{TableDef}
 use Rattle.ct_change.specs.Changelog.{Rows}
-use Rattle.rel_clauses.specs.Clauses.{Fits}
-use Rattle.rel_clauses.specs.laws.Bags.{each-none}
+use Rattle.rel_algebra.specs.Clauses.{Fits}
+use Rattle.rel_algebra.proofs.laws.Bags.{each-none}
 use Rattle.rel_algebra.specs.Answer.{AreTyped, answer, types_in}
 use Rattle.rel_algebra.specs.Types.{columns_of}
 use Rattle.sql_syntax.specs.Tree.{Query, Text}
 use Rattle.query_answer.specs.Answer.{TableRows, types}
 use Rattle.query_answer.specs.Answer as a
 use Rattle.binding.specs.Checked.{Checked, ◌>>=◌, or_code}
-use Rattle.binding.specs.Inserts.{Inserted, insert_bound, into_sink, sunk, is_table, sources_for, scans, go_into, column_types}
+use Rattle.binding.specs.Inserts.{Inserted, insert_bound, into_sink, sunk, is_table, sources_for, scans}
+use Rattle.rel_algebra.specs.GoesInto.{go_into}
+use Rattle.ct_catalog.specs.Columns.{column_types}
 use Rattle.binding.specs.Queries.{Relation, query_bound}
 use Rattle.query_laws.specs.Statement.{declared, filled, table_of, tables_of}
 use Rattle.query_laws.proofs.Clauses.{Fine}

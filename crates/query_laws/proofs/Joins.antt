@@ -9,11 +9,11 @@ use Rattle.ct_change.specs.Changelog.{Rows}
 use Rattle.ct_expr.specs.Expr.{Expr}
 use Rattle.ct_expr.specs.Eval.{eval}
 use Rattle.ct_expr.specs.Types.{both_of, common_ty}
-use Rattle.rel_clauses.specs.declared.join.JoinKind.{JoinKind}
-use Rattle.rel_clauses.specs.declared.join.Pair.{Pair}
-use Rattle.rel_clauses.specs.Joins.{Matching, agree, matching, nulls, nullable_if, join_rows, join_columns, keeps_left, keeps_right}
-use Rattle.rel_clauses.specs.Sums.{Each}
-use Rattle.rel_clauses.specs.laws.Joins.{each-join_rows}
+use Rattle.rel_algebra.specs.declared.join.JoinKind.{JoinKind}
+use Rattle.rel_algebra.specs.declared.join.Pair.{Pair}
+use Rattle.rel_algebra.specs.Joins.{Matching, agree, matching, nulls, nullable_if, join_rows, join_columns, keeps_left, keeps_right}
+use Rattle.rel_algebra.specs.Sums.{Each}
+use Rattle.rel_algebra.proofs.laws.Joins.{each-join_rows}
 use Rattle.rel_algebra.specs.Answer.{Table, answer, columns_in}
 use Rattle.rel_algebra.specs.Rel.{Rel}
 use Rattle.rel_algebra.specs.Rel as r

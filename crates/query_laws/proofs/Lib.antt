@@ -18,3 +18,4 @@ pub mod Ranks
 pub mod Selects
 pub mod Sources
 pub mod Types
+pub mod laws

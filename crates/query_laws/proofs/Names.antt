@@ -12,7 +12,7 @@ use Rattle.ct_expr.specs.Eval.{eval}
 use Rattle.ct_expr.specs.Types.{type_of, same_ty, is_truths, all_truths, both_of, col}
 use Rattle.ct_expr.specs.Values as v
 use Rattle.rel_algebra.specs.Types.{is_boolean, is_condition}
-use Rattle.rel_clauses.specs.Clauses.{holds}
+use Rattle.rel_algebra.specs.Clauses.{holds}
 use Rattle.sql_syntax.specs.Tree.{Tree}
 use Rattle.sql_syntax.specs.Tree as t
 use Rattle.query_answer.specs.declared.scope.Found.{Found}

@@ -18,7 +18,7 @@ use Rattle.ct_expr.specs.Expr as e
 use Rattle.ct_expr.specs.Types as y
 use Rattle.ct_expr.specs.Types.{type_of, types_of, conds_of, results_of, otherwise_of, ty_of, both_of}
 use Rattle.ct_expr.specs.Values as v
-use Rattle.rel_clauses.specs.declared.agg.AggCall.{AggCall}
+use Rattle.rel_algebra.specs.declared.agg.AggCall.{AggCall}
 use Rattle.sql_syntax.specs.declared.tree.ProductWord.{ProductWord}
 use Rattle.sql_syntax.specs.declared.tree.ProductWord.TheVariants.{Times, Divide, Modulo}
 use Rattle.sql_syntax.specs.declared.tree.SumWord.{SumWord}

@@ -11,11 +11,11 @@ use Rattle.ct_expr.specs.Expr.{Expr}
 use Rattle.ct_expr.specs.Expr as e
 use Rattle.ct_expr.specs.Eval.{eval}
 use Rattle.ct_expr.specs.Types.{both_of, gather, logic_col, all_truths, is_truths, compare_col, comparable, col}
-use Rattle.rel_clauses.specs.declared.join.Pair.{Pair}
-use Rattle.rel_clauses.specs.Clauses.{rows_where}
-use Rattle.rel_clauses.specs.Joins.{Matching, agree, matching, semi_join}
-use Rattle.rel_clauses.specs.Sums.{Each}
-use Rattle.rel_clauses.specs.laws.Joins.{each-semi_join}
+use Rattle.rel_algebra.specs.declared.join.Pair.{Pair}
+use Rattle.rel_algebra.specs.Clauses.{rows_where}
+use Rattle.rel_algebra.specs.Joins.{Matching, agree, matching, semi_join}
+use Rattle.rel_algebra.specs.Sums.{Each}
+use Rattle.rel_algebra.proofs.laws.Joins.{each-semi_join}
 use Rattle.rel_algebra.specs.Answer.{Table, answer, types_in}
 use Rattle.rel_algebra.specs.Batch.{semi_answer}
 use Rattle.rel_algebra.specs.Rel.{Rel}
@@ -37,7 +37,8 @@ use Rattle.binding.specs.Nodes.{Bound}
 use Rattle.binding.specs.Nodes as node_of
 use Rattle.binding.specs.Queries.{Relation, Outside, all_of, all_if, where_all, is_test, tests, owns, links, rests, unless_link, all_matched, own_part, linked_part, plain_part, own_value, only_column, matched_by, member_part, exists_part}
 use Rattle.binding.specs.Queries as b
-use Rattle.query_laws.specs.Statement.{has_full_unions, has_idle_project}
+use Rattle.query_laws.specs.Statement.{has_idle_project}
+use Rattle.rel_algebra.specs.Unions.{has_full_unions}
 use Rattle.query_laws.proofs.Clauses.{Fine}
 use Rattle.query_laws.proofs.Joins.{plain_there, found_fits, pairs_right, RestIs, rest_is}
 use Rattle.query_laws.proofs.Lists.{map_length, slice_behind, both_true}

@@ -9,10 +9,10 @@ use Rattle.ct_value.specs.declared.ty.ColTy.{ColTy}
 use Rattle.ct_change.specs.Changelog.{Rows}
 use Rattle.ct_expr.specs.Types.{both_of}
 use Rattle.ct_catalog.specs.declared.table.TableDef.{TableDef}
-use Rattle.rel_clauses.specs.Clauses.{Fits}
-use Rattle.rel_clauses.specs.Sums.{plus, together, Each}
-use Rattle.rel_clauses.specs.laws.Bags.{plus-assoc, plus-none-right, plus_parts, each-together, each-none}
-use Rattle.rel_clauses.specs.laws.Fits.{fits-length}
+use Rattle.rel_algebra.specs.Clauses.{Fits}
+use Rattle.rel_algebra.specs.Sums.{plus, together, Each}
+use Rattle.rel_algebra.proofs.laws.Bags.{plus-assoc, plus-none-right, plus_parts, each-together, each-none}
+use Rattle.rel_algebra.proofs.laws.Fits.{fits-length}
 use Rattle.rel_algebra.specs.Answer.{Table, answer, answers, types_in, AreTyped}
 use Rattle.rel_algebra.specs.Rel.{Rel, Rels, no_rels, rel_and}
 use Rattle.rel_algebra.specs.Rel as r
@@ -28,7 +28,8 @@ use Rattle.query_answer.specs.Ranks.{Ranked, Top, ranked_select, without}
 use Rattle.binding.specs.Checked.{Checked, ◌>>=◌, or_code}
 use Rattle.binding.specs.Queries.{Relation, Outside, RankedList, query_bound, selects_bound, source_bound, find_source, union_of, united, is_plain, is_test, tests, plain_part, own_value, member_part, alone, ranked_list}
 use Rattle.binding.specs.Queries as b
-use Rattle.query_laws.specs.Statement.{tables_of, table_of, all_have_full_unions, any_has_idle_project}
+use Rattle.query_laws.specs.Statement.{tables_of, table_of, any_has_idle_project}
+use Rattle.rel_algebra.specs.Unions.{all_have_full_unions}
 use Rattle.query_laws.proofs.Bags.{each_map}
 use Rattle.query_laws.proofs.Clauses.{Fine}
 use Rattle.query_laws.proofs.GroupRight.{grouped_right}

@@ -11,12 +11,13 @@ use Rattle.ct_value.specs.declared.ty.ColTy.{ColTy}
 use Rattle.ct_value.specs.declared.value.CompareOp.{CompareOp}
 use Rattle.ct_value.specs.declared.value.Value.TheVariants.{Num}
 use Rattle.ct_change.specs.Changelog.{Rows, same_row}
-use Rattle.rel_clauses.specs.declared.sort.SortCol.{SortCol}
-use Rattle.rel_clauses.specs.Clauses.{project_rows}
-use Rattle.rel_clauses.specs.Ranks.{rank_total, rank_exact, in_rank_order, ranked_from, shown, first_rows, rank_rows, rank_column, rank_columns}
-use Rattle.rel_clauses.specs.Sums.{Each}
-use Rattle.rel_clauses.specs.laws.Bags.{each-bag_of}
-use Rattle.rel_clauses.specs.laws.Keys.{each-by_key}
+use Rattle.rel_algebra.specs.declared.sort.SortCol.{SortCol}
+use Rattle.rel_algebra.specs.Clauses.{project_rows}
+use Rattle.rel_algebra.specs.Ranks.{in_rank_order, ranked_from, shown, first_rows, rank_rows, rank_column, rank_columns}
+use Rattle.rel_algebra.proofs.laws.Ranks.{rank_total, rank_exact}
+use Rattle.rel_algebra.specs.Sums.{Each}
+use Rattle.rel_algebra.proofs.laws.Bags.{each-bag_of}
+use Rattle.rel_algebra.proofs.laws.Keys.{each-by_key}
 use Rattle.rel_algebra.specs.Answer.{Table, answer}
 use Rattle.rel_algebra.specs.Rel.{Rel}
 use Rattle.rel_algebra.specs.Rel as r

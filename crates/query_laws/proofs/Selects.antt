@@ -9,12 +9,12 @@ use Rattle.ct_value.specs.declared.ty.ColTy.{ColTy}
 use Rattle.ct_change.specs.Changelog.{Rows}
 use Rattle.ct_expr.specs.Expr.{Expr}
 use Rattle.ct_expr.specs.Eval.{eval}
-use Rattle.rel_clauses.specs.Aggregates.{agg_results}
-use Rattle.rel_clauses.specs.Clauses.{holds, rows_where, project_rows, filter_rows}
-use Rattle.rel_clauses.specs.Groups.{group_rows, group_columns}
-use Rattle.rel_clauses.specs.Sums.{one, distinct, sum_over, Each}
-use Rattle.rel_clauses.specs.laws.Bags.{each-distinct}
-use Rattle.rel_clauses.specs.laws.Clauses.{each-rows_where}
+use Rattle.rel_algebra.specs.Aggregates.{agg_results}
+use Rattle.rel_algebra.specs.Clauses.{holds, rows_where, project_rows, filter_rows}
+use Rattle.rel_algebra.specs.Groups.{group_rows, group_columns}
+use Rattle.rel_algebra.specs.Sums.{one, distinct, sum_over, Each}
+use Rattle.rel_algebra.proofs.laws.Bags.{each-distinct}
+use Rattle.rel_algebra.proofs.laws.Clauses.{each-rows_where}
 use Rattle.rel_algebra.specs.Answer.{Table, answer, columns_in}
 use Rattle.rel_algebra.specs.Rel.{Rel}
 use Rattle.rel_algebra.specs.Rel as r

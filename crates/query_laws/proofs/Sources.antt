@@ -3,10 +3,10 @@ use Rattle.std.proofs.Common.{◌≡◌, ℕ, zero, suc, ◌==◌, Bool, true, f
 use Rattle.ct_value.specs.Bag.{none}
 use Rattle.ct_value.specs.declared.ty.ColTy.{ColTy}
 use Rattle.ct_expr.specs.Types.{both_of}
-use Rattle.rel_clauses.specs.Groups.{group_columns}
-use Rattle.rel_clauses.specs.Joins.{join_columns}
-use Rattle.rel_clauses.specs.Ranks.{rank_rows, rank_columns}
-use Rattle.rel_clauses.specs.Sums.{plus}
+use Rattle.rel_algebra.specs.Groups.{group_columns}
+use Rattle.rel_algebra.specs.Joins.{join_columns}
+use Rattle.rel_algebra.specs.Ranks.{rank_rows, rank_columns}
+use Rattle.rel_algebra.specs.Sums.{plus}
 use Rattle.rel_algebra.specs.Answer.{Table, answer, answers, types_in}
 use Rattle.rel_algebra.specs.Batch.{filter_answer, project_answer, group_answer, join_answer, semi_answer}
 use Rattle.rel_algebra.specs.Rel.{Rel, Rels, Scan, Filter, Project, Union, Group, Join, Semi, Rank, no_rels, rel_and}

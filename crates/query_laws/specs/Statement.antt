@@ -1,14 +1,16 @@
 -- What the theorem speaks of: the tables of a query as the algebra sees them, and trees whose unions have two inputs or more.
-use Rattle.std.specs.Prelude.{Bool, true, false, ◌&&◌, ◌||◌, List, [], map, length}
+use Rattle.std.specs.Prelude.{◌≡◌, Bool, true, false, ◌&&◌, ◌||◌, List, [], ◌∷◌, ◌++◌, map, length}
 use Rattle.std.specs.Option.{unwrap_or}
 use Rattle.ct_value.specs.declared.ty.ColTy.{ColTy}
 use Rattle.ct_expr.specs.Expr.{Expr}
-use Rattle.rel_algebra.specs.Answer.{Table}
+use Rattle.rel_algebra.specs.Answer.{Table, AreTyped, answer}
 use Rattle.rel_algebra.specs.Rel.{Rel, Rels, Scan, Filter, Project, Union, Group, Join, Semi, Rank, no_rels, rel_and}
 use Rattle.rel_algebra.specs.Types.{columns_of}
 use Rattle.ct_catalog.specs.declared.table.TableDef.{TableDef}
 use Rattle.ct_change.specs.Changelog.{Rows}
-use Rattle.query_answer.specs.Answer.{TableRows}
+use Rattle.sql_syntax.specs.Tree.{Query}
+use Rattle.query_answer.specs.Answer.{TableRows, answer as query_answer}
+use Rattle.binding.specs.Inserts.{Inserted}
 use Rattle.binding.specs.Queries.{is_in_place}
 
 -- the types of a declared table's columns, and its rows
@@ -17,27 +19,6 @@ table_of x = record { columns = map (λ c. c.ty) x.table.cols; rows = x.rows }
 
 abbrev pub tables_of : List TableRows → List Table
 tables_of tables = map table_of tables
-
-abbrev pub has_two : Rels → Bool
-has_two no_rels = false
-has_two (rel_and x no_rels) = false
-has_two (rel_and x (rel_and y ys)) = true
-
-abbrev mutual
-  -- each Union has two inputs or more
-  pub has_full_unions : Rel → Bool
-  has_full_unions (Scan source) = true
-  has_full_unions (Filter input condition) = has_full_unions input
-  has_full_unions (Project input items) = has_full_unions input
-  has_full_unions (Union inputs) = has_two inputs && all_have_full_unions inputs
-  has_full_unions (Group input keys aggs) = has_full_unions input
-  has_full_unions (Join left right kind pairs rest) = has_full_unions left && has_full_unions right
-  has_full_unions (Semi left right anti pairs rest) = has_full_unions left && has_full_unions right
-  has_full_unions (Rank input partition order bound ranked) = has_full_unions input
-
-  pub all_have_full_unions : Rels → Bool
-  all_have_full_unions no_rels = true
-  all_have_full_unions (rel_and input inputs) = has_full_unions input && all_have_full_unions inputs
 
 -- a Project whose items are its input's columns in place
 abbrev pub is_idle : List (List ColTy) → Rel → List Expr → Bool
@@ -66,3 +47,11 @@ declared tables = map (λ x. x.table) tables
 -- a table with these rows
 abbrev pub filled : TableDef → Rows → TableRows
 filled table rows = record { table = table; rows = rows }
+
+-- a statement's tables as the query sees them: the sources, and the sink with these rows
+abbrev pub with_sink : List TableRows → TableDef → Rows → List TableRows
+with_sink sources sink rows = sources ++ filled sink rows ∷ []
+
+-- what a statement is bound to has, over its sources, the answer that the query has over them and the sink
+abbrev pub KeepsAnswer : Query → List TableRows → Rows → Inserted → Type 0
+KeepsAnswer query sources rows bound = declared sources ≡ bound.sources → AreTyped (tables_of (with_sink sources bound.sink rows)) → answer (tables_of sources) bound.query.rel ≡ (query_answer (with_sink sources bound.sink rows) query).rows

@@ -11,11 +11,12 @@ use Rattle.ct_field.specs.Typed.{col_fits}
 use Rattle.ct_expr.specs.Expr.{Expr}
 use Rattle.ct_expr.specs.Eval.{eval}
 use Rattle.ct_expr.specs.Types.{both_of}
-use Rattle.rel_clauses.specs.Clauses.{Fits, MeanTypes}
-use Rattle.rel_clauses.specs.Sums.{Each, plus}
-use Rattle.rel_clauses.specs.Ranks.{rank_rows}
-use Rattle.rel_algebra.specs.Rel.{Rel, Rels, Scan, Filter, Project, Union, Group, Join, Semi, Rank, no_rels, rel_and}
-use Rattle.rel_algebra.specs.Batch.{filter_answer, project_answer, group_answer, join_answer, semi_answer}
+use Rattle.rel_algebra.specs.Clauses.{Fits, MeanTypes}
+use Rattle.rel_algebra.specs.Sums.{Each, plus}
+use Rattle.rel_algebra.specs.Ranks.{rank_rows}
+use Rattle.rel_algebra.specs.Rel.{Rel, Rels, Scan, Filter, Project, Union, Group, Join, Semi, Rank, One, Two, Many, no_rels, rel_and}
+use Rattle.rel_algebra.specs.Batch.{unary_answer, binary_answer}
+use Rattle.rel_algebra.specs.Walks.{some_part, some_part_of_any}
 use Rattle.rel_algebra.specs.Types.{columns_of, item_columns}
 
 -- the types of a table's columns, and its rows
@@ -39,13 +40,9 @@ module _ (tables : List Table) where
     -- the rows, or none where something that is evaluated is out of range
     pub answer : Rel → Option Rows
     answer (Scan source) = Some (rows_in tables source)
-    answer (Filter input condition) = option_and_then (filter_answer condition) (answer input)
-    answer (Project input items) = option_and_then (project_answer items) (answer input)
-    answer (Union inputs) = answers inputs
-    answer (Group input keys aggs) = option_and_then (group_answer (columns_in input) keys aggs) (answer input)
-    answer (Join left right kind pairs rest) = both_of (join_answer (columns_in left) (columns_in right) kind pairs rest) (answer left) (answer right)
-    answer (Semi left right anti pairs rest) = both_of (semi_answer anti pairs rest) (answer left) (answer right)
-    answer (Rank input partition order bound ranked) = option_and_then (rank_rows partition order bound ranked) (answer input)
+    answer (One how input) = option_and_then (unary_answer how (columns_in input)) (answer input)
+    answer (Two how left right) = both_of (binary_answer how (columns_in left) (columns_in right)) (answer left) (answer right)
+    answer (Many inputs) = answers inputs
 
     -- the rows of all inputs
     pub answers : Rels → Option Rows
@@ -59,21 +56,12 @@ module _ (tables : List Table) where
   too_many None = false
   too_many (Some rows) = list_any (λ row. nat_le (2 ^ 64) (copies rows row)) (items rows)
 
-  abbrev mutual
-    -- the answer of the tree, or of one of its parts, has so many copies of a row
-    pub wide : Rel → Bool
-    wide (Scan source) = too_many (answer (Scan source))
-    wide (Filter input condition) = too_many (answer (Filter input condition)) || wide input
-    wide (Project input items) = too_many (answer (Project input items)) || wide input
-    wide (Union inputs) = too_many (answer (Union inputs)) || any_wide inputs
-    wide (Group input keys aggs) = too_many (answer (Group input keys aggs)) || wide input
-    wide (Join left right kind pairs rest) = too_many (answer (Join left right kind pairs rest)) || (wide left || wide right)
-    wide (Semi left right anti pairs rest) = too_many (answer (Semi left right anti pairs rest)) || (wide left || wide right)
-    wide (Rank input partition order bound ranked) = too_many (answer (Rank input partition order bound ranked)) || wide input
+  -- the answer of the tree, or of one of its parts, has so many copies of a row
+  abbrev pub wide : Rel → Bool
+  wide = some_part (λ rel. too_many (answer rel))
 
-    pub any_wide : Rels → Bool
-    any_wide no_rels = false
-    any_wide (rel_and input inputs) = wide input || any_wide inputs
+  abbrev pub any_wide : Rels → Bool
+  any_wide = some_part_of_any (λ rel. too_many (answer rel))
 
 -- ---- what is known of tables
 

@@ -4,13 +4,15 @@ use Rattle.ct_value.specs.declared.ty.ColTy.{ColTy}
 use Rattle.ct_change.specs.Changelog.{Rows}
 use Rattle.ct_expr.specs.Expr.{Expr}
 use Rattle.ct_expr.specs.Eval.{eval}
-use Rattle.rel_clauses.specs.declared.agg.Agg.{Agg}
-use Rattle.rel_clauses.specs.declared.join.JoinKind.{JoinKind}
-use Rattle.rel_clauses.specs.declared.join.Pair.{Pair}
-use Rattle.rel_clauses.specs.Aggregates.{agg_results}
-use Rattle.rel_clauses.specs.Clauses.{filter_rows, project_rows}
-use Rattle.rel_clauses.specs.Groups.{group_rows}
-use Rattle.rel_clauses.specs.Joins.{matching, join_rows, semi_join}
+use Rattle.rel_algebra.specs.declared.agg.Agg.{Agg}
+use Rattle.rel_algebra.specs.declared.join.JoinKind.{JoinKind}
+use Rattle.rel_algebra.specs.declared.join.Pair.{Pair}
+use Rattle.rel_algebra.specs.Aggregates.{agg_results}
+use Rattle.rel_algebra.specs.Clauses.{filter_rows, project_rows}
+use Rattle.rel_algebra.specs.Groups.{group_rows}
+use Rattle.rel_algebra.specs.Ranks.{rank_rows}
+use Rattle.rel_algebra.specs.Rel.{Unary, filter_by, project_on, group_by, rank_in, Binary, join_on, semi_on}
+use Rattle.rel_algebra.specs.Joins.{matching, join_rows, semi_join}
 
 -- the condition is evaluated on every row
 abbrev pub filter_answer : Expr → Rows → Option Rows
@@ -30,3 +32,14 @@ join_answer left_columns right_columns kind pairs rest left right = join_rows ki
 
 abbrev pub semi_answer : Bool → List Pair → Option Expr → Rows → Rows → Option Rows
 semi_answer anti pairs rest left right = semi_join anti (matching pairs (option_map eval rest)) left right
+
+-- those of a node with one input, and with two, over the columns of the inputs
+abbrev pub unary_answer : Unary → List ColTy → Rows → Option Rows
+unary_answer (filter_by condition) columns rows = filter_answer condition rows
+unary_answer (project_on items) columns rows = project_answer items rows
+unary_answer (group_by keys aggs) columns rows = group_answer columns keys aggs rows
+unary_answer (rank_in partition order bound ranked) columns rows = rank_rows partition order bound ranked rows
+
+abbrev pub binary_answer : Binary → List ColTy → List ColTy → Rows → Rows → Option Rows
+binary_answer (join_on kind pairs rest) l r left right = join_answer l r kind pairs rest left right
+binary_answer (semi_on anti pairs rest) l r left right = semi_answer anti pairs rest left right

@@ -1,7 +1,16 @@
+pub mod Aggregates
 pub mod Answer
 pub mod Batch
+pub mod Clauses
+pub mod GoesInto
+pub mod GroupedCounts
 pub mod Groups
+pub mod Joins
+pub mod Keys
+pub mod Ranks
 pub mod Rel
+pub mod Sums
 pub mod Types
+pub mod Unions
 pub mod View
-pub mod laws
+pub mod Walks

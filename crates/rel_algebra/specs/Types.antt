@@ -4,12 +4,12 @@ use Rattle.std.specs.List.{list_all}
 use Rattle.ct_value.specs.declared.ty.ColTy.{ColTy}
 use Rattle.ct_expr.specs.Expr.{Expr}
 use Rattle.ct_expr.specs.Types.{type_of, common_ty, both_of, is_truths}
-use Rattle.rel_clauses.specs.declared.join.Pair.{Pair}
-use Rattle.rel_clauses.specs.declared.sort.SortCol.{SortCol}
-use Rattle.rel_clauses.specs.Groups.{group_columns}
-use Rattle.rel_clauses.specs.Joins.{join_columns}
-use Rattle.rel_clauses.specs.Ranks.{rank_columns}
-use Rattle.rel_algebra.specs.Rel.{Rel, Rels, Scan, Filter, Project, Union, Group, Join, Semi, Rank, no_rels, rel_and}
+use Rattle.rel_algebra.specs.declared.join.Pair.{Pair}
+use Rattle.rel_algebra.specs.declared.sort.SortCol.{SortCol}
+use Rattle.rel_algebra.specs.Groups.{group_columns}
+use Rattle.rel_algebra.specs.Joins.{join_columns}
+use Rattle.rel_algebra.specs.Ranks.{rank_columns}
+use Rattle.rel_algebra.specs.Rel.{Unary, filter_by, project_on, group_by, rank_in, Binary, join_on, semi_on, Rel, Rels, Scan, One, Two, Many, no_rels, rel_and}
 
 -- these columns, where a test holds
 abbrev pub columns_if : Bool → List ColTy → Option (List ColTy)
@@ -64,17 +64,24 @@ largest_bound = 10000
 abbrev pub rank_fits : List ColTy → List ℕ → List SortCol → ℕ → Bool
 rank_fits columns partition order bound = list_all (is_column columns) partition && (list_all (λ sort. is_column columns sort.col) order && (nat_le 1 bound && nat_le bound largest_bound))
 
+-- those of a node with one input, and with two
+abbrev pub unary_columns : Unary → List ColTy → Option (List ColTy)
+unary_columns (filter_by condition) columns = columns_if (is_condition columns condition) columns
+unary_columns (project_on items) columns = item_columns columns items
+unary_columns (group_by keys aggs) columns = group_columns keys columns aggs
+unary_columns (rank_in partition order bound ranked) columns = columns_if (rank_fits columns partition order bound) (rank_columns ranked columns)
+
+abbrev pub binary_columns : Binary → List ColTy → List ColTy → Option (List ColTy)
+binary_columns (join_on kind pairs rest) l r = columns_if (match_fits l r pairs rest) (join_columns kind l r)
+binary_columns (semi_on anti pairs rest) l r = columns_if (match_fits l r pairs rest) l
+
 abbrev mutual
   -- the columns of a node, over the columns of the tables; none where it isn't well-typed
   pub columns_of : List (List ColTy) → Rel → Option (List ColTy)
   columns_of tables (Scan source) = slice_get tables source
-  columns_of tables (Filter input condition) = option_and_then (λ columns. columns_if (is_condition columns condition) columns) (columns_of tables input)
-  columns_of tables (Project input items) = option_and_then (λ columns. item_columns columns items) (columns_of tables input)
-  columns_of tables (Union inputs) = union_columns tables inputs
-  columns_of tables (Group input keys aggs) = option_and_then (λ columns. group_columns keys columns aggs) (columns_of tables input)
-  columns_of tables (Join left right kind pairs rest) = both_of (λ l r. columns_if (match_fits l r pairs rest) (join_columns kind l r)) (columns_of tables left) (columns_of tables right)
-  columns_of tables (Semi left right anti pairs rest) = both_of (λ l r. columns_if (match_fits l r pairs rest) l) (columns_of tables left) (columns_of tables right)
-  columns_of tables (Rank input partition order bound ranked) = option_and_then (λ columns. columns_if (rank_fits columns partition order bound) (rank_columns ranked columns)) (columns_of tables input)
+  columns_of tables (One how input) = option_and_then (unary_columns how) (columns_of tables input)
+  columns_of tables (Two how left right) = both_of (binary_columns how) (columns_of tables left) (columns_of tables right)
+  columns_of tables (Many inputs) = union_columns tables inputs
 
   -- the common columns of one input or more
   pub union_columns : List (List ColTy) → Rels → Option (List ColTy)

@@ -1,15 +1,18 @@
-//! The relational algebra: its trees, and their batch answers.
+//! The relational algebra: its trees, the clauses of a query, and the batch answers of trees.
 //!
-//! Promised: `specs/Types` says which trees are well-typed, `specs/Answer` what their batch answers are, one clause for each
-//! node. The laws tell that an answer's rows have the tree's columns, and that the count of groups in `specs/Groups` is the clause
-//! of grouping. It stands on the clauses of queries and on expressions.
+//! Promised: definitions, and lemmas over them. Each clause (filter, project, union, joins, grouping, aggregates, Top-N) is a
+//! function from bags, and from what its expressions are at a row, to a bag or out of range. `specs/Types` says which trees are
+//! well-typed, `specs/Answer` what their batch answers are, one clause for each node. Lemmas tell what each clause is of a sum of
+//! bags, that an answer's rows have the tree's columns, and that the count of groups in `specs/GroupedCounts` is the clause of
+//! grouping. It stands on values, bags and expressions.
 #![tactic(auto)]
 
-mod laws;
+mod agg;
+mod join;
 mod rel;
+mod sort;
 
-pub use laws::{
-    answers_have_their_columns, columns_mean_themselves, grouped_counts_are_the_clause,
-};
+pub use agg::{Agg, AggCall, Aggs};
+pub use join::{JoinKind, Pair, Pairs};
 pub use rel::{Rel, Rels};
-pub use rel_clauses::{Agg, AggCall, Aggs};
+pub use sort::{SortCol, Sorts};

@@ -1,8 +1,8 @@
 //! Trees of the relational algebra.
 
+use crate::{Aggs, JoinKind, Pairs, Sorts};
 use ct_expr::{Expr, Exprs};
 use ct_value::{Cols, List};
-use rel_clauses::{Aggs, JoinKind, Pairs, Sorts};
 
 /// A query as a tree of the relational algebra. Columns are counted from 0, and those of two inputs stand side by side, the left's
 /// first.

@@ -7,9 +7,9 @@ use Rattle.ct_expr.specs.Types.{type_of, both_of}
 use Rattle.ct_expr.specs.View.{expr_view, exprs_view}
 use Rattle.ct_expr.specs.declared.expr.Expr.{Expr}
 use Rattle.rel_algebra.specs.Types as t
-use Rattle.rel_clauses.specs.Aggregates as a
-use Rattle.rel_clauses.specs.Joins.{nullable_if}
-use Rattle.rel_clauses.specs.declared.agg.Agg.{Agg}
+use Rattle.rel_algebra.specs.Aggregates as a
+use Rattle.rel_algebra.specs.Joins.{nullable_if}
+use Rattle.rel_algebra.specs.declared.agg.Agg.{Agg}
 
 append_nil : (xs : List ColTy) → xs ++ [] ≡ xs
 append_nil [] = refl

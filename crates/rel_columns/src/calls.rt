@@ -2,12 +2,12 @@
 ghost use Rattle.std.specs.Prelude.{◌≡◌, ◌==◌, ◌++◌, ◌||◌, Bool, cond, take, is_some, slice_get, option_map, Some, None, IfOk};
 ghost use Rattle.ct_field.specs.Typed.{is_number};
 ghost use Rattle.ct_expr.specs.Types as e;
-ghost use Rattle.rel_clauses.specs.Aggregates as a;
-ghost use Rattle.rel_clauses.specs.Groups as g;
+ghost use Rattle.rel_algebra.specs.Aggregates as a;
+ghost use Rattle.rel_algebra.specs.Groups as g;
 
 use crate::items::is_boolean;
 use ct_value::{ColTy, ColTys, Memory, Ty};
-use rel_clauses::{Agg, AggCall, Aggs};
+use rel_algebra::{Agg, AggCall, Aggs};
 
 /// The column of a count.
 pub(crate) const COUNT: ColTy = ColTy {

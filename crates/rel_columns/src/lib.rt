@@ -1,7 +1,7 @@
 //! The columns of the clauses of a query, from those of their inputs.
 //!
-//! Promised: each function answers the columns that `rel_clauses` and `rel_algebra` define for a clause, and none exactly where
-//! it isn't well-typed over the columns of its input.
+//! Promised: each function answers the columns that `rel_algebra` defines for a clause, and none exactly where it isn't well-typed
+//! over the columns of its input.
 #![tactic(auto)]
 
 mod calls;

@@ -1,11 +1,11 @@
 //! Joins and ranks.
 ghost use Rattle.std.specs.Prelude.{◌≡◌, true, map, IfOk};
-ghost use Rattle.rel_clauses.specs.Joins as j;
-ghost use Rattle.rel_clauses.specs.Ranks as r;
+ghost use Rattle.rel_algebra.specs.Joins as j;
+ghost use Rattle.rel_algebra.specs.Ranks as r;
 
 use crate::calls::COUNT;
 use ct_value::{ColTy, ColTys, Memory};
-use rel_clauses::JoinKind;
+use rel_algebra::JoinKind;
 
 /// The left's columns, then the right's; NULL may stand in those of a side whose rows may be missing.
 pub fn join_columns(kind: JoinKind, left: ColTys, right: ColTys) -> Result<ColTys, Memory>

@@ -44,6 +44,8 @@ impl Channel {
     pub fn send(&mut self, change: Change) -> Result<(), Memory>
         requires { self.old.sent + 1 < 2 ^ 32 }
         ensures ok { OnOk result ((sent : List Change) (taken : ℕ) → HasPassed self.old sent taken → HasPassed self.new (sent ++ change ∷ []) taken) }
+        ensures behind { OnOk result (self.new.flight ≡ self.old.flight ++ change ∷ []) }
+        ensures counted { OnOk result (self.new.sent ≡ self.old.sent + 1) }
         ensures err { OnErr result (self.new ≡ self.old) }
     {
         self.flight.push_back(change)?;
@@ -55,8 +57,10 @@ impl Channel {
     /// takes no memory.
     pub fn take_front(&mut self) -> Option<Change>
         ensures first { IfSome result (λ change. (sent : List Change) (taken : ℕ) → HasPassed self.old sent taken → (slice_get sent taken ≡ Some change) × HasPassed self.new sent (taken + 1)) }
+        ensures front { IfSome result (λ change. self.old.flight ≡ change ∷ self.new.flight) }
         ensures none { IsNone result ↔ (self.old.flight ≡ []) }
         ensures same { IfNone result (self.new ≡ self.old) }
+        ensures counted { self.new.sent ≡ self.old.sent }
     {
         let change = self.flight.pop_front()?;
         self.taken += 1;

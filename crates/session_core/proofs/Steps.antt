@@ -19,8 +19,8 @@ use Rattle.stream_model.specs.Theorem.{MayArrive}
 use Rattle.stream_model.specs.Machine.{State, put, consumed, joins, folded, answered, flushed, flushed_if_full, size_of, hand_on, is_channel, has_channel, move, move_front, move_to, flush, flush_bundle, is_place, step, take, take_of, take_unless, take_within, scanned}
 use Rattle.stream_model.specs.Runs.{Item, happens, quiet, told_quiet, step_item, IsTyped, AreTyped}
 use Rattle.stream_model.specs.Drain.{Leads, StopsBy, IsSafe, IsOpen}
-use Rattle.session_traffic.specs.declared.traffic.Traffic.{Traffic}
-use Rattle.session_traffic.specs.Kept.{Carries, AllFit, fetched}
+use Rattle.session_core.specs.declared.traffic.Traffic.{Traffic}
+use Rattle.session_core.specs.Kept.{Carries, AllFit, fetched}
 use Rattle.session_core.specs.Runs.{MayTake, pieces_after, IsOutAt}
 use Rattle.session_core.specs.Sources.{ChecksIn, AllCheck, taken_after}
 use Rattle.session_core.specs.Stands.{StaysOpen}

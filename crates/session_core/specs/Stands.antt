@@ -1,24 +1,44 @@
 -- What a session stands for.
-use Rattle.std.specs.Prelude.{◌≡◌, ℕ, ◌+◌, Bool, cond, List, [], length, Option, Some, None}
+use Rattle.std.specs.Prelude.{◌≡◌, ℕ, ◌+◌, Bool, cond, List, [], ◌∷◌, ◌++◌, length, take, true, Option, Some, None, Result, Ok}
 use Rattle.ct_change.specs.declared.change.Change.{Change}
+use Rattle.ct_change.specs.declared.kind.Kind.{Kind}
+use Rattle.ct_change.specs.Changelog.{Mode, admits, fold, has, IsValid}
+use Rattle.op_rules.specs.Edges.{meaning_of}
 use Rattle.op_rules.specs.History.{Arrival}
 use Rattle.op_rules.specs.Rules.{Rule}
+use Rattle.stream_model.specs.declared.events.Event.{Event}
 use Rattle.stream_model.specs.declared.events.PrintItem.{PrintItem}
+use Rattle.stream_model.specs.declared.events.StepFault.{StepFault}
 use Rattle.stream_model.specs.Tables.{Table}
-use Rattle.stream_model.specs.Network.{Network}
-use Rattle.stream_model.specs.Machine.{State, opened, is_place}
-use Rattle.stream_model.specs.Runs.{Item, after, AreTyped}
-use Rattle.stream_model.specs.Drain.{Leads, IsSafe}
-use Rattle.session_traffic.specs.LaidOut.{IsLaidOut}
-use Rattle.session_traffic.specs.Kept.{Carries, AllFit}
-use Rattle.session_traffic.specs.declared.traffic.Traffic.{Traffic}
-use Rattle.session_traffic.specs.declared.wiring.Wiring.{Wiring}
+use Rattle.stream_model.specs.Network.{Network, IsAnswer}
+use Rattle.stream_model.specs.Machine.{State, opened, is_place, step, IsQuiet}
+use Rattle.stream_model.specs.Runs.{Item, happens, after, changes_in, AreTyped, IsTyped}
+use Rattle.stream_model.specs.Drain.{Leads, IsSafe, StopsAlong, StopsBy, IsDrainFault, drain}
+use Rattle.stream_model.specs.Theorem.{table_rows}
+use Rattle.session_core.specs.LaidOut.{IsLaidOut}
+use Rattle.session_core.specs.Kept.{Carries, AllFit}
+use Rattle.session_core.specs.declared.traffic.Traffic.{Traffic}
+use Rattle.session_core.specs.declared.wiring.Wiring.{Wiring}
 use Rattle.session_core.specs.declared.operators.Operators.{Operators}
 use Rattle.session_core.specs.declared.session.Buffer.{Buffer}
 use Rattle.session_core.specs.declared.session.Buffer.TheVariants.{NoPlace, NoBuffer, Holds}
 use Rattle.session_core.specs.declared.session.Session.{Session}
 use Rattle.session_core.specs.Runs.{AllRun}
 use Rattle.session_core.specs.Sources.{AllCheck}
+
+-- the state to which a run leads
+abbrev pub reached : Network → ℕ → List Item → State
+reached g limit items = after g limit (opened g) items
+
+-- what the sink prints is read as this mode says, and is of the mode's kinds
+pub record PrintsIn (g : Network) (mode : Mode) : Type 0 where
+  pub meaning : (g.edge g.count).meaning ≡ meaning_of mode
+  pub kinds : (kind : Kind) → has (g.edge g.count).kinds kind ≡ true → admits mode kind ≡ true
+
+-- of what was printed each prefix is a valid changelog of the mode, and all of it folds to the sink's batch answer over what was taken
+pub record HasAnswered (g : Network) (mode : Mode) (s : State) : Type 0 where
+  pub valid : (n : ℕ) → IsValid mode (take n (changes_in s.printed))
+  pub answer : IsAnswer g (table_rows g s) g.count (fold mode (changes_in s.printed))
 
 -- in each state that items lead to, the front of each channel may be consumed, and what was sent has its edge's columns
 pub record StaysOpen (g : Network) (limit : ℕ) (s : State) : Type 0 where
@@ -49,7 +69,58 @@ module _ {O S : Type 0} (rule_is : O → Rule) (is_broken : O → Bool) (stands 
   -- a session that handed out these printed items stands for a run of the network, a list of events and of quiet items
   pub record StandsFor (g : Network) (limit : ℕ) (session : Session O S) (handed : List PrintItem) (items : List Item) : Type 0 where
     pub typed : AreTyped g items
-    pub keeps : Keeps g limit session handed (after g limit (opened g) items)
+    pub keeps : Keeps g limit session handed (reached g limit items)
+
+  -- ---- what holds of some state that a session keeps, and of each
+
+  abbrev pub KeepsSome : Session O S → Type 0
+  KeepsSome session = (g : Network) × (limit : ℕ) × (handed : List PrintItem) × (s : State) × Keeps g limit session handed s
+
+  abbrev pub ForKept : Session O S → (Network → ℕ → List PrintItem → State → Type 0) → Type 0
+  ForKept session P = (g : Network) (limit : ℕ) (handed : List PrintItem) (s : State) → Keeps g limit session handed s → P g limit handed s
+
+  -- the same where an event comes whose change has its table's columns
+  abbrev pub MayApply : Session O S → Event → Type 0
+  MayApply session event = (g : Network) × (limit : ℕ) × (handed : List PrintItem) × (s : State) × Keeps g limit session handed s × IsTyped g (happens event)
+
+  abbrev pub ForApplied : Session O S → Event → (Network → ℕ → List PrintItem → State → Type 0) → Type 0
+  ForApplied session event P = (g : Network) (limit : ℕ) (handed : List PrintItem) (s : State) → Keeps g limit session handed s → IsTyped g (happens event) → P g limit handed s
+
+  -- a session keeps the state that the machine answers
+  abbrev pub KeepsAnswer : Result State StepFault → Session O S → Network → ℕ → List PrintItem → Type 0
+  KeepsAnswer answer session g limit handed = (next : State) × (answer ≡ Ok next) × Keeps g limit session handed next
+
+  -- a session keeps a state to which items lead
+  abbrev pub KeepsAlong : List Item → Session O S → Network → ℕ → List PrintItem → State → Type 0
+  KeepsAlong items session g limit handed s = (next : State) × Leads g limit s items next × Keeps g limit session handed next
+
+  -- ---- what holds of some run that a session stands for, and of each
+
+  abbrev pub StandsForSome : Session O S → Type 0
+  StandsForSome session = (g : Network) × (limit : ℕ) × (handed : List PrintItem) × (items : List Item) × StandsFor g limit session handed items
+
+  abbrev pub ForRuns : Session O S → (Network → ℕ → List PrintItem → List Item → Type 0) → Type 0
+  ForRuns session P = (g : Network) (limit : ℕ) (handed : List PrintItem) (items : List Item) → StandsFor g limit session handed items → P g limit handed items
+
+  -- the same where an event comes whose change has its table's columns
+  abbrev pub MayStep : Session O S → Event → Type 0
+  MayStep session event = (g : Network) × (limit : ℕ) × (handed : List PrintItem) × (items : List Item) × StandsFor g limit session handed items × IsTyped g (happens event)
+
+  abbrev pub ForSteps : Session O S → Event → (Network → ℕ → List PrintItem → List Item → Type 0) → Type 0
+  ForSteps session event P = (g : Network) (limit : ℕ) (handed : List PrintItem) (items : List Item) → StandsFor g limit session handed items → IsTyped g (happens event) → P g limit handed items
+
+  -- the machine makes the event, and the next session stands for the run with it
+  abbrev pub HasStepped : Session O S → Event → Session O S → Type 0
+  HasStepped session event next = ForSteps session event (λ g limit handed items. (now : State) × (step g limit (reached g limit items) event ≡ Ok now) × StandsFor g limit next handed (items ++ happens event ∷ []))
+
+  -- the machine makes all of a drain, and the next session, which is quiet, stands for the run with it
+  abbrev pub HasDrained : Session O S → Session O S → Type 0
+  HasDrained session next = ForRuns session (λ g limit handed items. (now : State) × Leads g limit (reached g limit items) (drain g limit (reached g limit items)) now
+      × StandsFor g limit next handed (items ++ drain g limit (reached g limit items)) × IsQuiet g now)
+
+  -- the machine stops along a drain, by this fault and after these items, of which some were handed out before
+  abbrev pub StopsDraining : Session O S → StepFault → List PrintItem → Type 0
+  StopsDraining session fault printed = ForRuns session (λ g limit handed items. StopsAlong g limit (reached g limit items) (drain g limit (reached g limit items)) fault (handed ++ printed) × IsDrainFault fault)
 
 abbrev pub buffer_in : Option ℕ → ℕ → Buffer
 buffer_in None held = NoBuffer

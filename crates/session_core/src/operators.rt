@@ -2,12 +2,11 @@ ghost use Rattle.std.specs.Prelude.{◌≡◌, ℕ, ◌<◌, ◌+◌, ◌*◌, �
 ghost use Rattle.op_rules.specs.Faults.{IfRange};
 ghost use Rattle.op_rules.specs.History.{Arrival, arrival, joined};
 ghost use Rattle.stream_model.specs.Network.{Network};
-ghost use Rattle.session_traffic.specs.LaidOut.{IsLaidOut};
-ghost use Rattle.session_core.specs.Runs.{AllRun, HasRunning, IsOutAt, MayTake, pieces_after};
+ghost use Rattle.session_core.specs.Runs.{ForConsumed, HasConsumed, HasRunning, MayConsume, MayTake, StopsConsuming};
 
+use crate::{Feed, Wiring};
 use ct_change::{Change, Changes, Steps};
-use op_rules::{OpFault, Operator, ready_change_may_arrive};
-use session_traffic::{Feed, Wiring};
+use op_rules::{OpFault, Operator};
 use std::sync::ledger::Ledger;
 use stream_model::StepFault;
 
@@ -33,11 +32,9 @@ impl<O: Operator> Operators<O> {
     ) -> Result<Changes, OpFault>
         requires node { feed.node < self.old.nodes }
         requires subtask { subtask < self.old.width }
-        requires ready { (g : Network) × (pieces : ℕ → ℕ → List (List Arrival)) × (from : ℕ) × (0 < g.ports feed.node) × (feed.node < g.count + 1) × AllRun O.rule O.broken O.stands_for g self.old.width self.old.items.items pieces × MayTake g feed.node subtask (joined (pieces feed.node subtask)) (arrival feed.port from change) }
-        ensures ok { IfOk result (λ sent. (g : Network) (pieces : ℕ → ℕ → List (List Arrival)) (from : ℕ) → 0 < g.ports feed.node → feed.node < g.count + 1 → AllRun O.rule O.broken O.stands_for g self.old.width self.old.items.items pieces → MayTake g feed.node subtask (joined (pieces feed.node subtask)) (arrival feed.port from change)
-            → (g.emits feed.node (joined (pieces feed.node subtask)) (arrival feed.port from change ∷ []) ≡ Ok sent) × AllRun O.rule O.broken O.stands_for g self.new.width self.new.items.items (pieces_after pieces feed.node subtask (arrival feed.port from change))) }
-        ensures range { IfRange result (λ row. (g : Network) (pieces : ℕ → ℕ → List (List Arrival)) (from : ℕ) → 0 < g.ports feed.node → feed.node < g.count + 1 → AllRun O.rule O.broken O.stands_for g self.old.width self.old.items.items pieces → MayTake g feed.node subtask (joined (pieces feed.node subtask)) (arrival feed.port from change)
-            → g.emits feed.node (joined (pieces feed.node subtask)) (arrival feed.port from change ∷ []) ≡ Err row) }
+        requires ready { MayConsume O.rule O.broken O.stands_for self.old.width self.old.items.items feed.node subtask feed.port change }
+        ensures ok { IfOk result (λ sent. HasConsumed O.rule O.broken O.stands_for self.old.width self.old.items.items self.new.items.items feed.node subtask feed.port change sent) }
+        ensures range { IfRange result (λ row. ForConsumed O.rule O.broken O.stands_for self.old.width self.old.items.items feed.node subtask feed.port change (λ g pieces a. g.emits feed.node (joined (pieces feed.node subtask)) (a ∷ []) ≡ Err row)) }
         ensures width { self.new.width ≡ self.old.width }
         ensures nodes { self.new.nodes ≡ self.old.nodes }
     {
@@ -72,7 +69,6 @@ fn consume_in<O: Operator, L: Ledger>(
     ensures range { IfRange result (λ row. (g : Network) (v j : ℕ) (before : List Arrival) (from : ℕ) → HasRunning O.rule O.broken O.stands_for g v slot.old before → MayTake g v j before (arrival port from change)
         → g.emits v before (arrival port from change ∷ []) ≡ Err row) }
 {
-    ready_change_may_arrive();
     match slot {
         Some(op) => op.consume(port, change, steps),
         None => unreachable!(),
@@ -91,11 +87,9 @@ pub fn consume_at<O: Operator, L: Ledger>(
     requires node { feed.node < operators.old.nodes }
     requires typed { feed.node < length wiring.now.types.items }
     requires subtask { subtask < operators.old.width }
-    requires ready { (g : Network) × (pieces : ℕ → ℕ → List (List Arrival)) × (from : ℕ) × (0 < g.ports feed.node) × (feed.node < g.count + 1) × AllRun O.rule O.broken O.stands_for g operators.old.width operators.old.items.items pieces × MayTake g feed.node subtask (joined (pieces feed.node subtask)) (arrival feed.port from change) }
-    ensures ok { IfOk result (λ sent. (g : Network) (pieces : ℕ → ℕ → List (List Arrival)) (from : ℕ) → 0 < g.ports feed.node → feed.node < g.count + 1 → AllRun O.rule O.broken O.stands_for g operators.old.width operators.old.items.items pieces → MayTake g feed.node subtask (joined (pieces feed.node subtask)) (arrival feed.port from change)
-        → (g.emits feed.node (joined (pieces feed.node subtask)) (arrival feed.port from change ∷ []) ≡ Ok sent) × AllRun O.rule O.broken O.stands_for g operators.new.width operators.new.items.items (pieces_after pieces feed.node subtask (arrival feed.port from change))) }
-    ensures err { IfErr result (λ fault. (g : Network) (limit : ℕ) (pieces : ℕ → ℕ → List (List Arrival)) (from : ℕ) → IsLaidOut wiring.now g limit → 0 < g.ports feed.node → feed.node < g.count + 1 → AllRun O.rule O.broken O.stands_for g operators.old.width operators.old.items.items pieces → MayTake g feed.node subtask (joined (pieces feed.node subtask)) (arrival feed.port from change)
-        → IsOutAt g feed.node subtask (g.emits feed.node (joined (pieces feed.node subtask)) (arrival feed.port from change ∷ [])) fault) }
+    requires ready { MayConsume O.rule O.broken O.stands_for operators.old.width operators.old.items.items feed.node subtask feed.port change }
+    ensures ok { IfOk result (λ sent. HasConsumed O.rule O.broken O.stands_for operators.old.width operators.old.items.items operators.new.items.items feed.node subtask feed.port change sent) }
+    ensures err { IfErr result (λ fault. StopsConsuming O.rule O.broken O.stands_for wiring.now operators.old.width operators.old.items.items feed.node subtask feed.port change fault) }
     ensures width { operators.new.width ≡ operators.old.width }
     ensures nodes { operators.new.nodes ≡ operators.old.nodes }
 {

@@ -1,5 +1,4 @@
-use crate::Operators;
-use session_traffic::{Traffic, Wiring};
+use crate::{Operators, Traffic, Wiring};
 
 /// A job: its operators, the checks of its sources, what is in flight and printed, and how it is wired.
 #[derive(Drop)]

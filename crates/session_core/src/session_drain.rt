@@ -1,28 +1,24 @@
-ghost use Rattle.std.specs.Prelude.{◌≡◌, ◌++◌, ℕ, List, Ok, OnOk, OnErr, IfOk, IfErr};
+ghost use Rattle.std.specs.Prelude.{◌++◌, ℕ, List, OnOk, IfOk, IfErr};
 ghost use Rattle.stream_model.specs.declared.events.PrintItem.{PrintItem};
 ghost use Rattle.stream_model.specs.Network.{Network};
-ghost use Rattle.stream_model.specs.Machine.{IsQuiet, State, opened};
-ghost use Rattle.stream_model.specs.Runs.{Item, after};
+ghost use Rattle.stream_model.specs.Machine.{State};
 ghost use Rattle.stream_model.specs.Drain as machine;
-ghost use Rattle.stream_model.specs.Drain.{IsDrainFault, Leads, StopsAlong, drain_stages, stage_items, stages};
-ghost use Rattle.session_traffic.specs.LaidOut.{IsThere, stage_of};
-ghost use Rattle.session_core.specs.Stands.{Keeps, StandsFor};
+ghost use Rattle.stream_model.specs.Drain.{StopsAlong, drain_stages, stage_items, stages};
+ghost use Rattle.session_core.specs.LaidOut.{IsThere, stage_of};
+ghost use Rattle.session_core.specs.Stands.{ForKept, HasDrained, Keeps, KeepsAlong, KeepsSome, StandsForSome, StopsDraining};
 
-use crate::{Session, SourceCheck};
+use crate::{Lane, Session, SourceCheck};
 use ct_change::Steps;
 use op_rules::Operator;
-use session_traffic::Lane;
 use std::sync::ledger::Ledger;
-use stream_model::{StepFault, Stopped, runs_drain};
+use stream_model::{StepFault, Stopped};
 
 impl<O: Operator + Drop, S: SourceCheck> Session<O, S> {
     // What is in flight in a channel is delivered whole.
     fn deliver<L: Ledger>(&mut self, lane: Lane, steps: &mut Steps<L>) -> Result<(), StepFault>
         requires ready { (g : Network) × (limit : ℕ) × (handed : List PrintItem) × (s : State) × Keeps O.rule O.broken O.stands_for S.stands_for g limit self.old handed s × IsThere g lane }
-        ensures ok { OnOk result ((g : Network) (limit : ℕ) (handed : List PrintItem) (s : State) → Keeps O.rule O.broken O.stands_for S.stands_for g limit self.old handed s → IsThere g lane
-            → (next : State) × Leads g limit s (stage_items s (stage_of lane)) next × Keeps O.rule O.broken O.stands_for S.stands_for g limit self.new handed next) }
-        ensures err { IfErr result (λ fault. (g : Network) (limit : ℕ) (handed : List PrintItem) (s : State) → Keeps O.rule O.broken O.stands_for S.stands_for g limit self.old handed s → IsThere g lane
-            → StopsAlong g limit s (stage_items s (stage_of lane)) fault (handed ++ self.new.traffic.printed)) }
+        ensures ok { OnOk result (ForKept O.rule O.broken O.stands_for S.stands_for self.old (λ g limit handed s. IsThere g lane → KeepsAlong O.rule O.broken O.stands_for S.stands_for (stage_items s (stage_of lane)) self.new g limit handed s)) }
+        ensures err { IfErr result (λ fault. ForKept O.rule O.broken O.stands_for S.stands_for self.old (λ g limit handed s. IsThere g lane → StopsAlong g limit s (stage_items s (stage_of lane)) fault (handed ++ self.new.traffic.printed))) }
     {
         let count = self.traffic.held(lane);
         for moved in 0..count {
@@ -33,11 +29,9 @@ impl<O: Operator + Drop, S: SourceCheck> Session<O, S> {
 
     // Every channel is delivered whole, in the order of a drain.
     fn deliver_all<L: Ledger>(&mut self, steps: &mut Steps<L>) -> Result<(), StepFault>
-        requires ready { (g : Network) × (limit : ℕ) × (handed : List PrintItem) × (s : State) × Keeps O.rule O.broken O.stands_for S.stands_for g limit self.old handed s }
-        ensures ok { OnOk result ((g : Network) (limit : ℕ) (handed : List PrintItem) (s : State) → Keeps O.rule O.broken O.stands_for S.stands_for g limit self.old handed s
-            → (next : State) × Leads g limit s (drain_stages g limit s (stages g)) next × Keeps O.rule O.broken O.stands_for S.stands_for g limit self.new handed next) }
-        ensures err { IfErr result (λ fault. (g : Network) (limit : ℕ) (handed : List PrintItem) (s : State) → Keeps O.rule O.broken O.stands_for S.stands_for g limit self.old handed s
-            → StopsAlong g limit s (drain_stages g limit s (stages g)) fault (handed ++ self.new.traffic.printed)) }
+        requires ready { KeepsSome O.rule O.broken O.stands_for S.stands_for self.old }
+        ensures ok { OnOk result (ForKept O.rule O.broken O.stands_for S.stands_for self.old (λ g limit handed s. KeepsAlong O.rule O.broken O.stands_for S.stands_for (drain_stages g limit s (stages g)) self.new g limit handed s)) }
+        ensures err { IfErr result (λ fault. ForKept O.rule O.broken O.stands_for S.stands_for self.old (λ g limit handed s. StopsAlong g limit s (drain_stages g limit s (stages g)) fault (handed ++ self.new.traffic.printed))) }
     {
         let count = self.wiring.lane_count();
         for done in 0..count {
@@ -49,11 +43,9 @@ impl<O: Operator + Drop, S: SourceCheck> Session<O, S> {
 
     // The drain's events, and that the job is quiet.
     fn run_drain<L: Ledger>(&mut self, steps: &mut Steps<L>) -> Result<(), StepFault>
-        requires ready { (g : Network) × (limit : ℕ) × (handed : List PrintItem) × (s : State) × Keeps O.rule O.broken O.stands_for S.stands_for g limit self.old handed s }
-        ensures ok { OnOk result ((g : Network) (limit : ℕ) (handed : List PrintItem) (s : State) → Keeps O.rule O.broken O.stands_for S.stands_for g limit self.old handed s
-            → (next : State) × Leads g limit s (machine.drain g limit s) next × Keeps O.rule O.broken O.stands_for S.stands_for g limit self.new handed next) }
-        ensures err { IfErr result (λ fault. (g : Network) (limit : ℕ) (handed : List PrintItem) (s : State) → Keeps O.rule O.broken O.stands_for S.stands_for g limit self.old handed s
-            → StopsAlong g limit s (machine.drain g limit s) fault (handed ++ self.new.traffic.printed)) }
+        requires ready { KeepsSome O.rule O.broken O.stands_for S.stands_for self.old }
+        ensures ok { OnOk result (ForKept O.rule O.broken O.stands_for S.stands_for self.old (λ g limit handed s. KeepsAlong O.rule O.broken O.stands_for S.stands_for (machine.drain g limit s) self.new g limit handed s)) }
+        ensures err { IfErr result (λ fault. ForKept O.rule O.broken O.stands_for S.stands_for self.old (λ g limit handed s. StopsAlong g limit s (machine.drain g limit s) fault (handed ++ self.new.traffic.printed))) }
     {
         self.deliver_all(steps)?;
         self.traffic.tell_quiet()?;
@@ -64,13 +56,10 @@ impl<O: Operator + Drop, S: SourceCheck> Session<O, S> {
     /// exactly where the machine stops along them, out of range or by the limit, or for want of memory; it hands back what
     /// was printed before it and not yet handed out.
     pub fn drain<L: Ledger>(mut self, steps: &mut Steps<L>) -> Result<Session<O, S>, Stopped>
-        requires ready { (g : Network) × (limit : ℕ) × (handed : List PrintItem) × (items : List Item) × StandsFor O.rule O.broken O.stands_for S.stands_for g limit self handed items }
-        ensures ok { IfOk result (λ next. (g : Network) (limit : ℕ) (handed : List PrintItem) (items : List Item) → StandsFor O.rule O.broken O.stands_for S.stands_for g limit self handed items
-            → (now : State) × Leads g limit (after g limit (opened g) items) (machine.drain g limit (after g limit (opened g) items)) now × StandsFor O.rule O.broken O.stands_for S.stands_for g limit next handed (items ++ machine.drain g limit (after g limit (opened g) items)) × IsQuiet g now) }
-        ensures err { IfErr result (λ stopped. (g : Network) (limit : ℕ) (handed : List PrintItem) (items : List Item) → StandsFor O.rule O.broken O.stands_for S.stands_for g limit self handed items
-            → StopsAlong g limit (after g limit (opened g) items) (machine.drain g limit (after g limit (opened g) items)) stopped.cause (handed ++ stopped.printed) × IsDrainFault stopped.cause) }
+        requires ready { StandsForSome O.rule O.broken O.stands_for S.stands_for self }
+        ensures ok { IfOk result (λ next. HasDrained O.rule O.broken O.stands_for S.stands_for self next) }
+        ensures err { IfErr result (λ stopped. StopsDraining O.rule O.broken O.stands_for S.stands_for self stopped.cause stopped.printed) }
     {
-        runs_drain();
         match self.run_drain(steps) {
             Ok(()) => Ok(self),
             Err(cause) => {

@@ -1,10 +1,9 @@
-ghost use Rattle.std.specs.Prelude.{◌≡◌, ◌++◌, ℕ, List, true};
-ghost use Rattle.stream_model.specs.declared.events.PrintItem.{PrintItem};
-ghost use Rattle.stream_model.specs.Network.{Network};
-ghost use Rattle.stream_model.specs.Machine.{IsQuiet, State, opened};
-ghost use Rattle.stream_model.specs.Runs.{Item, after};
-ghost use Rattle.session_traffic.specs.Kept.{in_flight};
-ghost use Rattle.session_core.specs.Stands.{StandsFor, buffer_at};
+ghost use Rattle.std.specs.Prelude.{◌≡◌, ◌++◌, true};
+ghost use Rattle.ct_change.specs.Changelog.{Mode};
+ghost use Rattle.stream_model.specs.Network.{MeetsFacts};
+ghost use Rattle.stream_model.specs.Machine.{IsQuiet, State};
+ghost use Rattle.session_core.specs.Kept.{in_flight};
+ghost use Rattle.session_core.specs.Stands.{ForRuns, HasAnswered, PrintsIn, StandsFor, StandsForSome, buffer_at, reached};
 
 use crate::{Buffer, Session, SourceCheck};
 use op_rules::Operator;
@@ -15,7 +14,7 @@ impl<O: Operator + Drop, S: SourceCheck> Session<O, S> {
     /// Hands out the items that were printed and not yet handed out. It takes no memory.
     pub fn take_printed(&mut self) -> PrintList
         ensures items { result ≡ self.old.traffic.printed }
-        ensures stands { (g : Network) (limit : ℕ) (handed : List PrintItem) (items : List Item) → StandsFor O.rule O.broken O.stands_for S.stands_for g limit self.old handed items → StandsFor O.rule O.broken O.stands_for S.stands_for g limit self.new (handed ++ result) items }
+        ensures stands { ForRuns O.rule O.broken O.stands_for S.stands_for self.old (λ g limit handed items. StandsFor O.rule O.broken O.stands_for S.stands_for g limit self.new (handed ++ result) items) }
     {
         let mut items = PrintList::new(self.wiring.alloc);
         swap(&mut items, &mut self.traffic.printed);
@@ -24,15 +23,15 @@ impl<O: Operator + Drop, S: SourceCheck> Session<O, S> {
 
     /// How many changes are in flight in a channel, and `None` exactly where there is no such channel. It takes no memory.
     pub fn in_flight(&self, edge: u32, from: u32, to: u32) -> Option<u32>
-        requires ready { (g : Network) × (limit : ℕ) × (handed : List PrintItem) × (items : List Item) × StandsFor O.rule O.broken O.stands_for S.stands_for g limit self.now handed items }
-        ensures value { (g : Network) (limit : ℕ) (handed : List PrintItem) (items : List Item) → StandsFor O.rule O.broken O.stands_for S.stands_for g limit self.now handed items → result ≡ in_flight g (after g limit (opened g) items) edge from to }
+        requires ready { StandsForSome O.rule O.broken O.stands_for S.stands_for self.now }
+        ensures value { ForRuns O.rule O.broken O.stands_for S.stands_for self.now (λ g limit handed items. result ≡ in_flight g (reached g limit items) edge from to) }
     {
         self.traffic.in_flight(&self.wiring, edge, from, to)
     }
 
     /// What a subtask keeps of a bundle. It takes no memory.
     pub fn buffered(&self, node: u32, subtask: u32) -> Buffer
-        ensures { (g : Network) (limit : ℕ) (handed : List PrintItem) (items : List Item) → StandsFor O.rule O.broken O.stands_for S.stands_for g limit self.now handed items → result ≡ buffer_at g (after g limit (opened g) items) node subtask }
+        ensures { ForRuns O.rule O.broken O.stands_for S.stands_for self.now (λ g limit handed items. result ≡ buffer_at g (reached g limit items) node subtask) }
     {
         if node > 0 && node <= self.wiring.nodes && subtask < self.wiring.parallelism {
             Buffer::NoBuffer
@@ -43,16 +42,18 @@ impl<O: Operator + Drop, S: SourceCheck> Session<O, S> {
 
     /// How many changes were taken. It takes no memory.
     pub fn taken(&self) -> u32
-        ensures { (g : Network) (limit : ℕ) (handed : List PrintItem) (items : List Item) → StandsFor O.rule O.broken O.stands_for S.stands_for g limit self.now handed items → result ≡ (after g limit (opened g) items).took }
+        ensures { ForRuns O.rule O.broken O.stands_for S.stands_for self.now (λ g limit handed items. result ≡ (reached g limit items).took) }
     {
         self.traffic.took
     }
 
-    /// Whether no channel and no bundle holds a change. It takes no memory.
+    /// Whether no channel and no bundle holds a change: then what was printed, in all, is the batch answer over what was taken. It
+    /// takes no memory.
     pub fn is_quiet(&self) -> bool
-        requires ready { (g : Network) × (limit : ℕ) × (handed : List PrintItem) × (items : List Item) × StandsFor O.rule O.broken O.stands_for S.stands_for g limit self.now handed items }
-        ensures quiet { (g : Network) (limit : ℕ) (handed : List PrintItem) (items : List Item) → StandsFor O.rule O.broken O.stands_for S.stands_for g limit self.now handed items → result ≡ true → IsQuiet g (after g limit (opened g) items) }
-        ensures busy { (g : Network) (limit : ℕ) (handed : List PrintItem) (items : List Item) → StandsFor O.rule O.broken O.stands_for S.stands_for g limit self.now handed items → IsQuiet g (after g limit (opened g) items) → result ≡ true }
+        requires ready { StandsForSome O.rule O.broken O.stands_for S.stands_for self.now }
+        ensures quiet { ForRuns O.rule O.broken O.stands_for S.stands_for self.now (λ g limit handed items. result ≡ true → IsQuiet g (reached g limit items)) }
+        ensures answers { result ≡ true → ForRuns O.rule O.broken O.stands_for S.stands_for self.now (λ g limit handed items. (mode : Mode) → MeetsFacts g → PrintsIn g mode → HasAnswered g mode (reached g limit items)) }
+        ensures busy { ForRuns O.rule O.broken O.stands_for S.stands_for self.now (λ g limit handed items. IsQuiet g (reached g limit items) → result ≡ true) }
     {
         self.traffic.is_quiet(&self.wiring)
     }

@@ -2,10 +2,8 @@ ghost use Rattle.std.specs.Prelude.{ℕ, []};
 ghost use Rattle.stream_model.specs.Network.{MeetsFacts, Network};
 ghost use Rattle.session_core.specs.Stands.{Opens, StandsFor};
 
-use crate::{Operators, Session, SourceCheck};
+use crate::{Operators, Session, SourceCheck, Traffic, Wiring};
 use op_rules::Operator;
-use session_traffic::{Traffic, Wiring};
-use stream_model::{plans_compose, runs_are_safe};
 
 impl<O: Operator + Drop, S: SourceCheck> Session<O, S> {
     /// The session of parts that agree with the machine's opening state, over a network whose nodes meet their facts. It
@@ -18,8 +16,6 @@ impl<O: Operator + Drop, S: SourceCheck> Session<O, S> {
     ) -> Session<O, S>
         ensures { (g : Network) (limit : ℕ) → MeetsFacts g → Opens O.rule O.broken O.stands_for S.stands_for g limit operators sources.items traffic wiring → StandsFor O.rule O.broken O.stands_for S.stands_for g limit result [] [] }
     {
-        runs_are_safe();
-        plans_compose();
         Session {
             operators,
             sources,

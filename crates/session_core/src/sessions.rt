@@ -1,22 +1,18 @@
-ghost use Rattle.std.specs.Prelude.{◌≡◌, ◌∷◌, ◌++◌, [], ℕ, List, Ok, OnOk, OnErr, IfOk, IfErr};
-ghost use Rattle.ct_change.specs.declared.change.Change.{Change};
-ghost use Rattle.stream_model.specs.declared.events.Event.TheVariants.{Move as Moves, Take as Takes};
-ghost use Rattle.stream_model.specs.declared.events.PrintItem.{PrintItem};
+ghost use Rattle.std.specs.Prelude.{◌≡◌, ℕ, OnOk, OnErr, IfOk, IfErr};
+ghost use Rattle.stream_model.specs.declared.events.Event.TheVariants.{Take as Takes};
 ghost use Rattle.stream_model.specs.Network.{Network};
 ghost use Rattle.stream_model.specs.Machine as machine;
-ghost use Rattle.stream_model.specs.Machine.{State, opened};
-ghost use Rattle.stream_model.specs.Runs.{Item, IsTyped, after, happens};
+ghost use Rattle.stream_model.specs.Machine.{State};
 ghost use Rattle.stream_model.specs.Drain.{StopsBy};
-ghost use Rattle.session_traffic.specs.LaidOut.{IsLaidOut};
-ghost use Rattle.session_core.specs.Sources.{AllCheck, IsAccepted, MayCheck};
-ghost use Rattle.session_core.specs.Stands.{Keeps, StandsFor};
+ghost use Rattle.session_core.specs.LaidOut.{IsLaidOut};
+ghost use Rattle.session_core.specs.Sources.{IsAccepted, MayCheck};
+ghost use Rattle.session_core.specs.Stands.{ForApplied, ForKept, ForSteps, HasStepped, KeepsAnswer, KeepsSome, MayApply, MayStep, reached};
 
 use crate::operators::consume_at;
-use crate::{Session, SourceCheck, SourceFault};
+use crate::{Session, SourceCheck, SourceFault, Wiring};
 use ct_change::{Change, Steps};
 use ct_value::OrderCode;
 use op_rules::Operator;
-use session_traffic::Wiring;
 use std::sync::ledger::Ledger;
 use stream_model::{Event, StepFault, Stopped};
 
@@ -29,11 +25,9 @@ impl<O: Operator + Drop, S: SourceCheck> Session<O, S> {
         to: u32,
         steps: &mut Steps<L>,
     ) -> Result<(), StepFault>
-        requires ready { (g : Network) × (limit : ℕ) × (handed : List PrintItem) × (s : State) × Keeps O.rule O.broken O.stands_for S.stands_for g limit self.old handed s }
-        ensures ok { OnOk result ((g : Network) (limit : ℕ) (handed : List PrintItem) (s : State) → Keeps O.rule O.broken O.stands_for S.stands_for g limit self.old handed s
-            → (next : State) × (machine.move g limit s edge from to ≡ Ok next) × Keeps O.rule O.broken O.stands_for S.stands_for g limit self.new handed next) }
-        ensures err { IfErr result (λ fault. (g : Network) (limit : ℕ) (handed : List PrintItem) (s : State) → Keeps O.rule O.broken O.stands_for S.stands_for g limit self.old handed s
-            → StopsBy (machine.move g limit s edge from to) fault) }
+        requires ready { KeepsSome O.rule O.broken O.stands_for S.stands_for self.old }
+        ensures ok { OnOk result (ForKept O.rule O.broken O.stands_for S.stands_for self.old (λ g limit handed s. KeepsAnswer O.rule O.broken O.stands_for S.stands_for (machine.move g limit s edge from to) self.new g limit handed)) }
+        ensures err { IfErr result (λ fault. ForKept O.rule O.broken O.stands_for S.stands_for self.old (λ g limit handed s. StopsBy (machine.move g limit s edge from to) fault)) }
         ensures printed { OnErr result (self.new.traffic.printed ≡ self.old.traffic.printed) }
     {
         let (feed, change) = self.traffic.fetch(&self.wiring, edge, from, to)?;
@@ -44,11 +38,9 @@ impl<O: Operator + Drop, S: SourceCheck> Session<O, S> {
 
     // One change of a table enters the channels of its scans.
     fn take(&mut self, table: u32, change: Change) -> Result<(), StepFault>
-        requires ready { (g : Network) × (limit : ℕ) × (handed : List PrintItem) × (s : State) × Keeps O.rule O.broken O.stands_for S.stands_for g limit self.old handed s × IsTyped g (happens (Takes table change)) }
-        ensures ok { OnOk result ((g : Network) (limit : ℕ) (handed : List PrintItem) (s : State) → Keeps O.rule O.broken O.stands_for S.stands_for g limit self.old handed s → IsTyped g (happens (Takes table change))
-            → (next : State) × (machine.take g limit s table change ≡ Ok next) × Keeps O.rule O.broken O.stands_for S.stands_for g limit self.new handed next) }
-        ensures err { IfErr result (λ fault. (g : Network) (limit : ℕ) (handed : List PrintItem) (s : State) → Keeps O.rule O.broken O.stands_for S.stands_for g limit self.old handed s → IsTyped g (happens (Takes table change))
-            → StopsBy (machine.take g limit s table change) fault) }
+        requires ready { MayApply O.rule O.broken O.stands_for S.stands_for self.old (Takes table change) }
+        ensures ok { OnOk result (ForApplied O.rule O.broken O.stands_for S.stands_for self.old (Takes table change) (λ g limit handed s. KeepsAnswer O.rule O.broken O.stands_for S.stands_for (machine.take g limit s table change) self.new g limit handed)) }
+        ensures err { IfErr result (λ fault. ForApplied O.rule O.broken O.stands_for S.stands_for self.old (Takes table change) (λ g limit handed s. StopsBy (machine.take g limit s table change) fault)) }
         ensures printed { OnErr result (self.new.traffic.printed ≡ self.old.traffic.printed) }
     {
         check_source(&mut self.sources, table, &change)?;
@@ -58,11 +50,9 @@ impl<O: Operator + Drop, S: SourceCheck> Session<O, S> {
 
     // One event.
     fn apply<L: Ledger>(&mut self, event: Event, steps: &mut Steps<L>) -> Result<(), StepFault>
-        requires ready { (g : Network) × (limit : ℕ) × (handed : List PrintItem) × (s : State) × Keeps O.rule O.broken O.stands_for S.stands_for g limit self.old handed s × IsTyped g (happens event) }
-        ensures ok { OnOk result ((g : Network) (limit : ℕ) (handed : List PrintItem) (s : State) → Keeps O.rule O.broken O.stands_for S.stands_for g limit self.old handed s → IsTyped g (happens event)
-            → (next : State) × (machine.step g limit s event ≡ Ok next) × Keeps O.rule O.broken O.stands_for S.stands_for g limit self.new handed next) }
-        ensures err { IfErr result (λ fault. (g : Network) (limit : ℕ) (handed : List PrintItem) (s : State) → Keeps O.rule O.broken O.stands_for S.stands_for g limit self.old handed s → IsTyped g (happens event)
-            → StopsBy (machine.step g limit s event) fault) }
+        requires ready { MayApply O.rule O.broken O.stands_for S.stands_for self.old event }
+        ensures ok { OnOk result (ForApplied O.rule O.broken O.stands_for S.stands_for self.old event (λ g limit handed s. KeepsAnswer O.rule O.broken O.stands_for S.stands_for (machine.step g limit s event) self.new g limit handed)) }
+        ensures err { IfErr result (λ fault. ForApplied O.rule O.broken O.stands_for S.stands_for self.old event (λ g limit handed s. StopsBy (machine.step g limit s event) fault)) }
         ensures printed { OnErr result (self.new.traffic.printed ≡ self.old.traffic.printed) }
     {
         match event {
@@ -80,11 +70,9 @@ impl<O: Operator + Drop, S: SourceCheck> Session<O, S> {
         event: Event,
         steps: &mut Steps<L>,
     ) -> Result<Session<O, S>, Stopped>
-        requires ready { (g : Network) × (limit : ℕ) × (handed : List PrintItem) × (items : List Item) × StandsFor O.rule O.broken O.stands_for S.stands_for g limit self handed items × IsTyped g (happens event) }
-        ensures ok { IfOk result (λ next. (g : Network) (limit : ℕ) (handed : List PrintItem) (items : List Item) → StandsFor O.rule O.broken O.stands_for S.stands_for g limit self handed items → IsTyped g (happens event)
-            → (now : State) × (machine.step g limit (after g limit (opened g) items) event ≡ Ok now) × StandsFor O.rule O.broken O.stands_for S.stands_for g limit next handed (items ++ happens event ∷ [])) }
-        ensures err { IfErr result (λ stopped. (g : Network) (limit : ℕ) (handed : List PrintItem) (items : List Item) → StandsFor O.rule O.broken O.stands_for S.stands_for g limit self handed items → IsTyped g (happens event)
-            → StopsBy (machine.step g limit (after g limit (opened g) items) event) stopped.cause) }
+        requires ready { MayStep O.rule O.broken O.stands_for S.stands_for self event }
+        ensures ok { IfOk result (λ next. HasStepped O.rule O.broken O.stands_for S.stands_for self event next) }
+        ensures err { IfErr result (λ stopped. ForSteps O.rule O.broken O.stands_for S.stands_for self event (λ g limit handed items. StopsBy (machine.step g limit (reached g limit items) event) stopped.cause)) }
         ensures printed { IfErr result (λ stopped. stopped.printed ≡ self.traffic.printed) }
     {
         match self.apply(event, steps) {

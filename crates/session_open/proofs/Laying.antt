@@ -8,9 +8,9 @@ use Rattle.std.proofs.lemmas.Option.{none-some, same_Some, slice_get_cases, slic
 use Rattle.ct_catalog.specs.declared.table.TableDef.{TableDef}
 use Rattle.phys_plan.specs.declared.node.Node.{Node}
 use Rattle.stream_model.specs.Network.{Feed, Network, IsWired}
-use Rattle.session_traffic.specs.declared.wiring.Feed as kept
-use Rattle.session_traffic.specs.declared.wiring.TableWiring.{TableWiring}
-use Rattle.session_traffic.specs.LaidOut.{IsTableIn, feed_of, scans_below}
+use Rattle.session_core.specs.declared.wiring.Feed as kept
+use Rattle.session_core.specs.declared.wiring.TableWiring.{TableWiring}
+use Rattle.session_core.specs.LaidOut.{IsTableIn, feed_of, scans_below}
 use Rattle.op_rules.specs.Edges.{hash}
 use Rattle.ct_value.specs.declared.ty.ColTy.{ColTy}
 use Rattle.ct_value.specs.declared.value.Value.{Value}
@@ -20,11 +20,14 @@ use Rattle.phys_plan.specs.declared.edge.Edge.{Edge as PlanEdge}
 use Rattle.phys_plan.specs.declared.edge.Exchange.{Exchange as PlanExchange}
 use Rattle.phys_plan.specs.declared.edge.Exchange.TheVariants.{Forward, Hash}
 use Rattle.phys_plan.specs.declared.plan.Plan.{Plan}
-use Rattle.plan_network.specs.Plans.{Doing, bundle_in, bundle_of, column_types, columns_from, exchange_in, exchange_of, network_edge, network_of, numbered, route_by, spread_of, table_of}
-use Rattle.session_channels.specs.declared.exchange.Route.{Route}
-use Rattle.session_channels.specs.declared.exchange.Route.TheVariants as r
-use Rattle.session_channels.specs.Routes.{RoutesFor}
-use Rattle.session_open.specs.Opening.{AreColumns, IsKeyRoute, IsRouteIn, IsRouteOf}
+use Rattle.plan_rules.specs.Plans.{Doing, bundle_in, bundle_of, columns_from, exchange_in, exchange_of, network_edge, network_of, route_by, spread_of, table_of}
+use Rattle.phys_plan.specs.Reading.{numbered}
+use Rattle.ct_catalog.specs.Columns.{column_types}
+use Rattle.session_core.specs.declared.exchange.Route.{Route}
+use Rattle.session_core.specs.declared.exchange.Route.TheVariants as r
+use Rattle.session_core.specs.Routes.{RoutesFor}
+use Rattle.session_open.specs.Opening.{IsKeyRoute, IsRouteIn, IsRouteOf}
+use Rattle.plan_rules.specs.Columns.{AreColumns}
 
 -- ---- lists to which an item is put
 

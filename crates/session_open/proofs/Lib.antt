@@ -1,4 +1,5 @@
 pub mod Laying
+pub mod Nodes
 pub mod Ports
 pub mod Stages
 pub mod Started

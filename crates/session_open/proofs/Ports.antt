@@ -3,7 +3,7 @@ use Rattle.std.proofs.Common.{◌≡◌, ℕ, zero, suc, ◌+◌, ◌<◌, ◌�
 use Rattle.std.specs.Option.{option_map}
 use Rattle.phys_plan.specs.declared.node.Node.{Node}
 use Rattle.stream_model.specs.Network as network
-use Rattle.plan_network.specs.Plans.{port_of, feed_at, feed_from}
+use Rattle.plan_rules.specs.Plans.{port_of, feed_at, feed_from}
 
 -- what is left of a list at an index
 pub drop_at : {A : Type 0} (xs : List A) (n : ℕ) (x : A) → n < length xs → x ≡ get_or xs n x → drop n xs ≡ x ∷ drop (suc n) xs

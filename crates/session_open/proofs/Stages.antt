@@ -7,8 +7,8 @@ use Rattle.std.proofs.lemmas.List.Elements.{All-append}
 use Rattle.stream_model.specs.Network.{Network}
 use Rattle.stream_model.specs.Machine.{is_channel, has_channel}
 use Rattle.stream_model.specs.Drain.{Stage, delivers, channels_to, channels_from, channels_into, bundles_at, feeds_node, stages_from}
-use Rattle.session_traffic.specs.declared.wiring.Lane.{Lane}
-use Rattle.session_traffic.specs.LaidOut.{IsThere, stage_of}
+use Rattle.session_core.specs.declared.wiring.Lane.{Lane}
+use Rattle.session_core.specs.LaidOut.{IsThere, stage_of}
 use Rattle.session_open.specs.Wired.{Lays}
 
 -- a list of parts, each part behind those before it

@@ -1,2 +1,4 @@
+pub mod Modes
 pub mod Opening
+pub mod Running
 pub mod Wired

@@ -14,15 +14,18 @@ use Rattle.phys_plan.specs.declared.edge.Exchange.TheVariants.{Forward, Hash}
 use Rattle.phys_plan.specs.declared.plan.Plan.{Plan}
 use Rattle.stream_model.specs.Network.{Network, IsWired, MeetsFacts}
 use Rattle.stream_model.specs.Machine.{opened}
-use Rattle.plan_network.specs.Plans.{Doing, bundle_of, column_types, network_of, numbered, spread_of}
-use Rattle.session_channels.specs.declared.channels.Channels.{Channels}
-use Rattle.session_channels.specs.declared.exchange.KeyRoute.{KeyRoute}
-use Rattle.session_channels.specs.declared.exchange.Route.{Route}
-use Rattle.session_channels.specs.declared.exchange.Route.TheVariants as r
-use Rattle.session_channels.specs.Sending.{Carry}
-use Rattle.session_traffic.specs.declared.wiring.Wiring.{Wiring}
-use Rattle.session_traffic.specs.Kept.{AllFit}
-use Rattle.session_traffic.specs.LaidOut.{IsLaidOut}
+use Rattle.plan_rules.specs.Columns.{AreColumns}
+use Rattle.plan_rules.specs.Plans.{Doing, bundle_of, network_of, spread_of}
+use Rattle.phys_plan.specs.Reading.{numbered}
+use Rattle.ct_catalog.specs.Columns.{column_types}
+use Rattle.session_core.specs.declared.channels.Channels.{Channels}
+use Rattle.session_core.specs.declared.exchange.KeyRoute.{KeyRoute}
+use Rattle.session_core.specs.declared.exchange.Route.{Route}
+use Rattle.session_core.specs.declared.exchange.Route.TheVariants as r
+use Rattle.session_core.specs.Sending.{Carry}
+use Rattle.session_core.specs.declared.wiring.Wiring.{Wiring}
+use Rattle.session_core.specs.Kept.{AllFit}
+use Rattle.session_core.specs.LaidOut.{IsLaidOut}
 use Rattle.session_core.specs.Runs.{RunsAs}
 use Rattle.session_open.specs.declared.fault.OpenFault.{OpenFault}
 use Rattle.session_open.specs.declared.fault.OpenFault.TheVariants.{Limit, Memory}
@@ -49,10 +52,6 @@ pub record MayOpen (plan : Plan) (columns : List (List ColTy)) : Type 0 where
   pub typed : length columns ≡ length plan.nodes + 1
   pub exchanged : (e : ℕ) (edge : PlanEdge) → numbered plan.edges e ≡ Some edge → IsExchange (get_or columns e []) edge.exchange
   pub spread : All (λ table. AreRoutable (column_types table) (spread_of table)) plan.sources
-
--- the columns of a node, by its number
-abbrev pub AreColumns : List (List ColTy) → (ℕ → List ColTy) → Type 0
-AreColumns kept columns = (v : ℕ) → get_or kept v [] ≡ columns v
 
 -- a network of a plan, for which operators are made, and whose nodes meet their facts
 pub record IsOpenable (runs : Plan → List (List ColTy) → Network → Type 0) (plan : Plan) (kept : List (List ColTy)) (columns : ℕ → List ColTy) (doing : ℕ → Doing) : Type 0 where

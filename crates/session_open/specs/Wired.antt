@@ -3,9 +3,9 @@ use Rattle.std.specs.Prelude.{◌≡◌, ℕ, ◌+◌, List, ◌++◌, map, leng
 use Rattle.std.specs.List.{All}
 use Rattle.stream_model.specs.Network.{Network}
 use Rattle.stream_model.specs.Drain.{Stage}
-use Rattle.session_channels.specs.Sending.{AllRoute}
-use Rattle.session_traffic.specs.declared.wiring.Lane.{Lane}
-use Rattle.session_traffic.specs.LaidOut.{IsThere, feed_of, stage_of}
+use Rattle.session_core.specs.Sending.{AllRoute}
+use Rattle.session_core.specs.declared.wiring.Lane.{Lane}
+use Rattle.session_core.specs.LaidOut.{IsThere, feed_of, stage_of}
 use Rattle.session_open.specs.declared.wires.Wires.{Wires}
 
 -- these are the wires of a network in which no node keeps bundles

@@ -1,10 +1,10 @@
 ghost use Rattle.std.specs.Prelude.{◌≡◌, ◌<◌, ◌+◌, ◌^◌, ℕ, All, None, get_or, length, IfOk};
-ghost use Rattle.plan_network.specs.Plans as plans;
-ghost use Rattle.session_traffic.specs.LaidOut.{feed_of};
+ghost use Rattle.plan_rules.specs.Plans as plans;
+ghost use Rattle.session_core.specs.LaidOut.{feed_of};
 
 use ct_value::{Memory, Numbers};
 use phys_plan::Nodes;
-use session_traffic::Feed;
+use session_core::Feed;
 use std::alloc::Global;
 
 /// The port that each edge of a plan feeds, by the edge's number.

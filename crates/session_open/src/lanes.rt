@@ -6,7 +6,7 @@ ghost use Rattle.session_open.specs.Wired.{AreWires, Lays};
 
 use crate::Wires;
 use ct_value::Memory;
-use session_traffic::Lane;
+use session_core::Lane;
 use std::alloc::Global;
 
 impl Wires {

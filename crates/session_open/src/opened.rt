@@ -1,6 +1,6 @@
 ghost use Rattle.std.specs.Prelude.{ℕ, [], List as Seq, IfOk, IfErr};
 ghost use Rattle.ct_value.specs.declared.ty.ColTy.{ColTy};
-ghost use Rattle.plan_network.specs.Plans.{Doing, network_of};
+ghost use Rattle.plan_rules.specs.Plans.{Doing, network_of};
 ghost use Rattle.stream_model.specs.Machine.{opened};
 ghost use Rattle.session_core.specs.Stands.{StandsFor};
 ghost use Rattle.session_open.specs.Opening.{IsOpenable, IsTooMany, MayOpen};
@@ -11,11 +11,9 @@ use crate::wiring::wiring_of;
 use crate::{OpenFault, PlanOperator, PlanSource};
 use ct_value::{ColTys, List};
 use phys_plan::Plan;
-use session_channels::Channels;
-use session_core::Session;
-use session_traffic::Traffic;
+use session_core::{Channels, Session, Traffic};
 use std::alloc::Global;
-use stream_model::{PrintList, plans_compose};
+use stream_model::PrintList;
 
 /// The session of a plan, with the columns that each node sends and a limit on the changes sent: it stands for the empty run of
 /// the plan's network, and has handed out nothing. What nodes open with is sent. `Limit` comes exactly where that is more than
@@ -31,7 +29,6 @@ pub fn open_job<O: PlanOperator, S: PlanSource>(
     ensures ok { IfOk result (λ session. (of : ℕ → Seq ColTy) (doing : ℕ → Doing) → IsOpenable O.runs plan.now columns.now of doing → StandsFor O.rule O.broken O.stands_for S.stands_for (network_of of doing plan.now) limit session [] []) }
     ensures err { IfErr result (λ fault. (of : ℕ → Seq ColTy) (doing : ℕ → Doing) → IsOpenable O.runs plan.now columns.now of doing → IsTooMany limit (opened (network_of of doing plan.now)).sends fault) }
 {
-    plans_compose();
     let wiring = wiring_of::<O>(alloc, plan, columns, limit)?;
     let sources = sources_of(alloc, plan)?;
     let mut channels = Channels::new(alloc, plan.nodes.len() as u32 + 1, plan.parallelism)?;

@@ -9,9 +9,7 @@ use crate::{OpenFault, PlanOperator};
 use ct_change::Changes;
 use ct_value::{ColTys, List, Memory};
 use phys_plan::Plan;
-use session_channels::{Channels, send_all};
-use session_core::Operators;
-use session_traffic::Wiring;
+use session_core::{Channels, Operators, Wiring, send_all};
 use std::alloc::Global;
 
 /// The operators of a plan, one for each subtask of each node, of which each sent what it opens with: they stand for nothing

@@ -1,17 +1,18 @@
 ghost use Rattle.std.specs.Prelude.{◌≡◌, ◌<◌, ℕ, [], ◌∷◌, ◌++◌, List as Seq, All, cond, length, slice_get, Some, IfOk, OnOk};
 ghost use Rattle.ct_catalog.specs.declared.table.TableDef.{TableDef as Table};
 ghost use Rattle.ct_value.specs.declared.ty.ColTy.{ColTy};
-ghost use Rattle.plan_network.specs.Plans.{Doing, column_types, columns_from, network_of, numbered, scan_in, scan_of, spread_of};
+ghost use Rattle.plan_rules.specs.Plans.{Doing, columns_from, network_of, scan_in, scan_of, spread_of};
+ghost use Rattle.phys_plan.specs.Reading.{numbered};
+ghost use Rattle.ct_catalog.specs.Columns.{column_types};
 ghost use Rattle.stream_model.specs.Machine.{is_number};
-ghost use Rattle.session_traffic.specs.LaidOut.{scans_below};
-ghost use Rattle.session_traffic.specs.declared.wiring.TableWiring.{TableWiring as Kept};
+ghost use Rattle.session_core.specs.LaidOut.{scans_below};
+ghost use Rattle.session_core.specs.declared.wiring.TableWiring.{TableWiring as Kept};
 ghost use Rattle.session_open.specs.Opening.{AreRoutable, IsKeyRoute};
 
 use ct_catalog::TableDef;
 use ct_value::{Cols, Memory};
 use phys_plan::{Op, Plan};
-use session_channels::KeyRoute;
-use session_traffic::TableWiring;
+use session_core::{KeyRoute, TableWiring};
 use std::alloc::Global;
 
 /// How the changes of each table of a plan are spread, and its scans.

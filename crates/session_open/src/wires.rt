@@ -1,5 +1,4 @@
-use session_channels::Route;
-use session_traffic::Feed;
+use session_core::{Feed, Route};
 
 /// How nodes are joined: into how many subtasks each is split, how many nodes there are, and by edge the port that it feeds
 /// and its route.

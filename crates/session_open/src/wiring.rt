@@ -1,9 +1,10 @@
 ghost use Rattle.std.specs.Prelude.{◌≡◌, ◌+◌, ℕ, List as Seq, length, IfOk};
 ghost use Rattle.ct_value.specs.declared.ty.ColTy.{ColTy};
-ghost use Rattle.plan_network.specs.Plans.{Doing, network_of};
+ghost use Rattle.plan_rules.specs.Plans.{Doing, network_of};
 ghost use Rattle.stream_model.specs.Network.{IsWired};
-ghost use Rattle.session_traffic.specs.LaidOut.{IsLaidOut};
-ghost use Rattle.session_open.specs.Opening.{AreColumns, IsOpenable, MayOpen};
+ghost use Rattle.session_core.specs.LaidOut.{IsLaidOut};
+ghost use Rattle.session_open.specs.Opening.{IsOpenable, MayOpen};
+ghost use Rattle.plan_rules.specs.Columns.{AreColumns};
 ghost use Rattle.session_open.specs.Wired.{AreWires};
 
 use crate::feeds::feeds_of;
@@ -13,7 +14,7 @@ use crate::tables::tables_of;
 use crate::{PlanOperator, Wires};
 use ct_value::{ColTys, List, Memory};
 use phys_plan::Plan;
-use session_traffic::Wiring;
+use session_core::Wiring;
 use std::alloc::Global;
 
 /// How a job of a plan is wired, under this limit on the changes sent.

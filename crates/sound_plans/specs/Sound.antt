@@ -10,7 +10,9 @@ use Rattle.stream_model.specs.Machine.{opened}
 use Rattle.stream_model.specs.Network.{task, IsWired, MeetsFacts}
 use Rattle.stream_model.specs.Runs.{Item, after, AreTyped}
 use Rattle.stream_model.specs.Theorem.{PrintsAnswer}
-use Rattle.plan_network.specs.Plans.{numbered, scan_of, table_mode}
+use Rattle.plan_rules.specs.Plans.{scan_of}
+use Rattle.phys_plan.specs.Reading.{numbered}
+use Rattle.ct_catalog.specs.Columns.{table_mode}
 use Rattle.plan_rules.specs.Columns.{node_columns}
 use Rattle.plan_rules.specs.Doings.{around_of, rule_by, network}
 use Rattle.plan_check.specs.Sound.{IsSound}

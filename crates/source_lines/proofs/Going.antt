@@ -3,11 +3,11 @@ use Rattle.std.proofs.Common.{◌≡◌, ◌⊎◌, inl, inr, ◌≤◌, ◌<◌
 use Rattle.std.proofs.lemmas.List.{take-append-drop}
 use Rattle.ct_value.specs.declared.codes.ChangeCode.{ChangeCode}
 use Rattle.ct_catalog.specs.declared.table.TableDef.{TableDef}
-use Rattle.change_lines.specs.declared.line.Line.{Line}
-use Rattle.change_lines.specs.declared.line.LineFault.{LineFault}
-use Rattle.change_lines.specs.declared.line.LineFault.TheVariants.{Change as RefusedLine, Memory as NoMemory}
-use Rattle.change_lines.specs.Lines.{Record, answer_of, line_of}
-use Rattle.source_fold.specs.declared.folds.SourceFold.{SourceFold}
+use Rattle.job_text.specs.declared.line.Line.{Line}
+use Rattle.job_text.specs.declared.line.LineFault.{LineFault}
+use Rattle.job_text.specs.declared.line.LineFault.TheVariants.{Change as RefusedLine, Memory as NoMemory}
+use Rattle.job_text.specs.Lines.{Record, answer_of, line_of}
+use Rattle.source_lines.specs.declared.folds.SourceFold.{SourceFold}
 use Rattle.source_lines.specs.declared.fault.TakeFault.{TakeFault}
 use Rattle.source_lines.specs.declared.fault.TakeFault.TheVariants.{Refused, Memory}
 use Rattle.source_lines.specs.Standing.{AreFew, Going, StandAll, Took}

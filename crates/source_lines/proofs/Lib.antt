@@ -1,3 +1,12 @@
+pub mod Columns
+pub mod Counts
 pub mod Going
+pub mod Keyed
+pub mod LineFolds
+pub mod Lines
+pub mod Nulls
 pub mod Rows
 pub mod Stand
+pub mod Takes
+pub mod Values
+pub mod laws

@@ -3,9 +3,9 @@ use Rattle.std.proofs.Common.{◌≡◌, suc, List, [], ◌∷◌, ◌++◌, ref
 use Rattle.ct_change.specs.declared.change.Change.{Change}
 use Rattle.ct_change.specs.Changelog.{Rows, fold}
 use Rattle.ct_catalog.specs.declared.table.TableDef.{TableDef}
-use Rattle.plan_network.specs.Plans.{table_mode}
-use Rattle.source_fold.specs.Folding.{FoldStands}
-use Rattle.source_fold.specs.declared.folds.SourceFold.{SourceFold}
+use Rattle.ct_catalog.specs.Columns.{table_mode}
+use Rattle.source_lines.specs.Folding.{FoldStands}
+use Rattle.source_lines.specs.declared.folds.SourceFold.{SourceFold}
 use Rattle.source_lines.specs.Standing.{StandAll}
 use Rattle.source_lines.specs.Taken.{Taken, rows_of}
 

@@ -3,10 +3,10 @@ use Rattle.std.proofs.Common.{◌≡◌, ◌≤◌, ◌<◌, ◌+◌, ℕ, zero,
 use Rattle.std.proofs.lemmas.Bool.{eq-eqb, ne_eqb}
 use Rattle.ct_change.specs.declared.change.Change.{Change}
 use Rattle.ct_catalog.specs.declared.table.TableDef.{TableDef}
-use Rattle.change_lines.specs.declared.line.Line.{Line}
-use Rattle.source_fold.specs.Folding.{FoldStands}
-use Rattle.source_fold.specs.Kept.{refusal_after}
-use Rattle.source_fold.specs.declared.folds.SourceFold.{SourceFold}
+use Rattle.job_text.specs.declared.line.Line.{Line}
+use Rattle.source_lines.specs.Folding.{FoldStands}
+use Rattle.source_lines.specs.Kept.{refusal_after}
+use Rattle.source_lines.specs.declared.folds.SourceFold.{SourceFold}
 use Rattle.source_lines.specs.Standing.{AreFew, StandAll}
 use Rattle.source_lines.specs.Taken.{Taken, line_refusal, nothing_taken, refusal_in, with_line}
 

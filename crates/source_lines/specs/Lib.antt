@@ -1,2 +1,6 @@
-pub mod Taken
+pub mod Fitting
+pub mod Folding
+pub mod Kept
+pub mod Run
 pub mod Standing
+pub mod Taken

@@ -1,9 +1,9 @@
 -- For which changes the folds of sources stand, and how far the lines of a file are taken.
 use Rattle.std.specs.Prelude.{◌≡◌, ◌≤◌, ◌+◌, ℕ, suc, List, [], ◌∷◌, ◌++◌, length, Ok}
 use Rattle.ct_catalog.specs.declared.table.TableDef.{TableDef}
-use Rattle.change_lines.specs.Lines.{Record, line_of}
-use Rattle.source_fold.specs.Folding.{FoldStands}
-use Rattle.source_fold.specs.declared.folds.SourceFold.{SourceFold}
+use Rattle.job_text.specs.Lines.{Record, line_of}
+use Rattle.source_lines.specs.Folding.{FoldStands}
+use Rattle.source_lines.specs.declared.folds.SourceFold.{SourceFold}
 use Rattle.source_lines.specs.Taken.{Taken, nothing_taken, take_line, take_records}
 
 -- each source's fold stands for the changes taken of it

@@ -4,10 +4,10 @@ use Rattle.ct_value.specs.declared.codes.ChangeCode.{ChangeCode}
 use Rattle.ct_change.specs.declared.change.Change.{Change}
 use Rattle.ct_change.specs.Changelog.{Rows, fold}
 use Rattle.ct_catalog.specs.declared.table.TableDef.{TableDef}
-use Rattle.change_lines.specs.declared.line.Line.{Line}
-use Rattle.change_lines.specs.Lines.{Record, line_of, records_of}
-use Rattle.plan_network.specs.Plans.{table_mode}
-use Rattle.source_fold.specs.Kept.{refusal_after}
+use Rattle.job_text.specs.declared.line.Line.{Line}
+use Rattle.job_text.specs.Lines.{Record, line_of, records_of}
+use Rattle.ct_catalog.specs.Columns.{table_mode}
+use Rattle.source_lines.specs.Kept.{refusal_after}
 use Rattle.source_lines.specs.declared.fault.TakeFault.{TakeFault}
 use Rattle.source_lines.specs.declared.fault.TakeFault.TheVariants.{Refused, Memory}
 

@@ -1,16 +1,15 @@
 ghost use Rattle.std.specs.Prelude.{◌≡◌, ◌≤◌, List, Ok, length, take, IfOk, IfErr};
 ghost use Rattle.ct_catalog.specs.declared.table.TableDef.{TableDef as Table};
-ghost use Rattle.change_lines.specs.Lines.{Record};
+ghost use Rattle.job_text.specs.Lines.{Record};
 ghost use Rattle.source_lines.specs.Standing.{StandAll};
 ghost use Rattle.source_lines.specs.Taken.{IsRefused, Taken, first_of, rows_of, taken_of};
 
-use crate::TakeFault;
 use crate::take::take_lines;
-use change_lines::ChangeLines;
+use crate::{SourceFold, TakeFault};
 use ct_catalog::Sources;
 use ct_change::Bag;
 use ct_value::{Bytes, List, Memory};
-use source_fold::SourceFold;
+use job_text::ChangeLines;
 use std::alloc::Global;
 
 /// The rows of sources, in the sources' order.

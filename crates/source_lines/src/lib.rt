@@ -1,12 +1,24 @@
-//! The lines of a change file taken in order, and the rows that they leave in each source.
+//! The changes of sources, taken one after another, and the lines of a change file that bring them.
 //!
-//! Promised: `bags_of` answers the rows that the first so many lines leave, or the first line that is refused, by its number
-//! (`specs/Taken`). It stands on the lines (`change_lines`) and on the folds of sources (`source_fold`).
+//! Promised: a change is refused exactly where the machine's table refuses it after those taken before (`specs/Kept`), and the bag of
+//! a `SourceFold` is the fold of the changes taken (`specs/Folding`). `SourceChecks` keeps no more of them than their checks need.
+//! `bags_of` answers the rows that the first so many lines of a file leave in each source, or the first line that is refused, by its
+//! number (`specs/Taken`). Lemmas tell that lines that aren't refused, and the rows that they leave, have their tables' columns.
+//! `specs/Run` says how a run over a change file goes. Rows are found by key or by themselves, in a tree. It stands on the lines of
+//! `job_text`, on declared tables and on the machine's definitions.
 #![tactic(auto)]
 
 mod bags;
+mod checks;
 mod fault;
+mod folds;
+mod kept;
+mod keyed_rows;
+mod refusals;
 mod take;
 
 pub use bags::{Bags, bags_of};
+pub use checks::SourceChecks;
 pub use fault::TakeFault;
+pub use folds::SourceFold;
+pub use refusals::{SourceFault, check_nulls};

@@ -1,14 +1,13 @@
 ghost use Rattle.std.specs.Prelude.{◌≡◌, ◌<◌, ◌≤◌, ◌+◌, ◌^◌, ℕ, ◌∷◌, List, None, Ok, length, take, IfOk, IfErr, OnOk};
 ghost use Rattle.ct_catalog.specs.declared.table.TableDef.{TableDef as Table};
-ghost use Rattle.change_lines.specs.Lines.{Record, line_of};
+ghost use Rattle.job_text.specs.Lines.{Record, line_of};
 ghost use Rattle.source_lines.specs.Standing.{StandAll, Took};
 ghost use Rattle.source_lines.specs.Taken.{IsRefused, Taken, line_refusal, nothing_taken, take_line, take_records, unless_refused, with_line};
 
-use crate::TakeFault;
-use change_lines::{ChangeLines, Line, LineFault};
+use crate::{SourceFault, SourceFold, TakeFault};
 use ct_catalog::{Sources, TableDef};
 use ct_value::Memory;
-use source_fold::{SourceFault, SourceFold};
+use job_text::{ChangeLines, Line, LineFault};
 use std::alloc::Global;
 
 // The folds of sources, of which no change was taken.

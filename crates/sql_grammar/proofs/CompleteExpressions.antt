@@ -8,21 +8,21 @@ use Rattle.sql_syntax.specs.declared.tree.ProductWord.TheVariants.{Times, Divide
 use Rattle.sql_syntax.specs.declared.tree.SumWord.{SumWord}
 use Rattle.sql_syntax.specs.declared.tree.SumWord.TheVariants.{Plus, Minus, Concat}
 use Rattle.sql_syntax.specs.Tree.{Text, Tree, Query, Args, Empty, Star, Values, sort_of, Number, Str, Truth, Null, Name, Call, Cast, Paren, Sub, Case, TreeWhen, tree_when_of, sum_tail_of, product_tail_of, over_of, trees, sort_list, optional_tree, optional_over, Between, InList, InQuery, Like}
-use Rattle.sql_rules.specs.Words.{AND, AS, BETWEEN, BY, CASE, DISTINCT, ELSE, END, EXISTS, FILTER, IN, LIKE, NOT, OR, ORDER, OVER, PARTITION, SELECT, THEN, WHEN, WHERE, OPEN, CLOSE, DOT, TIMES, NAME, only, name_word, name_token, sign_word, sign_token, product_word, product_token, sum_word, sum_token, compare_token, direction_word, direction_token}
-use Rattle.sql_rules.specs.Shapes.{Spelling, Word, WordOf, After, Seq3, Made, Maybe, Flag, OrNone, Series, Listed, Bracketed}
-use Rattle.sql_rules.specs.Spells
-use Rattle.sql_rules.specs.Nodes.{or_node, and_node, sum_node, product_node, is_desc}
-use Rattle.sql_rules.specs.Spells.{Inside, NameOf, NumbersOf, TypeOf, AliasOf, Rest, no_rest, compares, is_null, between, in_list, in_query, like, rest_node}
-use Rattle.sql_rules.specs.Reading
-use Rattle.sql_rules.specs.Reading.{Reader, ◌>>=◌, first_word, word_at, after, optional, optional_word, maybe, maybe_item, flag, nothing, or_none, bracketed, listed}
-use Rattle.sql_rules.specs.Reads
-use Rattle.sql_rules.specs.declared.words.NegatableWord.TheVariants as negatable
-use Rattle.sql_rules.specs.declared.words.RestWord.{RestWord}
-use Rattle.sql_rules.specs.declared.words.RestWord.TheVariants as word
-use Rattle.sql_rules.specs.Reads.{Readers, name_at, sizes_at, numbers_at, type_at, alias_at, primary_word, rest_word}
-use Rattle.sql_grammar.proofs.Words.{IfRead, IsWord, only_is, name_is, sign_is, product_is, sum_is, direction_is, rest_token, rest_is, sign_back, product_back, sum_back, direction_back, rest_back}
+use Rattle.sql_grammar.specs.Words.{AND, AS, BETWEEN, BY, CASE, DISTINCT, ELSE, END, EXISTS, FILTER, IN, LIKE, NOT, OR, ORDER, OVER, PARTITION, SELECT, THEN, WHEN, WHERE, OPEN, CLOSE, DOT, TIMES, NAME, only, name_word, name_token, sign_word, sign_token, product_word, product_token, sum_word, sum_token, compare_token, direction_word, direction_token}
+use Rattle.sql_grammar.specs.Shapes.{Spelling, Word, WordOf, After, Seq3, Made, Maybe, Flag, OrNone, Series, Listed, Bracketed}
+use Rattle.sql_grammar.specs.Spells
+use Rattle.sql_grammar.specs.Nodes.{or_node, and_node, sum_node, product_node, is_desc}
+use Rattle.sql_grammar.specs.Spells.{Inside, NameOf, NumbersOf, TypeOf, AliasOf, Rest, no_rest, compares, is_null, between, in_list, in_query, like, rest_node}
+use Rattle.sql_grammar.specs.Reading
+use Rattle.sql_grammar.specs.Reading.{Reader, ◌>>=◌, first_word, word_at, after, optional, optional_word, maybe, maybe_item, flag, nothing, or_none, bracketed, listed}
+use Rattle.sql_grammar.specs.Reads
+use Rattle.sql_grammar.specs.declared.words.NegatableWord.TheVariants as negatable
+use Rattle.sql_grammar.specs.declared.words.RestWord.{RestWord}
+use Rattle.sql_grammar.specs.declared.words.RestWord.TheVariants as word
+use Rattle.sql_grammar.specs.Reads.{Readers, name_at, sizes_at, numbers_at, type_at, alias_at, primary_word, rest_word}
+use Rattle.sql_grammar.proofs.WordReading.{IfRead, IsWord, only_is, name_is, sign_is, product_is, sum_is, direction_is, rest_token, rest_is, sign_back, product_back, sum_back, direction_back, rest_back}
 use Rattle.sql_grammar.proofs.SoundShapes.{at_word}
-use Rattle.sql_rules.specs.laws.Steps.{bind_is, fail_bind}
+use Rattle.sql_grammar.proofs.laws.Steps.{bind_is, fail_bind}
 use Rattle.sql_grammar.proofs.CompleteShapes.{strength, Ends, tighter, Complete, Before, complete_lower, word_reads, stops, only_stops, only_complete, word_before, only_before, made_complete, after_complete, led_before, optional_complete, maybe_after, maybe_before, flag_missing, or_none_complete, seq2_reads, seq3_reads, series_complete, listed_complete, bracketed_complete, chain_complete}
 
 -- a word doesn't stand where something is read that doesn't begin with it

@@ -4,20 +4,20 @@ use Rattle.sql_tokens.specs.declared.token.Token.{Token}
 use Rattle.sql_syntax.specs.declared.tree.JoinWord.{JoinWord}
 use Rattle.sql_syntax.specs.declared.tree.JoinWord.TheVariants.{Inner, Left, Right, Full}
 use Rattle.sql_syntax.specs.Tree.{Text, Tree, query_of, All, AllOf, One, Table, FromQuery, selects, sort_list}
-use Rattle.sql_rules.specs.Words.{ALL, BY, DISTINCT, FROM, GROUP, HAVING, JOIN, LIMIT, ON, ORDER, UNION, WHERE, OPEN, CLOSE, DOT, TIMES, NAME, NUMBER, only, name_word, number_word, join_word, join_token}
-use Rattle.sql_rules.specs.Shapes.{Spelling, WordOf, After, Seq2, Seq3, Maybe, OrNone, Many, Listed, Bracketed}
-use Rattle.sql_rules.specs.Spells
-use Rattle.sql_rules.specs.Nodes.{select_node}
-use Rattle.sql_rules.specs.Spells.{Inside, NameOf, StarOf, AliasOf}
-use Rattle.sql_rules.specs.Reading.{word_at, after, bracketed}
-use Rattle.sql_rules.specs.Reads
-use Rattle.sql_rules.specs.Reads.{Readers, alias_at}
-use Rattle.sql_grammar.proofs.Words.{IfRead, only_is, number_back, join_is, join_back}
+use Rattle.sql_grammar.specs.Words.{ALL, BY, DISTINCT, FROM, GROUP, HAVING, JOIN, LIMIT, ON, ORDER, UNION, WHERE, OPEN, CLOSE, DOT, TIMES, NAME, NUMBER, only, name_word, number_word, join_word, join_token}
+use Rattle.sql_grammar.specs.Shapes.{Spelling, WordOf, After, Seq2, Seq3, Maybe, OrNone, Many, Listed, Bracketed}
+use Rattle.sql_grammar.specs.Spells
+use Rattle.sql_grammar.specs.Nodes.{select_node}
+use Rattle.sql_grammar.specs.Spells.{Inside, NameOf, StarOf, AliasOf}
+use Rattle.sql_grammar.specs.Reading.{word_at, after, bracketed}
+use Rattle.sql_grammar.specs.Reads
+use Rattle.sql_grammar.specs.Reads.{Readers, alias_at}
+use Rattle.sql_grammar.proofs.WordReading.{IfRead, only_is, number_back, join_is, join_back}
 use Rattle.sql_grammar.proofs.SoundShapes.{Took}
 use Rattle.sql_grammar.proofs.SoundQueries.{star_of_sound}
-use Rattle.sql_rules.specs.laws.Steps.{bind_is}
+use Rattle.sql_grammar.proofs.laws.Steps.{bind_is}
 use Rattle.sql_grammar.proofs.CompleteShapes.{strength, Ends, tighter, Complete, Before, complete_lower, word_complete, after_complete, led_before, maybe_after, maybe_before, flag_missing, or_none_complete, or_none_before, many_led_before, repeated_complete, seq2_reads, seq3_reads, series_complete, listed_complete, bracketed_complete}
-use Rattle.sql_rules.specs.laws.Steps.{fail_bind}
+use Rattle.sql_grammar.proofs.laws.Steps.{fail_bind}
 use Rattle.sql_grammar.proofs.CompleteExpressions.{Refuses, only_not, opened, alias_complete, alias_before, trees_complete, order_by_complete}
 
 -- three parts, of which each ends where the next begins

@@ -1,11 +1,11 @@
 -- Each form of reading is complete where its parts are: what tokens spell is read, whatever follows that doesn't go on.
 use Rattle.std.proofs.Common.{◌≡◌, ℕ, zero, suc, ◌<◌, ◌≤◌, true, false, List, [], ◌∷◌, ◌++◌, length, Option, Some, None, refl, sym, ap, ◌∙◌, subst, append_assoc, length-append, arith}
 use Rattle.sql_tokens.specs.declared.token.Token.{Token}
-use Rattle.sql_rules.specs.Words.{AND, AS, ASC, BETWEEN, DESC, ELSE, FILTER, FULL, GROUP, HAVING, IN, INNER, IS, JOIN, LEFT, LIKE, LIMIT, NOT, OR, ORDER, OUTER, OVER, PARTITION, PRIMARY, RIGHT, UNION, WHEN, WHERE, WITH, OPEN, CLOSE, COMMA, DOT, EQUAL, NOT_EQUAL, LESS, LESS_EQUAL, GREATER, GREATER_EQUAL, PLUS, MINUS, TIMES, DIVIDE, MODULO, CONCAT, NAME, only}
-use Rattle.sql_rules.specs.Shapes.{Spelling, Word, Words, WordOf, Led, After, Seq2, Seq3, Seq4, Made, Maybe, Flag, OrNone, Many, Series, Listed, Bracketed, Chain}
-use Rattle.sql_rules.specs.laws.Steps.{bind_is}
-use Rattle.sql_rules.specs.Reading.{Reader, ◌>>=◌, first_word, word_at, words_at, made, after, optional_word, optional, maybe_item, maybe, flag_item, flag, nothing, list_item, or_none, many_item, many, repeated, seq2, seq3, seq4, series, listed, bracketed, chain}
-use Rattle.sql_grammar.proofs.Words.{IfRead, IsWord, only_is}
+use Rattle.sql_grammar.specs.Words.{AND, AS, ASC, BETWEEN, DESC, ELSE, FILTER, FULL, GROUP, HAVING, IN, INNER, IS, JOIN, LEFT, LIKE, LIMIT, NOT, OR, ORDER, OUTER, OVER, PARTITION, PRIMARY, RIGHT, UNION, WHEN, WHERE, WITH, OPEN, CLOSE, COMMA, DOT, EQUAL, NOT_EQUAL, LESS, LESS_EQUAL, GREATER, GREATER_EQUAL, PLUS, MINUS, TIMES, DIVIDE, MODULO, CONCAT, NAME, only}
+use Rattle.sql_grammar.specs.Shapes.{Spelling, Word, Words, WordOf, Led, After, Seq2, Seq3, Seq4, Made, Maybe, Flag, OrNone, Many, Series, Listed, Bracketed, Chain}
+use Rattle.sql_grammar.proofs.laws.Steps.{bind_is}
+use Rattle.sql_grammar.specs.Reading.{Reader, ◌>>=◌, first_word, word_at, words_at, made, after, optional_word, optional, maybe_item, maybe, flag_item, flag, nothing, list_item, or_none, many_item, many, repeated, seq2, seq3, seq4, series, listed, bracketed, chain}
+use Rattle.sql_grammar.proofs.WordReading.{IfRead, IsWord, only_is}
 
 -- how tightly a token goes on with what stands before it: 1 to 7 a query, 8 a list, 9 an item of a list, 10 to 14 the chains, 15 and 16 a primary
 abbrev pub strength : Token → ℕ

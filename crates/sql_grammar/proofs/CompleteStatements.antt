@@ -3,15 +3,15 @@ use Rattle.std.proofs.Common.{◌≡◌, ℕ, zero, suc, true, false, List, [], 
 use Rattle.sql_tokens.specs.declared.token.Token.{Token}
 use Rattle.sql_syntax.specs.declared.statement.Element.TheVariants.{Column, Key}
 use Rattle.sql_syntax.specs.Tree.{Create, Set, Insert}
-use Rattle.sql_rules.specs.Words.{CREATE, ENFORCED, KEY, NOT, NULL, PRIMARY, TABLE, WITH, NAME, only}
-use Rattle.sql_rules.specs.Shapes.{Words, Flag, OrNone, Listed, Bracketed}
-use Rattle.sql_rules.specs.Spells.{Inside, NameOf, TypeOf, ElementOf, PairOf, OptionsOf, StatementOf, within}
-use Rattle.sql_rules.specs.Reading.{word_at, words_at, flag_item, bracketed}
-use Rattle.sql_rules.specs.Reads
-use Rattle.sql_rules.specs.Reads.{Readers, name_at, type_at, readers}
-use Rattle.sql_rules.specs.laws.Steps.{bind_is}
+use Rattle.sql_grammar.specs.Words.{CREATE, ENFORCED, KEY, NOT, NULL, PRIMARY, TABLE, WITH, NAME, only}
+use Rattle.sql_grammar.specs.Shapes.{Words, Flag, OrNone, Listed, Bracketed}
+use Rattle.sql_grammar.specs.Spells.{Inside, NameOf, TypeOf, ElementOf, PairOf, OptionsOf, StatementOf, within}
+use Rattle.sql_grammar.specs.Reading.{word_at, words_at, flag_item, bracketed}
+use Rattle.sql_grammar.specs.Reads
+use Rattle.sql_grammar.specs.Reads.{Readers, name_at, type_at, readers}
+use Rattle.sql_grammar.proofs.laws.Steps.{bind_is}
 use Rattle.sql_grammar.proofs.CompleteShapes.{Ends, Complete, Before, only_stops, or_none_complete, flag_before, words_before, seq4_reads, listed_complete, bracketed_reads, bracketed_complete}
-use Rattle.sql_rules.specs.laws.Steps.{fail_bind}
+use Rattle.sql_grammar.proofs.laws.Steps.{fail_bind}
 use Rattle.sql_grammar.proofs.CompleteExpressions.{Refuses, name_complete, type_complete, expr_complete}
 use Rattle.sql_grammar.proofs.CompleteQueries.{query_complete}
 

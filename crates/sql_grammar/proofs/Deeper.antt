@@ -4,11 +4,11 @@ use Rattle.sql_tokens.specs.declared.token.Token.{Token}
 use Rattle.sql_syntax.specs.declared.tree.JoinWord.{JoinWord}
 use Rattle.sql_syntax.specs.declared.tree.JoinWord.TheVariants.{Inner, Left, Right, Full}
 use Rattle.sql_syntax.specs.Tree.{Empty, Star, Values, sort_of, Number, Str, Truth, Null, Name, Call, Cast, Paren, Sub, Case, Exists, All, AllOf, One, Table, FromQuery, Statement, Create, Set, Insert, product_tail_of, sum_tail_of}
-use Rattle.sql_rules.specs.Words.{ALL, AND, AS, BETWEEN, BY, CASE, CAST, DISTINCT, ELSE, END, EXISTS, FILTER, GROUP, HAVING, IN, JOIN, LIKE, LIMIT, NOT, ON, OR, ORDER, OUTER, OVER, PARTITION, THEN, UNION, WHERE, OPEN, CLOSE, COMMA, NUMBER, product_token, sum_token, compare_token, sign_token, join_token}
-use Rattle.sql_rules.specs.Shapes.{Spelling, Word, WordOf, Led, After, Seq2, Seq3, Seq4, Made, Maybe, Flag, OrNone, Many, Series, Listed, Bracketed, Chain}
-use Rattle.sql_rules.specs.Spells
-use Rattle.sql_rules.specs.Nodes.{or_node, and_node, sum_node, product_node}
-use Rattle.sql_rules.specs.Spells.{Inside, NameOf, TypeOf, AliasOf, Rest, no_rest, compares, is_null, between, in_list, in_query, like, StatementOf, within}
+use Rattle.sql_grammar.specs.Words.{ALL, AND, AS, BETWEEN, BY, CASE, CAST, DISTINCT, ELSE, END, EXISTS, FILTER, GROUP, HAVING, IN, JOIN, LIKE, LIMIT, NOT, ON, OR, ORDER, OUTER, OVER, PARTITION, THEN, UNION, WHERE, OPEN, CLOSE, COMMA, NUMBER, product_token, sum_token, compare_token, sign_token, join_token}
+use Rattle.sql_grammar.specs.Shapes.{Spelling, Word, WordOf, Led, After, Seq2, Seq3, Seq4, Made, Maybe, Flag, OrNone, Many, Series, Listed, Bracketed, Chain}
+use Rattle.sql_grammar.specs.Spells
+use Rattle.sql_grammar.specs.Nodes.{or_node, and_node, sum_node, product_node}
+use Rattle.sql_grammar.specs.Spells.{Inside, NameOf, TypeOf, AliasOf, Rest, no_rest, compares, is_null, between, in_list, in_query, like, StatementOf, within}
 
 -- what R spells by fewer than n tokens, S spells too
 abbrev pub Below : {A : Type 0} → ℕ → Spelling A → Spelling A → Type 0

@@ -2,9 +2,9 @@
 use Rattle.std.proofs.Common.{◌≡◌, suc, List, [], ◌∷◌, length, Option, Some, None, refl, sym, ap, ◌∙◌, subst, append-nil}
 use Rattle.sql_tokens.specs.declared.token.Token.{Token}
 use Rattle.sql_syntax.specs.Tree.{Statement}
-use Rattle.sql_rules.specs.Spells.{Spells, StatementOf, within}
-use Rattle.sql_rules.specs.Reads.{statement_at, readers, whole, parse}
-use Rattle.sql_grammar.proofs.Words.{IfRead}
+use Rattle.sql_grammar.specs.Spells.{Spells, StatementOf, within}
+use Rattle.sql_grammar.specs.Reads.{statement_at, readers, whole, parse}
+use Rattle.sql_grammar.proofs.WordReading.{IfRead}
 use Rattle.sql_grammar.proofs.SoundShapes.{Took}
 use Rattle.sql_grammar.proofs.SoundStatements.{statement_sound}
 use Rattle.sql_grammar.proofs.SoundStatements as sound

@@ -5,9 +5,9 @@ use Rattle.ct_value.specs.declared.codes.ScriptCode.TheVariants.{BadToken, TooDe
 use Rattle.sql_tokens.specs.Statements.{Piece, ended, unended, spoiled, statements_of}
 use Rattle.sql_tokens.specs.Depth.{too_deep}
 use Rattle.sql_syntax.specs.Tree.{Statement, Script}
-use Rattle.sql_rules.specs.Reads.{parse}
-use Rattle.sql_rules.specs.ReadsScripts.{Answer, answered, refused, and_others, deep_or, read_one, read_ended, read_pieces, read_from, read_text}
-use Rattle.sql_rules.specs.Scripts.{AreStatements, IsScript, IsRefused, RefusedFrom, TextRefusal}
+use Rattle.sql_grammar.specs.Reads.{parse}
+use Rattle.sql_grammar.specs.ReadsScripts.{Answer, answered, refused, and_others, deep_or, read_one, read_ended, read_pieces, read_from, read_text}
+use Rattle.sql_grammar.specs.Scripts.{AreStatements, IsScript, IsRefused, RefusedFrom, TextRefusal}
 use Rattle.sql_grammar.proofs.Grammar.{parse_spelled, spelled_parse, no_statement, unread_statement}
 
 pieces_are : (n : ℕ) (ps : List Piece) (xs : List Statement) → read_pieces n ps ≡ answered xs → AreStatements ps xs

@@ -6,22 +6,22 @@ use Rattle.sql_tokens.specs.declared.token.Token.{Token}
 use Rattle.sql_syntax.specs.declared.tree.ProductWord.{ProductWord}
 use Rattle.sql_syntax.specs.declared.tree.SumWord.{SumWord}
 use Rattle.sql_syntax.specs.Tree.{Text, TreeWhen, IsNull, Between, InList, InQuery, Tree, Values, tree_when_of, sort_of, sum_tail_of, product_tail_of, over_of, trees, sort_list, Call, Case, Sub, Paren, optional_tree, optional_over, tree_whens}
-use Rattle.sql_rules.specs.Words.{AND, AS, BETWEEN, BY, CASE, CAST, DISTINCT, ELSE, END, EXISTS, FILTER, IN, IS, LIKE, NOT, NULL, OR, ORDER, OVER, PARTITION, SELECT, THEN, WHEN, WHERE, OPEN, CLOSE, COMMA, DOT, TIMES, NAME, NUMBER, only, name_word, name_token, number_word, sign_word, sign_token, product_word, product_token, sum_word, sum_token, compare_token, direction_word, direction_token}
-use Rattle.sql_rules.specs.Shapes.{Spelling, Word, WordOf, Led, After, Seq2, Seq3, Made, Maybe, Flag, OrNone, Series, Listed, Bracketed}
-use Rattle.sql_rules.specs.Spells
-use Rattle.sql_rules.specs.Nodes.{or_node, and_node, sum_node, product_node, not_node, sign_node, is_desc}
-use Rattle.sql_rules.specs.Spells.{Inside, NameOf, NumbersOf, TypeOf, AliasOf, Rest, no_rest, compares, is_null, between, in_list, in_query, like, rest_node}
-use Rattle.sql_rules.specs.Reading.{Reader, ◌>>=◌, word_at, words_at, made, after, optional, maybe, flag, nothing, or_none, repeated, series, listed, bracketed, chain}
-use Rattle.sql_rules.specs.Reading
-use Rattle.sql_rules.specs.Reads
-use Rattle.sql_rules.specs.declared.words.PrimaryWord.{PrimaryWord}
-use Rattle.sql_rules.specs.declared.words.PrimaryWord.TheVariants as first
-use Rattle.sql_rules.specs.declared.words.NegatableWord.{NegatableWord}
-use Rattle.sql_rules.specs.declared.words.NegatableWord.TheVariants as negatable
-use Rattle.sql_rules.specs.declared.words.RestWord.{RestWord}
-use Rattle.sql_rules.specs.declared.words.RestWord.TheVariants as word
-use Rattle.sql_rules.specs.Reads.{Readers, name_at, one_or_two, sizes_at, numbers_at, type_at, alias_at, primary_word, negatable_word, rest_word}
-use Rattle.sql_grammar.proofs.Words.{IfRead, only_is, name_is, number_is, sign_is, product_is, sum_is, direction_is, primary_token, primary_is, negatable_token, negatable_is, rest_token, rest_is}
+use Rattle.sql_grammar.specs.Words.{AND, AS, BETWEEN, BY, CASE, CAST, DISTINCT, ELSE, END, EXISTS, FILTER, IN, IS, LIKE, NOT, NULL, OR, ORDER, OVER, PARTITION, SELECT, THEN, WHEN, WHERE, OPEN, CLOSE, COMMA, DOT, TIMES, NAME, NUMBER, only, name_word, name_token, number_word, sign_word, sign_token, product_word, product_token, sum_word, sum_token, compare_token, direction_word, direction_token}
+use Rattle.sql_grammar.specs.Shapes.{Spelling, Word, WordOf, Led, After, Seq2, Seq3, Made, Maybe, Flag, OrNone, Series, Listed, Bracketed}
+use Rattle.sql_grammar.specs.Spells
+use Rattle.sql_grammar.specs.Nodes.{or_node, and_node, sum_node, product_node, not_node, sign_node, is_desc}
+use Rattle.sql_grammar.specs.Spells.{Inside, NameOf, NumbersOf, TypeOf, AliasOf, Rest, no_rest, compares, is_null, between, in_list, in_query, like, rest_node}
+use Rattle.sql_grammar.specs.Reading.{Reader, ◌>>=◌, word_at, words_at, made, after, optional, maybe, flag, nothing, or_none, repeated, series, listed, bracketed, chain}
+use Rattle.sql_grammar.specs.Reading
+use Rattle.sql_grammar.specs.Reads
+use Rattle.sql_grammar.specs.declared.words.PrimaryWord.{PrimaryWord}
+use Rattle.sql_grammar.specs.declared.words.PrimaryWord.TheVariants as first
+use Rattle.sql_grammar.specs.declared.words.NegatableWord.{NegatableWord}
+use Rattle.sql_grammar.specs.declared.words.NegatableWord.TheVariants as negatable
+use Rattle.sql_grammar.specs.declared.words.RestWord.{RestWord}
+use Rattle.sql_grammar.specs.declared.words.RestWord.TheVariants as word
+use Rattle.sql_grammar.specs.Reads.{Readers, name_at, one_or_two, sizes_at, numbers_at, type_at, alias_at, primary_word, negatable_word, rest_word}
+use Rattle.sql_grammar.proofs.WordReading.{IfRead, only_is, name_is, number_is, sign_is, product_is, sum_is, direction_is, primary_token, primary_is, negatable_token, negatable_is, rest_token, rest_is}
 use Rattle.sql_grammar.proofs.SoundShapes.{Took, Sound, bind, at_word, sound_map, word_sound, only_sound, made_sound, led_sound, after_sound, optional_sound, maybe_sound, flag_word_sound, or_none_sound, seq2_sound, seq3_sound, seq4_sound, bracketed_sound, series_sound, listed_sound, chain_sound}
 
 -- names, types, aliases

@@ -4,15 +4,15 @@ use Rattle.sql_tokens.specs.declared.token.Token.{Token}
 use Rattle.sql_syntax.specs.declared.tree.JoinWord.{JoinWord}
 use Rattle.sql_syntax.specs.declared.tree.JoinWord.TheVariants.{Inner, Left, Right, Full}
 use Rattle.sql_syntax.specs.Tree.{Text, Tree, query_of, Select, Item, One, Source, FromQuery, JoinItem, join_of, selects, sort_list}
-use Rattle.sql_rules.specs.Words.{ALL, BY, DISTINCT, FROM, GROUP, HAVING, JOIN, LIMIT, ON, ORDER, OUTER, SELECT, UNION, WHERE, DOT, TIMES, NUMBER, only, name_word, name_token, number_word, join_word, join_token}
-use Rattle.sql_rules.specs.Shapes.{Spelling, Word, WordOf, After, Seq3, Maybe, Flag, OrNone, Many, Listed, Bracketed}
-use Rattle.sql_rules.specs.Spells
-use Rattle.sql_rules.specs.Nodes.{select_node}
-use Rattle.sql_rules.specs.Spells.{Inside, NameOf, StarOf, AliasOf}
-use Rattle.sql_rules.specs.Reading.{word_at, after, flag, nothing, bracketed}
-use Rattle.sql_rules.specs.Reads
-use Rattle.sql_rules.specs.Reads.{Readers, alias_at}
-use Rattle.sql_grammar.proofs.Words.{IfRead, only_is, name_is, number_is, join_is}
+use Rattle.sql_grammar.specs.Words.{ALL, BY, DISTINCT, FROM, GROUP, HAVING, JOIN, LIMIT, ON, ORDER, OUTER, SELECT, UNION, WHERE, DOT, TIMES, NUMBER, only, name_word, name_token, number_word, join_word, join_token}
+use Rattle.sql_grammar.specs.Shapes.{Spelling, Word, WordOf, After, Seq3, Maybe, Flag, OrNone, Many, Listed, Bracketed}
+use Rattle.sql_grammar.specs.Spells
+use Rattle.sql_grammar.specs.Nodes.{select_node}
+use Rattle.sql_grammar.specs.Spells.{Inside, NameOf, StarOf, AliasOf}
+use Rattle.sql_grammar.specs.Reading.{word_at, after, flag, nothing, bracketed}
+use Rattle.sql_grammar.specs.Reads
+use Rattle.sql_grammar.specs.Reads.{Readers, alias_at}
+use Rattle.sql_grammar.proofs.WordReading.{IfRead, only_is, name_is, number_is, join_is}
 use Rattle.sql_grammar.proofs.SoundShapes.{Took, Sound, bind, at_word, word_sound, only_sound, after_sound, maybe_sound, flag_word_sound, or_none_sound, repeated_sound, seq2_sound, seq3_sound, bracketed_sound, series_sound, listed_sound}
 use Rattle.sql_grammar.proofs.SoundExpressions.{alias_sound, trees_sound, trees_filled, order_by_sound, order_filled}
 

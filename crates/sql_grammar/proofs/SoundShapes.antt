@@ -1,10 +1,10 @@
 -- Each form of reading is sound where its parts are: what is read is spelled by the tokens that were taken.
 use Rattle.std.proofs.Common.{◌≡◌, ℕ, zero, suc, Bool, true, false, List, [], ◌∷◌, ◌++◌, length, Option, Some, None, refl, sym, ap, ◌∙◌, append_assoc}
 use Rattle.sql_tokens.specs.declared.token.Token.{Token}
-use Rattle.sql_rules.specs.Words.{OPEN, CLOSE, COMMA, only}
-use Rattle.sql_rules.specs.Shapes.{Spelling, Word, Words, WordOf, Led, After, Seq2, Seq3, Seq4, Made, Maybe, Flag, OrNone, Many, Series, Listed, Bracketed, Chain}
-use Rattle.sql_rules.specs.Reading.{Reader, ◌>>=◌, first_word, word_at, words_at, made, after, optional_word, optional, maybe_item, maybe, flag_item, flag, nothing, list_item, or_none, many_item, many, repeated, seq2, seq3, seq4, series, listed, bracketed, chain}
-use Rattle.sql_grammar.proofs.Words.{IfRead, IsWord, only_is}
+use Rattle.sql_grammar.specs.Words.{OPEN, CLOSE, COMMA, only}
+use Rattle.sql_grammar.specs.Shapes.{Spelling, Word, Words, WordOf, Led, After, Seq2, Seq3, Seq4, Made, Maybe, Flag, OrNone, Many, Series, Listed, Bracketed, Chain}
+use Rattle.sql_grammar.specs.Reading.{Reader, ◌>>=◌, first_word, word_at, words_at, made, after, optional_word, optional, maybe_item, maybe, flag_item, flag, nothing, list_item, or_none, many_item, many, repeated, seq2, seq3, seq4, series, listed, bracketed, chain}
+use Rattle.sql_grammar.proofs.WordReading.{IfRead, IsWord, only_is}
 
 -- the tokens that were taken
 pub record Took {A : Type 0} (R : Spelling A) (ts : List Token) (x : A × List Token) : Type 0 where

@@ -4,15 +4,15 @@ use Rattle.sql_tokens.specs.declared.token.Token.{Token}
 use Rattle.sql_syntax.specs.declared.statement.Element.{Element}
 use Rattle.sql_syntax.specs.declared.statement.Element.TheVariants.{Column, Key}
 use Rattle.sql_syntax.specs.Tree.{Create, Insert}
-use Rattle.sql_rules.specs.Words.{CREATE, ENFORCED, INSERT, INTO, KEY, NOT, NULL, PRIMARY, TABLE, WITH, EQUAL, STR, only, text_word}
-use Rattle.sql_rules.specs.Shapes.{Word, Words, WordOf, Led, After, Flag, OrNone, Listed, Bracketed}
-use Rattle.sql_rules.specs.Spells.{Inside, NameOf, TypeOf, ElementOf, PairOf, OptionsOf, StatementOf, within}
-use Rattle.sql_rules.specs.Reading.{word_at, words_at, flag, bracketed}
-use Rattle.sql_rules.specs.Reads
-use Rattle.sql_rules.specs.declared.words.StatementWord.{StatementWord}
-use Rattle.sql_rules.specs.declared.words.StatementWord.TheVariants as stated
-use Rattle.sql_rules.specs.Reads.{Readers, name_at, type_at, statement_word, readers}
-use Rattle.sql_grammar.proofs.Words.{IfRead, only_is, text_is, statement_token, statement_is}
+use Rattle.sql_grammar.specs.Words.{CREATE, ENFORCED, INSERT, INTO, KEY, NOT, NULL, PRIMARY, TABLE, WITH, EQUAL, STR, only, text_word}
+use Rattle.sql_grammar.specs.Shapes.{Word, Words, WordOf, Led, After, Flag, OrNone, Listed, Bracketed}
+use Rattle.sql_grammar.specs.Spells.{Inside, NameOf, TypeOf, ElementOf, PairOf, OptionsOf, StatementOf, within}
+use Rattle.sql_grammar.specs.Reading.{word_at, words_at, flag, bracketed}
+use Rattle.sql_grammar.specs.Reads
+use Rattle.sql_grammar.specs.declared.words.StatementWord.{StatementWord}
+use Rattle.sql_grammar.specs.declared.words.StatementWord.TheVariants as stated
+use Rattle.sql_grammar.specs.Reads.{Readers, name_at, type_at, statement_word, readers}
+use Rattle.sql_grammar.proofs.WordReading.{IfRead, only_is, text_is, statement_token, statement_is}
 use Rattle.sql_grammar.proofs.SoundShapes.{Took, Sound, bind, at_word, sound_map, word_sound, only_sound, words_sound, led_sound, flag_sound, flag_map, or_none_sound, seq3_sound, seq4_sound, bracketed_sound, listed_sound}
 use Rattle.sql_grammar.proofs.SoundExpressions.{name_sound, type_sound, expr_sound}
 use Rattle.sql_grammar.proofs.SoundQueries.{query_sound}

@@ -1,31 +1,19 @@
-//! The theorem of the grammar: which tokens spell which tree is what the rules read, tokens spell at most one tree, and a text is
-//! at most one script. It stands on the definitions of `sql_rules`. Each law is the contract of a function that does nothing:
-//! calling it gives a proof the law.
+//! The grammar, as definitions: which tokens spell which tree, how each rule is read from the left, and which texts are scripts; and
+//! the theorem over them.
+//!
+//! Promised: which tokens spell which tree is what the rules read, tokens spell at most one tree, and a text is at most one script.
+//! Each function stands for a theorem, which is its contract. It stands on tokens and syntax trees.
 #![tactic(auto)]
 
-ghost use Rattle.std.specs.Prelude.{◌≡◌, ◌↔◌, ℕ, List, Some, None};
+mod words;
+
+ghost use Rattle.std.specs.Prelude.{◌≡◌, ◌↔◌, ℕ, List};
 ghost use Rattle.ct_value.specs.declared.codes.ScriptCode.{ScriptCode};
-ghost use Rattle.sql_tokens.specs.declared.token.Token.{Token};
-ghost use Rattle.sql_syntax.specs.Tree.{Script, Statement};
-ghost use Rattle.sql_rules.specs.Spells.{Spells};
-ghost use Rattle.sql_rules.specs.Reads.{parse};
-ghost use Rattle.sql_rules.specs.ReadsScripts.{answered, read_text, refused};
-ghost use Rattle.sql_rules.specs.Scripts.{IsScript, TextRefusal};
+ghost use Rattle.sql_syntax.specs.Tree.{Script};
+ghost use Rattle.sql_grammar.specs.ReadsScripts.{answered, read_text, refused};
+ghost use Rattle.sql_grammar.specs.Scripts.{IsScript, TextRefusal};
 
-/// The tokens of one statement have at most one tree.
-pub fn one_tree_each()
-    ensures { (ts : List Token) (x y : Statement) → Spells ts x → Spells ts y → x ≡ y }
-{}
-
-/// What is read as a statement is what the tokens spell.
-pub fn read_is_spelled()
-    ensures { (ts : List Token) (x : Statement) → (parse ts ≡ Some x) ↔ Spells ts x }
-{}
-
-/// Tokens read nothing exactly where they spell no statement.
-pub fn unread_is_unspelled()
-    ensures { (ts : List Token) → (parse ts ≡ None) ↔ ((x : Statement) → ¬ (Spells ts x)) }
-{}
+pub use words::{NegatableWord, PrimaryWord, RestWord, StatementWord};
 
 /// A text is at most one script.
 pub fn one_script_each()

@@ -1,1 +1,3 @@
+pub mod Chains
+pub mod OperandChains
 pub mod Scripts

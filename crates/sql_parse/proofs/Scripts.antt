@@ -10,10 +10,10 @@ use Rattle.sql_syntax.specs.Tree.{Statement}
 use Rattle.sql_syntax.specs.Tree as t
 use Rattle.sql_tokens.specs.Tokens.{Front, nothing, bad, gap, token, read_on, read_fronts, tokens_of, front}
 use Rattle.sql_tokens.specs.Statements.{first_statement}
-use Rattle.sql_tokens.specs.laws.Pieces.{cut, pieces-cut}
+use Rattle.sql_tokens.proofs.laws.Pieces.{cut, pieces-cut}
 use Rattle.sql_syntax.specs.View.{script_view, statements_view}
-use Rattle.sql_rules.specs.ReadsScripts.{Answer, answered, refused, and_others, read_ended, read_last, read_pieces, read_from, read_text}
-use Rattle.sql_rules.specs.Scripts.{IsScript, TextRefusal}
+use Rattle.sql_grammar.specs.ReadsScripts.{Answer, answered, refused, and_others, read_ended, read_last, read_pieces, read_from, read_text}
+use Rattle.sql_grammar.specs.Scripts.{IsScript, TextRefusal}
 use Rattle.sql_parse.specs.declared.script.ParseFault.{ParseFault}
 use Rattle.sql_parse.specs.declared.script.ParseFault.TheVariants.{Refused, Memory}
 use Rattle.sql_parse.specs.Faults.{IsRefusal, IfRefused}

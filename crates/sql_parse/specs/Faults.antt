@@ -1,7 +1,7 @@
 -- What a fault says of a text.
 use Rattle.std.specs.Prelude.{◌≡◌, ℕ}
 use Rattle.ct_value.specs.declared.codes.ScriptCode.{ScriptCode}
-use Rattle.sql_rules.specs.ReadsScripts.{Answer, refused}
+use Rattle.sql_grammar.specs.ReadsScripts.{Answer, refused}
 use Rattle.sql_parse.specs.declared.script.ParseFault.{ParseFault}
 use Rattle.sql_parse.specs.declared.script.ParseFault.TheVariants.{Refused, Memory}
 

@@ -1,13 +1,12 @@
 //! Expressions and queries within so many others.
 ghost use Rattle.sql_syntax.specs.View.{view, query_view};
-ghost use Rattle.sql_rules.specs.Reads.{readers};
-ghost use Rattle.sql_words.specs.Gives.{Gives};
+ghost use Rattle.sql_grammar.specs.Reads.{readers};
+ghost use Rattle.sql_reading.specs.Gives.{Gives};
 
-use sql_expressions::expression;
-use sql_shapes::Nested;
+use crate::expression;
+use sql_reading::{Nested, Read, Stop};
 use sql_syntax::{Query, Tree};
 use sql_tokens::Token;
-use sql_words::{Read, Stop};
 use std::alloc::Global;
 
 // Two readers of what stands within so many others.
@@ -42,7 +41,7 @@ impl<
 
 // An expression within so many others.
 #[cycle(depth)]
-#[tactic(auto, using(sql_rules::specs::laws::Depths::expr_none, sql_rules::specs::laws::Depths::expr_below))]
+#[tactic(auto, using(sql_grammar::proofs::laws::Depths::expr_none, sql_grammar::proofs::laws::Depths::expr_below))]
 fn expr(alloc: Global, depth: usize, tokens: &[Token]) -> Read<'_, Tree>
     ensures { Gives view result ((readers depth).expr tokens.now) }
 {
@@ -64,7 +63,7 @@ fn expr(alloc: Global, depth: usize, tokens: &[Token]) -> Read<'_, Tree>
 
 /// A query within so many others.
 #[cycle(depth)]
-#[tactic(auto, using(sql_rules::specs::laws::Depths::query_none, sql_rules::specs::laws::Depths::query_below))]
+#[tactic(auto, using(sql_grammar::proofs::laws::Depths::query_none, sql_grammar::proofs::laws::Depths::query_below))]
 pub fn query(alloc: Global, depth: usize, tokens: &[Token]) -> Read<'_, Query>
     ensures { Gives query_view result ((readers depth).query tokens.now) }
 {
@@ -81,5 +80,5 @@ pub fn query(alloc: Global, depth: usize, tokens: &[Token]) -> Read<'_, Query>
             ensures { Gives query_view result ((readers below).query tokens.now) }
         { query(alloc, below, tokens) },
     };
-    sql_queries::query(alloc, &within, tokens)
+    crate::query(alloc, &within, tokens)
 }

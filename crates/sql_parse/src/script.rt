@@ -4,20 +4,18 @@ ghost use Rattle.ct_value.specs.declared.codes.ScriptCode.{ScriptCode as Code};
 ghost use Rattle.sql_syntax.specs.Tree.{Script as ScriptTree};
 ghost use Rattle.sql_tokens.specs.Statements.{first_statement};
 ghost use Rattle.sql_syntax.specs.View.{script_view, statement_view, statements_view};
-ghost use Rattle.sql_rules.specs.Reads.{readers, insert_at, stated_at, statement_at, whole, parse};
-ghost use Rattle.sql_rules.specs.ReadsScripts.{Answer, and_others, answered, read_ended, read_from, read_last, read_text};
-ghost use Rattle.sql_rules.specs.Scripts.{IsScript, TextRefusal};
-ghost use Rattle.sql_words.specs.Gives.{Gives};
+ghost use Rattle.sql_grammar.specs.Reads.{readers, insert_at, stated_at, statement_at, whole, parse};
+ghost use Rattle.sql_grammar.specs.ReadsScripts.{Answer, and_others, answered, read_ended, read_from, read_last, read_text};
+ghost use Rattle.sql_grammar.specs.Scripts.{IsScript, TextRefusal};
+ghost use Rattle.sql_reading.specs.Gives.{Gives};
 ghost use Rattle.sql_parse.specs.Faults.{IsRefusal, IfRefused};
 
 use crate::depth::query;
 use ct_value::{Bytes, Memory, ScriptCode};
-use sql_definitions::{create, set};
-use sql_grammar::{text_is_refused, text_is_script};
-use sql_rules::StatementWord;
+use sql_grammar::StatementWord;
+use sql_reading::{Read, Stop, create, keyword, name, set, statement_word};
 use sql_syntax::{Script, Statement, Statements};
 use sql_tokens::{Keyword, Token, is_too_deep, split_statement, tokens_of};
-use sql_words::{Read, Stop, keyword, name, statement_word};
 use std::alloc::Global;
 
 /// Why a text is no script.
@@ -38,7 +36,7 @@ impl From<Memory> for ParseFault {
     }
 }
 
-#[tactic(auto, unfolding(sql_rules::specs::Reads::insert_at))]
+#[tactic(auto, unfolding(sql_grammar::specs::Reads::insert_at))]
 fn insert(alloc: Global, depth: usize, tokens: &[Token]) -> Read<'_, Statement>
     ensures { Gives statement_view result (insert_at (readers depth) tokens.now) }
 {
@@ -48,7 +46,7 @@ fn insert(alloc: Global, depth: usize, tokens: &[Token]) -> Read<'_, Statement>
     Ok((Statement::Insert { table, query }, rest))
 }
 
-#[tactic(auto, unfolding(sql_rules::specs::Reads::stated_at))]
+#[tactic(auto, unfolding(sql_grammar::specs::Reads::stated_at))]
 fn stated(alloc: Global, depth: usize, word: StatementWord, tokens: &[Token]) -> Read<'_, Statement>
     ensures { Gives statement_view result (stated_at (readers depth) word tokens.now) }
 {
@@ -59,7 +57,7 @@ fn stated(alloc: Global, depth: usize, word: StatementWord, tokens: &[Token]) ->
     }
 }
 
-#[tactic(auto, unfolding(sql_rules::specs::Reads::statement_at))]
+#[tactic(auto, unfolding(sql_grammar::specs::Reads::statement_at))]
 fn begun_statement(alloc: Global, depth: usize, tokens: &[Token]) -> Read<'_, Statement>
     ensures { Gives statement_view result (statement_at (readers depth) tokens.now) }
 {
@@ -86,7 +84,7 @@ fn whole_statement(alloc: Global, depth: usize, tokens: &[Token]) -> Result<Stat
     finished(statement, rest)
 }
 
-#[tactic(auto, using(sql_rules::specs::laws::Depths::parse_whole))]
+#[tactic(auto, using(sql_grammar::proofs::laws::Depths::parse_whole))]
 fn parsed(alloc: Global, tokens: &[Token]) -> Result<Statement, Stop>
     ensures ok { IfOk result (λ x. parse tokens.now ≡ Some (statement_view x)) }
     ensures refused { IsErrOf result Stop.Refused → parse tokens.now ≡ None }
@@ -94,7 +92,7 @@ fn parsed(alloc: Global, tokens: &[Token]) -> Result<Statement, Stop>
     whole_statement(alloc, tokens.len() + 1, tokens)
 }
 
-#[tactic(auto, unfolding(sql_rules::specs::ReadsScripts::read_ended))]
+#[tactic(auto, unfolding(sql_grammar::specs::ReadsScripts::read_ended))]
 fn statement(alloc: Global, number: u32, tokens: &[Token]) -> Result<Statement, ParseFault>
     ensures ok { (others : Answer) → IfOk result (λ x. read_ended number tokens.now others ≡ and_others (statement_view x) others) }
     ensures refused { (others : Answer) → IfErr result (λ fault. IsRefusal fault (read_ended number tokens.now others)) }
@@ -115,7 +113,7 @@ fn statement(alloc: Global, number: u32, tokens: &[Token]) -> Result<Statement, 
     }
 }
 
-#[tactic(auto, unfolding(sql_rules::specs::ReadsScripts::read_last))]
+#[tactic(auto, unfolding(sql_grammar::specs::ReadsScripts::read_last))]
 fn last(number: u32, tokens: &[Token], is_whole: bool) -> Result<(), ParseFault>
     ensures ok { IfOk result (λ u. read_last is_whole number tokens.now ≡ answered []) }
     ensures refused { IfErr result (λ fault. IsRefusal fault (read_last is_whole number tokens.now)) }
@@ -175,7 +173,7 @@ fn script_statements(
     Ok(list)
 }
 
-#[tactic(auto, using(crate::proofs::Scripts::few_tokens), unfolding(sql_rules::specs::ReadsScripts::read_text))]
+#[tactic(auto, using(crate::proofs::Scripts::few_tokens), unfolding(sql_grammar::specs::ReadsScripts::read_text))]
 fn read_text(alloc: Global, text: &[u8]) -> Result<Script, ParseFault>
     requires { length text.now ≤ 262144 }
     ensures ok { IfOk result (λ script. read_text text.now ≡ answered (statements_view script.statements)) }
@@ -197,7 +195,5 @@ pub fn parse_script(alloc: Global, text: &Bytes) -> Result<Script, ParseFault>
     ensures first { (code : Code) (number : ℕ) → TextRefusal text.now code number → IfOk result (λ script. ⊥) × IfErr result (λ fault. IfRefused fault (λ c n. (c ≡ code) × (n ≡ number))) }
     ensures few { IfOk result (λ script. length (statements_view script.statements) ≤ length text.now + 1) }
 {
-    text_is_script();
-    text_is_refused();
     read_text(alloc, text.as_slice())
 }

@@ -1,5 +1,5 @@
-//! Tests of the parser and of the catalogue: that memory suffices for each call, and that the longest scripts are read in
-//! time. What texts are read as is proved in `sql_examples`, and what they declare in `judge_examples`.
+//! Tests of the parser and of the catalogue: that memory suffices for each call, and that the longest scripts are read in time. What
+//! texts are read as, and what they declare, is proved in `text_examples`.
 #![tactic(auto)]
 
 #[cfg(test)]

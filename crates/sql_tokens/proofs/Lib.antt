@@ -2,3 +2,4 @@ pub mod Ascii
 pub mod Quotes
 pub mod Splits
 pub mod Turns
+pub mod laws

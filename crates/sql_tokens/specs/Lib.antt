@@ -2,4 +2,3 @@ pub mod Depth
 pub mod Fronts
 pub mod Statements
 pub mod Tokens
-pub mod laws

@@ -7,7 +7,8 @@ use Rattle.std.specs.Ordering.{is_gt}
 use Rattle.std.proofs.lemmas.Bool.{cases_Bool}
 use Rattle.std.proofs.Math.IntN.{+ℤ_comm, +ℤ_idr, +ℤ_assoc}
 use Rattle.std.proofs.Math.Bool.{or_assoc, or_comm}
-use Rattle.ct_value.specs.Bag.{items, copies, none, weigh, weigh-append, occurs, one_at, put, bag_of, copies-occurs, copies-none, copies-bag_of, items-add, items-none, same_bag}
+use Rattle.ct_value.specs.Bag.{items, copies, none, weigh, occurs, one_at, put, bag_of}
+use Rattle.ct_value.proofs.laws.Bags.{weigh-append, copies-occurs, copies-none, copies-bag_of, items-add, items-none, same_bag}
 use Rattle.ct_value.specs.Order.{row_cmp, row_total, row_exact}
 use Rattle.ct_value.specs.Rows.{project}
 use Rattle.ct_value.specs.declared.row.Row.{Row}

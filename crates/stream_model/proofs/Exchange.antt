@@ -3,7 +3,8 @@ use Rattle.std.specs.Prelude.{◌≡◌, ℕ, ◌+◌, ◌<◌, ◌≤◌, ◌==
 use Rattle.std.proofs.Common.{zero, suc, true, false, [], ◌∷◌, refl, sym, ap, subst, ◌∙◌, arith, take, eqb, inl, inr, ◌⊎◌}
 use Rattle.std.specs.List.{AllByRecursion, filter}
 use Rattle.std.proofs.lemmas.Bool.{cases_Bool, cases_lt, eqb-true, eq-eqb, ne_eqb, cases_eq, false≢true, or_parts, or_cases, false_from_ne_true}
-use Rattle.ct_value.specs.Bag.{copies, none, weigh, copies-none}
+use Rattle.ct_value.specs.Bag.{copies, none, weigh}
+use Rattle.ct_value.proofs.laws.Bags.{copies-none}
 use Rattle.ct_value.specs.Order.{row_total}
 use Rattle.ct_value.specs.Rows.{project}
 use Rattle.ct_value.specs.declared.row.Row.{Row}

@@ -8,3 +8,4 @@ pub mod Scans
 pub mod Steps
 pub mod Sums
 pub mod Theorem
+pub mod laws

@@ -4,7 +4,8 @@ use Rattle.std.proofs.Common.{zero, suc, true, false, [], ◌∷◌, refl, sym, 
 use Rattle.std.specs.List.{AllByRecursion, filter, find}
 use Rattle.std.proofs.lemmas.List.{append-nil, append_assoc, take_all}
 use Rattle.std.proofs.lemmas.Bool.{eqb-true, eqb-false, false≢true}
-use Rattle.ct_value.specs.Bag.{items, copies, none, add, remove, occurs, one_at, copies-none, copies-add, copies-remove, copies-occurs}
+use Rattle.ct_value.specs.Bag.{items, copies, none, add, remove, occurs, one_at}
+use Rattle.ct_value.proofs.laws.Bags.{copies-none, copies-add, copies-remove, copies-occurs}
 use Rattle.ct_value.specs.Order.{row_cmp, row_total, row_exact}
 use Rattle.ct_value.specs.Rows.{project}
 use Rattle.ct_value.specs.declared.row.Row.{Row}
@@ -12,14 +13,14 @@ use Rattle.ct_value.specs.declared.codes.ChangeCode.{ChangeCode}
 use Rattle.ct_value.specs.declared.codes.ChangeCode.TheVariants.{KindNotDeclared, RowAbsent, KeyPresent}
 use Rattle.ct_change.specs.declared.change.Change.{Change}
 use Rattle.ct_change.specs.Changelog.{Mode, append, retract, upsert, Rows, same_row, adds, admits, row_at, apply, fold, MayCome, IsValidFrom, addition, removal, additions, last_shown, Means}
-use Rattle.ct_change.specs.laws.Folds.{fold-push, append_only}
-use Rattle.ct_change.specs.laws.Meanings.{means_fold}
+use Rattle.ct_change.proofs.laws.Folds.{fold-push, append_only}
+use Rattle.ct_change.proofs.laws.Meanings.{means_fold}
 use Rattle.op_rules.specs.Edges.{meaning_of, KeepsKeys, bag, IsPartial, ReadsAs, Edge, IsUnique, IsApart, AreApartBy, LiesIn}
 use Rattle.op_rules.specs.Tasks.{IsFine}
 use Rattle.stream_model.specs.Tables.{Table, scanned_at, kind_refusal, null_refusal, row_refusal, key_refusal_by, is_there, or_else, refusal, AllTaken}
 use Rattle.stream_model.specs.Network.{IsAnswered, scanned_by}
 use Rattle.stream_model.specs.Scans.{IsKeyBy, IsKeyOf, CarriesTable, ScansStand}
-use Rattle.op_rules.specs.laws.LastRows.{added, last_unique}
+use Rattle.op_rules.proofs.laws.LastRows.{added, last_unique}
 use Rattle.stream_model.proofs.Sums.{reach, take-filter, total-same, total_one, all-filter, all-weaker, filter_passes, cond_sum, cond_below}
 use Rattle.stream_model.proofs.Bags.{same-true, agree, agree_from, weigh-rows, about_addition, about_removal, restricted, copies-restricted}
 use Rattle.stream_model.proofs.Exchange.{shown-filter, means_same, IsUnique-below}

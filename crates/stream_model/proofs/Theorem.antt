@@ -4,12 +4,13 @@ use Rattle.std.proofs.Common.{zero, suc, true, false, [], ◌∷◌, refl, sym, 
 use Rattle.std.specs.List.{AllByRecursion, filter}
 use Rattle.std.proofs.lemmas.List.{append_assoc, append-nil, take_all, length-append}
 use Rattle.std.proofs.lemmas.Bool.{cases_lt}
-use Rattle.ct_value.specs.Bag.{copies, none, same_bag}
+use Rattle.ct_value.specs.Bag.{copies, none}
+use Rattle.ct_value.proofs.laws.Bags.{same_bag}
 use Rattle.ct_value.specs.Order.{row_total, row_exact}
 use Rattle.ct_value.specs.declared.row.Row.{Row}
 use Rattle.ct_change.specs.declared.change.Change.{Change}
 use Rattle.ct_change.specs.Changelog.{Mode, append, retract, upsert, Rows, has, fold, IsValid, Means}
-use Rattle.ct_change.specs.laws.Meanings.{fold_means, valid_where_means, IsValidFrom-take}
+use Rattle.ct_change.proofs.laws.Meanings.{fold_means, valid_where_means, IsValidFrom-take}
 use Rattle.op_rules.specs.History.{Arrival, arrival, at_port, from_port, joined}
 use Rattle.op_rules.specs.Edges.{Meaning, meaning_of, bag, last_rows, partials, IsPartial, ReadsAs, hash, goes_by, goes, belongs_by, AreApartBy, IsKeyedBy}
 use Rattle.op_rules.specs.Tasks.{total, emitted_by, IsFine, IsReady}

@@ -3,7 +3,7 @@
 #![tactic(auto)]
 
 mod events;
-mod laws;
+mod promises;
 
 pub use events::{Event, PrintItem, PrintList, StepFault, Stopped};
-pub use laws::{plans_compose, printed_folds_to_answer, runs_are_safe, runs_drain, scans_stand};
+pub use promises::{plans_compose, printed_folds_to_answer, runs_are_safe, runs_drain};

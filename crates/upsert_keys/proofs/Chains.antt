@@ -1,6 +1,6 @@
 -- A chain of joins ends where there are no more inputs, or no more pairs.
 use Rattle.std.proofs.Common.{◌≡◌, ℕ, zero, suc, ◌≤◌, min, List, [], ◌∷◌, length, drop, refl, arith}
-use Rattle.rel_clauses.specs.declared.join.Pair.{Pair}
+use Rattle.rel_algebra.specs.declared.join.Pair.{Pair}
 use Rattle.upsert_keys.specs.declared.seen.Seen.{Seen}
 use Rattle.upsert_keys.specs.Joins.{chain}
 

@@ -9,10 +9,10 @@ use Rattle.phys_plan.specs.declared.node.Op.{Op}
 use Rattle.phys_plan.specs.declared.node.Op.TheVariants as op
 use Rattle.column_sets.specs.Sets.{set_of}
 use Rattle.column_sets.specs.Places.{first_columns, images}
-use Rattle.plan_reading.specs.Reading.{Wire, at, read_up}
-use Rattle.plan_reading.specs.Columns.{plain_columns}
+use Rattle.phys_plan.specs.Reading.{Wire, at, read_up, no_keys}
+use Rattle.phys_plan.specs.Columns.{plain_columns}
 use Rattle.upsert_keys.specs.declared.seen.Seen.{Seen}
-use Rattle.upsert_keys.specs.Seen.{all_seen, families, no_keys}
+use Rattle.upsert_keys.specs.Seen.{all_seen, families}
 use Rattle.upsert_keys.specs.Joins.{when, join_keys, semi_keys, chain_keys}
 
 -- one key, which holds at every moment and fixes the subtask

@@ -1,4 +1,3 @@
 pub mod Seen
 pub mod Joins
 pub mod Keys
-pub mod laws

@@ -6,7 +6,7 @@ use Rattle.phys_plan.specs.declared.edge.Exchange.{Exchange}
 use Rattle.phys_plan.specs.declared.edge.Exchange.TheVariants.{Forward, Hash}
 use Rattle.phys_plan.specs.declared.node.KeyInfo.{KeyInfo}
 use Rattle.column_sets.specs.Sets.{set_of, family, unions}
-use Rattle.plan_reading.specs.Reading.{numbered}
+use Rattle.phys_plan.specs.Reading.{numbered, no_keys}
 use Rattle.upsert_keys.specs.declared.seen.Seen.{Seen}
 
 -- the keys under each of which at most one row stands over all subtasks at every moment: a local key joined with a set that fixes
@@ -32,6 +32,3 @@ all_seen columns edges (input ∷ inputs) (key ∷ keys) = seen_over (exchange_i
 -- a family keeps the sets that contain no other of its sets, and of these the first few
 abbrev pub families : List (List ℕ) → List (List ℕ) → List (List ℕ) → KeyInfo
 families unique local fixing = record { unique = family unique; local = family local; fixing = family fixing }
-
-abbrev pub no_keys : KeyInfo
-no_keys = record { unique = []; local = []; fixing = [] }

@@ -6,9 +6,8 @@ ghost use Rattle.upsert_keys.specs.Joins as j;
 use crate::seen::{Seen, families, no_keys, one_set, seen_forward};
 use column_sets::{Sets, dup_sets, has_within, set_of, shift, shifted, union, unions};
 use ct_value::{ColTy, ColTys, Cols, Memory};
-use phys_plan::KeyInfo;
-use plan_reading::{left_columns, right_columns};
-use rel_clauses::{JoinKind, Pairs};
+use phys_plan::{KeyInfo, left_columns, right_columns};
+use rel_algebra::{JoinKind, Pairs};
 use std::alloc::Global;
 
 /// How two sides are joined: which rows without a match are kept, and by which columns of the joined row, which has the left's columns

@@ -1,8 +1,8 @@
 //! The keys of one node, from what it sees of its inputs.
-ghost use Rattle.std.specs.Prelude.{◌≡◌, ◌==◌, [], ◌∷◌, ◌++◌, not, length, None, option_copied, OnOk, IfOk};
+ghost use Rattle.std.specs.Prelude.{◌≡◌, ◌==◌, [], ◌∷◌, ◌++◌, not, length, None, option_copied, IfOk};
 ghost use Rattle.column_sets.specs.Sets as sets;
 ghost use Rattle.column_sets.specs.Places as p;
-ghost use Rattle.plan_reading.specs.Columns as c;
+ghost use Rattle.phys_plan.specs.Columns as c;
 ghost use Rattle.upsert_keys.specs.Joins as j;
 ghost use Rattle.upsert_keys.specs.Keys as k;
 ghost use Rattle.upsert_keys.specs.Seen as s;
@@ -13,9 +13,8 @@ use column_sets::{Sets, dup_sets, first_columns, images, set_of};
 use ct_catalog::TableDef;
 use ct_expr::Exprs;
 use ct_value::{Cols, Memory};
-use phys_plan::{KeyInfo, Op};
-use plan_reading::plain_columns;
-use rel_clauses::{JoinKind, Pairs};
+use phys_plan::{KeyInfo, Op, plain_columns};
+use rel_algebra::{JoinKind, Pairs};
 use std::alloc::Global;
 
 /// The keys of a node.
@@ -172,12 +171,26 @@ fn ranked_keys(
 ) -> Result<KeyInfo, Memory>
     ensures { IfOk result (λ keys. keys ≡ s.families (input.now.unique ++ sets.set_of (partition.now ++ length input.now.columns ∷ []) ∷ []) (sets.set_of (partition.now ++ length input.now.columns ∷ []) ∷ []) fixing.now) }
 {
-    let mut cols = partition.dup()?;
-    cols.push(width(input)?)?;
-    let local = one_set(set_of(alloc, cols.as_slice())?)?;
-    let mut unique = dup_sets(&input.unique)?;
-    unique.append(dup_sets(&local)?)?;
+    let local = ranked_set(alloc, partition, width(input)?)?;
+    let unique = both(&input.unique, &local)?;
     families(alloc, &unique, &local, fixing)
+}
+
+// The set of a partition's columns and one column more.
+fn ranked_set(alloc: Global, partition: &Cols, rank: u32) -> Result<Sets, Memory>
+    ensures { IfOk result (λ made. made ≡ sets.set_of (partition.now ++ rank ∷ []) ∷ []) }
+{
+    let mut cols = partition.dup()?;
+    cols.push(rank)?;
+    one_set(set_of(alloc, cols.as_slice())?)
+}
+
+fn both(first: &Sets, more: &Sets) -> Result<Sets, Memory>
+    ensures { IfOk result (λ all. all ≡ first.now ++ more.now) }
+{
+    let mut all = dup_sets(first)?;
+    all.append(dup_sets(more)?)?;
+    Ok(all)
 }
 
 // Without the rank: the only row of a partition is known by it.
@@ -230,23 +243,23 @@ fn set_keys(
     ensures { IfOk result (λ keys. keys ≡ k.set_keys except all left.now right.now) }
 {
     let every = one_set(first_columns(alloc, width(left)?)?)?;
-    let mut unique = dup_sets(&left.unique)?;
-    push_sets(&mut unique, except, all, &right.unique, &every)?;
-    let mut local = dup_sets(&left.everywhere)?;
-    push_sets(&mut local, except, all, &right.everywhere, &every)?;
+    let unique = with_sets(&left.unique, except, all, &right.unique, &every)?;
+    let local = with_sets(&left.everywhere, except, all, &right.everywhere, &every)?;
     families(alloc, &unique, &local, &every)
 }
 
-// Puts behind the left's keys those of the right, where a row must be in both, and those of whole rows that stand once.
-fn push_sets(
-    sets: &mut Sets,
+// The left's keys, those of the right, where a row must be in both, and those of whole rows that stand once.
+fn with_sets(
+    lefts: &Sets,
     except: bool,
     all: bool,
     rights: &Sets,
     every: &Sets,
-) -> Result<(), Memory>
-    ensures { OnOk result (sets.new ≡ sets.old ++ (j.when (not except) rights.now ++ j.when (not all) every.now)) }
+) -> Result<Sets, Memory>
+    ensures { IfOk result (λ made. made ≡ lefts.now ++ (j.when (not except) rights.now ++ j.when (not all) every.now)) }
 {
-    push_when(!except, sets, rights)?;
-    push_when(!all, sets, every)
+    let mut sets = dup_sets(lefts)?;
+    push_when(!except, &mut sets, rights)?;
+    push_when(!all, &mut sets, every)?;
+    Ok(sets)
 }

@@ -1,13 +1,12 @@
 //! What a node sees of its inputs.
 ghost use Rattle.std.specs.Prelude.{◌≡◌, [], ◌∷◌, map, get_or, option_copied, IfOk};
-ghost use Rattle.plan_reading.specs.Reading.{at, numbered as item};
-ghost use Rattle.plan_reading.specs.Columns.{columns_in};
+ghost use Rattle.phys_plan.specs.Reading.{at, numbered as item, no_keys};
+ghost use Rattle.phys_plan.specs.Columns.{columns_in};
 ghost use Rattle.upsert_keys.specs.Seen as s;
 
 use column_sets::{Sets, dup_sets, family, set_of, unions};
 use ct_value::{ColTys, Cols, List, Memory};
-use phys_plan::{Edge, Exchange, KeyInfo};
-use plan_reading::numbered;
+use phys_plan::{Edge, Exchange, KeyInfo, numbered};
 use std::alloc::Global;
 
 /// What a node sees of an input: its keys behind the exchange of the edge, those that hold over all subtasks at every moment, and
@@ -36,7 +35,7 @@ pub(crate) fn all_seen(
     done: &[KeyInfo],
     inputs: &[u32],
 ) -> Result<List<Seen>, Memory>
-    ensures { IfOk result (λ all. all ≡ s.all_seen (columns_in columns.now) edges.now inputs.now (map (at s.no_keys done.now) inputs.now)) }
+    ensures { IfOk result (λ all. all ≡ s.all_seen (columns_in columns.now) edges.now inputs.now (map (at no_keys done.now) inputs.now)) }
 {
     let mut all = List::new(alloc);
     for input in inputs {
@@ -53,7 +52,7 @@ fn seen_at(
     done: &[KeyInfo],
     input: u32,
 ) -> Result<Seen, Memory>
-    ensures { IfOk result (λ seen. seen ≡ s.seen_over (s.exchange_in (item edges.now input)) (columns_in columns.now input) (at s.no_keys done.now input)) }
+    ensures { IfOk result (λ seen. seen ≡ s.seen_over (s.exchange_in (item edges.now input)) (columns_in columns.now input) (at no_keys done.now input)) }
 {
     let columns = columns_of(alloc, columns, input)?;
     match numbered(done, input) {
@@ -129,7 +128,7 @@ fn seen_hashed(alloc: Global, cols: &Cols, columns: ColTys, keys: &KeyInfo) -> R
 
 /// No keys.
 pub(crate) fn no_keys(alloc: Global) -> KeyInfo
-    ensures { result ≡ s.no_keys }
+    ensures { result ≡ no_keys }
 {
     KeyInfo {
         unique: Sets::new(alloc),

@@ -1,4 +1,4 @@
-use Rattle.job_run.specs.Complete.{ends_well}
+use Rattle.job_run.proofs.laws.EndsWell.{ends_well}
 use Rattle.job_run.specs.Outcome.{outcome}
 use Rattle.job.proofs.Endings.{completes_told, done_before, ends_told, range_before}
 use Rattle.job.proofs.run_job.Goals as goal

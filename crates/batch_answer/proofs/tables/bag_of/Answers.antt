@@ -3,8 +3,8 @@ use Rattle.std.proofs.lemmas.Map.Iter.{rest_more, rest_all}
 use Rattle.ct_value.specs.Bag.{bag_of_counts}
 use Rattle.ct_value.specs.Order.{row_cmp}
 use Rattle.ct_value.specs.declared.row.Row.{Row}
-use Rattle.rel_clauses.specs.Sums.{together}
-use Rattle.batch_answer.proofs.Bags.{few-tally, added-start, added-turn, added-room, added-end}
+use Rattle.rel_algebra.specs.Sums.{together}
+use Rattle.batch_answer.proofs.TalliedBags.{few-tally, added-start, added-turn, added-room, added-end}
 use Rattle.batch_answer.proofs.tables.bag_of.Goals as goal
 
 pub loop-row-init : goal.loop-row-init

@@ -1,6 +1,6 @@
 use Rattle.std.proofs.Common.{◌≡◌}
 use Rattle.ct_value.specs.Bag.{bag_of_counts}
-use Rattle.rel_clauses.specs.Sums.{together}
+use Rattle.rel_algebra.specs.Sums.{together}
 use Rattle.batch_answer.specs.Parts.{IsFew}
 use Rattle.batch_answer.proofs.tables.bag_of.Given as goal
 

@@ -4,8 +4,8 @@ use Rattle.ct_value.specs.Bag.{bag_of_counts, copies, items}
 use Rattle.ct_value.specs.Order.{row_cmp}
 use Rattle.ct_value.specs.declared.row.Row.{Row}
 use Rattle.ct_expr.specs.declared.evaluate.EvalFault.{EvalFault}
-use Rattle.rel_clauses.specs.Sums.{together}
-use Rattle.batch_answer.proofs.Bags.{ArePositive, positive-runs, added-runs, added-turn, added-full, added-end}
+use Rattle.rel_algebra.specs.Sums.{together}
+use Rattle.batch_answer.proofs.TalliedBags.{ArePositive, positive-runs, added-runs, added-turn, added-full, added-end}
 use Rattle.batch_answer.proofs.tables.tally_of.Goals as goal
 
 pub runs-init : goal.runs-init

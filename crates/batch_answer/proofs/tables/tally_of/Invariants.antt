@@ -1,7 +1,7 @@
 use Rattle.std.proofs.Common.{◌≡◌, length}
 use Rattle.ct_value.specs.Bag.{bag_of_counts}
-use Rattle.rel_clauses.specs.Sums.{together}
-use Rattle.batch_answer.proofs.Bags.{ArePositive}
+use Rattle.rel_algebra.specs.Sums.{together}
+use Rattle.batch_answer.proofs.TalliedBags.{ArePositive}
 use Rattle.batch_answer.proofs.tables.tally_of.Given as goal
 
 abbrev pub invariant-runs : goal.invariant-runs

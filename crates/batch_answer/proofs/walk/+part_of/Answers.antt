@@ -4,11 +4,11 @@ use Rattle.std.proofs.lemmas.Result.{IfOk-weaker}
 use Rattle.ct_expr.specs.View.{expr_view, exprs_view}
 use Rattle.ct_expr.specs.declared.evaluate.EvalFault.{EvalFault}
 use Rattle.ct_change.specs.Changelog.{Rows}
-use Rattle.rel_clauses.specs.Sums.{together}
+use Rattle.rel_algebra.specs.Sums.{together}
 use Rattle.rel_algebra.specs.declared.rel.Rel.{Rel as Tree}
 use Rattle.rel_algebra.specs.Rel.{Rel, Union, Project, Group, Join, Semi, Rank, rels}
 use Rattle.rel_algebra.specs.View.{rel_view, rels_view}
-use Rattle.rel_answer.specs.Tallies.{Unfit}
+use Rattle.batch_answer.specs.Tallies.{Unfit}
 use Rattle.batch_answer.specs.Parts.{IsFew, IsPart, IsAnswered, IsLost}
 use Rattle.batch_answer.specs.Tables.{tables_of}
 use Rattle.batch_answer.proofs.Inputs.{from, from_more, from_end, inputs-start, input-typed, input-lost, sum-lost, inputs-turn, inputs-end}
@@ -24,6 +24,15 @@ part_of-returns-in_err-part-in-Project-clause-out t c =
     let view : rel_view c.args.rel.now ≡ node = project-view c.args.rel.now c.in-Project.input input c.deref-in-Project.ensures c.in-Project.items c.in-Project.is in
     let lost : IsErrOf c.from_residual-in_err-part-in-Project.result EvalFault.Out → IsLost tables (rel_view input) = search rules in
     λ e. subst (λ (rel : Rel). IsLost tables rel) (sym view) (project-lost tables (rel_view input) (lost e) (exprs_view c.in-Project.items))
+
+pub part_of-returns-in_ok-part-in-Project-clause-value : goal.part_of-returns-in_ok-part-in-Project-clause-value
+part_of-returns-in_ok-part-in-Project-clause-value t c =
+    let tables = tables_of c.args.types.now c.args.tables.now in
+    let input : Tree = c.deref-in-Project.result.now in
+    let node : Rel = Project (rel_view input) (exprs_view c.in-Project.items) in
+    let view : rel_view c.args.rel.now ≡ node = project-view c.args.rel.now c.in-Project.input input c.deref-in-Project.ensures c.in-Project.items c.in-Project.is in
+    let asked : IsAnswered tables (rel_view input) c.in_ok-part-in-Project.part.columns c.in_ok-part-in-Project.part.rows = c.in_ok-part-in-Project.ensures.value in
+    IfOk-weaker c.project_part.result _ _ (λ part makes. subst (λ (rel : Rel). IsAnswered tables rel part.columns part.rows) (sym view) (makes tables (rel_view input) asked)) c.project_part.ensures.value
 
 pub part_of-returns-in_err-part-in-Group-clause-out : goal.part_of-returns-in_err-part-in-Group-clause-out
 part_of-returns-in_err-part-in-Group-clause-out t c =

@@ -2,7 +2,7 @@ use Rattle.std.proofs.Common.{◌≡◌, ◌++◌, map, drop}
 use Rattle.std.specs.Prelude.{flat_map}
 use Rattle.query_answer.specs.Answer.{listed_calls}
 use Rattle.bind_names.specs.Calls.{call_view}
-use Rattle.bind_clauses.specs.Views.{entries_view}
+use Rattle.bind_names.specs.Entries.{entries_view}
 use Rattle.bind_clauses.proofs.calls.item_calls.Given as goal
 
 abbrev pub invariant-loop-entry : goal.invariant-loop-entry

@@ -1,7 +1,7 @@
 use Rattle.std.proofs.Common.{◌≡◌, ◌++◌, ◌-◌, length, drop}
 use Rattle.binding.specs.Queries.{headed}
 use Rattle.bind_nodes.specs.Views.{bounds_view}
-use Rattle.bind_clauses.specs.Views.{entries_view}
+use Rattle.bind_names.specs.Entries.{entries_view}
 use Rattle.bind_clauses.proofs.lists.headed.Given as goal
 
 abbrev pub invariant-columns : goal.invariant-columns

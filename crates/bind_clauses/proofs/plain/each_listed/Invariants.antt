@@ -2,7 +2,7 @@ use Rattle.std.proofs.Common.{◌≡◌, drop}
 use Rattle.binding.specs.Queries as q
 use Rattle.bind_nodes.specs.Views.{bounds_view}
 use Rattle.bind_clauses.specs.Lists.{each_listed}
-use Rattle.bind_clauses.specs.Views.{entries_view}
+use Rattle.bind_names.specs.Entries.{entries_view}
 use Rattle.bind_clauses.proofs.Behind.{behind}
 use Rattle.bind_clauses.proofs.plain.each_listed.Given as goal
 

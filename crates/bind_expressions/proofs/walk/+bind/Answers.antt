@@ -3,7 +3,7 @@ use Rattle.std.specs.Prelude.{option_map}
 use Rattle.std.proofs.lemmas.List.{map-append}
 use Rattle.sql_syntax.specs.Tree as t
 use Rattle.sql_syntax.specs.View.{view, trees_view, args_view, over_view, sum_tails_view, product_tails_view, whens_view}
-use Rattle.sql_syntax.specs.laws.Views.{tree_or, tree_and, tree_not, tree_compare, tree_is_null, tree_between, tree_in_list, tree_like, tree_sum, tree_product, tree_sign, tree_call, tree_cast, tree_case}
+use Rattle.sql_syntax.proofs.laws.Views.{tree_or, tree_and, tree_not, tree_compare, tree_is_null, tree_between, tree_in_list, tree_like, tree_sum, tree_product, tree_sign, tree_call, tree_cast, tree_case}
 use Rattle.query_answer.specs.Calls.{aggregate_of, calls, args_calls, when_calls}
 use Rattle.query_answer.specs.Functions.{function_of}
 use Rattle.binding.specs.Nodes.{added, multiplied, null_test, between, in_list, like, cast_to, call, case, compare, conjunction, disjunction, negation, negated_if, signed}

@@ -1,6 +1,6 @@
 use Rattle.std.proofs.Common.{◌≡◌, sym, ap, ◌∙◌}
 use Rattle.sql_syntax.specs.View.{args_view}
-use Rattle.sql_syntax.specs.laws.Views.{args_list}
+use Rattle.sql_syntax.proofs.laws.Views.{args_list}
 use Rattle.query_answer.specs.Calls.{agg_arg}
 use Rattle.bind_names.proofs.CallLists.{copied, first_of}
 use Rattle.bind_names.proofs.calls.agg_arg.Goals as goal

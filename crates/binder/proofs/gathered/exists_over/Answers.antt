@@ -1,7 +1,7 @@
 use Rattle.std.proofs.Common.{rules, ◌≡◌, Some, ◌∙◌}
 use Rattle.sql_syntax.specs.View.{select_view}
 use Rattle.query_answer.specs.Ranks.{ranked_select}
-use Rattle.bind_tops.specs.Views.{ranked_view}
+use Rattle.bind_forms.specs.Views.{ranked_view}
 use Rattle.binder.specs.Views.{from_where_view}
 use Rattle.binder.proofs.OnlySources.{exists_ranked}
 use Rattle.binder.proofs.gathered.exists_over.Goals as goal

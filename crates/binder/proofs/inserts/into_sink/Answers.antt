@@ -1,22 +1,32 @@
-use Rattle.std.proofs.Common.{rules, ◌≡◌, true, Ok, sym, subst, ◌∙◌}
-use Rattle.std.specs.Prelude.{IfOk}
+use Rattle.std.proofs.Common.{rules, ◌≡◌, ◌++◌, ◌∷◌, [], true, false, length, Ok, Err, ap, ◌∙◌}
+use Rattle.ct_value.specs.declared.codes.ScriptCode.TheVariants.{SinkShape}
 use Rattle.sql_syntax.specs.View.{query_view}
-use Rattle.binding.specs.Checked.{Checked}
-use Rattle.binding.specs.Inserts.{Inserted, sunk}
-use Rattle.binder.specs.Views.{inserted_view}
-use Rattle.binder.proofs.IntoSinks.{again}
+use Rattle.binding.specs.Queries.{query_bound}
+use Rattle.bind_clauses.specs.Views.{relation_view}
+use Rattle.binder.specs.Steps.{misfits}
+use Rattle.binder.proofs.IntoSinks.{fits, not_bound, too_wide}
 use Rattle.binder.proofs.inserts.into_sink.Goals as goal
+
+pub returns-in_err-relation-clause-refused : goal.returns-in_err-relation-clause-refused
+returns-in_err-relation-clause-refused c = λ code e.
+    let query = query_view c.args.query.now in
+    let tables : c.push.new.self ≡ c.args.sources ++ c.args.sink ∷ [] = c.in_ok-push.ensures.ok ∙ (λ i. c.in_ok-tables.ensures i ++ c.in_ok-dup.ensures i ∷ []) in
+    let h : query_bound true c.push.new.self query ≡ Err code = search rules in
+    not_bound c.args.sources c.push.new.self query c.args.sink tables code h
+
+pub returns-then-misfits-clause-refused : goal.returns-then-misfits-clause-refused
+returns-then-misfits-clause-refused c = λ code e.
+    let query = query_view c.args.query.now in
+    let x = relation_view c.in_ok-relation.relation in
+    let tables : c.push.new.self ≡ c.args.sources ++ c.args.sink ∷ [] = c.in_ok-push.ensures.ok ∙ (λ i. c.in_ok-tables.ensures i ++ c.in_ok-dup.ensures i ∷ []) in
+    let wide : misfits (length c.args.sources) x c.args.sink ≡ true = search rules in
+    let code_is : SinkShape ≡ code = search rules in
+    too_wide c.args.sources c.push.new.self query c.args.sink tables x c.in_ok-relation.ensures.ok wide ∙ ap Err code_is
 
 pub returns-clause-ok : goal.returns-clause-ok
 returns-clause-ok c =
     let query = query_view c.args.query.now in
-    let x = inserted_view c.in_ok-bound.bound in
-    let h : sunk true c.args.sources query c.args.sink ≡ Ok x = search rules in
-    subst (λ (v : Checked Inserted). IfOk c.bound_again.result (λ y. v ≡ Ok (inserted_view y))) (sym (again c.args.sources query c.args.sink x h)) c.bound_again.ensures.ok
-
-pub returns-clause-refused : goal.returns-clause-refused
-returns-clause-refused c = λ code e.
-    let query = query_view c.args.query.now in
-    let x = inserted_view c.in_ok-bound.bound in
-    let h : sunk true c.args.sources query c.args.sink ≡ Ok x = search rules in
-    again c.args.sources query c.args.sink x h ∙ c.bound_again.ensures.refused code e
+    let x = relation_view c.in_ok-relation.relation in
+    let tables : c.push.new.self ≡ c.args.sources ++ c.args.sink ∷ [] = c.in_ok-push.ensures.ok ∙ (λ i. c.in_ok-tables.ensures i ++ c.in_ok-dup.ensures i ∷ []) in
+    let fit : misfits (length c.args.sources) x c.args.sink ≡ false = search rules in
+    fits c.args.sources c.push.new.self query c.args.sink tables x c.in_ok-relation.ensures.ok fit

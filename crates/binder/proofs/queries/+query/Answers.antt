@@ -8,7 +8,7 @@ use Rattle.sql_syntax.specs.Tree as t
 use Rattle.query_answer.specs.Joins.{kind_of}
 use Rattle.rel_algebra.specs.View.{rel_view, rels_view}
 use Rattle.sql_syntax.specs.View.{query_view, select_view, selects_view, sorts_view, source_view, view}
-use Rattle.sql_syntax.specs.laws.Views.{source_sub}
+use Rattle.sql_syntax.proofs.laws.Views.{source_sub}
 use Rattle.query_answer.specs.Ranks.{ranked_select}
 use Rattle.binding.specs.Checked.{Checked, ◌>>=◌}
 use Rattle.binding.specs.Queries.{Framed, Relation, gathered_bound, is_plain, joined, parts_bound, query_bound, renamed, select_bound, source_bound}
@@ -16,10 +16,10 @@ use Rattle.bind_clauses.specs.Views.{relation_view}
 use Rattle.binder.specs.Steps.{all_bound, common_scope, from_list, joined_framed, left_bound, only_framed, only_select, selects_framed, spent_behind, spent_here, union_of_rest, unless_ordered, whole_union}
 use Rattle.binder.proofs.BySelects.{by_query, Ordered}
 use Rattle.binder.proofs.Joins.{join_refused, join_turn, source_refused}
-use Rattle.bind_subqueries.specs.Views.{outside_view, part_view, parts_view}
+use Rattle.bind_nested.specs.PartViews.{outside_view, part_view, parts_view}
 use Rattle.binder.proofs.Unions.{rest_end, rest_failed, rest_refused, rest_turn, two_or_more}
-use Rattle.bind_tops.specs.Views.{ranked_view}
-use Rattle.bind_ranks.specs.Views.{framed_view}
+use Rattle.bind_forms.specs.Views.{ranked_view}
+use Rattle.bind_nested.specs.RankViews.{framed_view}
 use Rattle.binder.specs.Views.{from_where_view}
 use Rattle.binder.proofs.OnlySources.{alone, not_alone, ordered, plain_query, ranked, read_joined, read_only, under}
 use Rattle.binder.proofs.Lefts.{left_failed, left_from, left_turn}

@@ -6,7 +6,7 @@ use Rattle.sql_syntax.specs.View.{trees_view}
 use Rattle.binding.specs.Queries.{all_parts_but}
 use Rattle.binder.proofs.Joins.{joins_left}
 use Rattle.binder.proofs.Lefts.{left_from}
-use Rattle.bind_subqueries.specs.Views.{outside_view, parts_view}
+use Rattle.bind_nested.specs.PartViews.{outside_view, parts_view}
 use Rattle.binder.proofs.Unions.{rest_left}
 use Rattle.binder.proofs.Wheres.{behind, parts_from}
 use Rattle.binder.proofs.queries.+query.Given as goal

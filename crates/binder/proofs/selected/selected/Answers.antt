@@ -5,7 +5,8 @@ use Rattle.sql_syntax.specs.View.{items_view, trees_view, view}
 use Rattle.query_answer.specs.Answer.{entries}
 use Rattle.binding.specs.Checked.{◌>>=◌}
 use Rattle.binding.specs.Queries as q
-use Rattle.bind_clauses.specs.Views.{entries_view, relation_view}
+use Rattle.bind_clauses.specs.Views.{relation_view}
+use Rattle.bind_names.specs.Entries.{entries_view}
 use Rattle.binder.specs.Steps.{listed}
 use Rattle.binder.proofs.Selects.{some_listed}
 use Rattle.binder.proofs.selected.selected.Goals as goal

@@ -1,6 +1,6 @@
 use Rattle.std.proofs.Common.{◌≡◌, ◌-◌, length, map}
 use Rattle.query_answer.specs.Answer.{types}
-use Rattle.binding.specs.Inserts.{go_into}
+use Rattle.rel_algebra.specs.GoesInto.{go_into}
 use Rattle.binder.proofs.Columns.{into_from}
 use Rattle.binder.proofs.sinks.go_into.Given as goal
 

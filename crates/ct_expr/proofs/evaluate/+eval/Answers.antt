@@ -8,7 +8,7 @@ use Rattle.ct_expr.specs.Found.{with_else}
 use Rattle.ct_expr.specs.declared.found.Choice.TheVariants.{Otherwise}
 use Rattle.ct_expr.specs.Values.{first_chosen}
 use Rattle.ct_expr.specs.Eval as e
-use Rattle.ct_expr.specs.laws.Views.{view_case}
+use Rattle.ct_expr.proofs.laws.Views.{view_case}
 use Rattle.ct_expr.proofs.evaluate.+eval.Goals as goal
 
 pub found-returns-in-Otherwise : goal.found-returns-in-Otherwise

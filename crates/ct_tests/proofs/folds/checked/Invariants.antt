@@ -1,5 +1,5 @@
 use Rattle.std.proofs.Common.{take}
-use Rattle.source_fold.specs.Folding.{ChecksStand}
+use Rattle.source_lines.specs.Folding.{ChecksStand}
 use Rattle.ct_tests.proofs.folds.checked.Given as goal
 
 abbrev pub invariant-loop-change : goal.invariant-loop-change

@@ -1,5 +1,5 @@
 use Rattle.std.proofs.Common.{take}
-use Rattle.source_fold.specs.Folding.{FoldStands}
+use Rattle.source_lines.specs.Folding.{FoldStands}
 use Rattle.ct_tests.proofs.folds.folded.Given as goal
 
 abbrev pub invariant-loop-change : goal.invariant-loop-change

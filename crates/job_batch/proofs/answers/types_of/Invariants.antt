@@ -1,5 +1,5 @@
 use Rattle.std.proofs.Common.{◌≡◌, ◌++◌, map, drop}
-use Rattle.binding.specs.Inserts.{column_types}
+use Rattle.ct_catalog.specs.Columns.{column_types}
 use Rattle.job_batch.proofs.answers.types_of.Given as goal
 
 abbrev pub invariant-loop-table : goal.invariant-loop-table

@@ -2,7 +2,7 @@ use Rattle.std.proofs.Common.{◌≡◌, ◌≤◌, length}
 use Rattle.std.specs.List.{AllByRecursion}
 use Rattle.ct_io.specs.Written.{AppendsUpTo}
 use Rattle.ct_value.specs.Bag.{items}
-use Rattle.printed_lines.specs.Printed.{row_lines}
+use Rattle.job_text.specs.Printed.{row_lines}
 use Rattle.job_batch.specs.Runs.{run_lines}
 use Rattle.job_batch.proofs.lines.put_rows.Given as goal
 

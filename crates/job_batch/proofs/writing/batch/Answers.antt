@@ -1,6 +1,6 @@
 use Rattle.std.proofs.lemmas.Result.{err_from_is_err_and}
 use Rattle.job_judgement.specs.Views.{accepted_view}
-use Rattle.job_ending.specs.RunLaws.{halted_there, there_moved}
+use Rattle.job_ending.proofs.laws.Runs.{halted_there, there_moved}
 use Rattle.job_batch.specs.Batch.{with_changes}
 use Rattle.job_batch.proofs.writing.batch.Goals as goal
 

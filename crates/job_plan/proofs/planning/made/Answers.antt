@@ -7,24 +7,30 @@ use Rattle.job_plan.specs.Planned.{laid}
 use Rattle.job_plan.specs.Views.{plan_view}
 use Rattle.job_plan.proofs.Made.{answers, faults, laid_well, ruled}
 use Rattle.job_plan.proofs.planning.made.Goals as goal
+use Rattle.job_judgement.proofs.laws.Theorems.{accepted_is_bound}
+use Rattle.planner.proofs.laws.TreePlans.{trees_have_one_plan}
+use Rattle.job_plan.proofs.laws.PlannedInserts.{inserts_have_laid_plans}
+use Rattle.planner.proofs.laws.Theorems.{planned_plans_are_ruled}
+use Rattle.job_plan.proofs.laws.Inferred.{infers_as_seen as plans_infer_as_seen_same, with_inferred_seen as plans_infer_as_seen_with}
+use Rattle.job_plan.proofs.laws.Refused.{refusal_seen as plans_are_refused_as_seen_refused, way_seen as plans_are_refused_as_seen_taken}
 
 pub plan-requires : goal.plan-requires
 plan-requires c =
     let script = accepted_view c.args.script.now in
-    (script.inserted.query.rel, laid_well script (c.accepted_is_bound.ensures script c.requires.judged) c.inserts_have_laid_plans.ensures c.in_ok-laid.laid c.in_ok-laid.ensures)
+    (script.inserted.query.rel, laid_well script (accepted_is_bound script c.requires.judged) inserts_have_laid_plans c.in_ok-laid.laid c.in_ok-laid.ensures)
 
 pub returns-clause-planned : goal.returns-clause-planned
 returns-clause-planned c =
     let script = accepted_view c.args.script.now in
     let same = ap (λ (s : Settings). s.materialize) c.settings.ensures in
     subst (λ (m : Materialize). IfOk c.plan.result (λ checked. p.made (laid script) m ≡ p.Planned (plan_view checked))) same
-    (answers c.plans_infer_as_seen.ensures.same c.plans_infer_as_seen.ensures.with c.plans_are_refused_as_seen.ensures.refused c.plans_are_refused_as_seen.ensures.taken c.trees_have_one_plan.ensures script c.in_ok-laid.laid c.in_ok-laid.ensures
+    (answers plans_infer_as_seen_same plans_infer_as_seen_with plans_are_refused_as_seen_refused plans_are_refused_as_seen_taken trees_have_one_plan script c.in_ok-laid.laid c.in_ok-laid.ensures
     c.settings.result.now.materialize c.plan.result c.plan.ensures.planned)
 
 pub returns-clause-ruled : goal.returns-clause-ruled
 returns-clause-ruled c =
     let script = accepted_view c.args.script.now in
-    ruled c.planned_plans_are_ruled.ensures script c.in_ok-laid.laid (laid_well script (c.accepted_is_bound.ensures script c.requires.judged) c.inserts_have_laid_plans.ensures c.in_ok-laid.laid c.in_ok-laid.ensures)
+    ruled planned_plans_are_ruled script c.in_ok-laid.laid (laid_well script (accepted_is_bound script c.requires.judged) inserts_have_laid_plans c.in_ok-laid.laid c.in_ok-laid.ensures)
     c.settings.result.now.materialize c.plan.result c.plan.ensures.planned
 
 pub returns-clause-fault : goal.returns-clause-fault
@@ -32,5 +38,5 @@ returns-clause-fault c =
     let script = accepted_view c.args.script.now in
     let same = ap (λ (s : Settings). s.materialize) c.settings.ensures in
     subst (λ (m : Materialize). IfErr c.plan.result (λ fault. p.Says (p.made (laid script) m) fault)) same
-    (faults c.plans_infer_as_seen.ensures.same c.plans_infer_as_seen.ensures.with c.plans_are_refused_as_seen.ensures.refused c.plans_are_refused_as_seen.ensures.taken c.trees_have_one_plan.ensures script c.in_ok-laid.laid c.in_ok-laid.ensures
+    (faults plans_infer_as_seen_same plans_infer_as_seen_with plans_are_refused_as_seen_refused plans_are_refused_as_seen_taken trees_have_one_plan script c.in_ok-laid.laid c.in_ok-laid.ensures
     c.settings.result.now.materialize c.plan.result c.plan.ensures.refused)

@@ -1,6 +1,6 @@
 use Rattle.std.proofs.lemmas.Result.{err_from_is_err_and}
 use Rattle.job_batch.specs.Batch.{with_changes}
-use Rattle.job_ending.specs.RunLaws.{runs_halted}
+use Rattle.job_ending.proofs.laws.Runs.{runs_halted}
 use Rattle.job_judgement.specs.Views.{accepted_view}
 use Rattle.job_run.proofs.batches.answer_script.Goals as goal
 

@@ -1,7 +1,7 @@
 use Rattle.std.proofs.Common.{ap, refl}
 use Rattle.std.proofs.lemmas.Result.{err_from_is_err_and}
 use Rattle.job_batch.specs.Batch.{with_changes}
-use Rattle.job_ending.specs.RunLaws.{runs_halted, runs_moved}
+use Rattle.job_ending.proofs.laws.Runs.{runs_halted, runs_moved}
 use Rattle.job_judgement.specs.Views.{accepted_view}
 use Rattle.job_run.specs.Outcome.{after_judgement, over_changes}
 use Rattle.job_run.proofs.Loads.{judged_halt}

@@ -1,6 +1,6 @@
 use Rattle.std.proofs.Common.{sym, ◌∙◌}
 use Rattle.std.proofs.lemmas.Result.{err_from_is_err_and}
-use Rattle.job_ending.specs.RunLaws.{runs_halted, runs_moved, rose_earlier}
+use Rattle.job_ending.proofs.laws.Runs.{runs_halted, runs_moved, rose_earlier}
 use Rattle.job_run.specs.Outcome.{run_script}
 use Rattle.job_run.proofs.changelogs.run_names.Goals as goal
 

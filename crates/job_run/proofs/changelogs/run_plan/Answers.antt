@@ -1,5 +1,5 @@
 use Rattle.std.proofs.lemmas.Result.{err_from_is_err_and}
-use Rattle.job_ending.specs.RunLaws.{runs_halted}
+use Rattle.job_ending.proofs.laws.Runs.{runs_halted}
 use Rattle.job_stream.specs.Stream.{streamed}
 use Rattle.job_run.proofs.changelogs.run_plan.Goals as goal
 

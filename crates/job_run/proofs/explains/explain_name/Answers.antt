@@ -1,5 +1,5 @@
 use Rattle.std.proofs.lemmas.Result.{err_from_is_err_and}
-use Rattle.job_ending.specs.RunLaws.{runs_halted, runs_there}
+use Rattle.job_ending.proofs.laws.Runs.{runs_halted, runs_there}
 use Rattle.job_run.specs.Outcome.{explain_script}
 use Rattle.job_run.proofs.explains.explain_name.Goals as goal
 

@@ -1,5 +1,5 @@
 use Rattle.std.proofs.Common.{refl}
-use Rattle.job_ending.specs.RunLaws.{runs_moved, memory_runs}
+use Rattle.job_ending.proofs.laws.Runs.{runs_moved, memory_runs}
 use Rattle.job_run.proofs.Asked.{of_batch, of_explain, of_run}
 use Rattle.job_run.proofs.requests.run_asked.Goals as goal
 

@@ -1,4 +1,4 @@
-use Rattle.ct_io.specs.Appending.{part_none}
+use Rattle.ct_io.proofs.laws.Appending.{part_none}
 use Rattle.job_stream.proofs.lines.put_item.Goals as goal
 
 pub returns-in_err-line-clause-part : goal.returns-in_err-line-clause-part

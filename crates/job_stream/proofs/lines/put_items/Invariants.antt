@@ -2,7 +2,7 @@ use Rattle.std.proofs.Common.{◌≤◌, length}
 use Rattle.std.specs.List.{AllByRecursion}
 use Rattle.std.specs.Vec.Iter.{into_iter_items}
 use Rattle.ct_io.specs.Written.{AppendsUpTo}
-use Rattle.printed_lines.specs.Printed.{IsWide, item_lines}
+use Rattle.job_text.specs.Printed.{IsWide, item_lines}
 use Rattle.job_stream.proofs.lines.put_items.Given as goal
 
 abbrev pub invariant-loop-item : goal.invariant-loop-item

@@ -4,15 +4,16 @@ use Rattle.ct_value.specs.declared.ty.Ty.{Ty}
 use Rattle.ct_field.specs.Numbers.{is_type}
 use Rattle.ct_catalog.specs.declared.table.ColDef.{ColDef}
 use Rattle.plan_rules.specs.Doings.{network}
-use Rattle.printed_lines.specs.Printed.{IsWide}
-use Rattle.stream_run.specs.Rows.{sent_columns}
-use Rattle.stream_run.specs.Run.{whole_run}
-use Rattle.session_runs.specs.Faults.{IsRan}
+use Rattle.job_text.specs.Printed.{IsWide}
+use Rattle.run_laws.specs.Rows.{sent_columns}
+use Rattle.source_lines.specs.Run.{whole_run}
+use Rattle.exec_core.specs.Faults.{IsRan}
 use Rattle.job_ending.specs.declared.halt.Halt.{Halt}
 use Rattle.job_stream.specs.Stream.{sink_types, streamed_within}
 use Rattle.job_stream.specs.Writing.{Finishes}
 use Rattle.job_stream.proofs.Ends.{memory_runs, printed_finishes, printed_wide, ran_wide, sink_types_exist, stop_finishes, stopped_wide}
 use Rattle.job_stream.proofs.streaming.stream_within.Goals as goal
+use Rattle.run_laws.proofs.laws.Theorems.{sinks_take_columns, runs_print_rows}
 
 pub returns-in_default : goal.returns-in_default
 returns-in_default g c = memory_runs _ _ _
@@ -23,7 +24,7 @@ finish-requires-clause-wide g c =
     let ran = whole_run (network plan) c.args.sent_limit plan.sources c.args.bytes in
     let tys = c.as_slice-in-Ok-printed_of.ensures.value ∙ c.in-Ok.ensures ∙ ap (λ (cols : List ColDef). map (λ x. x.ty.ty) cols) c.as_slice.ensures in
     subst (λ (l : List Ty). AllByRecursion (IsWide (length l)) c.in-Ok-printed_of.items) (sym tys)
-    (printed_wide (length (sink_types plan.sink)) ran c.in-Ok-printed_of.items c.in-Ok-printed_of.ensures.ok (ran_wide (sent_columns plan) plan.sink (c.sinks_take_columns.ensures plan c.requires.ruled) ran (c.runs_print_rows.ensures plan c.requires.ruled c.args.sent_limit c.args.bytes)))
+    (printed_wide (length (sink_types plan.sink)) ran c.in-Ok-printed_of.items c.in-Ok-printed_of.ensures.ok (ran_wide (sent_columns plan) plan.sink (sinks_take_columns plan c.requires.ruled) ran (runs_print_rows plan c.requires.ruled c.args.sent_limit c.args.bytes)))
 
 pub finish-requires-clause-types : goal.finish-requires-clause-types
 finish-requires-clause-types g c =
@@ -47,7 +48,7 @@ finish-requires-in-Err-Stopped-clause-wide g c =
     let is = subst (λ fault. IsRan fault ran) c.in-Err-Stopped.field-0-is c.in-Err-Stopped.ensures.refused in
     let tys = c.as_slice-in-Err-Stopped.ensures.value ∙ c.in-Ok.ensures ∙ ap (λ (cols : List ColDef). map (λ x. x.ty.ty) cols) c.as_slice.ensures in
     subst (λ (l : List Ty). AllByRecursion (IsWide (length l)) stop.printed) (sym tys)
-    (stopped_wide (length (sink_types plan.sink)) ran stop.cause stop.printed is.0 is.1 (ran_wide (sent_columns plan) plan.sink (c.sinks_take_columns.ensures plan c.requires.ruled) ran (c.runs_print_rows.ensures plan c.requires.ruled c.args.sent_limit c.args.bytes)))
+    (stopped_wide (length (sink_types plan.sink)) ran stop.cause stop.printed is.0 is.1 (ran_wide (sent_columns plan) plan.sink (sinks_take_columns plan c.requires.ruled) ran (runs_print_rows plan c.requires.ruled c.args.sent_limit c.args.bytes)))
 
 pub finish-requires-in-Err-Stopped-clause-types : goal.finish-requires-in-Err-Stopped-clause-types
 finish-requires-in-Err-Stopped-clause-types g c =

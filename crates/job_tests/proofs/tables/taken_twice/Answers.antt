@@ -1,5 +1,5 @@
 use Rattle.std.proofs.Common.{[], ◌∷◌}
-use Rattle.plan_network.specs.Plans.{table_of}
+use Rattle.plan_rules.specs.Plans.{table_of}
 use Rattle.job_tests.proofs.tables.taken_twice.Goals as goal
 
 pub check-requires : goal.check-requires

@@ -1,6 +1,6 @@
 use Rattle.std.proofs.Common.{◌≡◌, ◌+◌, false, cond, drop, get_or, sym, ap, ◌∙◌, arith}
-use Rattle.phys_plan.specs.declared.edge.Update.TheVariants.{Absent}
-use Rattle.plan_reading.specs.Reading.{wires}
+use Rattle.ct_change.specs.declared.update.Update.TheVariants.{Absent}
+use Rattle.phys_plan.specs.Reading.{wires}
 use Rattle.mode_infer.specs.Updates.{is_input, port_of, takes, takes_after}
 use Rattle.mode_infer.proofs.Ends.{taken_more}
 use Rattle.mode_infer.proofs.consumers.takes_after.Goals as goal

@@ -1,5 +1,5 @@
 use Rattle.std.proofs.Common.{◌≡◌, drop}
-use Rattle.plan_reading.specs.Reading.{wires}
+use Rattle.phys_plan.specs.Reading.{wires}
 use Rattle.mode_infer.specs.Updates.{takes_after}
 use Rattle.mode_infer.proofs.consumers.takes_after.Given as goal
 

@@ -1,5 +1,5 @@
 use Rattle.std.proofs.Common.{◌≡◌, drop, []}
-use Rattle.plan_reading.specs.Reading.{wires}
+use Rattle.phys_plan.specs.Reading.{wires}
 use Rattle.mode_infer.specs.Kinds.{flows_after}
 use Rattle.mode_infer.proofs.kinds.flows.Given as goal
 

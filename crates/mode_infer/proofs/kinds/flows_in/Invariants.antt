@@ -1,5 +1,5 @@
 use Rattle.std.proofs.Common.{◌≡◌, take, map}
-use Rattle.plan_reading.specs.Reading.{at}
+use Rattle.phys_plan.specs.Reading.{at}
 use Rattle.mode_infer.specs.Kinds.{no_flow}
 use Rattle.mode_infer.proofs.kinds.flows_in.Given as goal
 

@@ -1,6 +1,6 @@
 use Rattle.std.proofs.Common.{◌≡◌, drop, []}
-use Rattle.plan_reading.specs.Reading.{wires}
-use Rattle.plan_reading.specs.Columns.{columns_in}
+use Rattle.phys_plan.specs.Reading.{wires}
+use Rattle.phys_plan.specs.Columns.{columns_in}
 use Rattle.mode_infer.specs.UpdateKeys.{update_keys_after}
 use Rattle.mode_infer.proofs.row_keys.update_keys.Given as goal
 

@@ -2,7 +2,7 @@ use Rattle.std.proofs.Common.{◌≡◌, true, false, Option, Some, sym, ap, ◌
 use Rattle.std.proofs.lemmas.Bool.{false≢true}
 use Rattle.ct_value.specs.declared.row.Row.{Row}
 use Rattle.ct_change.specs.Changelog.{same_row}
-use Rattle.ct_change.specs.laws.Meanings.{same_row-true, same_row-itself}
+use Rattle.ct_change.proofs.laws.Meanings.{same_row-true, same_row-itself}
 use Rattle.op_group.proofs.group.stays.Goals as goal
 
 pub returns-in-Some-Some-clause-same : goal.returns-in-Some-Some-clause-same

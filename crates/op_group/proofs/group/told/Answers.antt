@@ -1,6 +1,6 @@
 use Rattle.std.proofs.Common.{ap, sym, ◌∙◌}
 use Rattle.ct_change.specs.Emission.{emission}
-use Rattle.ct_change.specs.laws.Emissions.{emission-same}
+use Rattle.ct_change.proofs.laws.Emissions.{emission-same}
 use Rattle.op_group.proofs.group.told.Goals as goal
 
 pub returns-then-stays : goal.returns-then-stays

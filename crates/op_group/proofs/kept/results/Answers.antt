@@ -1,5 +1,5 @@
 use Rattle.std.proofs.Common.{Some, sym, ap, subst, ◌∙◌, arith}
-use Rattle.rel_clauses.specs.Aggregates.{values_of, agg_result}
+use Rattle.rel_algebra.specs.Aggregates.{values_of, agg_result}
 use Rattle.op_group.specs.Kept.{type_among, Stands}
 use Rattle.op_group.proofs.Shifts.{item_of, result_more, result_out}
 use Rattle.op_group.proofs.kept.results.Goals as goal

@@ -2,7 +2,7 @@ use Rattle.std.proofs.Common.{◌≡◌, ◌++◌, List, take, Some}
 use Rattle.std.specs.Prelude.{option_map}
 use Rattle.ct_value.specs.declared.ty.ColTy.{ColTy}
 use Rattle.ct_change.specs.Changelog.{Rows}
-use Rattle.rel_clauses.specs.Aggregates.{agg_results}
+use Rattle.rel_algebra.specs.Aggregates.{agg_results}
 use Rattle.op_group.specs.Kept.{AllStand, calls}
 use Rattle.op_group.proofs.kept.results.Given as goal
 

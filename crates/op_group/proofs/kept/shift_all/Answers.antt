@@ -1,7 +1,7 @@
 use Rattle.std.proofs.Common.{◌≡◌, true, false, sym, ap, subst, ◌∙◌, arith, option_copied, slice_index_or}
 use Rattle.ct_change.specs.Emission.{replaced}
-use Rattle.rel_clauses.specs.Aggregates.{values_of}
-use Rattle.agg_fns.specs.Standing.{retracts, sum_fits}
+use Rattle.rel_algebra.specs.Aggregates.{values_of, sum_fits}
+use Rattle.agg_fns.specs.Standing.{retracts}
 use Rattle.op_group.specs.Kept.{type_among, Stands}
 use Rattle.op_group.proofs.Shifts.{IsShifted, values_replaced, has_value, values_few, picked_some, upto_none, upto_more, item_before, stand_all, calls_all, retract_all, fits_all, unfit_all}
 use Rattle.op_group.proofs.kept.shift_all.Goals as goal

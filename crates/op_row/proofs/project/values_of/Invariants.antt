@@ -1,7 +1,7 @@
 use Rattle.std.proofs.Common.{◌≡◌, drop, map}
 use Rattle.ct_expr.specs.Eval.{eval}
 use Rattle.ct_expr.specs.View.{exprs_view}
-use Rattle.rel_clauses.specs.Clauses.{row_of}
+use Rattle.rel_algebra.specs.Clauses.{row_of}
 use Rattle.op_row.proofs.Values.{row_from}
 use Rattle.op_row.proofs.project.values_of.Given as goal
 

@@ -1,6 +1,6 @@
 use Rattle.std.proofs.Common.{None, ap, refl}
 use Rattle.ct_change.specs.Changelog.{retract, upsert}
-use Rattle.join_rules.specs.Joining.{joins}
+use Rattle.emission_rules.specs.Joining.{joins}
 use Rattle.op_tests.specs.declared.join_feed.Reads.TheVariants.{Retract, LastRows}
 use Rattle.op_tests.proofs.JoinFitting.{of_rows}
 use Rattle.op_tests.proofs.joins.keyed.Goals as goal

@@ -1,6 +1,6 @@
 use Rattle.std.proofs.Common.{false, None, ap, refl}
 use Rattle.ct_change.specs.Changelog.{append, upsert}
-use Rattle.join_rules.specs.Joining.{matched}
+use Rattle.emission_rules.specs.Joining.{matched}
 use Rattle.op_tests.specs.declared.join_feed.Reads.TheVariants.{Append, LastRows}
 use Rattle.op_tests.proofs.JoinFitting.{of_rows}
 use Rattle.op_tests.proofs.joins.semi_join_by_keys.Goals as goal

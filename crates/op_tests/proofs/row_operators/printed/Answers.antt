@@ -2,7 +2,7 @@ use Rattle.std.proofs.Common.{None, [], sym, subst, arith}
 use Rattle.ct_change.specs.declared.kind.Declared.TheVariants.{Upsert}
 use Rattle.op_rules.specs.History.{arrival}
 use Rattle.op_rules.specs.Rules.{Rule, MayArrive}
-use Rattle.row_rules.specs.Sink.{sink_change}
+use Rattle.emission_rules.specs.Sink.{sink_change}
 use Rattle.op_tests.proofs.RowArrivals.{row_may}
 use Rattle.op_tests.proofs.row_operators.printed.Goals as goal
 

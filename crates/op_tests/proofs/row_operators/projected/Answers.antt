@@ -2,7 +2,7 @@ use Rattle.std.proofs.Common.{None, [], sym, subst, arith}
 use Rattle.ct_expr.specs.View.{exprs_view}
 use Rattle.op_rules.specs.History.{arrival}
 use Rattle.op_rules.specs.Rules.{Rule, MayArrive}
-use Rattle.row_rules.specs.Project.{project_change}
+use Rattle.emission_rules.specs.Project.{project_change}
 use Rattle.op_tests.proofs.RowArrivals.{row_may}
 use Rattle.op_tests.proofs.row_operators.projected.Goals as goal
 

@@ -1,5 +1,5 @@
 use Rattle.std.proofs.Common.{sym, subst}
-use Rattle.ranked_rows.specs.Kept.{IsRanked}
+use Rattle.op_topn.specs.RankedRows.{IsRanked}
 use Rattle.op_topn.proofs.Turns.{empty_there}
 use Rattle.op_topn.proofs.partitions.take_out.Goals as goal
 

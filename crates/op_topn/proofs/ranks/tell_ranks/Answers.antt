@@ -1,5 +1,5 @@
 use Rattle.std.proofs.Common.{arith}
-use Rattle.topn_rules.specs.Ranking.{told_by_rank}
+use Rattle.emission_rules.specs.Ranking.{told_by_rank}
 use Rattle.op_topn.proofs.Walks.{one_more, can_more}
 use Rattle.op_topn.proofs.ranks.tell_ranks.Goals as goal
 

@@ -1,5 +1,5 @@
 use Rattle.std.proofs.Common.{◌≡◌, ◌+◌, ◌<◌, ◌^◌, ◌++◌, length}
-use Rattle.topn_rules.specs.Ranking.{told_by_rank}
+use Rattle.emission_rules.specs.Ranking.{told_by_rank}
 use Rattle.op_topn.specs.Tells.{CanTellFrom}
 use Rattle.op_topn.proofs.ranks.tell_ranks.Given as goal
 

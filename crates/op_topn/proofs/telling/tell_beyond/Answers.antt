@@ -2,7 +2,7 @@ use Rattle.std.proofs.Common.{◌≡◌, ◌+◌, ◌++◌, true, false, [], ◌
 use Rattle.std.proofs.lemmas.List.{drop_more}
 use Rattle.ct_value.specs.declared.row.Row.{Row}
 use Rattle.ct_change.specs.declared.change.Change.{Change}
-use Rattle.topn_rules.specs.Ranking.{beyond}
+use Rattle.emission_rules.specs.Ranking.{beyond}
 use Rattle.op_topn.specs.Tells.{past, heads, AreRanked}
 use Rattle.op_topn.proofs.Beyond.{of_kind, tail_of, drop-next, past-ranked, tail-ranked, next_told, heads_some, drop_some}
 use Rattle.op_topn.proofs.telling.tell_beyond.Goals.{then-is_at, else-is_at+in_ok-dup+in_ok-push}

@@ -1,5 +1,5 @@
 use Rattle.std.proofs.Common.{◌≡◌, ◌++◌, ◌≤◌, length, drop}
-use Rattle.topn_rules.specs.Ranking.{beyond}
+use Rattle.emission_rules.specs.Ranking.{beyond}
 use Rattle.op_topn.specs.Tells.{AreRanked}
 use Rattle.op_topn.proofs.Beyond.{of_kind}
 use Rattle.op_topn.proofs.telling.tell_beyond.Given as goal

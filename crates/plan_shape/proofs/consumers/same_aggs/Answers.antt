@@ -1,5 +1,5 @@
 use Rattle.std.proofs.Common.{◌≡◌, suc, Bool, true, false, ◌&&◌, List, [], ◌∷◌, length, refl, sym, ap, ◌∙◌}
-use Rattle.rel_clauses.specs.declared.agg.Agg.{Agg}
+use Rattle.rel_algebra.specs.declared.agg.Agg.{Agg}
 use Rattle.plan_shape.specs.Shape.{same_agg, same_aggs}
 use Rattle.plan_shape.proofs.consumers.same_aggs.Goals as goal
 

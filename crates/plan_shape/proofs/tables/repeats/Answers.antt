@@ -1,6 +1,6 @@
 use Rattle.std.proofs.Common.{ℕ, List, refl}
 use Rattle.std.specs.Borrow.{Bor}
-use Rattle.plan_shape.proofs.Repeats.{seen_again, seen_more, apart_more}
+use Rattle.ct_catalog.proofs.laws.Repeats.{seen_again, seen_more, apart_more}
 use Rattle.plan_shape.proofs.tables.repeats.Goals as goal
 
 -- a set of borrowed names looks at the names alone

@@ -1,4 +1,4 @@
-use Rattle.rel_clauses.specs.Aggregates.{agg_types}
+use Rattle.rel_algebra.specs.Aggregates.{agg_types}
 use Rattle.rel_columns.proofs.Gathered.{Gathered, calls_from}
 use Rattle.rel_columns.proofs.calls.call_columns.Given as goal
 

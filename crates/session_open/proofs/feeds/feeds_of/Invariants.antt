@@ -1,6 +1,6 @@
 use Rattle.std.proofs.Common.{◌≡◌, ℕ, ◌<◌, None, length, get_or}
-use Rattle.plan_network.specs.Plans.{feed_from}
-use Rattle.session_traffic.specs.LaidOut.{feed_of}
+use Rattle.plan_rules.specs.Plans.{feed_from}
+use Rattle.session_core.specs.LaidOut.{feed_of}
 use Rattle.session_open.proofs.feeds.feeds_of.Given as goal
 
 abbrev pub invariant-loop-edge : goal.invariant-loop-edge

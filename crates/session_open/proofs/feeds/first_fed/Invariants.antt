@@ -1,5 +1,5 @@
 use Rattle.std.proofs.Common.{◌≡◌, ◌+◌, drop}
-use Rattle.plan_network.specs.Plans.{feed_from}
+use Rattle.plan_rules.specs.Plans.{feed_from}
 use Rattle.session_open.proofs.feeds.first_fed.Given as goal
 
 abbrev pub invariant-loop-done : goal.invariant-loop-done

@@ -1,5 +1,5 @@
 use Rattle.std.proofs.Common.{◌≡◌, drop}
-use Rattle.plan_network.specs.Plans.{port_of}
+use Rattle.plan_rules.specs.Plans.{port_of}
 use Rattle.session_open.proofs.Ports.{further}
 use Rattle.session_open.proofs.feeds.port_of.Given as goal
 

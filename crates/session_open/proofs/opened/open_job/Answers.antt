@@ -1,9 +1,10 @@
 use Rattle.std.proofs.Common.{◌≡◌, ℕ, ◌+◌, ◌*◌, [], length, refl, sym, ap, subst, ◌∙◌, arith}
 use Rattle.std.proofs.lemmas.Result.{err_from_is_err_and}
-use Rattle.plan_network.specs.Plans.{network_of}
+use Rattle.plan_rules.specs.Plans.{network_of}
 use Rattle.session_open.specs.Opening.{HaveOpened, IsTooMany, Opens}
 use Rattle.session_open.proofs.Started.{all_counted, all_started, none_started}
 use Rattle.session_open.proofs.opened.open_job.Goals as goal
+use Rattle.stream_model.proofs.laws.Theorems.{plans_compose}
 
 pub open_operators-requires : goal.open_operators-requires
 open_operators-requires b c =
@@ -11,7 +12,7 @@ open_operators-requires b c =
     let r = c.requires.ready in
     let g = network_of r.0 r.1 plan in
     let job = r.2 in
-    let holds = c.plans_compose.ensures g job.wired job.facts c.args.limit [] tt in
+    let holds = plans_compose g job.wired job.facts c.args.limit [] tt in
     record {
       few = c.requires.may.few;
       narrow = c.requires.may.narrow;
@@ -34,7 +35,7 @@ pub returns-in_err-operators-clause-err : goal.returns-in_err-operators-clause-e
 returns-in_err-operators-clause-err b c = let p = err_from_is_err_and c.from_residual-in_err-operators.result c.from_residual-in_err-operators.ensures.1 in rw (p.1, p.2) (λ of doing job.
     let plan = c.args.plan.now in
     let g = network_of of doing plan in
-    let holds = c.plans_compose.ensures g job.wired job.facts c.args.limit [] tt in
+    let holds = plans_compose g job.wired job.facts c.args.limit [] tt in
     subst (λ n. IsTooMany c.args.limit n c.in_err-operators.field-0.0) (all_counted g job.wired) (c.in_err-operators.ensures.err g c.args.limit
     (record {
       laid = c.in_ok-wiring.ensures of doing job;
@@ -49,7 +50,7 @@ pub returns-clause-ok : goal.returns-clause-ok
 returns-clause-ok b c = λ of doing job.
     let plan = c.args.plan.now in
     let g = network_of of doing plan in
-    let holds = c.plans_compose.ensures g job.wired job.facts c.args.limit [] tt in
+    let holds = plans_compose g job.wired job.facts c.args.limit [] tt in
     let laid = c.in_ok-wiring.ensures of doing job in
     let opens : Opens b.O.PlanOperator.runs plan c.args.columns.now c.in_ok-wiring.wiring g c.args.limit = record {
       laid = laid;

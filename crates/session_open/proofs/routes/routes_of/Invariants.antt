@@ -1,5 +1,5 @@
 use Rattle.std.proofs.Common.{◌≡◌, ℕ, [], length, get_or}
-use Rattle.plan_network.specs.Plans.{numbered}
+use Rattle.phys_plan.specs.Reading.{numbered}
 use Rattle.session_open.specs.Opening.{IsRouteIn}
 use Rattle.session_open.proofs.Laying.{Each}
 use Rattle.session_open.proofs.routes.routes_of.Given as goal

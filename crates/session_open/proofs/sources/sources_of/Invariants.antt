@@ -1,6 +1,6 @@
 use Rattle.std.proofs.Common.{◌≡◌, [], Some, length, slice_get}
 use Rattle.ct_catalog.specs.declared.table.TableDef.{TableDef}
-use Rattle.plan_network.specs.Plans.{table_of}
+use Rattle.plan_rules.specs.Plans.{table_of}
 use Rattle.session_open.proofs.Laying.{Each}
 use Rattle.session_open.proofs.sources.sources_of.Given as goal
 

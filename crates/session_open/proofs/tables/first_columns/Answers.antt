@@ -1,5 +1,5 @@
 use Rattle.std.proofs.Common.{◌≡◌, ◌+◌, [], ◌∷◌, ◌++◌, ap, sym, ◌∙◌, arith}
-use Rattle.plan_network.specs.Plans.{columns_from}
+use Rattle.plan_rules.specs.Plans.{columns_from}
 use Rattle.session_open.proofs.Laying.{columns_more}
 use Rattle.session_open.proofs.tables.first_columns.Goals as goal
 

@@ -1,5 +1,5 @@
 use Rattle.std.proofs.Common.{◌≡◌}
-use Rattle.plan_network.specs.Plans.{columns_from}
+use Rattle.plan_rules.specs.Plans.{columns_from}
 use Rattle.session_open.proofs.tables.first_columns.Given as goal
 
 abbrev pub invariant-loop-column : goal.invariant-loop-column

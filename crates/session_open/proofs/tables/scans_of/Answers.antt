@@ -1,7 +1,8 @@
 use Rattle.std.proofs.Common.{◌≡◌, ℕ, ◌+◌, List, [], ◌∷◌, ◌++◌, suc, cond, Bool, ap, sym, ◌∙◌, arith}
 use Rattle.stream_model.specs.Machine.{is_number}
-use Rattle.plan_network.specs.Plans.{network_of, numbered, scan_in}
-use Rattle.session_traffic.specs.LaidOut.{scans_below}
+use Rattle.plan_rules.specs.Plans.{network_of, scan_in}
+use Rattle.phys_plan.specs.Reading.{numbered}
+use Rattle.session_core.specs.LaidOut.{scans_below}
 use Rattle.session_open.proofs.tables.scans_of.Goals as goal
 
 pub loop-node-preserved : goal.loop-node-preserved

@@ -1,7 +1,7 @@
 use Rattle.std.proofs.Common.{◌≡◌, ℕ, List}
 use Rattle.ct_value.specs.declared.ty.ColTy.{ColTy}
-use Rattle.plan_network.specs.Plans.{Doing, network_of}
-use Rattle.session_traffic.specs.LaidOut.{scans_below}
+use Rattle.plan_rules.specs.Plans.{Doing, network_of}
+use Rattle.session_core.specs.LaidOut.{scans_below}
 use Rattle.session_open.proofs.tables.scans_of.Given as goal
 
 abbrev pub invariant-loop-node : goal.invariant-loop-node

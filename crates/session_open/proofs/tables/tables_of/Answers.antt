@@ -3,9 +3,10 @@ use Rattle.std.proofs.lemmas.List.{length-append}
 use Rattle.std.proofs.lemmas.Option.{same_Some, slice_get-get_or}
 use Rattle.ct_value.specs.declared.ty.ColTy.{ColTy}
 use Rattle.ct_catalog.specs.declared.table.TableDef.{TableDef}
-use Rattle.plan_network.specs.Plans.{Doing, column_types, network_of, spread_of}
-use Rattle.session_traffic.specs.declared.wiring.TableWiring.{TableWiring}
-use Rattle.session_traffic.specs.LaidOut.{scans_below}
+use Rattle.plan_rules.specs.Plans.{Doing, network_of, spread_of}
+use Rattle.ct_catalog.specs.Columns.{column_types}
+use Rattle.session_core.specs.declared.wiring.TableWiring.{TableWiring}
+use Rattle.session_core.specs.LaidOut.{scans_below}
 use Rattle.session_open.specs.Opening.{AreRoutable, IsKeyRoute}
 use Rattle.session_open.proofs.Laying.{Each, each_push}
 use Rattle.session_open.proofs.tables.tables_of.Goals as goal

@@ -1,8 +1,9 @@
 use Rattle.std.proofs.Common.{◌≡◌, ℕ, List, length, slice_get, Some}
 use Rattle.ct_value.specs.declared.ty.ColTy.{ColTy}
 use Rattle.ct_catalog.specs.declared.table.TableDef.{TableDef}
-use Rattle.plan_network.specs.Plans.{Doing, column_types, network_of, spread_of}
-use Rattle.session_traffic.specs.LaidOut.{scans_below}
+use Rattle.plan_rules.specs.Plans.{Doing, network_of, spread_of}
+use Rattle.ct_catalog.specs.Columns.{column_types}
+use Rattle.session_core.specs.LaidOut.{scans_below}
 use Rattle.session_open.specs.Opening.{IsKeyRoute}
 use Rattle.session_open.proofs.Laying.{Each}
 use Rattle.session_open.proofs.tables.tables_of.Given as goal

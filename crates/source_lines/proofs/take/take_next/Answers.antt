@@ -1,5 +1,5 @@
 use Rattle.std.proofs.Common.{Ok, Err, ap}
-use Rattle.change_lines.specs.Lines.{line_of}
+use Rattle.job_text.specs.Lines.{line_of}
 use Rattle.source_lines.specs.Taken.{take_line}
 use Rattle.source_lines.proofs.Going.{if_err, on_ok, read_code, read_line, refused_line, took}
 use Rattle.source_lines.proofs.take.take_next.Goals as goal

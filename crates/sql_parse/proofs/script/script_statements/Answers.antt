@@ -2,7 +2,7 @@ use Rattle.std.proofs.Common.{◌≡◌, ◌+◌, Some, None, rules, arith, refl
 use Rattle.std.proofs.lemmas.List.{map_push}
 use Rattle.sql_tokens.specs.Statements.{first_statement}
 use Rattle.sql_syntax.specs.View.{statements_view, statement_view}
-use Rattle.sql_rules.specs.ReadsScripts.{read_from}
+use Rattle.sql_grammar.specs.ReadsScripts.{read_from}
 use Rattle.sql_parse.specs.Faults.{IsRefusal}
 use Rattle.sql_parse.proofs.Scripts.{so_far_turn, so_far_end, so_far_refused, so_far_last, so_far_few, passed_up}
 use Rattle.sql_parse.proofs.script.script_statements.Goals as goal

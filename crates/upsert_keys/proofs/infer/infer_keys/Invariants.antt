@@ -1,6 +1,6 @@
 use Rattle.std.proofs.Common.{◌≡◌, drop, []}
-use Rattle.plan_reading.specs.Reading.{wires}
-use Rattle.plan_reading.specs.Columns.{columns_in}
+use Rattle.phys_plan.specs.Reading.{wires}
+use Rattle.phys_plan.specs.Columns.{columns_in}
 use Rattle.upsert_keys.specs.Keys.{keys_after}
 use Rattle.upsert_keys.proofs.infer.infer_keys.Given as goal
 

@@ -1,6 +1,6 @@
 use Rattle.std.proofs.Common.{sym, ap, ◌∙◌}
 use Rattle.std.specs.FinMap as map
-use Rattle.ct_value.specs.Maps.{get-map_in}
+use Rattle.ct_value.proofs.laws.Maps.{get-map_in}
 use Rattle.ct_change.proofs.last_rows.LastRows.get.Goals as goal
 
 pub returns : goal.returns

@@ -1,6 +1,6 @@
 use Rattle.std.proofs.Common.{sym, ap, ◌∙◌}
 use Rattle.std.specs.FinMap as map
-use Rattle.ct_value.specs.Maps.{get-map_in, one_gone}
+use Rattle.ct_value.proofs.laws.Maps.{get-map_in, one_gone}
 use Rattle.ct_change.proofs.last_rows.LastRows.take.Goals as goal
 
 pub returns-clause-before : goal.returns-clause-before

@@ -1,6 +1,6 @@
 use Rattle.std.proofs.Common.{ap, ◌∙◌}
 use Rattle.ct_change.specs.Emission.{replaced_by}
-use Rattle.ct_change.specs.laws.Lasts.{difference-last, last-after}
+use Rattle.ct_change.proofs.laws.Lasts.{difference-last, last-after}
 use Rattle.ct_change.proofs.upsert.UpsertByInMode.absorb.Goals as goal
 
 pub returns-clause-ok : goal.returns-clause-ok

@@ -1,4 +1,4 @@
-use Rattle.ct_change.specs.laws.Lasts.{last_none}
+use Rattle.ct_change.proofs.laws.Lasts.{last_none}
 use Rattle.ct_change.proofs.upsert.UpsertByInMode.fresh.Goals as goal
 
 pub returns : goal.returns

@@ -1,5 +1,5 @@
 use Rattle.std.proofs.Common.{sym}
-use Rattle.ct_value.specs.Bag.{total-none}
+use Rattle.ct_value.proofs.laws.Bags.{total-none}
 use Rattle.ct_value.specs.Order.{row_cmp, row_total}
 use Rattle.op_group.proofs.kept.Kept.new.Goals as goal
 

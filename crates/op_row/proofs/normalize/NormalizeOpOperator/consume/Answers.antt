@@ -1,6 +1,6 @@
 use Rattle.ct_change.specs.Changelog.{upsert, fold}
 use Rattle.op_rules.specs.History.{arrival}
-use Rattle.row_rules.specs.Changes.{changes_of}
+use Rattle.emission_rules.specs.Changes.{changes_of}
 use Rattle.op_row.proofs.Normal.{rows_after, emits_one}
 use Rattle.op_row.proofs.normalize.NormalizeOpOperator.consume.Goals as goal
 

@@ -2,7 +2,7 @@ use Rattle.std.proofs.Common.{length, ap, ◌∙◌}
 use Rattle.ct_change.specs.declared.change.Diff.{Diff}
 use Rattle.ct_change.specs.Changelog.{apply}
 use Rattle.ct_change.specs.Emission.{row_of}
-use Rattle.topn_rules.specs.Ranking.{members}
+use Rattle.emission_rules.specs.Ranking.{members}
 use Rattle.op_topn.specs.Tops.{ranking}
 use Rattle.op_topn.proofs.Taken.{all_at, columns_there, has_at, room_at, turned_at, can_at, ranked_at, told_at, held_after}
 use Rattle.op_topn.proofs.topn.TopN.take.Goals as goal

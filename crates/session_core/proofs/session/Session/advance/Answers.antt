@@ -5,8 +5,8 @@ use Rattle.op_rules.specs.Rules.{Answer}
 use Rattle.stream_model.specs.declared.events.Event.TheVariants.{Move}
 use Rattle.stream_model.specs.Machine.{State, move, answered, hand_on}
 use Rattle.stream_model.specs.Runs.{happens}
-use Rattle.session_traffic.specs.LaidOut.{port_of}
-use Rattle.session_core.specs.Runs.{AllRun}
+use Rattle.session_core.specs.LaidOut.{port_of}
+use Rattle.session_core.specs.Runs.{AllRun, pieces_after}
 use Rattle.session_core.specs.Sources.{AllCheck}
 use Rattle.session_core.proofs.Steps.{channel_there, fed_there, fits_after, may_take, mid, mid_carries, mid_empty, mid_pieces, moved, open_after, stops_out, stops_same}
 use Rattle.session_core.proofs.session.Session.advance.Goals as goal
@@ -59,7 +59,7 @@ returns-in_err-sent-clause-err b c = let p = err_from_is_err_and c.from_residual
     stops_out g limit c.in_ok-feed.feed.node j (move g limit s e i j) (g.emits c.in_ok-feed.feed.node (joined (s.pieces c.in_ok-feed.feed.node j)) (arrival c.in_ok-feed.feed.port i change ∷ []))
     (mid g limit s e i j port change f.rest) c.in_err-sent.field-0.0
     (moved g limit s e i j port change f.rest (keeps.laid.unbundled c.in_ok-feed.feed.node) keeps.unbundled f.fed f.channel f.front)
-    (c.in_err-sent.ensures.err g limit s.pieces i keeps.laid there.ports there.node keeps.runs may))
+    (c.in_err-sent.ensures.err g s.pieces i there.ports there.node keeps.runs may limit keeps.laid))
 
 pub hand_on-requires : goal.hand_on-requires
 hand_on-requires b c =
@@ -149,7 +149,7 @@ returns-clause-ok b c = λ g limit handed s keeps.
         nodes_are = c.consume_at.ensures.nodes ∙ keeps.nodes_are;
         width_is = c.consume_at.ensures.width ∙ keeps.width_is;
         carries = done.3;
-        runs = subst (AllRun b.O.Operator.rule b.O.Operator.broken b.O.Operator.stands_for g ops.width ops.items.items) (sym (done.2.pieces ∙ mid_pieces g limit s e i j port change f.rest none keeps.unbundled)) told.1;
+        runs = subst (AllRun b.O.Operator.rule b.O.Operator.broken b.O.Operator.stands_for g ops.width ops.items.items) (sym (done.2.pieces ∙ mid_pieces g limit s e i j port change f.rest none keeps.unbundled)) (subst (λ (w : ℕ). AllRun b.O.Operator.rule b.O.Operator.broken b.O.Operator.stands_for g w ops.items.items (pieces_after s.pieces v j (arrival port.port i change))) (sym c.consume_at.ensures.width) told.1);
         sources = subst (AllCheck b.S.SourceCheck.stands_for g c.args.self.now.sources.items) (sym done.2.taken) keeps.sources;
         unbundled = λ w k. ap (λ (h : ℕ → ℕ → List Arrival). h w k) done.2.bundle ∙ mid_empty g limit s e i j port change f.rest none keeps.unbundled w k;
         opens = open_after g limit s (happens (Move e i j)) done.0 (is ∙ done.1) tt keeps.opens;

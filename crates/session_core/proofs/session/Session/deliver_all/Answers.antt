@@ -4,7 +4,7 @@ use Rattle.std.proofs.lemmas.List.{append_assoc, append-nil, length-map}
 use Rattle.stream_model.specs.Machine.{State}
 use Rattle.stream_model.specs.Runs.{Item, after}
 use Rattle.stream_model.specs.Drain.{Leads, StopsAlong, Stage, drain_stages, stage_items, stages}
-use Rattle.session_traffic.specs.LaidOut.{stage_of}
+use Rattle.session_core.specs.LaidOut.{stage_of}
 use Rattle.session_core.proofs.Runs.{leads-append, after_leads, stops_behind, stops_before, drop_all}
 use Rattle.session_core.proofs.session.Session.deliver_all.Goals as goal
 

@@ -4,6 +4,7 @@ use Rattle.ct_change.specs.declared.change.Change.{Change}
 use Rattle.stream_model.specs.Machine.{State, opened}
 use Rattle.session_core.proofs.Runs.{after_leads}
 use Rattle.session_core.proofs.session.Session.new.Goals as goal
+use Rattle.stream_model.proofs.laws.Theorems.{plans_compose, runs_are_safe}
 
 pub returns : goal.returns
 returns b c = λ g limit facts opens. record {
@@ -17,9 +18,9 @@ returns b c = λ g limit facts opens. record {
     sources = opens.sources_are;
     unbundled = λ v j. refl;
     opens = record {
-      safe = c.runs_are_safe.ensures g opens.laid.wired facts limit opens.carries.within [] tt;
+      safe = runs_are_safe g opens.laid.wired facts limit opens.carries.within [] tt;
       fits = λ items typed t leads v i node li.
-          let holds = c.plans_compose.ensures g opens.laid.wired facts limit items typed in
+          let holds = plans_compose g opens.laid.wired facts limit items typed in
           subst (λ (u : State). AllByRecursion (λ (change : Change). (g.edge v).fits change ≡ true) (u.sent v i)) (after_leads g limit (opened g) items t leads) ((holds.fine v node).types i li);
     };
   };

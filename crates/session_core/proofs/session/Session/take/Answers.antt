@@ -23,17 +23,19 @@ scan-requires b c =
     record {
       ready = (
         ok.table,
-        g,
-        limit,
-        r.2,
-        s,
-        record {
-          laid = keeps.laid;
-          carries = keeps.carries;
-          is = ok.is;
-          fits = r.5 ok.table ok.is;
-          fit = fits_after g limit s (happens (Take c.args.table c.args.change)) (take_within g limit s c.args.table c.args.change (scanned_at ok.table c.args.change)) keeps.opens is r.5;
-        },
+        (
+          g,
+          limit,
+          r.2,
+          s,
+          record {
+            laid = keeps.laid;
+            carries = keeps.carries;
+            is = ok.is;
+            fits = r.5 ok.table ok.is;
+            fit = fits_after g limit s (happens (Take c.args.table c.args.change)) (take_within g limit s c.args.table c.args.change (scanned_at ok.table c.args.change)) keeps.opens is r.5;
+          },
+        ),
       );
     }
 

@@ -1,6 +1,6 @@
 use Rattle.std.proofs.Common.{◌≡◌, ℕ, List, [], ◌+◌, sym, subst, arith, ◌∙◌}
 use Rattle.stream_model.specs.Drain.{channels_into, stages_from}
-use Rattle.session_traffic.specs.declared.wiring.Lane.{Lane}
+use Rattle.session_core.specs.declared.wiring.Lane.{Lane}
 use Rattle.session_open.specs.Wired.{Lays}
 use Rattle.session_open.proofs.Stages.{lays_more, lays_none, stages_next}
 use Rattle.session_open.proofs.wires.Wires.lanes.Goals as goal

@@ -1,7 +1,7 @@
 use Rattle.std.proofs.Common.{◌≡◌, ℕ, ◌<◌, ◌+◌, List, [], ◌∷◌, ◌++◌, true, false, Some, length, get_or, slice_get, sym, ap, subst, ◌∙◌, arith}
 use Rattle.std.proofs.lemmas.Option.{slice_get-get_or}
 use Rattle.stream_model.specs.Drain.{channels_to}
-use Rattle.session_traffic.specs.declared.wiring.Lane.{Lane}
+use Rattle.session_core.specs.declared.wiring.Lane.{Lane}
 use Rattle.session_open.specs.Wired.{Lays}
 use Rattle.session_open.proofs.Stages.{lays_channel, lays_no_channel}
 use Rattle.session_open.proofs.wires.Wires.lay_channel.Goals as goal

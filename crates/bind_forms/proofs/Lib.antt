@@ -1,0 +1,5 @@
+pub mod Around
+pub mod Entries
+pub mod Lefts
+pub mod Rests
+pub mod Tops

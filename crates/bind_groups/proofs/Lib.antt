@@ -1,4 +1,0 @@
-pub mod Behind
-pub mod Operands
-pub mod Rels
-pub mod Turns

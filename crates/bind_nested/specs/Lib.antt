@@ -1,0 +1,4 @@
+pub mod PartViews
+pub mod RankViews
+pub mod Sorts
+pub mod Splits

@@ -1,4 +1,0 @@
-pub mod Behind
-pub mod Firsts
-pub mod Lists
-pub mod Orders

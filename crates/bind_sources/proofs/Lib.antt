@@ -1,0 +1,7 @@
+pub mod Behind
+pub mod Bounds
+pub mod Columns
+pub mod Conjuncts
+pub mod Operands
+pub mod Rels
+pub mod Turns

@@ -1,3 +1,0 @@
-pub mod Forms
-pub mod Plains
-pub mod Splits

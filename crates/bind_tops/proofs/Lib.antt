@@ -1,4 +1,0 @@
-pub mod Around
-pub mod Entries
-pub mod Lefts
-pub mod Tops

@@ -1,7 +1,0 @@
-use Rattle.std.proofs.Common.{◌≡◌, ◌++◌, drop, map}
-use Rattle.bind_tops.specs.Lists.{conjuncts_of}
-use Rattle.bind_tops.specs.Views.{conjunct_view}
-use Rattle.bind_tops.proofs.conjuncts.+conjuncts.Given as goal
-
-abbrev pub invariant-push_all-loop-tree : goal.invariant-push_all-loop-tree
-invariant-push_all-loop-tree l = map conjunct_view l.found ++ conjuncts_of (drop l.tree-index l.tree-items) ≡ map conjunct_view l.fn.found ++ conjuncts_of l.fn.trees

@@ -1,7 +1,0 @@
-use Rattle.std.proofs.Common.{◌≡◌, ◌++◌, drop}
-use Rattle.bind_clauses.specs.Views.{entries_view}
-use Rattle.bind_tops.specs.Lists.{named_entries}
-use Rattle.bind_tops.proofs.names.named_entries.Given as goal
-
-abbrev pub invariant-loop-entry : goal.invariant-loop-entry
-invariant-loop-entry l = l.scope ++ named_entries l.alias (entries_view (drop l.entry-index l.entry-items)) ≡ named_entries l.alias (entries_view l.entries)

@@ -1,4 +1,0 @@
-pub mod Fitting
-pub mod Lines
-pub mod Reading
-pub mod laws

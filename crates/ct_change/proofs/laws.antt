@@ -1,0 +1,6 @@
+pub mod Differences
+pub mod Emissions
+pub mod Folds
+pub mod Lasts
+pub mod Meanings
+pub mod Theorems

@@ -1,4 +1,0 @@
-pub mod Emissions
-pub mod Folds
-pub mod Lasts
-pub mod Meanings

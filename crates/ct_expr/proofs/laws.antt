@@ -1,0 +1,3 @@
+pub mod Placeless
+pub mod Seen
+pub mod Views

@@ -1,0 +1,13 @@
+pub mod Changes
+pub mod Filter
+pub mod GroupFits
+pub mod Grouping
+pub mod JoinFits
+pub mod Joining
+pub mod Joins
+pub mod Normalize
+pub mod Project
+pub mod Ranking
+pub mod Sink
+pub mod TopFits
+pub mod Union

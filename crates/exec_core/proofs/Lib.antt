@@ -1,0 +1,5 @@
+pub mod Plans
+pub mod Ports
+pub mod Tables
+pub mod Types
+pub mod laws

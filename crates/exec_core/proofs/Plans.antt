@@ -1,0 +1,329 @@
+-- What is asked of the nodes of a sound plan so that it opens.
+use Rattle.std.specs.Prelude.{◌≡◌, ℕ, ◌<◌, ◌≤◌, ◌^◌, ◌==◌, ◌&&◌, nat_le, Bool, cond, max, List, ◌++◌, length, map, slice_get, Option, option_map}
+use Rattle.std.proofs.Common.{zero, suc, true, false, [], ◌∷◌, refl, sym, ap, subst, ◌∙◌, arith, Some, None}
+use Rattle.std.specs.List.{All, AllByRecursion}
+use Rattle.std.proofs.lemmas.Bool.{leb-true}
+use Rattle.std.proofs.lemmas.List.Elements.{All-from_recursion}
+use Rattle.ct_value.specs.declared.ty.ColTy.{ColTy}
+use Rattle.ct_expr.specs.Expr.{Expr}
+use Rattle.ct_expr.specs.View.{expr_view}
+use Rattle.rel_algebra.specs.declared.agg.Agg.{Agg}
+use Rattle.rel_algebra.specs.declared.join.Pair.{Pair}
+use Rattle.rel_algebra.specs.declared.sort.SortCol.{SortCol}
+use Rattle.rel_algebra.specs.Groups.{group_columns}
+use Rattle.rel_algebra.specs.Joins.{join_columns}
+use Rattle.rel_algebra.specs.Types.{columns_if, is_condition_if, match_fits, pairs_fit}
+use Rattle.phys_plan.specs.declared.edge.Edge.{Edge as PlanEdge}
+use Rattle.phys_plan.specs.declared.node.Node.{Node}
+use Rattle.phys_plan.specs.declared.node.Op.{Op}
+use Rattle.phys_plan.specs.declared.node.Op.TheVariants as op
+use Rattle.phys_plan.specs.declared.plan.Plan.{Plan}
+use Rattle.mode_infer.specs.Exchanges.{asked, side_columns}
+use Rattle.mode_infer.specs.Updates.{is_input}
+use Rattle.column_sets.specs.Places.{first_columns}
+use Rattle.plan_inferred.specs.Rules.{by_columns, consumer}
+use Rattle.plan_rules.specs.Plans.{HasShape, bundle_of, spread_of}
+use Rattle.phys_plan.specs.Reading.{numbered, first_input}
+use Rattle.ct_catalog.specs.Columns.{column_types}
+use Rattle.plan_rules.specs.Columns.{columns_at, columns_by, matched_columns}
+use Rattle.plan_rules.specs.Doings.{Around, around_of}
+use Rattle.plan_shape.specs.Shape.{has_nodes, has_sizes, is_shaped, is_up_to, is_whole, most_bundled, most_nodes, most_subtasks, takes as ports_of}
+use Rattle.plan_shape.specs.Shaped.{MeetsShape}
+use Rattle.plan_shape.specs.Tables.{are_tables}
+use Rattle.sound_plans.specs.Agrees.{Agrees}
+use Rattle.sound_plans.specs.Outputs.{Output, around_by}
+use Rattle.sound_plans.proofs.laws.Widths.{first_within}
+use Rattle.sound_plans.proofs.laws.JoinColumns.{made_if}
+use Rattle.sound_plans.proofs.laws.Routes.{left_within, right_within}
+use Rattle.sound_plans.specs.Sound.{IsRuled, SoundPlansAreWired, SoundPlansMeetFacts, SoundPortsTake, has_rule}
+use Rattle.sound_plans.proofs.laws.Agreed as agreed
+use Rattle.sound_plans.proofs.laws.Consumers.{by_test}
+use Rattle.sound_plans.specs.Promises.{Laws}
+use Rattle.sound_plans.proofs.laws.Lists.{both, found, is_somewhere, of_each, the_same, within}
+use Rattle.sound_plans.proofs.laws.Local as local
+use Rattle.sound_plans.proofs.laws.Outputs.{around_is, edge_or, output_at}
+use Rattle.sound_plans.proofs.laws.Shapes as shapes
+use Rattle.sound_plans.proofs.laws.Stands.{proper_inputs}
+use Rattle.typing_laws.specs.Exist.{Exist}
+use Rattle.session_open.specs.Opening.{AreRoutable, IsExchange}
+use Rattle.session_open.specs.Running.{IsBuilt}
+use Rattle.exec_core.specs.Opening.{PlansOpen}
+use Rattle.exec_core.proofs.Types.{ColumnsHaveTypes, AnyExist, sent_exist}
+use Rattle.exec_core.proofs.Tables.{routable, table_exists, table_routable}
+use Rattle.exec_core.proofs.Ports.{few_once}
+
+-- a node with a rule keeps no bundles
+no_bundle : (size : ℕ) (o : Op) → has_rule o ≡ true → bundle_of size o ≡ None
+no_bundle size (op.BatchGroup keys aggs) ruled = absurd (cc)
+no_bundle size (op.LocalGroup keys aggs) ruled = absurd (cc)
+no_bundle size _ ruled = refl
+
+-- the consumer of an edge is a node that has it among its inputs
+consumer_there : (v : ℕ) (nodes : List Node) (node : Node) → consumer v nodes ≡ Some node → (n : ℕ) × (slice_get nodes n ≡ Some node) × (is_input v node.inputs ≡ true)
+consumer_there v [] node e = absurd (cc)
+consumer_there v (first ∷ nodes) node e =
+    by_test (is_input v first.inputs)
+    (λ t.
+    let same : first ≡ node = the_same first node (sym (ap (λ b. cond b (Some first) (consumer v nodes)) t) ∙ e) in
+    (0, ap (λ x. Some x) same, sym (ap (λ (x : Node). is_input v x.inputs) same) ∙ t))
+    (λ f. let later = consumer_there v nodes node (sym (ap (λ b. cond b (Some first) (consumer v nodes)) f) ∙ e) in (suc later.0, later.1, later.2))
+
+-- ---- columns
+
+-- a group's key columns are there
+keys_there : (keys : ℕ) (columns : List ColTy) (aggs : List Agg) (made : List ColTy) → group_columns keys columns aggs ≡ Some made → keys ≤ length columns
+keys_there keys columns aggs made is = by (nat_le keys (length columns)) refl _ is
+  where
+    by : (b : Bool) → nat_le keys (length columns) ≡ b → (o : Option (List ColTy)) → cond b o None ≡ Some made → keys ≤ length columns
+    by true e o k = leb-true keys (length columns) e
+    by false e o k = absurd (cc)
+
+-- the columns of a join's pairs
+pairs_there : (left right : List ColTy) (on : List Pair) (rest : Option Expr) (joined made : List ColTy) → columns_if (match_fits left right on rest) joined ≡ Some made → pairs_fit left right on ≡ true
+pairs_there left right on rest joined made is = (both (pairs_fit left right on) (is_condition_if (left ++ right) rest) (made_if (match_fits left right on rest) joined made is).0).0
+
+only_there : (x y p : ℕ) → slice_get (x ∷ []) p ≡ Some y → x ≡ y
+only_there x y zero e = the_same x y e
+only_there x y (suc p) e = absurd (cc)
+
+module _ (types : ColumnsHaveTypes) (laws : Laws) (plan : Plan) (ruled : IsRuled plan) where
+  meets : MeetsShape plan
+  meets = agreed.meets laws plan ruled
+
+  pub shape : HasShape plan
+  shape = shapes.shape plan meets laws.shaped
+
+  abbrev columns_of : ℕ → List ColTy
+  columns_of v = columns_at plan.sources plan.nodes v
+
+  -- ---- sizes
+
+  sizes : has_sizes plan ≡ true
+  sizes =
+      let high : 1 ≤ max 1 (length plan.nodes) = omega arith in
+      let whole = (both (is_whole plan) (is_shaped plan 1 (numbered plan.nodes 1)) (meets 1 (omega arith) high)).0 in
+      (both (has_sizes plan) (are_tables (plan.sink ∷ plan.sources)) whole).0
+
+  pub few : length plan.nodes ≤ 128
+  few =
+      let counted = (both (has_nodes plan) (nat_le plan.mini_batch most_bundled && is_up_to most_subtasks plan.parallelism) sizes).0 in
+      let nodes = (both (is_up_to most_nodes (length plan.nodes)) (length plan.edges == length plan.nodes) counted).0 in
+      leb-true (length plan.nodes) most_nodes (both (nat_le 1 (length plan.nodes)) (nat_le (length plan.nodes) most_nodes) nodes).1
+
+  pub narrow : plan.parallelism ≤ 16
+  narrow =
+      let others = (both (has_nodes plan) (nat_le plan.mini_batch most_bundled && is_up_to most_subtasks plan.parallelism) sizes).1 in
+      let subtasks = (both (nat_le plan.mini_batch most_bundled) (is_up_to most_subtasks plan.parallelism) others).1 in
+      leb-true plan.parallelism most_subtasks (both (nat_le 1 plan.parallelism) (nat_le plan.parallelism most_subtasks) subtasks).1
+
+  -- ---- nodes and edges
+
+  pub every_node : (P : Node → Type 0) → ((v : ℕ) (node : Node) → numbered plan.nodes v ≡ Some node → P node) → All P plan.nodes
+  every_node P f = All-from_recursion P plan.nodes (of_each P plan.nodes (λ n node e. f (suc n) node e))
+
+  node_of : (v : ℕ) (edge : PlanEdge) → numbered plan.edges v ≡ Some edge → (node : Node) × (numbered plan.nodes v ≡ Some node)
+  node_of zero edge e = absurd (cc)
+  node_of (suc n) edge e = let there = within plan.edges n edge e in let many = shapes.edges_many plan meets laws.shaped in found plan.nodes n (omega (arith, there, many))
+
+  before : (v : ℕ) (node : Node) (p input : ℕ) → numbered plan.nodes v ≡ Some node → slice_get node.inputs p ≡ Some input → shapes.IsBefore plan meets laws.shaped v input
+  before v node p input e h = (shapes.input_there plan meets laws.shaped v node p input e h).1
+
+  -- an input feeds one port, so that there are no more ports than nodes before
+  pub ports : (v : ℕ) (node : Node) → numbered plan.nodes v ≡ Some node → length node.inputs < 2 ^ 32
+  ports v node e =
+      let below = of_each (λ input. input < v) node.inputs (λ p input h. (before v node p input e h).2) in
+      let ports_few = few_once v node.inputs below (λ p q input h k. shapes.port_once plan meets laws.shaped v node p q input e h k) in
+      let last = (shapes.among plan.nodes v node e).few in
+      let nodes_few = few in
+      omega (arith, ports_few, last, nodes_few)
+
+  -- the columns that a node sends, as they are made of those of its inputs
+  made_of : (v : ℕ) (node : Node) → numbered plan.nodes v ≡ Some node → (o : Op) (inputs : List ℕ) → node.op ≡ o → node.inputs ≡ inputs
+      → columns_by plan.sources o (map (λ (out : Output). Some out.columns) (map (output_at plan) inputs)) ≡ Some (columns_of v)
+  made_of v node e o inputs is are =
+      sym (λ k. columns_by plan.sources (is k) (map (λ (out : Output). Some out.columns) (map (output_at plan) (are k)))) ∙ local.columns_made laws plan ruled v node e
+
+  -- ---- types
+
+  inputs_exist : (inputs : List ℕ) → AllByRecursion (λ input. Exist (columns_of input)) inputs → AllByRecursion AnyExist (map (λ (out : Output). Some out.columns) (map (output_at plan) inputs))
+  inputs_exist [] h = tt
+  inputs_exist (input ∷ inputs) h = (h.0, inputs_exist inputs h.1)
+
+  -- by the numbers below a bound
+  exist_below : (bound v : ℕ) (node : Node) → v < bound → numbered plan.nodes v ≡ Some node → Exist (columns_of v)
+  exist_below zero v node below e = absurd (omega (arith, below))
+  exist_below (suc bound) v node below e =
+      sent_exist types plan.sources (λ source table has. table_exists table (shapes.declarable plan meets laws.shaped source table has)) node.op
+      (map (λ (out : Output). Some out.columns) (map (output_at plan) node.inputs)) (columns_of v) (local.columns_made laws plan ruled v node e)
+      (inputs_exist node.inputs (of_each (λ input. Exist (columns_of input)) node.inputs
+      (λ p input h. let there = before v node p input e h in exist_below bound input there.0 (let lower = there.2 in omega (arith, lower, below)) there.1)))
+
+  exist : (v : ℕ) (node : Node) → numbered plan.nodes v ≡ Some node → Exist (columns_of v)
+  exist v node e = exist_below (suc v) v node (omega arith) e
+
+  -- ---- operators
+
+  -- what fits a node with one input, by what the input sends
+  built_over : (v : ℕ) (node : Node) (o : Op) (input : ℕ) → node.inputs ≡ input ∷ [] → IsBuilt o (around_by plan.sink (output_at plan input ∷ []) (output_at plan v)) → IsBuilt o (around_of plan v node.inputs)
+  built_over v node o input are built =
+      subst (λ (inputs : List ℕ). IsBuilt o (around_of plan v inputs)) (sym are) (subst (λ (around : Around). IsBuilt o around) (sym (around_is plan v input [])) built)
+
+  agrees_over : (v : ℕ) (node : Node) → numbered plan.nodes v ≡ Some node → (o : Op) (input : ℕ) → node.op ≡ o → node.inputs ≡ input ∷ []
+      → agreed.scans o ≡ false → agreed.normalizes o ≡ false → agreed.sinks o ≡ false → Agrees plan.sources plan.sink o (output_at plan input ∷ []) (output_at plan v)
+  agrees_over v node e o input is are scans normalizes sinks =
+      let agrees = agreed.agrees laws plan ruled v node e (ap agreed.scans is ∙ scans) (ap agreed.normalizes is ∙ normalizes) (ap agreed.sinks is ∙ sinks) (proper_inputs laws plan ruled v node e) in
+      subst (λ (outs : List Output). Agrees plan.sources plan.sink o outs (output_at plan v)) (ap (map (output_at plan)) are)
+      (subst (λ (p : Op). Agrees plan.sources plan.sink p (map (output_at plan) node.inputs) (output_at plan v)) is agrees)
+
+  one_input : (v : ℕ) (node : Node) → numbered plan.nodes v ≡ Some node → (o : Op) → node.op ≡ o → ((n : ℕ) → ports_of o n ≡ (n == 1)) → (input : ℕ) × (node.inputs ≡ input ∷ [])
+  one_input v node e o is takes_one = agreed.one_input laws plan ruled v node e (λ n. ap (λ p. ports_of p n) is ∙ takes_one n)
+
+  normalizes : (v : ℕ) (node : Node) → numbered plan.nodes v ≡ Some node → (key : List ℕ) → node.op ≡ op.Normalize key → IsBuilt (op.Normalize key) (around_of plan v node.inputs)
+  normalizes v node e key is =
+      let i = one_input v node e (op.Normalize key) is (λ n. refl) in
+      let agrees = agreed.normalize_agrees laws plan ruled v node key i.0 e is i.1 (proper_inputs laws plan ruled v node e) in
+      let fits = laws.normalizes_fit plan.parallelism shape.parallel plan.sink key (output_at plan i.0) (output_at plan v) agrees in
+      built_over v node (op.Normalize key) i.0 i.1 fits.0.tells
+
+  groups : (v : ℕ) (node : Node) → numbered plan.nodes v ≡ Some node → (keys : ℕ) (aggs : List Agg) → node.op ≡ op.Group keys aggs → IsBuilt (op.Group keys aggs) (around_of plan v node.inputs)
+  groups v node e keys aggs is =
+      let i = one_input v node e (op.Group keys aggs) is (λ n. refl) in
+      let agrees = agrees_over v node e (op.Group keys aggs) i.0 is i.1 refl refl refl in
+      let fits = laws.groups_fit plan.parallelism shape.parallel plan.sources plan.sink keys aggs (output_at plan i.0) (output_at plan v) agrees in
+      built_over v node (op.Group keys aggs) i.0 i.1 fits.0.sound
+
+  ranks : (v : ℕ) (node : Node) → numbered plan.nodes v ≡ Some node → (partition : List ℕ) (order : List SortCol) (bound : ℕ) (ranked : Bool) → node.op ≡ op.TopN partition order bound ranked
+      → IsBuilt (op.TopN partition order bound ranked) (around_of plan v node.inputs)
+  ranks v node e partition order bound ranked is =
+      let i = one_input v node e (op.TopN partition order bound ranked) is (λ n. refl) in
+      let agrees = agrees_over v node e (op.TopN partition order bound ranked) i.0 is i.1 refl refl refl in
+      let fits = laws.topns_fit plan.parallelism shape.parallel plan.sources plan.sink partition order bound ranked (output_at plan i.0) (output_at plan v) agrees in
+      built_over v node (op.TopN partition order bound ranked) i.0 i.1 fits.0.sound
+
+  built_by : (v : ℕ) (node : Node) → numbered plan.nodes v ≡ Some node → (o : Op) → node.op ≡ o → has_rule o ≡ true → IsBuilt o (around_of plan v node.inputs)
+  built_by v node e (op.Scan source) is r = tt
+  built_by v node e (op.Filter cond) is r = tt
+  built_by v node e (op.Project items) is r = tt
+  built_by v node e op.Union is r = tt
+  built_by v node e (op.Normalize key) is r = normalizes v node e key is
+  built_by v node e (op.Group keys aggs) is r = groups v node e keys aggs is
+  built_by v node e (op.Join kind on rest) is r = tt
+  built_by v node e (op.Semi anti on rest) is r = tt
+  built_by v node e (op.TopN partition order bound ranked) is r = ranks v node e partition order bound ranked is
+  built_by v node e op.Sink is r = tt
+  built_by v node e _ is r = absurd (cc)
+
+  pub built : (v : ℕ) (node : Node) → numbered plan.nodes v ≡ Some node → IsBuilt node.op (around_of plan v node.inputs)
+  built v node e = built_by v node e node.op refl (ruled.rules v node e)
+
+  -- ---- exchanges
+
+  abbrev AreThere : ℕ → List ℕ → Type 0
+  AreThere input columns = AllByRecursion (λ column. column < length (columns_of input)) columns
+
+  -- the input of a node that has only one
+  is_only : (v : ℕ) (node : Node) (p input : ℕ) → numbered plan.nodes v ≡ Some node → slice_get node.inputs p ≡ Some input
+      → (o : Op) → node.op ≡ o → ((n : ℕ) → ports_of o n ≡ (n == 1)) → node.inputs ≡ input ∷ []
+  is_only v node p input e h o is takes_one =
+      let i = one_input v node e o is takes_one in
+      subst (λ (n : ℕ). node.inputs ≡ n ∷ []) (only_there i.0 input p (sym (ap (λ (inputs : List ℕ). slice_get inputs p) i.1) ∙ h)) i.1
+
+  key_there : (v : ℕ) (node : Node) (p input : ℕ) → numbered plan.nodes v ≡ Some node → slice_get node.inputs p ≡ Some input → (key : List ℕ) → node.op ≡ op.Normalize key → AreThere input key
+  key_there v node p input e h key is =
+      let are = is_only v node p input e h (op.Normalize key) is (λ n. refl) in
+      (agreed.normalize_agrees laws plan ruled v node key input e is are (proper_inputs laws plan ruled v node e)).within
+
+  groups_there : (v : ℕ) (node : Node) (p input : ℕ) → numbered plan.nodes v ≡ Some node → slice_get node.inputs p ≡ Some input
+      → (keys : ℕ) (aggs : List Agg) → node.op ≡ op.Group keys aggs → AreThere input (first_columns keys)
+  groups_there v node p input e h keys aggs is =
+      let are = is_only v node p input e h (op.Group keys aggs) is (λ n. refl) in
+      first_within keys (length (columns_of input)) (keys_there keys (columns_of input) aggs (columns_of v) (made_of v node e (op.Group keys aggs) (input ∷ []) is are))
+
+  partition_there : (v : ℕ) (node : Node) (p input : ℕ) → numbered plan.nodes v ≡ Some node → slice_get node.inputs p ≡ Some input
+      → (partition : List ℕ) (order : List SortCol) (bound : ℕ) (ranked : Bool) → node.op ≡ op.TopN partition order bound ranked → AreThere input partition
+  partition_there v node p input e h partition order bound ranked is =
+      let are = is_only v node p input e h (op.TopN partition order bound ranked) is (λ n. refl) in
+      subst (λ (inputs : List ℕ). AreThere (first_input inputs) partition) are (ranks v node e partition order bound ranked is).within
+
+  at_port : (left right input p : ℕ) (on : List Pair) → pairs_fit (columns_of left) (columns_of right) on ≡ true → slice_get (left ∷ (right ∷ [])) p ≡ Some input → AreThere input (side_columns on p)
+  at_port left right input zero on fits h = subst (λ (n : ℕ). AreThere n (side_columns on zero)) (the_same left input h) (left_within (columns_of left) (columns_of right) on fits)
+  at_port left right input (suc zero) on fits h = subst (λ (n : ℕ). AreThere n (side_columns on (suc zero))) (the_same right input h) (right_within (columns_of left) (columns_of right) on fits)
+  at_port left right input (suc (suc p)) on fits h = absurd (cc)
+
+  sides_there : (v : ℕ) (node : Node) (p input : ℕ) → numbered plan.nodes v ≡ Some node → slice_get node.inputs p ≡ Some input
+      → (o : Op) → node.op ≡ o → ((n : ℕ) → ports_of o n ≡ (n == 2))
+      → (on : List Pair) (rest : Option Expr) (joined : List ColTy → List ColTy → List ColTy) → ((inputs : List (Option (List ColTy))) → columns_by plan.sources o inputs ≡ matched_columns on rest joined inputs)
+      → AreThere input (side_columns on p)
+  sides_there v node p input e h o is takes_two on rest joined same =
+      let i = agreed.two_inputs laws plan ruled v node e (λ n. ap (λ x. ports_of x n) is ∙ takes_two n) in
+      let left = columns_of i.0 in
+      let right = columns_of i.1 in
+      let typed = sym (same (Some left ∷ (Some right ∷ []))) ∙ made_of v node e o (i.0 ∷ (i.1 ∷ [])) is i.2 in
+      at_port i.0 i.1 input p on (pairs_there left right on rest (joined left right) (columns_of v) typed) (sym (ap (λ (inputs : List ℕ). slice_get inputs p) i.2) ∙ h)
+
+  -- an input is asked for by columns that it has, whose types exist
+  asked_by : (v : ℕ) (node : Node) (p input : ℕ) → numbered plan.nodes v ≡ Some node → slice_get node.inputs p ≡ Some input → Exist (columns_of input)
+      → (o : Op) → node.op ≡ o → has_rule o ≡ true → IsExchange (columns_of input) (by_columns (asked (length (columns_of input)) o p))
+  asked_by v node p input e h there (op.Scan source) is r = tt
+  asked_by v node p input e h there (op.Filter cond) is r = tt
+  asked_by v node p input e h there (op.Project items) is r = tt
+  asked_by v node p input e h there op.Union is r = tt
+  asked_by v node p input e h there (op.Normalize key) is r = routable (columns_of input) key (key_there v node p input e h key is) there
+  asked_by v node p input e h there (op.Group keys aggs) is r = routable (columns_of input) (first_columns keys) (groups_there v node p input e h keys aggs is) there
+  asked_by v node p input e h there (op.Join kind on rest) is r =
+      routable (columns_of input) (side_columns on p) (sides_there v node p input e h (op.Join kind on rest) is (λ n. refl) on (option_map expr_view rest) (join_columns kind) (λ inputs. refl)) there
+  asked_by v node p input e h there (op.Semi anti on rest) is r =
+      routable (columns_of input) (side_columns on p) (sides_there v node p input e h (op.Semi anti on rest) is (λ n. refl) on (option_map expr_view rest) (λ left right. left) (λ inputs. refl)) there
+  asked_by v node p input e h there (op.TopN partition order bound ranked) is r = routable (columns_of input) partition (partition_there v node p input e h partition order bound ranked is) there
+  asked_by v node p input e h there op.Sink is r = tt
+  asked_by v node p input e h there _ is r = absurd (cc)
+
+  goes : (v : ℕ) (node : Node) → numbered plan.nodes v ≡ Some node → (o : Option Node) → consumer v plan.nodes ≡ o → IsExchange (columns_of v) (edge_or (numbered plan.edges v)).exchange
+  goes v node e None is = subst (λ x. IsExchange (columns_of v) x) (sym (local.forwards_alone laws plan ruled v node e is)) tt
+  goes v node e (Some above) is =
+      let has = consumer_there v plan.nodes above is in
+      let w = suc has.0 in
+      let p = is_somewhere v above.inputs has.2 in
+      subst (λ x. IsExchange (columns_of v) x) (sym (local.exchanged laws plan ruled w above p.0 v has.1 p.1))
+      (asked_by w above p.0 v has.1 p.1 (exist v node e) above.op refl (ruled.rules w above has.1))
+
+  pub exchanged : (v : ℕ) (edge : PlanEdge) → numbered plan.edges v ≡ Some edge → IsExchange (columns_of v) edge.exchange
+  exchanged v edge there =
+      let node = node_of v edge there in
+      subst (λ x. IsExchange (columns_of v) x) (ap (λ o. (edge_or o).exchange) there) (goes v node.0 node.1 (consumer v plan.nodes) refl)
+
+-- ---- the plan
+
+pub plans_open : ColumnsHaveTypes → Laws → SoundPlansAreWired → SoundPlansMeetFacts → SoundPortsTake → PlansOpen
+plans_open types laws wired facts takes plan columns ruled columns_are many =
+    let plan_shape = shape types laws plan ruled in
+    let nodes_few = few types laws plan ruled in
+    let subtasks_few = narrow types laws plan ruled in
+    record {
+      may = record {
+        few = omega (arith, nodes_few);
+        some = plan_shape.parallel;
+        narrow = omega (arith, subtasks_few);
+        ports = every_node types laws plan ruled (λ node. length node.inputs < 2 ^ 32) (ports types laws plan ruled);
+        unbundled = every_node types laws plan ruled (λ node. bundle_of plan.mini_batch node.op ≡ None) (λ v node e. no_bundle plan.mini_batch node.op (ruled.rules v node e));
+        typed = many;
+        exchanged = λ e edge there. subst (λ (c : List ColTy). IsExchange c edge.exchange) (sym (columns_are e)) (exchanged types laws plan ruled e edge there);
+        spread = All-from_recursion (λ table. AreRoutable (column_types table) (spread_of table)) plan.sources
+            (of_each (λ table. AreRoutable (column_types table) (spread_of table)) plan.sources (λ source table has. table_routable table (shapes.declarable plan (agreed.meets laws plan ruled) laws.shaped source table has)));
+      };
+      openable = record {
+        columns_are = columns_are;
+        runs_as = record {
+          network_is = refl;
+          columns_are = columns_are;
+          nodes = λ v node there. record {
+            built = built types laws plan ruled v node there;
+            scans = λ source scans. (plan_shape.scans v source node there scans).0;
+            ports = λ works. plan_shape.others v node there works;
+            takes = λ works. takes plan ruled v node there works;
+          };
+        };
+        wired = wired plan ruled;
+        facts = facts plan ruled;
+      };
+    }

@@ -1,0 +1,113 @@
+//! Sessions over plans.
+ghost use Rattle.std.specs.Prelude.{◌≡◌, ◌≤◌, ◌++◌, [], true, OnOk, IfOk, IfErr};
+ghost use Rattle.ct_catalog.specs.Columns.{table_mode};
+ghost use Rattle.plan_rules.specs.Doings.{network};
+ghost use Rattle.sound_plans.specs.Sound.{IsRuled};
+ghost use Rattle.stream_model.specs.Machine as machine;
+ghost use Rattle.stream_model.specs.Machine.{IsQuiet, State, opened};
+ghost use Rattle.stream_model.specs.Drain.{StopsBy};
+ghost use Rattle.session_core.specs.Kept.{in_flight};
+ghost use Rattle.session_core.specs.Stands.{HasAnswered, buffer_at};
+ghost use Rattle.session_open.specs.Opening.{IsTooMany};
+ghost use Rattle.exec_core.specs.Stands.{ForRuns, ForSteps, HasDrained, HasStepped, MayStep, Stands, StandsForSome, StopsDraining, reached};
+
+use crate::TableCheck;
+use ct_change::Steps;
+use phys_plan::Plan;
+use plan_shape::columns_of;
+use session_core::Buffer;
+use session_open::{AnyOperator, OpenFault, open_job};
+use std::alloc::Global;
+use std::sync::ledger::Ledger;
+use stream_model::{Event, PrintList, Stopped};
+
+/// A job of a plan: its operators, the tests of its sources, what is in flight, and what was printed and not yet handed out.
+#[derive(Drop)]
+pub struct Session {
+    job: session_core::Session<AnyOperator, TableCheck>,
+}
+
+impl Session {
+    /// Opens a job of a plan that sends at most so many changes. `Limit` comes exactly where the rows with which its nodes open
+    /// are more than these.
+    pub fn open_job(alloc: Global, plan: &Plan, sent_limit: u32) -> Result<Session, OpenFault>
+        requires { IsRuled plan.now }
+        ensures ok { IfOk result (λ session. Stands session plan.now sent_limit [] []) }
+        ensures within { OnOk result ((opened (network plan.now)).sends ≤ sent_limit) }
+        ensures err { IfErr result (λ fault. IsTooMany sent_limit (opened (network plan.now)).sends fault) }
+    {
+        let columns = columns_of(alloc, plan)?;
+        let job = open_job::<AnyOperator, TableCheck>(alloc, plan, &columns, sent_limit)?;
+        Ok(Session { job })
+    }
+
+    /// The session after one event. A change that is taken has to have its table's columns. A stop comes exactly where the
+    /// machine stops, with its cause, or for want of memory; it consumes the session, adds nothing to what was printed, and
+    /// hands back what was printed and not yet handed out.
+    pub fn step<L: Ledger>(self, event: Event, steps: &mut Steps<L>) -> Result<Session, Stopped>
+        requires ready { MayStep self event }
+        ensures ok { IfOk result (λ next. HasStepped self event next) }
+        ensures err { IfErr result (λ stopped. ForSteps self event (λ plan limit handed items. StopsBy (machine.step (network plan) limit (reached plan limit items) event) stopped.cause)) }
+        ensures printed { IfErr result (λ stopped. ForRuns self (λ plan limit handed items. (reached plan limit items).printed ≡ handed ++ stopped.printed)) }
+    {
+        match self.job.step(event, steps) {
+            Ok(job) => Ok(Session { job }),
+            Err(stopped) => Err(stopped),
+        }
+    }
+
+    /// The session after a drain's events, and a quiet item behind what was printed. It leaves the job quiet. A stop comes
+    /// exactly where the machine stops along them, out of range or by the limit, or for want of memory; it hands back what
+    /// was printed before it and not yet handed out.
+    pub fn drain<L: Ledger>(self, steps: &mut Steps<L>) -> Result<Session, Stopped>
+        requires ready { StandsForSome self }
+        ensures ok { IfOk result (λ next. HasDrained self next) }
+        ensures err { IfErr result (λ stopped. StopsDraining self stopped.cause stopped.printed) }
+    {
+        match self.job.drain(steps) {
+            Ok(job) => Ok(Session { job }),
+            Err(stopped) => Err(stopped),
+        }
+    }
+
+    /// Hands out the items that were printed and not yet handed out. It takes no memory.
+    pub fn take_printed(&mut self) -> PrintList
+        ensures items { ForRuns self.old (λ plan limit handed items. (reached plan limit items).printed ≡ handed ++ result) }
+        ensures stands { ForRuns self.old (λ plan limit handed items. Stands self.new plan limit (handed ++ result) items) }
+    {
+        self.job.take_printed()
+    }
+
+    /// Whether no channel holds a change: then what was printed, in all, is the batch answer over what was taken. It takes no
+    /// memory.
+    pub fn is_quiet(&self) -> bool
+        requires ready { StandsForSome self.now }
+        ensures quiet { ForRuns self.now (λ plan limit handed items. result ≡ true → IsQuiet (network plan) (reached plan limit items)) }
+        ensures answers { result ≡ true → ForRuns self.now (λ plan limit handed items. HasAnswered (network plan) (table_mode plan.sink) (reached plan limit items)) }
+        ensures busy { ForRuns self.now (λ plan limit handed items. IsQuiet (network plan) (reached plan limit items) → result ≡ true) }
+    {
+        self.job.is_quiet()
+    }
+
+    /// How many changes were taken. It takes no memory.
+    pub fn taken(&self) -> u32
+        ensures { ForRuns self.now (λ plan limit handed items. result ≡ (reached plan limit items).took) }
+    {
+        self.job.taken()
+    }
+
+    /// How many changes are in flight in a channel, and `None` exactly where there is no such channel. It takes no memory.
+    pub fn in_flight(&self, edge: u32, from: u32, to: u32) -> Option<u32>
+        requires ready { StandsForSome self.now }
+        ensures value { ForRuns self.now (λ plan limit handed items. result ≡ in_flight (network plan) (reached plan limit items) edge from to) }
+    {
+        self.job.in_flight(edge, from, to)
+    }
+
+    /// What a subtask keeps of a bundle. It takes no memory.
+    pub fn buffered(&self, node: u32, subtask: u32) -> Buffer
+        ensures { ForRuns self.now (λ plan limit handed items. result ≡ buffer_at (network plan) (reached plan limit items) node subtask) }
+    {
+        self.job.buffered(node, subtask)
+    }
+}

@@ -1,8 +1,0 @@
-use Rattle.std.proofs.Common.{◌≡◌, ◌++◌, List, ℕ, OnOk, subst}
-use Rattle.explain_text.specs.Explained as e
-use Rattle.explain_text.proofs.Names.{from_zero}
-use Rattle.explain_text.proofs.texts.push_cols.Goals as goal
-
-pub returns : goal.returns
-returns c =
-    subst (λ (ns : List ℕ). OnOk c.push_numbers.result (c.push_numbers.new.text ≡ c.args.text.now ++ e.numbers ns)) (from_zero c.args.cols.now) c.push_numbers.ensures

@@ -1,5 +1,0 @@
-use Rattle.expr_examples.specs.laws.Computed.{values_of_pairs}
-use Rattle.expr_examples.proofs.laws.values_of_pairs.Goals as goal
-
-pub returns : goal.returns
-returns c = values_of_pairs

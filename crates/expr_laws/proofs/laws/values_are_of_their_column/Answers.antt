@@ -1,5 +1,0 @@
-use Rattle.expr_laws.specs.laws.Typed.{is_of_its_column}
-use Rattle.expr_laws.proofs.laws.values_are_of_their_column.Goals as goal
-
-pub returns : goal.returns
-returns c columns row fits expr column e = is_of_its_column columns row fits expr column e

@@ -1,5 +1,0 @@
-use Rattle.field_laws.specs.laws.Reading.{field_read, field_is_read}
-use Rattle.field_laws.proofs.laws.fields_are_read_as_they_are_spelled.Goals as goal
-
-pub returns : goal.returns
-returns c ty value bytes = (field_read ty value bytes, field_is_read ty value bytes)

@@ -1,2 +1,0 @@
-pub mod Spells
-pub mod laws

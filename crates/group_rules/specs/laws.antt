@@ -1,6 +1,0 @@
-pub mod Answers
-pub mod Columns
-pub mod Facts
-pub mod Members
-pub mod Pieces
-pub mod Turns

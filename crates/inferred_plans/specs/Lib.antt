@@ -1,2 +1,0 @@
-pub mod Inferred
-pub mod laws

@@ -1,0 +1,169 @@
+-- What a plan's network reads of the plan is what is seen of it.
+use Rattle.std.specs.Prelude.{◌≡◌, ℕ, ◌==◌, cond, List, ◌++◌, length, map, slice_get, slice_index_or, Option, option_map, option_and_then, unwrap_or}
+use Rattle.std.proofs.Common.{zero, suc, [], ◌∷◌, refl, ap, ◌∙◌, Some, None}
+use Rattle.std.proofs.lemmas.List.{length-map}
+use Rattle.std.proofs.lemmas.Option.{slice_get-map}
+use Rattle.ct_value.specs.declared.ty.ColTy.{ColTy}
+use Rattle.ct_field.specs.Typed.{row_fits}
+use Rattle.ct_catalog.specs.declared.table.TableDef.{TableDef}
+use Rattle.ct_expr.specs.declared.expr.Expr.{Expr}
+use Rattle.ct_expr.specs.View.{expr_view}
+use Rattle.ct_expr.specs.Views.{as_seen}
+use Rattle.ct_expr.proofs.laws.Seen.{seen}
+use Rattle.rel_algebra.specs.Joins.{join_columns}
+use Rattle.rel_algebra.specs.Batch.{filter_answer, project_answer}
+use Rattle.rel_algebra.specs.Types.{columns_if, is_condition, item_columns}
+use Rattle.op_rules.specs.Edges.{meaning_of}
+use Rattle.emission_rules.specs.Filter.{filter_rule}
+use Rattle.emission_rules.specs.Project.{project_rule}
+use Rattle.emission_rules.specs.Joining.{joins, matched}
+use Rattle.phys_plan.specs.declared.node.Op.{Op}
+use Rattle.phys_plan.specs.declared.node.Op.TheVariants as op
+use Rattle.phys_plan.specs.declared.node.Node.{Node}
+use Rattle.phys_plan.specs.declared.plan.Plan.{Plan}
+use Rattle.plan_rules.specs.Plans.{inputs_in, scan_of, scan_in, bundle_of, bundle_in, port_of, feed_at, feed_from, exchange_in, route_by, meaning_in, kinds_in, keys_in, table_of, Doing, network_edge, network_of}
+use Rattle.phys_plan.specs.Reading.{numbered, first_input}
+use Rattle.ct_catalog.specs.Columns.{table_mode}
+use Rattle.plan_rules.specs.Columns.{only, matched_columns, columns_by, numbered_columns, next_columns, columns_after, columns_at}
+use Rattle.plan_rules.specs.Doings.{Around, alike, filter_of, project_of, joining_of, joined_alike, doing_by, update_in, other_inputs, around_of, doing_in, network}
+use Rattle.planner.specs.Seen.{op_as_seen, node_as_seen, plan_as_seen}
+
+exprs_seen : (items : List Expr) → map expr_view (map as_seen items) ≡ map expr_view items
+exprs_seen [] = refl
+exprs_seen (x ∷ items) = λ i. seen (expr_view x) i ∷ exprs_seen items i
+
+rest_seen : (rest : Option Expr) → option_map expr_view (option_map as_seen rest) ≡ option_map expr_view rest
+rest_seen None = refl
+rest_seen (Some x) = ap Some (seen (expr_view x))
+
+-- ---- columns
+
+columns_by_seen : (sources : List TableDef) (o : Op) (inputs : List (Option (List ColTy))) → columns_by sources (op_as_seen o) inputs ≡ columns_by sources o inputs
+columns_by_seen sources (op.Filter cond) inputs = ap (λ c. option_and_then (λ columns. columns_if (is_condition columns c) columns) (only inputs)) (seen (expr_view cond))
+columns_by_seen sources (op.Project items) inputs = ap (λ es. option_and_then (λ columns. item_columns columns es) (only inputs)) (exprs_seen items)
+columns_by_seen sources (op.Join kind on rest) inputs = ap (λ r. matched_columns on r (join_columns kind) inputs) (rest_seen rest)
+columns_by_seen sources (op.Semi anti on rest) inputs = ap (λ r. matched_columns on r (λ left right. left) inputs) (rest_seen rest)
+columns_by_seen sources _ inputs = refl
+
+columns_after_seen : (sources : List TableDef) (done : List (Option (List ColTy))) (nodes : List Node) → columns_after sources done (map node_as_seen nodes) ≡ columns_after sources done nodes
+columns_after_seen sources done [] = refl
+columns_after_seen sources done (node ∷ nodes) =
+    ap (λ columns. columns_after sources (done ++ columns ∷ []) (map node_as_seen nodes)) (columns_by_seen sources node.op (map (numbered_columns done) node.inputs))
+    ∙ columns_after_seen sources (done ++ next_columns sources done node ∷ []) nodes
+
+columns_seen : (sources : List TableDef) (nodes : List Node) → columns_at sources (map node_as_seen nodes) ≡ columns_at sources nodes
+columns_seen sources nodes = λ i v. unwrap_or (numbered_columns (columns_after_seen sources [] nodes i) v) []
+
+-- ---- what nodes do
+
+numbered_seen : (nodes : List Node) (v : ℕ) → numbered (map node_as_seen nodes) v ≡ option_map node_as_seen (numbered nodes v)
+numbered_seen nodes zero = refl
+numbered_seen nodes (suc n) = slice_get-map node_as_seen nodes n
+
+doing_by_seen : (o : Op) (around : Around) → doing_by (op_as_seen o) around ≡ doing_by o around
+doing_by_seen (op.Filter cond) around = ap (λ c. alike (filter_rule (filter_of c)) around.columns (λ rows. filter_answer c (rows 0))) (seen (expr_view cond))
+doing_by_seen (op.Project items) around = ap (λ es. alike (project_rule (project_of es around)) around.columns (λ rows. project_answer es (rows 0))) (exprs_seen items)
+doing_by_seen (op.Join kind on rest) around = ap (λ r. joined_alike (joining_of (joins kind) on r around)) (rest_seen rest)
+doing_by_seen (op.Semi anti on rest) around = ap (λ r. joined_alike (joining_of (matched anti) on r around)) (rest_seen rest)
+doing_by_seen _ around = refl
+
+module _ (plan : Plan) where
+  around_seen : (v : ℕ) (inputs : List ℕ) → around_of (plan_as_seen plan) v inputs ≡ around_of plan v inputs
+  around_seen v inputs = λ i. record {
+    kinds = kinds_in (numbered plan.edges (first_input inputs));
+    input = update_in (numbered plan.edges (first_input inputs));
+    own = update_in (numbered plan.edges v);
+    columns = columns_seen plan.sources plan.nodes i (first_input inputs);
+    others = map (λ input. record { kinds = kinds_in (numbered plan.edges input); input = update_in (numbered plan.edges input); columns = columns_seen plan.sources plan.nodes i input }) (other_inputs inputs);
+    inputs = length inputs;
+    declared = plan.sink.mode;
+  }
+
+  doing_at : (v : ℕ) (node : Option Node) → doing_in (plan_as_seen plan) v (option_map node_as_seen node) ≡ doing_in plan v node
+  doing_at v None = refl
+  doing_at v (Some node) = doing_by_seen node.op (around_of (plan_as_seen plan) v node.inputs) ∙ ap (doing_by node.op) (around_seen v node.inputs)
+
+  doing_seen : (v : ℕ) → doing_in (plan_as_seen plan) v (numbered (map node_as_seen plan.nodes) v) ≡ doing_in plan v (numbered plan.nodes v)
+  doing_seen v = ap (doing_in (plan_as_seen plan) v) (numbered_seen plan.nodes v) ∙ doing_at v (numbered plan.nodes v)
+
+-- ---- the network
+
+inputs_seen : (node : Option Node) → inputs_in (option_map node_as_seen node) ≡ inputs_in node
+inputs_seen None = refl
+inputs_seen (Some node) = refl
+
+scan_of_seen : (o : Op) → scan_of (op_as_seen o) ≡ scan_of o
+scan_of_seen (op.Filter cond) = refl
+scan_of_seen _ = refl
+
+scan_seen : (node : Option Node) → scan_in (option_map node_as_seen node) ≡ scan_in node
+scan_seen None = refl
+scan_seen (Some node) = scan_of_seen node.op
+
+bundle_of_seen : (size : ℕ) (o : Op) → bundle_of size (op_as_seen o) ≡ bundle_of size o
+bundle_of_seen size (op.Filter cond) = refl
+bundle_of_seen size _ = refl
+
+bundle_seen : (size : ℕ) (node : Option Node) → bundle_in size (option_map node_as_seen node) ≡ bundle_in size node
+bundle_seen size None = refl
+bundle_seen size (Some node) = bundle_of_seen size node.op
+
+feed_seen : (v e : ℕ) (nodes : List Node) → feed_from v e (map node_as_seen nodes) ≡ feed_from v e nodes
+feed_seen v e [] = refl
+feed_seen v e (node ∷ nodes) = ap (feed_at v (port_of e node.inputs)) (feed_seen (suc v) e nodes)
+
+module _ (columns : ℕ → List ColTy) (doing : ℕ → Doing) (plan : Plan) where
+  count_same : length (map node_as_seen plan.nodes) ≡ length plan.nodes
+  count_same = length-map plan.nodes node_as_seen
+
+  inputs_same : (v : ℕ) → inputs_in (numbered (map node_as_seen plan.nodes) v) ≡ inputs_in (numbered plan.nodes v)
+  inputs_same v = ap inputs_in (numbered_seen plan.nodes v) ∙ inputs_seen (numbered plan.nodes v)
+
+  scan_same : (v : ℕ) → scan_in (numbered (map node_as_seen plan.nodes) v) ≡ scan_in (numbered plan.nodes v)
+  scan_same v = ap scan_in (numbered_seen plan.nodes v) ∙ scan_seen (numbered plan.nodes v)
+
+  bundle_same : (v : ℕ) → bundle_in plan.mini_batch (numbered (map node_as_seen plan.nodes) v) ≡ bundle_in plan.mini_batch (numbered plan.nodes v)
+  bundle_same v = ap (bundle_in plan.mini_batch) (numbered_seen plan.nodes v) ∙ bundle_seen plan.mini_batch (numbered plan.nodes v)
+
+  keys_at : (keys : Node → List (List ℕ)) → ((node : Node) → keys (node_as_seen node) ≡ keys node) → (node : Option Node) → keys_in keys (option_map node_as_seen node) ≡ keys_in keys node
+  keys_at keys same None = refl
+  keys_at keys same (Some node) = same node
+
+  keys_same : (keys : Node → List (List ℕ)) → ((node : Node) → keys (node_as_seen node) ≡ keys node) → (v : ℕ) → keys_in keys (numbered (map node_as_seen plan.nodes) v) ≡ keys_in keys (numbered plan.nodes v)
+  keys_same keys same v = ap (keys_in keys) (numbered_seen plan.nodes v) ∙ keys_at keys same (numbered plan.nodes v)
+
+  edge_same : (e : ℕ) → network_edge columns doing (plan_as_seen plan) e ≡ network_edge columns doing plan e
+  edge_same e = λ i. record {
+    meaning = cond (e == count_same i) (meaning_of (table_mode plan.sink)) (meaning_in (numbered plan.edges e));
+    exchange = exchange_in (numbered plan.edges e);
+    route = route_by plan.parallelism (columns e) (exchange_in (numbered plan.edges e));
+    kinds = kinds_in (numbered plan.edges e);
+    fits = λ change. row_fits (columns e) change.row;
+    holds = λ row. row_fits (columns e) row;
+    unique = keys_same (λ node. node.keys.unique) (λ node. refl) e i;
+    local = keys_same (λ node. node.keys.local) (λ node. refl) e i;
+    fixing = keys_same (λ node. node.keys.fixing) (λ node. refl) e i;
+  }
+
+  network_same : network_of columns doing (plan_as_seen plan) ≡ network_of columns doing plan
+  network_same = λ i. record {
+    subtasks = plan.parallelism;
+    count = count_same i;
+    tables = λ table. option_map (table_of plan.parallelism) (slice_get plan.sources table);
+    scans = λ v. scan_same v i;
+    ports = λ v. length (inputs_same v i);
+    source = λ v port. slice_index_or (inputs_same v i) port 0;
+    fed = λ e. feed_seen 1 e plan.nodes i;
+    edge = λ e. edge_same e i;
+    bundle = λ v. bundle_same v i;
+    opening = λ v. (doing v).opening;
+    emits = λ v. (doing v).emits;
+    range_types = λ v. (doing v).range_types;
+    part = λ v. (doing v).part;
+    batch = λ v. (doing v).batch;
+  }
+
+pub network_seen : (plan : Plan) → network (plan_as_seen plan) ≡ network plan
+network_seen plan =
+    (λ i. network_of (columns_seen plan.sources plan.nodes i) (λ v. doing_seen plan v i) (plan_as_seen plan))
+    ∙ network_same (columns_at plan.sources plan.nodes) (λ v. doing_in plan v (numbered plan.nodes v)) plan

@@ -1,0 +1,73 @@
+-- The text of a plan doesn't speak of expressions.
+use Rattle.std.proofs.Common.{◌≡◌, ℕ, ◌+◌, List, [], ◌∷◌, ◌++◌, length, map, refl, ap, suc}
+use Rattle.ct_catalog.specs.declared.table.TableDef.{TableDef}
+use Rattle.ct_expr.specs.declared.expr.Expr.{Expr}
+use Rattle.ct_expr.specs.Views.{as_seen}
+use Rattle.phys_plan.specs.declared.edge.Edge.{Edge}
+use Rattle.phys_plan.specs.declared.node.Node.{Node}
+use Rattle.phys_plan.specs.declared.node.Op.{Op}
+use Rattle.phys_plan.specs.declared.node.Op.TheVariants as op
+use Rattle.phys_plan.specs.declared.plan.Plan.{Plan}
+use Rattle.phys_plan.specs.Reading.{numbered}
+use Rattle.planner.specs.Seen.{node_as_seen, op_as_seen, plan_as_seen}
+use Rattle.phys_plan.specs.Explained.{called, edge_text, lines_from, node_line, operator_text}
+use Rattle.std.specs.Prelude.{codes, Option}
+use Rattle.std.specs.Fmt.{decimal}
+use Rattle.job_plan.specs.Shown.{PlansAreShownAsSeen}
+use Rattle.job_ending.specs.declared.ending.Ending.TheVariants.{Done}
+use Rattle.job_ending.specs.Outcome.{Outcome}
+
+as_many : (items : List Expr) → length (map as_seen items) ≡ length items
+as_many [] = refl
+as_many (item ∷ items) = ap suc (as_many items)
+
+operator_is : (sources : List TableDef) (sink : TableDef) (o : Op) (inputs : ℕ) → operator_text sources sink (op_as_seen o) inputs ≡ operator_text sources sink o inputs
+operator_is sources sink (op.Scan source) inputs = refl
+operator_is sources sink (op.Filter cond) inputs = refl
+operator_is sources sink (op.Project items) inputs = ap (λ n. called (codes "Project") (decimal n)) (as_many items)
+operator_is sources sink op.Union inputs = refl
+operator_is sources sink (op.Normalize key) inputs = refl
+operator_is sources sink (op.Group keys aggs) inputs = refl
+operator_is sources sink (op.BatchGroup keys aggs) inputs = refl
+operator_is sources sink (op.Join kind on rest) inputs = refl
+operator_is sources sink (op.Semi anti on rest) inputs = refl
+operator_is sources sink (op.TopN partition order bound ranked) inputs = refl
+operator_is sources sink (op.Materialize key) inputs = refl
+operator_is sources sink op.Sink inputs = refl
+operator_is sources sink (op.LocalGroup keys aggs) inputs = refl
+operator_is sources sink (op.MultiJoin on) inputs = refl
+operator_is sources sink (op.SetOp except all) inputs = refl
+
+edge_is : (o : Op) (edge : Option Edge) → edge_text (op_as_seen o) edge ≡ edge_text o edge
+edge_is (op.Scan source) edge = refl
+edge_is (op.Filter cond) edge = refl
+edge_is (op.Project items) edge = refl
+edge_is op.Union edge = refl
+edge_is (op.Normalize key) edge = refl
+edge_is (op.Group keys aggs) edge = refl
+edge_is (op.BatchGroup keys aggs) edge = refl
+edge_is (op.Join kind on rest) edge = refl
+edge_is (op.Semi anti on rest) edge = refl
+edge_is (op.TopN partition order bound ranked) edge = refl
+edge_is (op.Materialize key) edge = refl
+edge_is op.Sink edge = refl
+edge_is (op.LocalGroup keys aggs) edge = refl
+edge_is (op.MultiJoin on) edge = refl
+edge_is (op.SetOp except all) edge = refl
+
+module _ (plan : Plan) (before : ℕ) where
+  line_is : (v : ℕ) (node : Node) → node_line (plan_as_seen plan) before v (node_as_seen node) ≡ node_line plan before v node
+  line_is v node =
+      let text = operator_is plan.sources plan.sink node.op (length node.inputs) in
+      let edge = edge_is node.op (numbered plan.edges v) in
+      rw (text, edge) refl
+
+  lines_are : (v : ℕ) (nodes : List Node) → lines_from (plan_as_seen plan) before v (map node_as_seen nodes) ≡ lines_from plan before v nodes
+  lines_are v [] = refl
+  lines_are v (node ∷ nodes) = (λ i. line_is v node i ++ lines_are (v + 1) nodes i)
+
+abbrev text_of : List ℕ → Outcome
+text_of bytes = record { ending = Done; bytes = bytes }
+
+pub shown_as_seen : PlansAreShownAsSeen
+shown_as_seen plan = ap text_of (lines_are plan 0 1 plan.nodes)

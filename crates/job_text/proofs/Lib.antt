@@ -1,0 +1,5 @@
+pub mod Readers
+pub mod Reading
+pub mod Texts
+pub mod Values
+pub mod laws

@@ -1,0 +1,4 @@
+pub mod Fitting
+pub mod Lines
+pub mod Printed
+pub mod Reading

@@ -1,0 +1,15 @@
+//! The texts of a job: the lines of a change file, read one by one, and the lines of what is printed.
+//!
+//! Promised: the records are those that CSV's own reading gives for the bytes of the file, and each is answered as the change of a
+//! source that it is, or refused by the code that `specs/Lines` says. A printed change, a row of an answer and a quiet moment each
+//! have the one line that `specs/Printed` says, in the bytes that the library `csv` writes by its defaults. It stands on fields,
+//! changes, declared tables and the machine's printed items.
+#![tactic(auto)]
+
+mod line;
+mod lines;
+mod read;
+
+pub use line::{Line, LineFault};
+pub use lines::{item_line, row_line, row_text};
+pub use read::ChangeLines;

@@ -1,0 +1,138 @@
+ghost use Rattle.std.specs.Prelude.{◌≡◌, ◌∷◌, ◌≤◌, ◌<◌, ◌⊎◌, [], IfOk, OnErr, length, List, Some, None, Ok, Err, IsSome, ℕ};
+ghost use Rattle.std.specs.Bool.{MatchBool};
+ghost use Rattle.csv.specs.Reading.{has_failed};
+ghost use Rattle.csv.specs.Records.{fields_of};
+ghost use Rattle.job_text.specs.Lines.{Record, answer_of, line_of, records_of};
+ghost use Rattle.job_text.specs.Reading.{IsReading, Takes, left_in};
+
+use crate::line::{Line, LineFault, line_of};
+use csv::{ByteRecord, Reader, ReaderBuilder};
+use ct_catalog::Sources;
+use ct_value::{Bytes, Memory};
+use std::alloc::Global;
+use std::io::{AsBytes, Cursor, Read};
+use std::marker::Model;
+
+// The bytes of a change file, as a cursor goes over them.
+#[derive(Drop)]
+struct FileBytes {
+    bytes: Bytes,
+}
+
+impl AsBytes for FileBytes {
+    ghost use Rattle.std.specs.Prelude.{Some};
+
+    ghost bytes = { λ file. Some file.bytes };
+
+    fn as_byte_slice(&self) -> &[u8] {
+        self.bytes.as_slice()
+    }
+}
+
+// A reader of the records of what `source` gives, before the first of them.
+fn reader_of<R: Read>(alloc: Global, source: R) -> Reader<R>
+    requires { IsSome (R.remaining source) }
+    ensures reading { IsReading R.remaining result }
+    ensures left { (xs : List ℕ) → R.remaining source ≡ Some xs → left_in R.remaining result ≡ records_of xs }
+{
+    ReaderBuilder::new()
+        .has_headers(false)
+        .flexible(true)
+        .from_reader(alloc, source)
+}
+
+// The next record into `fields`, and whether there was one.
+fn try_record<R: Read>(reader: &mut Reader<R>, fields: &mut ByteRecord) -> Result<bool, Memory>
+    requires { IsReading R.remaining reader.old }
+    ensures { IfOk result (λ found. MatchBool found (Takes R.remaining reader.old (fields_of fields.new) reader.new) (left_in R.remaining reader.old ≡ [])) }
+{
+    let Ok(found) = reader.read_byte_record(fields) else {
+        return Err(Memory);
+    };
+    Ok(found)
+}
+
+// How many records these bytes have, which are no more than the bytes.
+#[tactic(auto, using(crate::proofs::Reading::few_records))]
+fn count_records(alloc: Global, bytes: &[u8]) -> Result<u32, Memory>
+    requires { length bytes.now ≤ 67108864 }
+    ensures { IfOk result (λ count. count ≡ length (records_of bytes.now)) }
+{
+    let mut reader = reader_of(alloc, bytes);
+    let mut fields = ByteRecord::new(alloc);
+    for count in 0..67108865u32 {
+        if !try_record(&mut reader, &mut fields)? {
+            return Ok(count);
+        }
+    }
+    unreachable!()
+}
+
+/// The lines of a change file, of which some were read. It is seen as the list of the records that are left.
+#[derive(Drop)]
+pub struct ChangeLines {
+    alloc: Global,
+    reader: Reader<Cursor<FileBytes>>,
+    fields: ByteRecord,
+    left: u32,
+}
+
+impl Model for ChangeLines {
+    ghost use Rattle.std.specs.Prelude.{◌<◌, List};
+    ghost use Rattle.job_text.specs.Lines.{Record};
+    ghost use Rattle.job_text.specs.Reading.{IsCounted, records_left};
+
+    ghost Value = { List Record };
+
+    ghost view = { λ a. records_left a.reader a.left };
+
+    ghost invariant = { λ a. 0 < a.left → IsCounted a.reader a.left };
+}
+
+impl ChangeLines {
+    /// The lines of a file of at most 67,108,864 bytes, none of which was read.
+    pub fn new(alloc: Global, bytes: Bytes) -> Result<ChangeLines, Memory>
+        requires { length bytes ≤ 67108864 }
+        ensures { IfOk result (λ lines. lines ≡ records_of bytes) }
+    {
+        let left = count_records(alloc, bytes.as_slice())?;
+        Ok(ChangeLines {
+            alloc,
+            reader: reader_of(alloc, Cursor::new(FileBytes { bytes })),
+            fields: ByteRecord::new(alloc),
+            left,
+        })
+    }
+
+    /// How many records were not read. It takes no memory.
+    pub fn left(&self) -> u32
+        ensures { result ≡ length self.now }
+    {
+        self.left
+    }
+
+    /// Reads the next record, and answers the line of one of the sources that it is, and `None` exactly at the end. After a
+    /// refusal it stands behind the refused record, after want of memory at its end.
+    pub fn next_line(&mut self, sources: &Sources) -> Result<Option<Line>, LineFault>
+        ensures end { self.old ≡ [] → (result ≡ Ok None) × (self.new ≡ []) }
+        ensures line { (first : Record) (rest : List Record) → self.old ≡ first ∷ rest
+            → ((result ≡ Err LineFault.Memory) × (self.new ≡ [])) ⊎ ((result ≡ answer_of (line_of sources.now first)) × (self.new ≡ rest)) }
+    {
+        if self.left == 0 {
+            return Ok(None);
+        }
+        if try_record(&mut self.reader, &mut self.fields).is_err() {
+            self.left = 0;
+            return Err(LineFault::Memory);
+        }
+        self.left -= 1;
+        match line_of(self.alloc, sources.as_slice(), &self.fields) {
+            Ok(line) => Ok(Some(line)),
+            Err(LineFault::Change(code)) => Err(LineFault::Change(code)),
+            Err(LineFault::Memory) => {
+                self.left = 0;
+                Err(LineFault::Memory)
+            }
+        }
+    }
+}

@@ -1,8 +1,0 @@
-use Rattle.join_rules.specs.laws.Nodes as laws
-use Rattle.join_rules.proofs.laws.joins_stand.Goals as goal
-
-pub returns-clause-facts : goal.returns-clause-facts
-returns-clause-facts c = laws.joins_stand
-
-pub returns-clause-takes : goal.returns-clause-takes
-returns-clause-takes c = laws.joins_take

@@ -1,4 +1,0 @@
-pub mod Fits
-pub mod Joining
-pub mod Joins
-pub mod laws

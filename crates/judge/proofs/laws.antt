@@ -1,0 +1,2 @@
+pub mod DeclaredTables
+pub mod Theorems

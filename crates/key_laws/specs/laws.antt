@@ -1,5 +1,0 @@
-pub mod Members
-pub mod Sets
-pub mod Families
-pub mod Widths
-pub mod Seen

@@ -1,0 +1,115 @@
+-- What a node of a laid tree asks of its inputs, by its operator.
+use Rattle.std.specs.Prelude.{◌≡◌, ℕ, ◌+◌, ◌<◌, ◌==◌, Bool, List, ◌++◌, length, map, slice_get, Option}
+use Rattle.std.proofs.Common.{zero, suc, true, false, [], ◌∷◌, refl, sym, ap, subst, ◌∙◌, arith, Some}
+use Rattle.std.specs.List.{AllByRecursion, range_with_len}
+use Rattle.ct_value.specs.declared.ty.ColTy.{ColTy}
+use Rattle.ct_change.specs.declared.kind.KindSet.{KindSet}
+use Rattle.emission_rules.specs.GroupFits as g
+use Rattle.column_sets.specs.Places.{first_columns}
+use Rattle.phys_plan.specs.declared.edge.Edge.{Edge}
+use Rattle.phys_plan.specs.declared.node.Node.{Node}
+use Rattle.phys_plan.specs.declared.node.Op.{Op}
+use Rattle.phys_plan.specs.declared.node.Op.TheVariants as op
+use Rattle.phys_plan.specs.declared.plan.Plan.{Plan}
+use Rattle.mode_infer.specs.Exchanges.{asked}
+use Rattle.plan_inferred.specs.Rules.{by_columns}
+use Rattle.plan_rules.specs.Plans.{kinds_in}
+use Rattle.phys_plan.specs.Reading.{numbered, first_input}
+use Rattle.plan_rules.specs.Laid.{HasNode}
+use Rattle.plan_shape.specs.Shape.{is_sink, op_in, suits_consumer, suits_input, suits_plan, takes}
+use Rattle.plan_check.specs.Types.{is_typed_by, types_at, types_by}
+use Rattle.sound_plans.specs.Sound.{has_rule}
+use Rattle.laid_plans.proofs.laws.Types.{types_made}
+
+-- ---- the first columns, made from the last and from the first
+
+-- one column more, at the end
+range_more : (from n : ℕ) → range_with_len from (suc n) ≡ range_with_len from n ++ (from + n) ∷ []
+range_more from zero = let e : from ≡ from + 0 = omega arith in ap (λ k. k ∷ []) e
+range_more from (suc n) =
+    let e : from + 1 + n ≡ from + suc n = omega arith in
+    ap (λ (ks : List ℕ). from ∷ ks) (range_more (from + 1) n ∙ ap (λ k. range_with_len (from + 1) n ++ k ∷ []) e)
+
+-- a group's and an edge's first columns are the same
+pub same_first : (n : ℕ) → first_columns n ≡ g.first_columns n
+same_first zero = refl
+same_first (suc n) = let z : 0 + n ≡ n = omega arith in range_more 0 n ∙ (λ i. same_first n i ++ z i ∷ [])
+
+module _ (plan : Plan) where
+  -- ---- what a node asks
+
+  -- of the node and the edge that feed a port
+  pub record IsFed (o : Op) (port input : ℕ) : Type 0 where
+    pub node : Node
+    pub is_node : numbered plan.nodes input ≡ Some node
+    pub suits : suits_consumer plan.sources node.op (Some o) ≡ true
+    pub edge : Edge
+    pub is_edge : numbered plan.edges input ≡ Some edge
+    pub exchanged : (width : ℕ) → by_columns (asked width o port) ≡ edge.exchange
+
+  -- of all its inputs and of the plan
+  pub record OpMeets (v : ℕ) (o : Op) (inputs : List ℕ) : Type 0 where
+    pub ruled : has_rule o ≡ true
+    pub suits : suits_plan plan o ≡ true
+    pub ports : takes o (length inputs) ≡ true
+    pub below : suits_input plan.sources o (op_in (numbered plan.nodes (first_input inputs))) (kinds_in (numbered plan.edges (first_input inputs))) ≡ true
+    pub last : is_sink (Some o) ≡ (v == length plan.nodes)
+    pub typed : is_typed_by plan.sink o (types_at plan.sources plan.nodes v) ≡ true
+    pub fed : (port input : ℕ) → slice_get inputs port ≡ Some input → IsFed o port input
+
+  pub record NodeMeets (v : ℕ) : Type 0 where
+    pub node : Node
+    pub is_node : numbered plan.nodes v ≡ Some node
+    pub meets : OpMeets v node.op node.inputs
+
+  -- a node whose operator and inputs are known
+  pub node_meets : (v : ℕ) (o : Op) (inputs : List ℕ) → HasNode plan v (λ p. p ≡ o) inputs → OpMeets v o inputs → NodeMeets v
+  node_meets v o inputs has m = record {
+    node = has.node;
+    is_node = has.is_there;
+    meets = subst (λ (ins : List ℕ). OpMeets v has.node.op ins) (sym has.inputs_are) (subst (λ (p : Op). OpMeets v p inputs) (sym has.is_op) m);
+  }
+
+  -- ---- columns
+
+  -- the columns of a node whose operator and inputs are known
+  pub types_from : (v : ℕ) (o : Op) (inputs : List ℕ) → HasNode plan v (λ p. p ≡ o) inputs → has_rule o ≡ true → AllByRecursion (λ input. input < v) inputs
+      → types_at plan.sources plan.nodes v ≡ types_by plan.sources o (map (types_at plan.sources plan.nodes) inputs)
+  types_from v o inputs has ruled below =
+      types_made plan.sources plan.nodes v has.node has.is_there (ap has_rule has.is_op ∙ ruled) (subst (λ (ins : List ℕ). AllByRecursion (λ input. input < v) ins) (sym has.inputs_are) below)
+      ∙ (λ i. types_by plan.sources (has.is_op i) (map (types_at plan.sources plan.nodes) (has.inputs_are i)))
+
+  -- ---- operators that ask nothing of the tables
+
+  -- such an operator stands on any node, feeds any, and is the sink of none
+  pub record IsInner (o : Op) : Type 0 where
+    pub ruled : has_rule o ≡ true
+    pub suits : suits_plan plan o ≡ true
+    pub below : (input : Option Op) (kinds : KindSet) → suits_input plan.sources o input kinds ≡ true
+    pub no_sink : is_sink (Some o) ≡ false
+    pub typed : (columns : List ColTy) → is_typed_by plan.sink o (Some columns) ≡ true
+    pub feeds : (above : Option Op) → suits_consumer plan.sources o above ≡ true
+
+  -- all operators that are laid but scans, normalizers and the sink
+  abbrev pub is_inner : Op → Bool
+  is_inner (op.Scan source) = false
+  is_inner (op.Normalize key) = false
+  is_inner (op.BatchGroup keys aggs) = false
+  is_inner (op.Materialize key) = false
+  is_inner (op.LocalGroup keys aggs) = false
+  is_inner (op.MultiJoin on) = false
+  is_inner (op.SetOp except all) = false
+  is_inner op.Sink = false
+  is_inner _ = true
+
+  -- these ask nothing
+  pub inner : (o : Op) → is_inner o ≡ true → IsInner o
+  inner (op.Scan source) e = absurd (cc)
+  inner (op.Normalize key) e = absurd (cc)
+  inner (op.BatchGroup keys aggs) e = absurd (cc)
+  inner (op.Materialize key) e = absurd (cc)
+  inner (op.LocalGroup keys aggs) e = absurd (cc)
+  inner (op.MultiJoin on) e = absurd (cc)
+  inner (op.SetOp except all) e = absurd (cc)
+  inner op.Sink e = absurd (cc)
+  inner _ e = record { ruled = refl; suits = refl; below = λ input kinds. refl; no_sink = refl; typed = λ columns. refl; feeds = λ above. refl }

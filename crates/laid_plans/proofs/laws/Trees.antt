@@ -1,0 +1,399 @@
+-- The nodes of a laid tree, by induction over the tree.
+use Rattle.std.specs.Prelude.{◌≡◌, ℕ, ◌+◌, ◌<◌, nat_le, ◌&&◌, ◌||◌, not, List, length, map, slice_get, Option, option_map, unwrap_or}
+use Rattle.std.proofs.Common.{zero, suc, true, false, [], ◌∷◌, refl, sym, ap, subst, ◌∙◌, arith, Some, None}
+use Rattle.std.specs.List.{AllByRecursion, list_all}
+use Rattle.std.specs.Str.{bytes_eq}
+use Rattle.std.proofs.lemmas.Bool.{le-leb, lt-ltb}
+use Rattle.std.proofs.lemmas.Slice.Eq.{bytes_eq-Decides}
+use Rattle.ct_value.specs.declared.ty.ColTy.{ColTy}
+use Rattle.ct_change.specs.declared.kind.Declared.{Declared}
+use Rattle.ct_change.specs.declared.kind.Declared.TheVariants.{Append, Retract, Upsert}
+use Rattle.ct_catalog.specs.declared.table.TableDef.{TableDef}
+use Rattle.ct_expr.specs.declared.expr.Expr.{Expr as CodeExpr}
+use Rattle.ct_expr.specs.View.{expr_view}
+use Rattle.ct_expr.specs.Types.{both_of}
+use Rattle.rel_algebra.specs.declared.join.Pair.{Pair}
+use Rattle.rel_algebra.specs.Groups.{group_columns}
+use Rattle.rel_algebra.specs.Joins.{join_columns}
+use Rattle.rel_algebra.specs.Ranks.{rank_columns}
+use Rattle.rel_algebra.specs.Rel.{Rel, Rels, no_rels, rel_and}
+use Rattle.rel_algebra.specs.Rel as r
+use Rattle.rel_algebra.specs.Types.{columns_if, is_column, is_condition, match_fits, item_columns, common_columns, rank_fits, columns_of, common_from}
+use Rattle.emission_rules.specs.GroupFits as g
+use Rattle.emission_rules.specs.Joining.{Shape, joins, matched}
+use Rattle.emission_rules.specs.JoinFits.{left_pairs, right_pairs, columns_by as joined_columns}
+use Rattle.phys_plan.specs.declared.edge.Edge.{Edge}
+use Rattle.phys_plan.specs.declared.edge.Exchange.{Exchange}
+use Rattle.phys_plan.specs.declared.edge.Exchange.TheVariants.{Forward, Hash}
+use Rattle.phys_plan.specs.declared.node.Node.{Node}
+use Rattle.phys_plan.specs.declared.node.Op.{Op}
+use Rattle.phys_plan.specs.declared.node.Op.TheVariants as op
+use Rattle.phys_plan.specs.declared.plan.Plan.{Plan}
+use Rattle.mode_infer.specs.Exchanges.{asked}
+use Rattle.plan_inferred.specs.Rules.{by_columns}
+use Rattle.phys_plan.specs.Reading.{numbered}
+use Rattle.ct_catalog.specs.Columns.{column_types}
+use Rattle.plan_rules.specs.Columns.{common_with}
+use Rattle.plan_rules.specs.Laid.{IsFilter, IsProject, IsJoin, IsSemi, HasNode, CarriesAll, ScanLaid, SourceLaid, IsLaid, AreLaid}
+use Rattle.plan_shape.specs.Shape.{is_keyed_by, is_read, is_upsert_by, normalizes_by, scans_by, suits_consumer, takes, op_in}
+use Rattle.plan_shape.specs.Tables.{is_declarable}
+use Rattle.ct_change.specs.Kinds.{is_upsert}
+use Rattle.rel_algebra.specs.Unions.{has_two, has_full_unions, all_have_full_unions}
+use Rattle.plan_check.specs.Types.{is_typed_by, types_at, types_by}
+use Rattle.sound_plans.proofs.laws.Numbers.{below_is_not, then_parts}
+use Rattle.sound_plans.proofs.laws.Lists.{both, map_at, map_length, of_each, the_same, within}
+use Rattle.sound_plans.proofs.laws.Tables.{key_within, upsert_has_key}
+use Rattle.laid_plans.specs.Shapes.{types_of}
+use Rattle.laid_plans.proofs.laws.Laid.{both_parts, filter_is, project_is, op_by, join_is, semi_is, renamed}
+use Rattle.laid_plans.proofs.laws.LaidNodes.{IsFed, IsInner, OpMeets, inner, same_first, types_from}
+use Rattle.laid_plans.proofs.laws.Parts.{Part, next_part, no_part, two_parts}
+
+-- what is left of common columns is there from the start
+common_some : (types : List (List ColTy)) (start : Option (List ColTy)) (inputs : Rels) (columns : List ColTy) → common_from types start inputs ≡ Some columns → (first : List ColTy) × (start ≡ Some first)
+common_some types start no_rels columns t = (columns, t)
+common_some types start (rel_and input inputs) columns t =
+    let q = common_some types (both_of common_columns start (columns_of types input)) inputs columns t in
+    let p = both_parts common_columns start (columns_of types input) q.0 q.1 in
+    (p.0, p.2)
+
+-- the columns of a join by its shape
+types_by_shape : (sources : List TableDef) (shape : Shape) (on : List Pair) (rest : Option CodeExpr) (left right : List ColTy)
+    → types_by sources (op_by shape on rest) (Some left ∷ (Some right ∷ [])) ≡ columns_if (match_fits left right on (option_map expr_view rest)) (joined_columns shape left right)
+types_by_shape sources (joins kind) on rest left right = refl
+types_by_shape sources (matched anti) on rest left right = refl
+
+-- numbers below a width are columns of so many
+are_columns : (columns : List ColTy) (key : List ℕ) → AllByRecursion (λ column. column < length columns) key → list_all (is_column columns) key ≡ true
+are_columns columns [] h = refl
+are_columns columns (c ∷ key) h = (λ i. lt-ltb c (length columns) h.0 i && list_all (is_column columns) key) ∙ are_columns columns key h.1
+
+module _ (plan : Plan) where
+  -- the columns that a node sends
+  abbrev columns_at : ℕ → Option (List ColTy)
+  columns_at v = types_at plan.sources plan.nodes v
+
+  -- the nodes of a tree behind n nodes, whose root sends these columns by this exchange, and may feed any node
+  pub record Told (n : ℕ) (x : Exchange) (root : ℕ) (columns : List ColTy) : Type 0 where
+    pub part : Part plan n root (root ∷ [])
+    pub columns_are : columns_at root ≡ Some columns
+    pub edge : Edge
+    pub is_edge : numbered plan.edges root ≡ Some edge
+    pub exchange : edge.exchange ≡ x
+    pub node : Node
+    pub is_node : numbered plan.nodes root ≡ Some node
+    pub feeds : (above : Option Op) → suits_consumer plan.sources node.op above ≡ true
+
+  -- those of several trees, whose common columns these are; each may be an input of a union
+  record Several (n last : ℕ) (roots : List ℕ) (start common : Option (List ColTy)) : Type 0 where
+    pub part : Part plan n last roots
+    pub common_are : common_with start (map columns_at roots) ≡ common
+    pub fed : (p root : ℕ) → slice_get roots p ≡ Some root → (port : ℕ) → IsFed plan op.Union port root
+
+  -- ---- one node more
+
+  -- the root of a tree may feed a port that asks for its exchange
+  pub feeds_port : (n : ℕ) (x : Exchange) (root : ℕ) (columns : List ColTy) (o : Op) (port : ℕ) → ((width : ℕ) → by_columns (asked width o port) ≡ x) → Told n x root columns → IsFed plan o port root
+  feeds_port n x root columns o port asks t = record {
+    node = t.node;
+    is_node = t.is_node;
+    suits = t.feeds (Some o);
+    edge = t.edge;
+    is_edge = t.is_edge;
+    exchanged = λ width. asks width ∙ sym t.exchange;
+  }
+
+  -- the only port of an operator with one input
+  pub one_port : (o : Op) (below : ℕ) → IsFed plan o 0 below → (port input : ℕ) → slice_get (below ∷ []) port ≡ Some input → IsFed plan o port input
+  one_port o below f zero input e = subst (λ i. IsFed plan o 0 i) (the_same below input e) f
+  one_port o below f (suc port) input e = absurd (cc)
+
+  -- the ports of an operator with two
+  two_ports : (o : Op) (first second : ℕ) → IsFed plan o 0 first → IsFed plan o 1 second → (port input : ℕ) → slice_get (first ∷ (second ∷ [])) port ≡ Some input → IsFed plan o port input
+  two_ports o first second f g zero input e = subst (λ i. IsFed plan o 0 i) (the_same first input e) f
+  two_ports o first second f g (suc zero) input e = subst (λ i. IsFed plan o 1 i) (the_same second input e) g
+  two_ports o first second f g (suc (suc port)) input e = absurd (cc)
+
+  -- an operator that asks nothing of the tables, behind its inputs
+  inner_node : (n last root : ℕ) (x : Exchange) (o : Op) (roots : List ℕ) (columns : List ColTy) → IsInner plan o → Part plan n last roots → root ≡ last + 1 → HasNode plan root (λ p. p ≡ o) roots → CarriesAll plan root x
+      → root < length plan.nodes → takes o (length roots) ≡ true → types_by plan.sources o (map columns_at roots) ≡ Some columns → ((port input : ℕ) → slice_get roots port ≡ Some input → IsFed plan o port input)
+      → Told n x root columns
+  inner_node n last root x o roots columns is s next has carries high ports typed fed =
+      let below : AllByRecursion (λ input. input < root) roots = of_each (λ input. input < root) roots (λ p input e. let c = (s.segment.contains p input e).1 in omega arith) in
+      let k : columns_at root ≡ Some columns = types_from plan root o roots has is.ruled below ∙ typed in
+      record {
+        part = next_part plan n last root roots o s next has (record {
+          ruled = is.ruled;
+          suits = is.suits;
+          ports = ports;
+          below = is.below _ _;
+          last = is.no_sink ∙ sym (below_is_not root (length plan.nodes) high);
+          typed = ap (is_typed_by plan.sink o) k ∙ is.typed columns;
+          fed = fed;
+        });
+        columns_are = k;
+        edge = _;
+        is_edge = carries;
+        exchange = refl;
+        node = has.node;
+        is_node = has.is_there;
+        feeds = λ above. ap (λ (p : Op). suits_consumer plan.sources p above) has.is_op ∙ is.feeds above;
+      }
+
+  -- with one input
+  on_one : (n below root : ℕ) (x y : Exchange) (o : Op) (own columns : List ColTy) → IsInner plan o → Told n x below own → ((width : ℕ) → by_columns (asked width o 0) ≡ x) → takes o 1 ≡ true
+      → types_by plan.sources o (Some own ∷ []) ≡ Some columns → root ≡ below + 1 → HasNode plan root (λ p. p ≡ o) (below ∷ []) → CarriesAll plan root y → root < length plan.nodes → Told n y root columns
+  on_one n below root x y o own columns is t asks ports typed next has carries high =
+      inner_node n below root y o (below ∷ []) columns is t.part next has carries high ports
+      (ap (λ (c : Option (List ColTy)). types_by plan.sources o (c ∷ [])) t.columns_are ∙ typed)
+      (one_port o below (feeds_port n x below own o 0 asks t))
+
+  -- with two
+  on_two : (n first second root : ℕ) (y : Exchange) (shape : Shape) (pairs : List Pair) (own : Option CodeExpr) (left right columns : List ColTy)
+      → Told n (Hash (left_pairs pairs)) first left → Told first (Hash (right_pairs pairs)) second right → columns_if (match_fits left right pairs (option_map expr_view own)) (joined_columns shape left right) ≡ Some columns
+      → root ≡ second + 1 → HasNode plan root (λ p. p ≡ op_by shape pairs own) (first ∷ (second ∷ [])) → CarriesAll plan root y → root < length plan.nodes → Told n y root columns
+  on_two n first second root y (joins kind) pairs own left right columns s t typed next has carries high =
+      let o = op_by (joins kind) pairs own in
+      inner_node n second root y o (first ∷ (second ∷ [])) columns (inner plan o refl) (two_parts plan n first second (second ∷ []) s.part t.part) next has carries high refl
+      ((λ i. types_by plan.sources o (s.columns_are i ∷ (t.columns_are i ∷ []))) ∙ types_by_shape plan.sources (joins kind) pairs own left right ∙ typed)
+      (two_ports o first second (feeds_port n (Hash (left_pairs pairs)) first left o 0 (λ width. refl) s) (feeds_port first (Hash (right_pairs pairs)) second right o 1 (λ width. refl) t))
+  on_two n first second root y (matched anti) pairs own left right columns s t typed next has carries high =
+      let o = op_by (matched anti) pairs own in
+      inner_node n second root y o (first ∷ (second ∷ [])) columns (inner plan o refl) (two_parts plan n first second (second ∷ []) s.part t.part) next has carries high refl
+      ((λ i. types_by plan.sources o (s.columns_are i ∷ (t.columns_are i ∷ []))) ∙ types_by_shape plan.sources (matched anti) pairs own left right ∙ typed)
+      (two_ports o first second (feeds_port n (Hash (left_pairs pairs)) first left o 0 (λ width. refl) s) (feeds_port first (Hash (right_pairs pairs)) second right o 1 (λ width. refl) t))
+
+  -- ---- tables
+
+  -- a scan of a table that is there
+  scan_meets : (v source : ℕ) (table : TableDef) → slice_get plan.sources source ≡ Some table → HasNode plan v (λ p. p ≡ op.Scan source) [] → v < length plan.nodes → (columns_at v ≡ Some (column_types table)) × OpMeets plan v (op.Scan source) []
+  scan_meets v source table e has high =
+      let k : columns_at v ≡ Some (column_types table) = types_from plan v (op.Scan source) [] has refl tt ∙ ap (option_map column_types) e in (
+        k,
+        record {
+          ruled = refl;
+          suits = lt-ltb source (length plan.sources) (within plan.sources source table e);
+          ports = refl;
+          below = refl;
+          last = sym (below_is_not v (length plan.nodes) high);
+          typed = ap (is_typed_by plan.sink (op.Scan source)) k;
+          fed = λ port input f. absurd (cc);
+        },
+      )
+
+  -- a scan of a table that isn't an upsert table
+  plain_scan : (n source root : ℕ) (table : TableDef) (x : Exchange) → slice_get plan.sources source ≡ Some table → is_upsert table.mode ≡ false → root < length plan.nodes
+      → root ≡ n + 1 → HasNode plan root (λ p. p ≡ op.Scan source) [] → CarriesAll plan root x → Told n x root (column_types table)
+  plain_scan n source root table x e plain high next has carries =
+      let m = scan_meets root source table e has high in
+      record {
+        part = next_part plan n n root [] (op.Scan source) (no_part plan n) next has m.1;
+        columns_are = m.0;
+        edge = _;
+        is_edge = carries;
+        exchange = refl;
+        node = has.node;
+        is_node = has.is_there;
+        feeds = λ above. ap (λ (p : Op). suits_consumer plan.sources p above) has.is_op ∙ ap (λ t. is_read t above) e ∙ ap (λ b. not b || normalizes_by table.key above) plain;
+      }
+
+  -- the test of equal keys
+  same_key : (key : List ℕ) → bytes_eq key key ≡ true
+  same_key key = (bytes_eq-Decides key key).1 refl
+
+  -- a scan of an upsert table, and its changes told in full by the table's key
+  upsert_scan : (n source root : ℕ) (table : TableDef) (x : Exchange) (key : List ℕ) → slice_get plan.sources source ≡ Some table → is_declarable table ≡ true → table.mode ≡ Upsert → table.key ≡ Some key
+      → root < length plan.nodes → ScanLaid plan n x source Upsert key root → Told n x root (column_types table)
+  upsert_scan n source root table x key e d mode has_key high l =
+      let next = l.0 in
+      let scan = l.1 in
+      let has = l.3 in
+      let low : n + 1 < length plan.nodes = omega arith in
+      let m = scan_meets (n + 1) source table e scan low in
+      let first = next_part plan n n (n + 1) [] (op.Scan source) (no_part plan n) refl scan m.1 in
+      let wide : length (column_types table) ≡ length table.cols = map_length (λ column. column.ty) table.cols in
+      let there : list_all (is_column (column_types table)) key ≡ true = are_columns (column_types table) key (subst (λ w. AllByRecursion (λ column. column < w) key) (sym wide) (key_within table key d has_key)) in
+      let lower : n + 1 < root = omega arith in
+      let k : columns_at root ≡ Some (column_types table) =
+      types_from plan root (op.Normalize key) ((n + 1) ∷ []) has refl (lower, tt) ∙ ap (λ (c : Option (List ColTy)). types_by plan.sources (op.Normalize key) (c ∷ [])) m.0 ∙ ap (λ b. columns_if b (column_types table)) there in
+      let is_mode : is_upsert table.mode ≡ true = ap is_upsert mode in
+      let read : suits_consumer plan.sources scan.node.op (Some (op.Normalize key)) ≡ true =
+      ap (λ (p : Op). suits_consumer plan.sources p (Some (op.Normalize key))) scan.is_op ∙ ap (λ t. is_read t (Some (op.Normalize key))) e
+      ∙ (λ i. not (is_mode i) || normalizes_by (has_key i) (Some (op.Normalize key))) ∙ same_key key in
+      let stands : scans_by plan.sources key (op_in (numbered plan.nodes (n + 1))) ≡ true =
+      ap (λ o. scans_by plan.sources key (op_in o)) scan.is_there ∙ ap (λ (p : Op). scans_by plan.sources key (Some p)) scan.is_op ∙ ap (is_upsert_by key) e
+      ∙ (λ i. is_mode i && is_keyed_by key (has_key i)) ∙ same_key key in
+      let fed : IsFed plan (op.Normalize key) 0 (n + 1) = record {
+        node = scan.node;
+        is_node = scan.is_there;
+        suits = read;
+        edge = _;
+        is_edge = l.2;
+        exchanged = λ width. refl;
+      } in
+      record {
+        part = next_part plan n (n + 1) root ((n + 1) ∷ []) (op.Normalize key) first (let h : root ≡ n + 1 + 1 = omega arith in h) has (record {
+          ruled = refl;
+          suits = refl;
+          ports = refl;
+          below = stands;
+          last = sym (below_is_not root (length plan.nodes) high);
+          typed = ap (is_typed_by plan.sink (op.Normalize key)) k;
+          fed = one_port (op.Normalize key) (n + 1) fed;
+        });
+        columns_are = k;
+        edge = _;
+        is_edge = l.4;
+        exchange = refl;
+        node = has.node;
+        is_node = has.is_there;
+        feeds = λ above. ap (λ (p : Op). suits_consumer plan.sources p above) has.is_op;
+      }
+
+  -- a table, by its mode
+  table_tree : (n source root : ℕ) (table : TableDef) (x : Exchange) → slice_get plan.sources source ≡ Some table → is_declarable table ≡ true → root < length plan.nodes
+      → (mode : Declared) → table.mode ≡ mode → ScanLaid plan n x source mode (unwrap_or table.key []) root → Told n x root (column_types table)
+  table_tree n source root table x e d high Append mode l = plain_scan n source root table x e (ap is_upsert mode) high l.0 l.1 l.2
+  table_tree n source root table x e d high Retract mode l = plain_scan n source root table x e (ap is_upsert mode) high l.0 l.1 l.2
+  table_tree n source root table x e d high Upsert mode l =
+      let k = upsert_has_key table d mode in
+      upsert_scan n source root table x k.0 e d mode k.1 high (subst (λ (o : Option (List ℕ)). ScanLaid plan n x source Upsert (unwrap_or o []) root) k.1 l)
+
+  -- a table that is there, with its columns
+  source_tree : ((source : ℕ) (table : TableDef) → slice_get plan.sources source ≡ Some table → is_declarable table ≡ true) → (n source root : ℕ) (x : Exchange) → root < length plan.nodes
+      → (o : Option TableDef) → slice_get plan.sources source ≡ o → SourceLaid plan n x source o root → (columns : List ColTy) → slice_get (types_of plan.sources) source ≡ Some columns → Told n x root columns
+  source_tree tables n source root x high None e laid columns t = absurd laid
+  source_tree tables n source root x high (Some table) e laid columns t =
+      let same : column_types table ≡ columns = the_same (column_types table) columns (sym (map_at column_types plan.sources source table e) ∙ t) in
+      subst (λ c. Told n x root c) same (table_tree n source root table x e (tables source table e) high table.mode refl laid)
+
+  -- ---- unions
+
+  -- a union of two inputs or more has as many roots
+  two_roots : (inputs : Rels) (n : ℕ) (roots : List ℕ) (last : ℕ) → has_two inputs ≡ true → AreLaid plan n inputs roots last → nat_le 2 (length roots) ≡ true
+  two_roots no_rels n roots last h laid = absurd (cc)
+  two_roots (rel_and input no_rels) n roots last h laid = absurd (cc)
+  two_roots (rel_and input (rel_and other inputs)) n roots last h laid =
+      let later = laid.3 in
+      let many : length roots ≡ suc (suc (length later.1)) = ap length laid.4 ∙ ap (λ (rs : List ℕ). suc (length rs)) later.4 in
+      le-leb 2 (length roots) (omega arith)
+
+  -- no tree
+  no_others : (n : ℕ) (roots : List ℕ) (last : ℕ) (start : Option (List ColTy)) → roots ≡ [] → last ≡ n → Several n last roots start start
+  no_others n roots last start none same = subst (λ (rs : List ℕ). Several n last rs start start) (sym none) (subst (λ m. Several n m [] start start) (sym same) (record {
+    part = no_part plan n;
+    common_are = refl;
+    fed = λ p root e. absurd (cc);
+  }))
+
+  -- the roots of a tree and of others behind it
+  fed_both : (n mid : ℕ) (columns : List ColTy) (others : List ℕ) → Told n Forward mid columns → ((p root : ℕ) → slice_get others p ≡ Some root → (port : ℕ) → IsFed plan op.Union port root)
+      → (p root : ℕ) → slice_get (mid ∷ others) p ≡ Some root → (port : ℕ) → IsFed plan op.Union port root
+  fed_both n mid columns others t f zero root e port = subst (λ v. IsFed plan op.Union port v) (the_same mid root e) (feeds_port n Forward mid columns op.Union port (λ width. refl) t)
+  fed_both n mid columns others t f (suc p) root e port = f p root e port
+
+  -- a tree, and others behind it
+  one_more : (n mid last : ℕ) (others roots : List ℕ) (start common : Option (List ColTy)) (columns : List ColTy) → Told n Forward mid columns → Several mid last others (both_of common_columns start (Some columns)) common
+      → roots ≡ mid ∷ others → Several n last roots start common
+  one_more n mid last others roots start common columns t s e = subst (λ (rs : List ℕ). Several n last rs start common) (sym e) (record {
+    part = two_parts plan n mid last others t.part s.part;
+    common_are = ap (λ c. common_with (both_of common_columns start c) (map columns_at others)) t.columns_are ∙ s.common_are;
+    fed = fed_both n mid columns others t s.fed;
+  })
+
+  -- the union of a tree and others behind it
+  union_tree : (n first last root : ℕ) (x : Exchange) (others roots : List ℕ) (own columns : List ColTy) → Told n Forward first own → Several first last others (Some own) (Some columns) → roots ≡ first ∷ others → nat_le 2 (length roots) ≡ true
+      → root ≡ last + 1 → HasNode plan root (λ o. o ≡ op.Union) roots → CarriesAll plan root x → root < length plan.nodes → Told n x root columns
+  union_tree n first last root x others roots own columns t s e many next has carries high =
+      let all = first ∷ others in
+      inner_node n last root x op.Union all columns (inner plan op.Union refl) (two_parts plan n first last others t.part s.part) next
+      (subst (λ (rs : List ℕ). HasNode plan root (λ o. o ≡ op.Union) rs) e has) carries high (ap (λ (rs : List ℕ). nat_le 2 (length rs)) (sym e) ∙ many)
+      (ap (λ c. common_with c (map columns_at others)) t.columns_are ∙ s.common_are)
+      (λ port input f. fed_both n first own others t s.fed port input f port)
+
+-- ---- the tree
+
+module _ (plan : Plan) (tables : (source : ℕ) (table : TableDef) → slice_get plan.sources source ≡ Some table → is_declarable table ≡ true) where
+  mutual
+    -- a tree, to its root
+    pub tree : (rel : Rel) (n : ℕ) (x : Exchange) (root : ℕ) → IsLaid plan n x rel root → root < length plan.nodes → has_full_unions rel ≡ true
+        → (columns : List ColTy) → columns_of (types_of plan.sources) rel ≡ Some columns → Told plan n x root columns
+    tree (r.Scan source) n x root laid high full columns t = source_tree plan tables n source root x high (slice_get plan.sources source) refl laid columns t
+    tree (r.Filter input condition) n x root laid high full columns t =
+        let p = then_parts (λ c. columns_if (is_condition c condition) c) (columns_of (types_of plan.sources) input) columns t in
+        let next = laid.2 in
+        let low : laid.0 < length plan.nodes = omega arith in
+        let f = filter_is condition laid.3.node.op laid.3.is_op in
+        on_one plan n laid.0 root Forward x (op.Filter f.0) p.0 columns (inner plan (op.Filter f.0) refl) (tree input n Forward laid.0 laid.1 low full p.0 p.1) (λ width. refl) refl
+        (ap (λ c. columns_if (is_condition p.0 c) p.0) f.2 ∙ p.2) next (renamed plan root (IsFilter condition) (laid.0 ∷ []) (op.Filter f.0) laid.3 f.1) laid.4 high
+    tree (r.Project input items) n x root laid high full columns t =
+        let p = then_parts (λ c. item_columns c items) (columns_of (types_of plan.sources) input) columns t in
+        let next = laid.2 in
+        let low : laid.0 < length plan.nodes = omega arith in
+        let f = project_is items laid.3.node.op laid.3.is_op in
+        on_one plan n laid.0 root Forward x (op.Project f.0) p.0 columns (inner plan (op.Project f.0) refl) (tree input n Forward laid.0 laid.1 low full p.0 p.1) (λ width. refl) refl
+        (ap (item_columns p.0) f.2 ∙ p.2) next (renamed plan root (IsProject items) (laid.0 ∷ []) (op.Project f.0) laid.3 f.1) laid.4 high
+    tree (r.Union no_rels) n x root laid high full columns t = absurd (cc)
+    tree (r.Union (rel_and input inputs)) n x root laid high full columns t =
+        let parts = laid.2 in
+        let next = laid.3 in
+        let low : laid.1 < length plan.nodes = omega arith in
+        let own = common_some (types_of plan.sources) (columns_of (types_of plan.sources) input) inputs columns t in
+        let told : common_from (types_of plan.sources) (Some own.0) inputs ≡ Some columns = ap (λ c. common_from (types_of plan.sources) c inputs) (sym own.1) ∙ t in
+        let wide = both (has_two (rel_and input inputs)) (all_have_full_unions (rel_and input inputs)) full in
+        let fulls = both (has_full_unions input) (all_have_full_unions inputs) wide.1 in
+        let s = several inputs parts.0 parts.1 laid.1 parts.3 low fulls.1 (Some own.0) columns told in
+        let before = s.part.segment.grows in
+        let lower : parts.0 < length plan.nodes = omega arith in
+        union_tree plan n parts.0 laid.1 root x parts.1 laid.0 own.0 columns (tree input n Forward parts.0 parts.2 lower fulls.0 own.0 own.1) s parts.4
+        (two_roots plan (rel_and input inputs) n laid.0 laid.1 wide.0 parts) next laid.4 laid.5 high
+    tree (r.Group input keys aggs) n x root laid high full columns t =
+        let p = then_parts (λ c. group_columns keys c aggs) (columns_of (types_of plan.sources) input) columns t in
+        let next = laid.2 in
+        let low : laid.0 < length plan.nodes = omega arith in
+        let first : Exchange = Hash (g.first_columns keys) in
+        on_one plan n laid.0 root first x (op.Group keys aggs) p.0 columns (inner plan (op.Group keys aggs) refl) (tree input n first laid.0 laid.1 low full p.0 p.1)
+        (λ width. ap (λ cols. Hash cols) (same_first keys)) refl p.2 next laid.3 laid.4 high
+    tree (r.Join left right kind pairs rest) n x root laid high full columns t =
+        let p = both_parts (λ l c. columns_if (match_fits l c pairs rest) (join_columns kind l c)) (columns_of (types_of plan.sources) left) (columns_of (types_of plan.sources) right) columns t in
+        let next = laid.4 in
+        let low : laid.1 < length plan.nodes = omega arith in
+        let fulls = both (has_full_unions left) (has_full_unions right) full in
+        let b = tree right laid.0 (Hash (right_pairs pairs)) laid.1 laid.3 low fulls.1 p.1 p.3 in
+        let before = b.part.segment.grows in
+        let lower : laid.0 < length plan.nodes = omega arith in
+        let f = join_is kind pairs rest laid.5.node.op laid.5.is_op in
+        on_two plan n laid.0 laid.1 root x (joins kind) pairs f.0 p.0 p.1 columns (tree left n (Hash (left_pairs pairs)) laid.0 laid.2 lower fulls.0 p.0 p.2) b
+        (ap (λ c. columns_if (match_fits p.0 p.1 pairs c) (join_columns kind p.0 p.1)) f.2 ∙ p.4) next
+        (renamed plan root (IsJoin kind pairs rest) (laid.0 ∷ (laid.1 ∷ [])) (op_by (joins kind) pairs f.0) laid.5 f.1) laid.6 high
+    tree (r.Semi left right anti pairs rest) n x root laid high full columns t =
+        let p = both_parts (λ l c. columns_if (match_fits l c pairs rest) l) (columns_of (types_of plan.sources) left) (columns_of (types_of plan.sources) right) columns t in
+        let next = laid.4 in
+        let low : laid.1 < length plan.nodes = omega arith in
+        let fulls = both (has_full_unions left) (has_full_unions right) full in
+        let b = tree right laid.0 (Hash (right_pairs pairs)) laid.1 laid.3 low fulls.1 p.1 p.3 in
+        let before = b.part.segment.grows in
+        let lower : laid.0 < length plan.nodes = omega arith in
+        let f = semi_is anti pairs rest laid.5.node.op laid.5.is_op in
+        on_two plan n laid.0 laid.1 root x (matched anti) pairs f.0 p.0 p.1 columns (tree left n (Hash (left_pairs pairs)) laid.0 laid.2 lower fulls.0 p.0 p.2) b
+        (ap (λ c. columns_if (match_fits p.0 p.1 pairs c) p.0) f.2 ∙ p.4) next
+        (renamed plan root (IsSemi anti pairs rest) (laid.0 ∷ (laid.1 ∷ [])) (op_by (matched anti) pairs f.0) laid.5 f.1) laid.6 high
+    tree (r.Rank input partition order bound ranked) n x root laid high full columns t =
+        let p = then_parts (λ c. columns_if (rank_fits c partition order bound) (rank_columns ranked c)) (columns_of (types_of plan.sources) input) columns t in
+        let next = laid.2 in
+        let low : laid.0 < length plan.nodes = omega arith in
+        on_one plan n laid.0 root (Hash partition) x (op.TopN partition order bound ranked) p.0 columns (inner plan (op.TopN partition order bound ranked) refl) (tree input n (Hash partition) laid.0 laid.1 low full p.0 p.1)
+        (λ width. refl) refl p.2 next laid.3 laid.4 high
+
+    -- several trees, each behind the one before it
+    several : (inputs : Rels) (n : ℕ) (roots : List ℕ) (last : ℕ) → AreLaid plan n inputs roots last → last < length plan.nodes → all_have_full_unions inputs ≡ true
+        → (start : Option (List ColTy)) (columns : List ColTy) → common_from (types_of plan.sources) start inputs ≡ Some columns → Several plan n last roots start (Some columns)
+    several no_rels n roots last laid high full start columns t = subst (λ c. Several plan n last roots start c) t (no_others plan n roots last start laid.0 laid.1)
+    several (rel_and input inputs) n roots last laid high full start columns t =
+        let q = common_some (types_of plan.sources) (both_of common_columns start (columns_of (types_of plan.sources) input)) inputs columns t in
+        let p = both_parts common_columns start (columns_of (types_of plan.sources) input) q.0 q.1 in
+        let told : common_from (types_of plan.sources) (both_of common_columns start (Some p.1)) inputs ≡ Some columns = ap (λ c. common_from (types_of plan.sources) (both_of common_columns start c) inputs) (sym p.3) ∙ t in
+        let fulls = both (has_full_unions input) (all_have_full_unions inputs) full in
+        let s = several inputs laid.0 laid.1 last laid.3 high fulls.1 (both_of common_columns start (Some p.1)) columns told in
+        let before = s.part.segment.grows in
+        let lower : laid.0 < length plan.nodes = omega arith in
+        one_more plan n laid.0 last laid.1 roots start (Some columns) p.1 (tree input n Forward laid.0 laid.2 lower fulls.0 p.1 p.3) s laid.4

@@ -1,5 +1,0 @@
-use Rattle.std.proofs.Common.{refl}
-use Rattle.op_examples.proofs.examples.sized_as_worked.Goals as goal
-
-pub returns : goal.returns
-returns c = refl

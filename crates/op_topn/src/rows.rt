@@ -1,0 +1,172 @@
+//! Rows kept in rank order.
+ghost use Rattle.std.specs.Prelude.{◌≡◌, ◌+◌, ◌<◌, ◌≤◌, ◌^◌, ◌++◌, ◌∷◌, [], List, length, replicate, take, IfOk, OnOk, IfSome, IfNone};
+ghost use Rattle.std.specs.BTreeMap.{get};
+ghost use Rattle.std.specs.Option.{unwrap_or};
+ghost use Rattle.ct_value.specs.Bag as bag;
+ghost use Rattle.ct_value.specs.declared.row.Row.{Row as Line};
+ghost use Rattle.ct_change.specs.Changelog.{Rows};
+ghost use Rattle.rel_algebra.specs.declared.sort.SortCol.{SortCol};
+ghost use Rattle.rel_algebra.specs.Ranks.{in_rank_order};
+ghost use Rattle.op_topn.specs.Keys.{key_cmp, rank_key, rows_in};
+ghost use Rattle.op_topn.specs.RankedRows.{IsRanked, is_empty};
+
+use crate::key::RankKey;
+use ct_change::Steps;
+use ct_value::{Memory, Row};
+use std::alloc::Global;
+use std::collections::BTreeMap;
+use std::collections::btree_map::Iter;
+use std::marker::Model;
+use std::sync::ledger::Ledger;
+
+/// Rows in rank order, each with how often it stands. A row is found by its key, in the logarithm of their number, and the first ones
+/// are read without a sort.
+#[derive(Drop)]
+pub struct RankedRows {
+    pub counts: BTreeMap<RankKey, u64>,
+}
+
+impl RankedRows {
+    /// No rows. It takes no memory.
+    pub fn new(alloc: Global) -> RankedRows
+        ensures { (order : List SortCol) → IsRanked order result.counts bag.none }
+    {
+        RankedRows {
+            counts: BTreeMap::new(alloc),
+        }
+    }
+
+    /// Whether there are none.
+    pub fn is_empty(&self) -> bool
+        ensures { result ≡ is_empty self.now }
+    {
+        self.counts.is_empty()
+    }
+
+    /// One more copy of a row, which is found by its key.
+    pub fn add(&mut self, key: RankKey) -> Result<(), Memory>
+        requires { unwrap_or (get key_cmp self.old.counts key) 0 + 1 < 2 ^ 64 }
+        ensures { OnOk result ((order : List SortCol) (rows : Rows) → key ≡ rank_key order key.1 → IsRanked order self.old.counts rows → IsRanked order self.new.counts (bag.add rows key.1)) }
+    {
+        let standing = self.counts.get(&key).copied().unwrap_or(0);
+        self.counts.insert(key, standing + 1)?;
+        Ok(())
+    }
+
+    /// One copy less of a row, of which one has to stand.
+    pub fn remove(&mut self, key: RankKey) -> Result<(), Memory>
+        requires { 0 < unwrap_or (get key_cmp self.old.counts key) 0 }
+        ensures { OnOk result ((order : List SortCol) (rows : Rows) → key ≡ rank_key order key.1 → IsRanked order self.old.counts rows → IsRanked order self.new.counts (bag.remove rows key.1)) }
+    {
+        let standing = self.counts.get(&key).copied().unwrap_or(0);
+        if standing > 1 {
+            self.counts.insert(key, standing - 1)?;
+            return Ok(());
+        }
+        self.counts.remove(&key);
+        Ok(())
+    }
+
+    /// The first rows in rank order, each copy by itself, at most `bound`. Each is one step.
+    pub fn first<L: Ledger>(
+        &self,
+        alloc: Global,
+        bound: usize,
+        steps: &mut Steps<L>,
+    ) -> Result<Vec<Row>, Memory>
+        ensures rows { IfOk result (λ first. (order : List SortCol) (rows : Rows) → IsRanked order self.now.counts rows → first.items ≡ take bound (in_rank_order order rows)) }
+        ensures cost { steps.new ≤ steps.old + bound }
+    {
+        let rows = first_rows(alloc, &self.counts, bound, steps)?;
+        Ok(rows)
+    }
+}
+
+// The keys that are left to be handed out, each with its count, in rank order.
+#[derive(Drop)]
+struct KeysLeft<'a> {
+    entries: Iter<'a, RankKey, u64>,
+}
+
+impl<'a> Model for KeysLeft<'a> {
+    ghost use Rattle.std.specs.Prelude.{List, ℕ};
+    ghost use Rattle.op_topn.specs.Keys.{Key};
+
+    ghost Value = { List (Key × ℕ) };
+
+    ghost view = { λ k. k.entries };
+}
+
+impl<'a> KeysLeft<'a> {
+    // The next key with its count.
+    fn next_key(&mut self) -> Option<(&'a RankKey, u64)>
+        ensures key { IfSome result (λ p. self.old ≡ (p.0.now, p.1) ∷ self.new) }
+        ensures end { IfNone result ((self.old ≡ []) × (self.new ≡ [])) }
+    {
+        let (key, count) = self.entries.next()?;
+        Some((key, *count))
+    }
+}
+
+// The first rows in rank order, each copy by itself, at most `bound`.
+fn first_rows<L: Ledger>(
+    alloc: Global,
+    counts: &BTreeMap<RankKey, u64>,
+    bound: usize,
+    steps: &mut Steps<L>,
+) -> Result<Vec<Row>, Memory>
+    ensures rows { IfOk result (λ rows. rows.items ≡ take bound (rows_in counts.now.entries)) }
+    ensures cost { steps.new ≤ steps.old + bound }
+{
+    let mut rows: Vec<Row> = Vec::new(alloc);
+    let mut left = KeysLeft {
+        entries: counts.iter(),
+    };
+    'walk: while let Some((key, count)) = left.next_key() {
+        push_some(&mut rows, key.row(), count, bound, steps)?;
+        if rows.len() >= bound {
+            return Ok(rows);
+        }
+    }
+    Ok(rows)
+}
+
+// Puts as many copies of a row behind the others as are wanted, `bound` rows in all.
+fn push_some<L: Ledger>(
+    rows: &mut Vec<Row>,
+    row: &Row,
+    copies: u64,
+    bound: usize,
+    steps: &mut Steps<L>,
+) -> Result<(), Memory>
+    requires { length rows.old.items ≤ bound }
+    ensures ok { OnOk result ((more : List Line) → take bound (rows.new.items ++ more) ≡ take bound (rows.old.items ++ (replicate copies row.now ++ more))) }
+    ensures short { length rows.new.items ≤ bound }
+    ensures told { length rows.old.items ≤ length rows.new.items }
+    ensures cost { steps.new + length rows.old.items ≤ steps.old + bound }
+    ensures cost_ok { OnOk result (steps.new + length rows.old.items ≤ steps.old + length rows.new.items) }
+{
+    let room = (bound - rows.len()) as u64;
+    push_copies(rows, row, room.min(copies), steps)?;
+    Ok(())
+}
+
+// Puts so many copies of a row behind the others.
+fn push_copies<L: Ledger>(
+    rows: &mut Vec<Row>,
+    row: &Row,
+    copies: u64,
+    steps: &mut Steps<L>,
+) -> Result<(), Memory>
+    ensures ok { OnOk result (rows.new.items ≡ rows.old.items ++ replicate copies row.now) }
+    ensures told { length rows.old.items ≤ length rows.new.items }
+    ensures short { length rows.new.items ≤ length rows.old.items + copies }
+    ensures cost { steps.new ≤ steps.old + copies }
+    ensures cost_ok { OnOk result (steps.new ≡ steps.old + copies) }
+{
+    'fill: for _copy in 0..copies {
+        steps.tick();
+        rows.push(row.dup()?)?;
+    }
+    Ok(())
+}

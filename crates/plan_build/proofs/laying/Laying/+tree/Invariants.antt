@@ -1,8 +1,0 @@
-use Rattle.std.proofs.Common.{take}
-use Rattle.rel_algebra.specs.Rel.{rels}
-use Rattle.rel_algebra.specs.View.{rels_view}
-use Rattle.plan_build.specs.Laying.{LaysAll}
-use Rattle.plan_build.proofs.laying.Laying.+tree.Given as goal
-
-abbrev pub invariant-lay_all-loop-input : goal.invariant-lay_all-loop-input
-invariant-lay_all-loop-input l = LaysAll l.fn.self l.self (rels (rels_view (take l.input-index l.inputs))) l.roots

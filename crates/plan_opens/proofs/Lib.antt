@@ -1,4 +1,0 @@
-pub mod Types
-pub mod Tables
-pub mod Ports
-pub mod Plans

@@ -1,6 +1,0 @@
-use Rattle.std.proofs.Common.{◌≡◌, take}
-use Rattle.plan_reading.specs.Columns.{right_columns}
-use Rattle.plan_reading.proofs.columns.right_columns.Given as goal
-
-abbrev pub invariant-loop-pair : goal.invariant-loop-pair
-invariant-loop-pair l = l.cols ≡ right_columns (take l.pair-index l.on)

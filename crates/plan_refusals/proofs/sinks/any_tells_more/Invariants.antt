@@ -1,7 +1,0 @@
-use Rattle.std.proofs.Common.{◌≡◌, drop}
-use Rattle.std.specs.List.{list_any}
-use Rattle.plan_refusals.specs.Refusals.{tells_more}
-use Rattle.plan_refusals.proofs.sinks.any_tells_more.Given as goal
-
-abbrev pub invariant-loop-mode : goal.invariant-loop-mode
-invariant-loop-mode l = list_any tells_more (drop l.mode-index l.modes) ≡ list_any tells_more l.modes

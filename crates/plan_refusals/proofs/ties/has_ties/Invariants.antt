@@ -1,6 +1,0 @@
-use Rattle.std.proofs.Common.{◌≡◌, drop}
-use Rattle.plan_refusals.specs.Refusals.{has_ties}
-use Rattle.plan_refusals.proofs.ties.has_ties.Given as goal
-
-abbrev pub invariant-loop-node : goal.invariant-loop-node
-invariant-loop-node l = has_ties l.inferred (drop l.node-index l.nodes) ≡ has_ties l.inferred l.nodes

@@ -1,0 +1,7 @@
+-- The theorems of this crate, put together of its lemmas.
+use Rattle.plan_rules.proofs.Plans as plans
+use Rattle.plan_rules.specs.Plans.{PlansAreWired}
+
+-- A plan of the right shape is wired as the composition theorem asks, whatever its nodes do.
+pub plans_are_wired : PlansAreWired
+plans_are_wired = plans.plans_are_wired

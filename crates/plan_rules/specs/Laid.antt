@@ -1,0 +1,112 @@
+-- Which plan is that of a tree of the algebra: its nodes are laid one behind the other, each behind its inputs.
+use Rattle.std.specs.Prelude.{◌≡◌, ℕ, ◌+◌, Bool, List, [], ◌∷◌, length, map, slice_get, Option, Some, None, option_map, unwrap_or}
+use Rattle.ct_change.specs.declared.kind.Declared.{Declared}
+use Rattle.ct_change.specs.declared.kind.Declared.TheVariants.{Append, Retract, Upsert}
+use Rattle.ct_change.specs.declared.kind.KindSet.{KindSet}
+use Rattle.ct_change.specs.Changelog.{retract, upsert, kinds_of}
+use Rattle.ct_catalog.specs.declared.table.TableDef.{TableDef}
+use Rattle.ct_expr.specs.Expr.{Expr}
+use Rattle.ct_expr.specs.View.{expr_view}
+use Rattle.rel_algebra.specs.declared.join.JoinKind.{JoinKind}
+use Rattle.rel_algebra.specs.declared.join.Pair.{Pair}
+use Rattle.rel_algebra.specs.Rel.{Rel, Rels, no_rels, rel_and}
+use Rattle.rel_algebra.specs.Rel as r
+use Rattle.emission_rules.specs.GroupFits.{first_columns}
+use Rattle.emission_rules.specs.JoinFits.{left_pairs, right_pairs}
+use Rattle.phys_plan.specs.declared.edge.Exchange.{Exchange}
+use Rattle.phys_plan.specs.declared.edge.Exchange.TheVariants.{Forward, Hash}
+use Rattle.ct_change.specs.declared.update.Update.{Update}
+use Rattle.ct_change.specs.declared.update.Update.TheVariants.{Absent, After, Both}
+use Rattle.phys_plan.specs.declared.node.KeyInfo.{KeyInfo}
+use Rattle.phys_plan.specs.declared.node.Op.{Op}
+use Rattle.phys_plan.specs.declared.node.Op.TheVariants as op
+use Rattle.phys_plan.specs.declared.node.Node.{Node}
+use Rattle.phys_plan.specs.declared.plan.Plan.{Plan}
+use Rattle.phys_plan.specs.Reading.{numbered, no_keys}
+
+-- ---- operators
+
+abbrev pub IsFilter : Expr → Op → Type 0
+IsFilter condition (op.Filter cond) = expr_view cond ≡ condition
+IsFilter condition _ = ⊥
+
+abbrev pub IsProject : List Expr → Op → Type 0
+IsProject items (op.Project own) = map expr_view own ≡ items
+IsProject items _ = ⊥
+
+abbrev pub IsJoin : JoinKind → List Pair → Option Expr → Op → Type 0
+IsJoin kind pairs rest (op.Join own on test) = (own ≡ kind) × (on ≡ pairs) × (option_map expr_view test ≡ rest)
+IsJoin kind pairs rest _ = ⊥
+
+abbrev pub IsSemi : Bool → List Pair → Option Expr → Op → Type 0
+IsSemi anti pairs rest (op.Semi own on test) = (own ≡ anti) × (on ≡ pairs) × (option_map expr_view test ≡ rest)
+IsSemi anti pairs rest _ = ⊥
+
+-- ---- nodes and edges
+
+module _ (plan : Plan) where
+  -- the node of a number, with the numbers of its inputs
+  pub record HasNode (v : ℕ) (IsOp : Op → Type 0) (inputs : List ℕ) : Type 0 where
+    pub node : Node
+    pub is_there : numbered plan.nodes v ≡ Some node
+    pub is_op : IsOp node.op
+    pub inputs_are : node.inputs ≡ inputs
+    pub keyless : node.keys ≡ no_keys
+
+  abbrev pub HasEdge : ℕ → Exchange → KindSet → Update → Type 0
+  HasEdge v exchange kinds update = numbered plan.edges v ≡ Some (record { exchange = exchange; kinds = kinds; update = update })
+
+  -- the edge carries all kinds, and both rows of an update
+  abbrev pub CarriesAll : ℕ → Exchange → Type 0
+  CarriesAll v exchange = HasEdge v exchange (kinds_of retract) Both
+
+  -- ---- a tree behind n nodes, up to its root, whose consumer asks for an exchange
+
+  -- a table is scanned; an upsert table is also normalized by its key
+  abbrev pub ScanLaid : ℕ → Exchange → ℕ → Declared → List ℕ → ℕ → Type 0
+  ScanLaid n exchange source Append key root = (root ≡ n + 1) × HasNode root (λ o. o ≡ op.Scan source) [] × CarriesAll root exchange
+  ScanLaid n exchange source Retract key root = (root ≡ n + 1) × HasNode root (λ o. o ≡ op.Scan source) [] × CarriesAll root exchange
+  ScanLaid n exchange source Upsert key root =
+      (root ≡ n + 2) × HasNode (n + 1) (λ o. o ≡ op.Scan source) [] × HasEdge (n + 1) (Hash key) (kinds_of (upsert key)) (After key)
+      × HasNode root (λ o. o ≡ op.Normalize key) ((n + 1) ∷ []) × CarriesAll root exchange
+
+  abbrev pub SourceLaid : ℕ → Exchange → ℕ → Option TableDef → ℕ → Type 0
+  SourceLaid n exchange source None root = ⊥
+  SourceLaid n exchange source (Some table) root = ScanLaid n exchange source table.mode (unwrap_or table.key []) root
+
+  abbrev mutual
+    pub IsLaid : ℕ → Exchange → Rel → ℕ → Type 0
+    IsLaid n exchange (r.Scan source) root = SourceLaid n exchange source (slice_get plan.sources source) root
+    IsLaid n exchange (r.Filter input condition) root =
+        (below : ℕ) × IsLaid n Forward input below × (root ≡ below + 1) × HasNode root (IsFilter condition) (below ∷ []) × CarriesAll root exchange
+    IsLaid n exchange (r.Project input items) root =
+        (below : ℕ) × IsLaid n Forward input below × (root ≡ below + 1) × HasNode root (IsProject items) (below ∷ []) × CarriesAll root exchange
+    IsLaid n exchange (r.Union inputs) root =
+        (roots : List ℕ) × (below : ℕ) × AreLaid n inputs roots below × (root ≡ below + 1) × HasNode root (λ o. o ≡ op.Union) roots × CarriesAll root exchange
+    IsLaid n exchange (r.Group input keys aggs) root =
+        (below : ℕ) × IsLaid n (Hash (first_columns keys)) input below × (root ≡ below + 1) × HasNode root (λ o. o ≡ op.Group keys aggs) (below ∷ []) × CarriesAll root exchange
+    -- the right side lies behind the left
+    IsLaid n exchange (r.Join left right kind pairs rest) root =
+        (first : ℕ) × (second : ℕ) × IsLaid n (Hash (left_pairs pairs)) left first × IsLaid first (Hash (right_pairs pairs)) right second
+        × (root ≡ second + 1) × HasNode root (IsJoin kind pairs rest) (first ∷ (second ∷ [])) × CarriesAll root exchange
+    IsLaid n exchange (r.Semi left right anti pairs rest) root =
+        (first : ℕ) × (second : ℕ) × IsLaid n (Hash (left_pairs pairs)) left first × IsLaid first (Hash (right_pairs pairs)) right second
+        × (root ≡ second + 1) × HasNode root (IsSemi anti pairs rest) (first ∷ (second ∷ [])) × CarriesAll root exchange
+    IsLaid n exchange (r.Rank input partition order bound ranked) root =
+        (below : ℕ) × IsLaid n (Hash partition) input below × (root ≡ below + 1) × HasNode root (λ o. o ≡ op.TopN partition order bound ranked) (below ∷ []) × CarriesAll root exchange
+
+    -- several trees behind one another, with their roots, up to the last
+    pub AreLaid : ℕ → Rels → List ℕ → ℕ → Type 0
+    AreLaid n no_rels roots last = (roots ≡ []) × (last ≡ n)
+    AreLaid n (rel_and input inputs) roots last =
+        (root : ℕ) × (others : List ℕ) × IsLaid n Forward input root × AreLaid root inputs others last × (roots ≡ root ∷ others)
+
+  -- the plan of the tree: the tree, and behind it the sink
+  pub record IsPlanOf (rel : Rel) : Type 0 where
+    pub root : ℕ
+    pub laid : IsLaid 0 Forward rel root
+    pub sink_node : HasNode (root + 1) (λ o. o ≡ op.Sink) (root ∷ [])
+    pub sink_edge : HasEdge (root + 1) Forward (kinds_of retract) Absent
+    pub nodes : length plan.nodes ≡ root + 1
+    pub edges : length plan.edges ≡ root + 1
+    pub batches : plan.mini_batch ≡ 0

@@ -1,4 +1,0 @@
-pub mod Catalogues
-pub mod Settings
-pub mod Tables
-pub mod Plans

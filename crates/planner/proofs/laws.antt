@@ -1,0 +1,6 @@
+pub mod Laid
+pub mod Several
+pub mod Sides
+pub mod Theorems
+pub mod TreePlans
+pub mod TypedTrees

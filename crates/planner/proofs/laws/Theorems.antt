@@ -1,0 +1,10 @@
+-- The theorems of this crate, put together of its lemmas.
+use Rattle.planner.proofs.Refused.{planned_is_ruled}
+use Rattle.planner.specs.Planned.{PlannedPlansAreRuled}
+use Rattle.laid_plans.proofs.laws.Theorems.{inferred_plans_are_sound}
+use Rattle.plan_shape.proofs.laws.Theorems.{shaped_plans_have_shape}
+use Rattle.laid_plans.proofs.laws.LaidPlans.{laid_plans_have_shape}
+
+-- What is planned of a plan as it is laid is sound, and its operators have rules.
+pub planned_plans_are_ruled : PlannedPlansAreRuled
+planned_plans_are_ruled = planned_is_ruled laid_plans_have_shape inferred_plans_are_sound shaped_plans_have_shape

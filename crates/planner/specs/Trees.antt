@@ -1,0 +1,115 @@
+-- The plan of a tree of the algebra as a function of it: its nodes one behind the other, each behind its inputs, and the sink behind them.
+use Rattle.std.specs.Prelude.{ℕ, ◌+◌, List, [], ◌∷◌, ◌++◌, length, map, slice_get, Option, Some, None, option_map, unwrap_or}
+use Rattle.ct_change.specs.Changelog.{retract, upsert, kinds_of}
+use Rattle.ct_change.specs.declared.kind.Declared.{Declared}
+use Rattle.ct_change.specs.declared.kind.Declared.TheVariants.{Append, Retract, Upsert}
+use Rattle.ct_change.specs.declared.kind.KindSet.{KindSet}
+use Rattle.ct_catalog.specs.declared.table.TableDef.{TableDef}
+use Rattle.ct_expr.specs.Views.{expr_of}
+use Rattle.rel_algebra.specs.Rel.{Rel, Rels, no_rels, rel_and}
+use Rattle.rel_algebra.specs.Rel as r
+use Rattle.emission_rules.specs.GroupFits.{first_columns}
+use Rattle.emission_rules.specs.JoinFits.{left_pairs, right_pairs}
+use Rattle.phys_plan.specs.declared.edge.Edge.{Edge}
+use Rattle.phys_plan.specs.declared.edge.Exchange.{Exchange}
+use Rattle.phys_plan.specs.declared.edge.Exchange.TheVariants.{Forward, Hash}
+use Rattle.ct_change.specs.declared.update.Update.{Update}
+use Rattle.ct_change.specs.declared.update.Update.TheVariants.{Absent, After, Both}
+use Rattle.phys_plan.specs.declared.node.Op.{Op}
+use Rattle.phys_plan.specs.declared.node.Op.TheVariants as op
+use Rattle.phys_plan.specs.declared.node.Node.{Node}
+use Rattle.phys_plan.specs.declared.plan.Plan.{Plan}
+use Rattle.phys_plan.specs.Reading.{no_keys}
+
+-- ---- pieces
+
+-- a node, and the edge that leaves it
+pub record Piece : Type 0 where
+  pub node : Node
+  pub edge : Edge
+
+abbrev pub node_of : Op → List ℕ → Node
+node_of operator inputs = record { op = operator; inputs = inputs; keys = no_keys }
+
+abbrev pub edge_of : Exchange → KindSet → Update → Edge
+edge_of exchange kinds update = record { exchange = exchange; kinds = kinds; update = update }
+
+abbrev pub piece : Op → List ℕ → Exchange → KindSet → Update → Piece
+piece operator inputs exchange kinds update = record { node = node_of operator inputs; edge = edge_of exchange kinds update }
+
+-- one whose edge carries all kinds, and both rows of an update
+abbrev pub full_piece : Op → List ℕ → Exchange → Piece
+full_piece operator inputs exchange = piece operator inputs exchange (kinds_of retract) Both
+
+-- ---- a tree behind n nodes, whose consumer asks for an exchange
+
+-- a table is scanned; an upsert table is also normalized by its key
+abbrev pub scan_pieces : ℕ → Exchange → ℕ → Declared → List ℕ → List Piece
+scan_pieces n exchange source Append key = full_piece (op.Scan source) [] exchange ∷ []
+scan_pieces n exchange source Retract key = full_piece (op.Scan source) [] exchange ∷ []
+scan_pieces n exchange source Upsert key =
+    piece (op.Scan source) [] (Hash key) (kinds_of (upsert key)) (After key) ∷ full_piece (op.Normalize key) ((n + 1) ∷ []) exchange ∷ []
+
+abbrev pub source_pieces : ℕ → Exchange → ℕ → Option TableDef → List Piece
+source_pieces n exchange source None = []
+source_pieces n exchange source (Some table) = scan_pieces n exchange source table.mode (unwrap_or table.key [])
+
+-- pieces behind n nodes, and a node more over the last of them
+abbrev pub topped : ℕ → List Piece → Op → Exchange → List Piece
+topped n pieces operator exchange = pieces ++ full_piece operator ((n + length pieces) ∷ []) exchange ∷ []
+
+-- a node more over the last of pieces behind n nodes and the last of those behind these
+abbrev pub topped_both : ℕ → List Piece → List Piece → Op → Exchange → List Piece
+topped_both n left right operator exchange =
+    (left ++ right) ++ full_piece operator ((n + length left) ∷ ((n + length left + length right) ∷ [])) exchange ∷ []
+
+module _ (sources : List TableDef) where
+  abbrev mutual
+    pub pieces_of : ℕ → Exchange → Rel → List Piece
+    pieces_of n exchange (r.Scan source) = source_pieces n exchange source (slice_get sources source)
+    pieces_of n exchange (r.Filter input condition) = topped n (pieces_of n Forward input) (op.Filter (expr_of condition)) exchange
+    pieces_of n exchange (r.Project input items) = topped n (pieces_of n Forward input) (op.Project (map expr_of items)) exchange
+    pieces_of n exchange (r.Union inputs) = pieces_of_all n inputs ++ full_piece op.Union (roots_of n inputs) exchange ∷ []
+    pieces_of n exchange (r.Group input keys aggs) = topped n (pieces_of n (Hash (first_columns keys)) input) (op.Group keys aggs) exchange
+    pieces_of n exchange (r.Join left right kind pairs rest) =
+        topped_both n (pieces_of n (Hash (left_pairs pairs)) left) (pieces_of (n + length (pieces_of n (Hash (left_pairs pairs)) left)) (Hash (right_pairs pairs)) right)
+        (op.Join kind pairs (option_map expr_of rest)) exchange
+    pieces_of n exchange (r.Semi left right anti pairs rest) =
+        topped_both n (pieces_of n (Hash (left_pairs pairs)) left) (pieces_of (n + length (pieces_of n (Hash (left_pairs pairs)) left)) (Hash (right_pairs pairs)) right)
+        (op.Semi anti pairs (option_map expr_of rest)) exchange
+    pieces_of n exchange (r.Rank input partition order bound ranked) = topped n (pieces_of n (Hash partition) input) (op.TopN partition order bound ranked) exchange
+
+    -- several trees behind one another
+    pub pieces_of_all : ℕ → Rels → List Piece
+    pieces_of_all n no_rels = []
+    pieces_of_all n (rel_and input inputs) = pieces_of n Forward input ++ pieces_of_all (n + length (pieces_of n Forward input)) inputs
+
+    -- the last node of each
+    pub roots_of : ℕ → Rels → List ℕ
+    roots_of n no_rels = []
+    roots_of n (rel_and input inputs) = (n + length (pieces_of n Forward input)) ∷ roots_of (n + length (pieces_of n Forward input)) inputs
+
+-- ---- the plan
+
+abbrev pub nodes_in : List Piece → List Node
+nodes_in pieces = map (λ piece. piece.node) pieces
+
+abbrev pub edges_in : List Piece → List Edge
+edges_in pieces = map (λ piece. piece.edge) pieces
+
+-- the sink behind a tree
+abbrev pub with_sink : List Piece → List Piece
+with_sink pieces = pieces ++ piece op.Sink (length pieces ∷ []) Forward (kinds_of retract) Absent ∷ []
+
+abbrev pub plan_of_pieces : List TableDef → TableDef → ℕ → List Piece → Plan
+plan_of_pieces sources sink parallelism pieces = record {
+  sources = sources;
+  sink = sink;
+  nodes = nodes_in pieces;
+  edges = edges_in pieces;
+  parallelism = parallelism;
+  mini_batch = 0;
+}
+
+abbrev pub plan_of_tree : (sources : List TableDef) (sink : TableDef) (parallelism : ℕ) → Rel → Plan
+plan_of_tree sources sink parallelism rel = plan_of_pieces sources sink parallelism (with_sink (pieces_of sources 0 Forward rel))

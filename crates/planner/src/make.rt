@@ -1,0 +1,49 @@
+//! The plan of a tree.
+ghost use Rattle.std.specs.Prelude.{◌≡◌, false, IfOk, IfErr, OnOk};
+ghost use Rattle.rel_algebra.specs.View.{rel_view};
+ghost use Rattle.plan_rules.specs.Laid.{IsPlanOf};
+ghost use Rattle.planner.specs.Faults.{Says, lacks_table};
+
+use crate::laying::Laying;
+use crate::laying_fault::LayingFault;
+use ct_catalog::{Sources, TableDef};
+use phys_plan::{Edges, Exchange, Nodes, Plan};
+use rel_algebra::Rel;
+use std::alloc::Global;
+
+/// The plan that is laid of a tree over these tables, each node in so many subtasks; its last node is the sink. `NoTable` comes where a
+/// part of the tree scans a table that isn't there. Otherwise there is a plan, or memory was wanting.
+pub fn plan_of(
+    alloc: Global,
+    rel: &Rel,
+    sources: Sources,
+    sink: TableDef,
+    parallelism: u32,
+) -> Result<Plan, LayingFault>
+    ensures plan { IfOk result (λ plan. IsPlanOf plan (rel_view rel.now) × (plan.sources ≡ sources) × (plan.sink ≡ sink) × (plan.parallelism ≡ parallelism)) }
+    ensures tables { OnOk result (lacks_table sources (rel_view rel.now) ≡ false) }
+    ensures fault { IfErr result (λ fault. Says sources (rel_view rel.now) fault) }
+{
+    let mut laying = Laying {
+        alloc,
+        sources,
+        nodes: Nodes::new(alloc),
+        edges: Edges::new(alloc),
+    };
+    let root = laying.lay(rel, Exchange::Forward)?;
+    laying.push_sink(root)?;
+    let Laying {
+        sources,
+        nodes,
+        edges,
+        ..
+    } = laying;
+    Ok(Plan {
+        sources,
+        sink,
+        nodes,
+        edges,
+        parallelism,
+        mini_batch: 0,
+    })
+}

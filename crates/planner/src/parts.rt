@@ -1,0 +1,109 @@
+//! Parts of nodes and edges.
+ghost use Rattle.std.specs.Prelude.{◌≡◌, ℕ, List as Seq, [], ◌∷◌, option_map, unwrap_or, IfOk};
+ghost use Rattle.ct_change.specs.Changelog.{retract, upsert, kinds_of};
+ghost use Rattle.ct_expr.specs.View.{expr_view};
+ghost use Rattle.emission_rules.specs.GroupFits.{first_columns};
+ghost use Rattle.emission_rules.specs.JoinFits.{left_pairs, right_pairs};
+ghost use Rattle.phys_plan.specs.Reading.{no_keys};
+
+use ct_catalog::TableDef;
+use ct_change::KindSet;
+use ct_expr::Expr;
+use ct_value::{Cols, List, Memory, Numbers};
+use phys_plan::KeyInfo;
+use rel_algebra::Pairs;
+use std::alloc::Global;
+
+pub(crate) fn no_keys(alloc: Global) -> KeyInfo
+    ensures { result ≡ no_keys }
+{
+    KeyInfo {
+        unique: List::new(alloc),
+        local: List::new(alloc),
+        fixing: List::new(alloc),
+    }
+}
+
+pub(crate) fn all_kinds() -> KindSet
+    ensures { result ≡ kinds_of retract }
+{
+    KindSet {
+        i: true,
+        ub: true,
+        ua: true,
+        d: true,
+    }
+}
+
+pub(crate) fn upsert_kinds() -> KindSet
+    ensures { (key : Seq ℕ) → result ≡ kinds_of (upsert key) }
+{
+    KindSet {
+        i: true,
+        ub: false,
+        ua: true,
+        d: true,
+    }
+}
+
+// The columns of a table's key, or none.
+pub(crate) fn key_of(alloc: Global, table: &TableDef) -> Result<Cols, Memory>
+    ensures { IfOk result (λ key. key ≡ unwrap_or table.now.key []) }
+{
+    match &table.key {
+        Some(key) => key.dup(),
+        None => Ok(Cols::new(alloc)),
+    }
+}
+
+// So many first columns.
+pub(crate) fn first_columns(alloc: Global, keys: u32) -> Result<Cols, Memory>
+    ensures { IfOk result (λ columns. columns ≡ first_columns keys) }
+{
+    let mut columns = Cols::new(alloc);
+    for column in 0..keys {
+        columns.push(column)?;
+    }
+    Ok(columns)
+}
+
+// The left sides' columns of pairs.
+pub(crate) fn left_columns(alloc: Global, on: &Pairs) -> Result<Cols, Memory>
+    ensures { IfOk result (λ columns. columns ≡ left_pairs on.now) }
+{
+    let mut columns = Cols::new(alloc);
+    for pair in on.as_slice() {
+        columns.push(pair.left)?;
+    }
+    Ok(columns)
+}
+
+// The right sides' columns of pairs.
+pub(crate) fn right_columns(alloc: Global, on: &Pairs) -> Result<Cols, Memory>
+    ensures { IfOk result (λ columns. columns ≡ right_pairs on.now) }
+{
+    let mut columns = Cols::new(alloc);
+    for pair in on.as_slice() {
+        columns.push(pair.right)?;
+    }
+    Ok(columns)
+}
+
+pub(crate) fn two_numbers(alloc: Global, first: u32, second: u32) -> Result<Numbers, Memory>
+    ensures { IfOk result (λ numbers. numbers ≡ first ∷ (second ∷ [])) }
+{
+    let mut numbers = Numbers::new(alloc);
+    numbers.push(first)?;
+    numbers.push(second)?;
+    Ok(numbers)
+}
+
+// An equal condition, if there is one.
+pub(crate) fn dup_rest(rest: &Option<Expr>) -> Result<Option<Expr>, Memory>
+    ensures { IfOk result (λ copy. option_map expr_view copy ≡ option_map expr_view rest.now) }
+{
+    match rest {
+        None => Ok(None),
+        Some(expr) => Ok(Some(expr.dup()?)),
+    }
+}

@@ -1,0 +1,178 @@
+-- A query without arithmetic is bound to a tree that calculates nothing, and so is the query of an INSERT: one induction over queries.
+use Rattle.std.proofs.Common.{◌≡◌, ℕ, ◌-◌, nat_lt, Bool, true, false, cond, ◌&&◌, ◌||◌, not, List, [], ◌∷◌, ◌++◌, length, Option, Some, None, Ok, IfOk, refl, find}
+use Rattle.ct_value.specs.declared.codes.ScriptCode.TheVariants.{UnknownTable, SinkShape, Unsupported}
+use Rattle.ct_catalog.specs.declared.table.TableDef.{TableDef}
+use Rattle.rel_algebra.specs.Rel.{Rel, Rels, no_rels, rel_and}
+use Rattle.sql_syntax.specs.Tree.{Query, Text}
+use Rattle.sql_syntax.specs.Tree as t
+use Rattle.query_answer.specs.Answer.{conjuncts, types}
+use Rattle.query_answer.specs.Forms.{is_simple}
+use Rattle.query_answer.specs.Joins.{kind_of}
+use Rattle.query_answer.specs.Names.{Scope}
+use Rattle.query_answer.specs.Ranks.{ranked_select}
+use Rattle.range_rules.specs.Arithmetic.{in_query, in_select, in_source, in_join, in_tree, in_trees, in_optional, in_selects, in_items, in_joins, in_sorts}
+use Rattle.range_rules.specs.Tame.{is_tame_rel, are_tame_rels}
+use Rattle.binding.specs.Checked.{Checked, ◌>>=◌, or_code}
+use Rattle.binding.specs.Inserts.{Inserted, insert_bound, into_sink, sunk, is_table, sources_for, scans}
+use Rattle.rel_algebra.specs.GoesInto.{go_into}
+use Rattle.ct_catalog.specs.Columns.{column_types}
+use Rattle.binding.specs.Queries.{Relation, Outside, Part, find_source, joined, united, union_of, is_plain, is_one, tests, own_value, plain_part, member_part, alone, read_by, framed, select_over, exists_over, query_bound, selects_bound, select_bound, gathered_bound, alone_bound, source_bound, joins_bound, where_bound, parts_bound, all_parts_bound, parts_but, all_parts_but, denied_bound, exists_bound, inside_bound}
+use Rattle.range_rules.specs.Statement.{QueriesAreTame, InsertsAreTame}
+use Rattle.range_rules.proofs.Checked.{bind, then, tested, tested_else, of_ok, neither}
+use Rattle.range_rules.proofs.Nodes.{Tame}
+use Rattle.range_rules.proofs.Selects.{TameRel, TamePart, TameParts, TameRead, TameFrom, IfTame, parts_append, plain_part_tame, tests_tame, value_tame, member_tame, alone_tame, read_tame, joined_tame, ranked_free, read_by_tame, framed_tame, alone_tame_if, select_over_tame, exists_over_tame}
+
+abbrev TameRels : Rels × Scope → Type 0
+TameRels others = are_tame_rels others.0 ≡ true
+
+union_tame : (x : Rel) (ys : Rels) → is_tame_rel x ≡ true → are_tame_rels ys ≡ true → is_tame_rel (union_of x ys) ≡ true
+union_tame x no_rels h k = h
+union_tame x (rel_and y ys) h k = λ i. h i && k i
+
+either : (t : Bool) (r s : Checked (List Part)) → IfOk r TameParts → IfOk s TameParts → IfOk (cond t r s) TameParts
+either true r s h k = h
+either false r s h k = k
+
+module _ (free : Bool) (sources : List TableDef) where
+  sources_tame : (from : t.Source) (joins : t.JoinItems) → IfOk (source_bound free sources from) TameRel → ((x : Relation) → TameRel x → IfOk (joins_bound free sources joins x) TameRel) → IfOk (source_bound free sources from >>= joins_bound free sources joins) TameRel
+  sources_tame from joins h k = bind (source_bound free sources from) (joins_bound free sources joins) TameRel TameRel h k
+
+  select_is : (x : t.Select) → in_select x ≡ false → IfOk (gathered_bound free sources None x) TameFrom → IfOk (select_bound free sources x) TameRel
+  select_is x f h = bind (gathered_bound free sources None x) (select_over free x) TameFrom TameRel h (λ y k. select_over_tame free x y f k)
+
+  mutual
+    unfolding in_query in_selects in_select in_source in_joins in_join in_optional in_tree in_trees
+
+    pub query_tame : (q : Query) → in_query q ≡ false → IfOk (query_bound free sources q) TameRel
+    query_tame (t.query_of t.no_selects order limit) f = tt
+    query_tame (t.query_of (t.select_and x xs) order limit) f =
+        let g = neither _ (in_sorts order) f in
+        let k = neither (in_select x) (in_selects xs) g.0 in
+        bind (select_bound free sources x) _ TameRel TameRel (select_is x k.0 (gathered_tame None x k.0)) (λ y h.
+        bind (selects_bound free sources y.scope xs) _ TameRels TameRel (selects_tame xs y.scope k.1) (λ others l.
+        tested_else (is_plain order limit) (Ok (record { rel = union_of y.rel others.0; scope = others.1 })) Unsupported TameRel (union_tame y.rel others.0 h l)))
+
+    selects_tame : (xs : t.Selects) (scope : Scope) → in_selects xs ≡ false → IfOk (selects_bound free sources scope xs) TameRels
+    selects_tame t.no_selects scope f = refl
+    selects_tame (t.select_and x xs) scope f =
+        let g = neither (in_select x) (in_selects xs) f in
+        bind (select_bound free sources x) _ TameRel TameRels (select_is x g.0 (gathered_tame None x g.0)) (λ y h.
+        then (united scope y.scope) _ TameRels (λ both.
+        bind (selects_bound free sources both xs) _ TameRels TameRels (selects_tame xs both g.1) (λ others l i.
+        h i && l i)))
+
+    gathered_tame : (outside : Outside) (x : t.Select) → in_select x ≡ false → IfOk (gathered_bound free sources outside x) TameFrom
+    gathered_tame outside (t.select_of distinct items from joins condition groups having) f =
+        let outer = t.select_of distinct items from joins condition groups having in
+        let of_items = neither (in_items items) _ f in
+        let of_from = neither (in_source from) _ of_items.1 in
+        let of_joins = neither (in_joins joins) _ of_from.1 in
+        let of_condition = neither (in_optional condition) _ of_joins.1 in
+        let read = read_by joins (alone_bound free sources from) (source_bound free sources from >>= joins_bound free sources joins) in
+        bind (read >>= framed free outer) _ (λ y. TameRel y.relation) TameFrom
+        (bind read (framed free outer) TameRead (λ y. TameRel y.relation)
+        (read_by_tame joins (alone_bound free sources from) (source_bound free sources from >>= joins_bound free sources joins) (alone_source_tame from of_from.0)
+        (sources_tame from joins (source_tame from of_from.0) (λ x h. joins_tame joins x of_joins.0 h)))
+        (λ y h. framed_tame free outer y h))
+        (λ y h.
+        bind (where_bound free sources y.spent outside y.relation.scope condition) _ TameParts TameFrom (where_parts_tame y.spent outside y.relation.scope condition of_condition.0) (λ ps w. (h, w)))
+
+    alone_source_tame : (from : t.Source) → in_source from ≡ false → IfTame (alone_bound free sources from)
+    alone_source_tame (t.Table name alias) f = tt
+    alone_source_tame (t.FromQuery (t.query_of t.no_selects order limit) alias) f = tt
+    alone_source_tame (t.FromQuery (t.query_of (t.select_and x t.no_selects) t.no_sorts None) alias) f =
+        let k = (neither (in_select x) false (neither _ false f).0).0 in
+        alone_tame_if alias (gathered_bound free sources None x) (ranked_select x) (ranked_free x k) (gathered_tame None x k)
+    alone_source_tame (t.FromQuery (t.query_of (t.select_and x t.no_selects) t.no_sorts (Some limit)) alias) f = tt
+    alone_source_tame (t.FromQuery (t.query_of (t.select_and x t.no_selects) (t.sort_and s order) limit) alias) f = tt
+    alone_source_tame (t.FromQuery (t.query_of (t.select_and x (t.select_and y ys)) order limit) alias) f = tt
+
+    where_parts_tame : (spent : Option ℕ) (outside : Outside) (own : Scope) (c : t.OptionalTree) → in_optional c ≡ false → IfOk (where_bound free sources spent outside own c) TameParts
+    where_parts_tame None outside own t.no_tree f = tt
+    where_parts_tame (Some n) outside own t.no_tree f = tt
+    where_parts_tame None outside own (t.some_tree x) f = bind (parts_bound free sources outside own x) tests TameParts TameParts (parts_tame outside own x f) tests_tame
+    where_parts_tame (Some n) outside own (t.some_tree x) f = bind (parts_but free sources n outside own x) tests TameParts TameParts (but_tame n outside own x f) tests_tame
+
+    but_tame : (n : ℕ) (outside : Outside) (own : Scope) (x : t.Tree) → in_tree x ≡ false → IfOk (parts_but free sources n outside own x) TameParts
+    but_tame n outside own (t.And xs) f = bind (all_parts_but free sources n outside own xs) tests TameParts TameParts (all_but_tame n outside own xs f) tests_tame
+    but_tame n outside own (t.Paren x) f = but_tame n outside own x f
+    but_tame n outside own x f = tt
+
+    all_but_tame : (n : ℕ) (outside : Outside) (own : Scope) (xs : t.Trees) → in_trees xs ≡ false → IfOk (all_parts_but free sources n outside own xs) TameParts
+    all_but_tame n outside own t.no_trees f = tt
+    all_but_tame n outside own (t.tree_and x xs) f =
+        let g = neither (in_tree x) (in_trees xs) f in
+        either (nat_lt n (length (conjuncts x)))
+        (parts_but free sources n outside own x >>= λ ps. all_parts_bound free sources outside own xs >>= λ qs. Ok (ps ++ qs))
+        (parts_bound free sources outside own x >>= λ ps. all_parts_but free sources (n - length (conjuncts x)) outside own xs >>= λ qs. Ok (ps ++ qs))
+        (bind (parts_but free sources n outside own x) _ TameParts TameParts (but_tame n outside own x g.0) (λ ps h.
+        bind (all_parts_bound free sources outside own xs) _ TameParts TameParts (all_parts_tame outside own xs g.1) (λ qs k.
+        parts_append ps qs h k)))
+        (bind (parts_bound free sources outside own x) _ TameParts TameParts (parts_tame outside own x g.0) (λ ps h.
+        bind (all_parts_but free sources (n - length (conjuncts x)) outside own xs) _ TameParts TameParts (all_but_tame (n - length (conjuncts x)) outside own xs g.1) (λ qs k.
+        parts_append ps qs h k)))
+
+    parts_tame : (outside : Outside) (own : Scope) (x : t.Tree) → in_tree x ≡ false → IfOk (parts_bound free sources outside own x) TameParts
+    parts_tame outside own (t.And xs) f = bind (all_parts_bound free sources outside own xs) tests TameParts TameParts (all_parts_tame outside own xs f) tests_tame
+    parts_tame outside own (t.Paren x) f = parts_tame outside own x f
+    parts_tame outside own (t.Exists q) f = bind (exists_bound free sources false own q) alone TamePart TameParts (exists_query_tame false own q f) alone_tame
+    parts_tame outside own (t.Not x) f = bind (denied_bound free sources outside own (t.Not x) x) alone TamePart TameParts (denied_tame outside own (t.Not x) x f f) alone_tame
+    parts_tame outside own (t.InQuery x q false) f =
+        let g = neither (in_tree x) (in_query q) f in
+        bind (plain_part outside own x >>= own_value) _ Tame TameParts (bind (plain_part outside own x) own_value TamePart Tame (plain_part_tame outside own x g.0) value_tame) (λ a h.
+        bind (query_bound free sources q >>= member_part own x a) alone TamePart TameParts
+        (bind (query_bound free sources q) (member_part own x a) TameRel TamePart (query_tame q g.1) (λ y k. member_tame own x a y h k)) alone_tame)
+    parts_tame outside own x f = bind (plain_part outside own x) alone TamePart TameParts (plain_part_tame outside own x f) alone_tame
+
+    all_parts_tame : (outside : Outside) (own : Scope) (xs : t.Trees) → in_trees xs ≡ false → IfOk (all_parts_bound free sources outside own xs) TameParts
+    all_parts_tame outside own t.no_trees f = tt
+    all_parts_tame outside own (t.tree_and x xs) f =
+        let g = neither (in_tree x) (in_trees xs) f in
+        bind (parts_bound free sources outside own x) _ TameParts TameParts (parts_tame outside own x g.0) (λ ps h.
+        bind (all_parts_bound free sources outside own xs) _ TameParts TameParts (all_parts_tame outside own xs g.1) (λ qs k.
+        parts_append ps qs h k))
+
+    denied_tame : (outside : Outside) (own : Scope) (whole x : t.Tree) → in_tree whole ≡ false → in_tree x ≡ false → IfOk (denied_bound free sources outside own whole x) TamePart
+    denied_tame outside own whole (t.Paren x) w f = denied_tame outside own whole x w f
+    denied_tame outside own whole (t.Exists q) w f = exists_query_tame true own q f
+    denied_tame outside own whole x w f = plain_part_tame outside own whole w
+
+    exists_query_tame : (anti : Bool) (own : Scope) (q : Query) → in_query q ≡ false → IfOk (exists_bound free sources anti own q) TamePart
+    exists_query_tame anti own (t.query_of t.no_selects order limit) f = tt
+    exists_query_tame anti own (t.query_of (t.select_and x xs) order limit) f =
+        let g = neither _ (in_sorts order) f in
+        let k = neither (in_select x) (in_selects xs) g.0 in
+        tested_else (is_simple x && (is_one xs && is_plain order limit)) (inside_bound free sources anti own x) Unsupported TamePart
+        (bind (gathered_bound free sources (Some own) x) (exists_over free anti x) TameFrom TamePart (gathered_tame (Some own) x k.0) (λ f h. exists_over_tame free anti x f h))
+
+    source_tame : (from : t.Source) → in_source from ≡ false → IfOk (source_bound free sources from) TameRel
+    source_tame (t.Table name alias) f = read_tame alias (find_source 0 sources name)
+    source_tame (t.FromQuery q alias) f = bind (query_bound free sources q) _ TameRel TameRel (query_tame q f) (λ x h. h)
+
+    joins_tame : (js : t.JoinItems) (x : Relation) → in_joins js ≡ false → TameRel x → IfOk (joins_bound free sources js x) TameRel
+    joins_tame t.no_joins x f h = h
+    joins_tame (t.join_and (t.join_of word source on) js) x f h =
+        let g = neither _ (in_joins js) f in
+        let k = neither (in_source source) (in_tree on) g.0 in
+        bind (source_bound free sources source) _ TameRel TameRel (source_tame source k.0) (λ y l.
+        bind (joined (kind_of word) x y on) (joins_bound free sources js) TameRel TameRel (joined_tame (kind_of word) x y on k.1 h l) (λ z m. joins_tame js z g.1 m))
+
+abbrev TameInsert : Inserted → Type 0
+TameInsert x = is_tame_rel x.query.rel ≡ true
+
+sunk_tame : (free : Bool) (sources : List TableDef) (query : Query) (sink : TableDef) → in_query query ≡ false → IfOk (sunk free sources query sink) TameInsert
+sunk_tame free sources query sink f =
+    bind (query_bound free (sources ++ sink ∷ []) query) _ TameRel TameInsert (query_tame free (sources ++ sink ∷ []) query f) (λ x h.
+    tested (scans (length sources) x.rel || not (go_into (types x.scope) (column_types sink))) SinkShape (Ok (record { query = x; sources = sources; sink = sink })) TameInsert h)
+
+insert_tame : (tables : List TableDef) (name : Text) (query : Query) → in_query query ≡ false → IfOk (insert_bound tables name query) TameInsert
+insert_tame tables name query f =
+    let sources = sources_for tables name in
+    then (or_code UnknownTable (find (is_table name) tables)) (into_sink sources query) TameInsert (λ sink.
+    then (sunk true sources query sink) _ TameInsert (λ x. sunk_tame false sources query sink f))
+
+pub queries_are_tame : QueriesAreTame
+queries_are_tame free sources query bound e f = of_ok (query_bound free sources query) bound TameRel (query_tame free sources query f) e
+
+pub inserts_are_tame : InsertsAreTame
+inserts_are_tame tables name query bound e f = of_ok (insert_bound tables name query) bound TameInsert (insert_tame tables name query f) e

@@ -1,0 +1,9 @@
+pub mod Answers
+pub mod Counts
+pub mod Expressions
+pub mod Folds
+pub mod Groups
+pub mod Joins
+pub mod Ranks
+pub mod Rows
+pub mod Theorems

@@ -1,0 +1,81 @@
+-- Answers with short texts: one behind the other, and those that replace a row by another.
+use Rattle.std.proofs.Common.{ℕ, zero, suc, ◌==◌, ◌≤◌, Bool, true, false, cond, List, [], ◌∷◌, ◌++◌, length, take, Option, Some, None, Ok, Err, arith}
+use Rattle.std.specs.List.{AllByRecursion, find}
+use Rattle.ct_value.specs.declared.row.Row.{Row}
+use Rattle.ct_change.specs.declared.change.Change.{Change}
+use Rattle.ct_change.specs.Changelog.{Mode, append, retract, upsert, same_row}
+use Rattle.ct_change.specs.Emission.{update, emission}
+use Rattle.op_rules.specs.History.{Arrival, at_port}
+use Rattle.op_rules.specs.Rules.{Answer, appended}
+use Rattle.op_rules.proofs.laws.Histories.{all-append}
+use Rattle.range_rules.specs.Ranges.{IsShortRow, IsShort, ArrivesShort, IsShortAnswer}
+
+-- ---- one behind the other
+
+pub appended_short : (a b : Answer) → IsShortAnswer a → IsShortAnswer b → IsShortAnswer (appended a b)
+appended_short (Ok changes) (Ok others) h k = all-append IsShort changes others h k
+appended_short (Ok changes) (Err row) h k = absurd k
+appended_short (Err row) b h k = absurd h
+
+pub all_if : (P : Change → Type 0) (b : Bool) (changes others : List Change) → AllByRecursion P changes → AllByRecursion P others → AllByRecursion P (cond b changes others)
+all_if P true changes others h k = h
+all_if P false changes others h k = k
+
+-- ---- a row is replaced by another
+
+-- a row, if there is one, has short texts
+abbrev pub IsShortIf : Option Row → Type 0
+IsShortIf None = Unit {0}
+IsShortIf (Some row) = IsShortRow row
+
+update_short : (mode : Mode) (old fresh : Row) → IsShortRow old → IsShortRow fresh → AllByRecursion IsShort (update mode old fresh)
+update_short append old fresh h k = tt
+update_short retract old fresh h k = (h, (k, tt))
+update_short (upsert key) old fresh h k = (k, tt)
+
+pub emission_short : (mode : Mode) (old fresh : Option Row) → IsShortIf old → IsShortIf fresh → AllByRecursion IsShort (emission mode old fresh)
+emission_short mode None None h k = tt
+emission_short mode None (Some fresh) h k = (k, tt)
+emission_short mode (Some old) None h k = (h, tt)
+emission_short mode (Some old) (Some fresh) h k = all_if IsShort (same_row old fresh) [] (update mode old fresh) tt (update_short mode old fresh h k)
+
+found_here : (b : Bool) (row : Row) (o : Option Row) → IsShortRow row → IsShortIf o → IsShortIf (cond b (Some row) o)
+found_here true row o h k = h
+found_here false row o h k = k
+
+pub found_short : (test : Row → Bool) (rows : List Row) → AllByRecursion IsShortRow rows → IsShortIf (find test rows)
+found_short test [] h = tt
+found_short test (row ∷ rows) h = found_here (test row) row (find test rows) h.0 (found_short test rows h.1)
+
+-- ---- what came to a port
+
+arrived : (b : Bool) (change : Change) (changes : List Change) → IsShort change → AllByRecursion IsShort changes → AllByRecursion IsShort (cond b (change ∷ changes) changes)
+arrived true change changes h k = (h, k)
+arrived false change changes h k = k
+
+pub at_port_short : (port : ℕ) (arrivals : List Arrival) → AllByRecursion ArrivesShort arrivals → AllByRecursion IsShort (at_port port arrivals)
+at_port_short port [] h = tt
+at_port_short port (a ∷ others) h = arrived (a.port == port) a.change (at_port port others) h.0 (at_port_short port others h.1)
+
+pub at_port_few : (port : ℕ) (arrivals : List Arrival) → length (at_port port arrivals) ≤ length arrivals
+at_port_few port [] = omega arith
+at_port_few port (a ∷ others) =
+    elim (a.port == port) as (λ b. length (cond b (a.change ∷ at_port port others) (at_port port others)) ≤ length (a ∷ others)) [
+      | true ↦ omega (arith, at_port_few port others)
+      | false ↦ omega (arith, at_port_few port others)
+    ]
+
+-- ---- parts of rows
+
+pub take_short : (n : ℕ) (row : Row) → IsShortRow row → IsShortRow (take n row)
+take_short n [] h = nothing n
+  where
+    nothing : (n : ℕ) → IsShortRow (take n [])
+    nothing zero = tt
+    nothing (suc n) = tt
+take_short zero (value ∷ row) h = tt
+take_short (suc n) (value ∷ row) h = (h.0, take_short n row h.1)
+
+pub both_short : (row other : Row) → IsShortRow row → IsShortRow other → IsShortRow (row ++ other)
+both_short [] other h k = k
+both_short (value ∷ row) other h k = (h.0, both_short row other h.1 k)

@@ -1,0 +1,4 @@
+pub mod Arithmetic
+pub mod Ranges
+pub mod Statement
+pub mod Tame

@@ -1,0 +1,17 @@
+pub mod Aggregates
+pub mod AnswerTypes
+pub mod Averages
+pub mod Bags
+pub mod ClauseTypes
+pub mod Clauses
+pub mod CountStar
+pub mod Fits
+pub mod Groups
+pub mod Joins
+pub mod Keys
+pub mod PlainColumns
+pub mod Ranks
+pub mod ResultTypes
+pub mod Results
+pub mod Theorems
+pub mod Views

@@ -1,5 +1,0 @@
-pub mod AnswerTypes
-pub mod CountStar
-pub mod PlainColumns
-pub mod Results
-pub mod Views

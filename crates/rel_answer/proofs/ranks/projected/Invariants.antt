@@ -1,6 +1,0 @@
-use Rattle.std.proofs.Common.{◌≡◌, take}
-use Rattle.ct_value.specs.Rows.{project}
-use Rattle.rel_answer.proofs.ranks.projected.Given as goal
-
-abbrev pub invariant-loop-col : goal.invariant-loop-col
-invariant-loop-col l = l.values ≡ project (take l.col-index l.col-items) l.row

@@ -1,4 +1,0 @@
-pub mod Indexes
-pub mod Matches
-pub mod Tallies
-pub mod Ranking

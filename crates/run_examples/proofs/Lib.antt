@@ -1,0 +1,3 @@
+mod Planned
+mod Worked
+pub mod laws

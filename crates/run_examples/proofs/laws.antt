@@ -1,0 +1,4 @@
+pub mod InferenceTheorems
+pub mod JoinsListed
+pub mod RowsListed
+pub mod RunTheorems

@@ -1,0 +1,9 @@
+pub mod Asked
+pub mod InferenceExamples
+pub mod JoinExamples
+pub mod JoinsListed
+pub mod Planned
+pub mod Plans
+pub mod RowExamples
+pub mod RowsListed
+pub mod Worked

@@ -1,0 +1,80 @@
+-- A worked run over a real plan: that of SELECT word, COUNT(*) FROM t GROUP BY word.
+use Rattle.std.specs.Prelude.{◌≡◌, ℕ, false, pos, List, [], ◌∷◌, ◌++◌, codes, None}
+use Rattle.ct_value.specs.declared.ty.Ty.TheVariants.{Text as Texts, BigInt}
+use Rattle.ct_value.specs.declared.value.Value.TheVariants.{Num, Text}
+use Rattle.ct_value.specs.declared.row.Row.{Row}
+use Rattle.ct_change.specs.declared.kind.Kind.{Kind}
+use Rattle.ct_change.specs.declared.kind.Kind.TheVariants.{I, UB, UA}
+use Rattle.ct_change.specs.declared.kind.Declared.TheVariants.{Append, Retract}
+use Rattle.ct_change.specs.declared.change.Change.{Change}
+use Rattle.ct_change.specs.Changelog.{retract, kinds_of}
+use Rattle.ct_catalog.specs.declared.table.ColDef.{ColDef}
+use Rattle.ct_catalog.specs.declared.table.TableDef.{TableDef}
+use Rattle.rel_algebra.specs.GroupedCounts.{count_all}
+use Rattle.rel_algebra.specs.Rel.{Rel}
+use Rattle.rel_algebra.specs.Rel as r
+use Rattle.phys_plan.specs.declared.edge.Exchange.TheVariants.{Forward, Hash}
+use Rattle.ct_change.specs.declared.update.Update.TheVariants.{Absent, Both}
+use Rattle.phys_plan.specs.declared.node.Op.TheVariants as op
+use Rattle.phys_plan.specs.declared.plan.Plan.{Plan}
+use Rattle.plan_rules.specs.Laid.{IsPlanOf}
+use Rattle.phys_plan.specs.Reading.{no_keys}
+use Rattle.plan_rules.specs.Doings.{network}
+use Rattle.stream_model.specs.declared.events.PrintItem.TheVariants.{Change as Printed, Quiet}
+use Rattle.run_examples.specs.Worked.{Verb, does, drains, take, printed_by}
+
+-- ---- the plan
+
+abbrev pub word_column : ColDef
+word_column = record { name = codes "word"; ty = record { ty = Texts; nullable = false } }
+
+abbrev pub count_column : ColDef
+count_column = record { name = codes "n"; ty = record { ty = BigInt; nullable = false } }
+
+abbrev pub word_table : TableDef
+word_table = record { name = codes "t"; cols = word_column ∷ []; key = None; mode = Append }
+
+abbrev pub count_table : TableDef
+count_table = record { name = codes "out_t"; cols = word_column ∷ count_column ∷ []; key = None; mode = Retract }
+
+-- words counted, in one subtask
+abbrev pub counts : Plan
+counts = record {
+  sources = word_table ∷ [];
+  sink = count_table;
+  nodes =
+      record { op = op.Scan 0; inputs = []; keys = no_keys }
+      ∷ record { op = op.Group 1 (count_all ∷ []); inputs = 1 ∷ []; keys = no_keys }
+      ∷ record { op = op.Sink; inputs = 2 ∷ []; keys = no_keys }
+      ∷ [];
+  edges =
+      record { exchange = Hash (0 ∷ []); kinds = kinds_of retract; update = Both }
+      ∷ record { exchange = Forward; kinds = kinds_of retract; update = Both }
+      ∷ record { exchange = Forward; kinds = kinds_of retract; update = Absent }
+      ∷ [];
+  parallelism = 1;
+  mini_batch = 0;
+}
+
+abbrev pub counts_rel : Rel
+counts_rel = r.Group (r.Scan 0) 1 (count_all ∷ [])
+
+-- ---- the run
+
+abbrev pub a_word : Row
+a_word = Text (codes "a") ∷ []
+
+abbrev pub a_comes : Change
+a_comes = record { kind = I; row = a_word }
+
+-- a row comes twice
+abbrev pub twice : List Verb
+twice = does (take 0 a_comes ∷ take 0 a_comes ∷ []) ∷ drains ∷ []
+
+abbrev pub counted : Kind → ℕ → Change
+counted kind n = record { kind = kind; row = a_word ++ Num (pos n) ∷ [] }
+
+pub record CountsAsWorked : Type 0 where
+  pub is_plan : IsPlanOf counts counts_rel
+  -- the first count, and then the second in its place
+  pub printed : printed_by (network counts) twice ≡ Printed (counted I 1) ∷ Printed (counted UB 1) ∷ Printed (counted UA 2) ∷ Quiet 2 ∷ []

@@ -1,0 +1,11 @@
+pub mod Ends
+pub mod Lines
+pub mod Nodes
+pub mod Prints
+pub mod Runs
+pub mod Sinks
+pub mod Steps
+pub mod Stops
+pub mod TameTheorems
+pub mod Theorems
+pub mod Trees

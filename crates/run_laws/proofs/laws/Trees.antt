@@ -1,0 +1,140 @@
+-- The plan of a tree that calculates nothing calculates nothing, whatever is inferred of it.
+use Rattle.std.specs.Prelude.{◌≡◌, ℕ, ◌+◌, ◌≤◌, Bool, ◌&&◌, List, slice_get, Option, unwrap_or}
+use Rattle.std.proofs.Common.{zero, suc, true, [], ◌∷◌, refl, sym, ap, subst, ◌∙◌, arith, Some, None, inl, inr}
+use Rattle.std.specs.List.{list_all}
+use Rattle.std.proofs.lemmas.Bool.{and_parts, and_from}
+use Rattle.ct_change.specs.declared.kind.Declared.{Declared}
+use Rattle.ct_change.specs.declared.kind.Declared.TheVariants.{Append, Retract, Upsert}
+use Rattle.ct_catalog.specs.declared.table.TableDef.{TableDef}
+use Rattle.ct_expr.specs.Expr.{Expr}
+use Rattle.range_rules.specs.Tame.{is_tame, rest_is_tame, is_tame_rel, are_tame_rels}
+use Rattle.rel_algebra.specs.declared.join.JoinKind.{JoinKind}
+use Rattle.rel_algebra.specs.declared.join.Pair.{Pair}
+use Rattle.rel_algebra.specs.Rel.{Rel, Rels, no_rels, rel_and}
+use Rattle.rel_algebra.specs.Rel as r
+use Rattle.emission_rules.specs.GroupFits.{first_columns}
+use Rattle.emission_rules.specs.JoinFits.{left_pairs, right_pairs}
+use Rattle.phys_plan.specs.declared.edge.Exchange.{Exchange}
+use Rattle.phys_plan.specs.declared.edge.Exchange.TheVariants.{Forward, Hash}
+use Rattle.phys_plan.specs.declared.node.KeyInfo.{KeyInfo}
+use Rattle.phys_plan.specs.declared.node.Op.{Op}
+use Rattle.phys_plan.specs.declared.node.Op.TheVariants as op
+use Rattle.phys_plan.specs.declared.node.Node.{Node}
+use Rattle.phys_plan.specs.declared.plan.Plan.{Plan}
+use Rattle.upsert_keys.specs.Keys.{keyed_from}
+use Rattle.phys_plan.specs.Reading.{numbered}
+use Rattle.plan_rules.specs.Laid.{IsFilter, IsProject, IsJoin, IsSemi, HasNode, ScanLaid, SourceLaid, IsLaid, AreLaid}
+use Rattle.plan_check.specs.Sound.{inferred_of}
+use Rattle.sound_plans.proofs.laws.Lists.{the_same, within}
+use Rattle.sound_plans.proofs.laws.Numbers.{side}
+use Rattle.run_laws.specs.Runs.{is_tame_op, TreesHaveTamePlans}
+
+-- ---- operators
+
+is_op : (own : Op) → is_tame_op own ≡ true → (o : Op) → o ≡ own → is_tame_op o ≡ true
+is_op own tame o e = ap is_tame_op e ∙ tame
+
+filter_tame : (condition : Expr) → is_tame condition ≡ true → (o : Op) → IsFilter condition o → is_tame_op o ≡ true
+filter_tame condition tame (op.Filter cond) h = ap is_tame h ∙ tame
+filter_tame condition tame _ h = absurd h
+
+project_tame : (items : List Expr) → list_all is_tame items ≡ true → (o : Op) → IsProject items o → is_tame_op o ≡ true
+project_tame items tame (op.Project own) h = ap (list_all is_tame) h ∙ tame
+project_tame items tame _ h = absurd h
+
+join_tame : (kind : JoinKind) (on : List Pair) (rest : Option Expr) → rest_is_tame rest ≡ true → (o : Op) → IsJoin kind on rest o → is_tame_op o ≡ true
+join_tame kind on rest tame (op.Join own pairs test) h = ap rest_is_tame h.2 ∙ tame
+join_tame kind on rest tame _ h = absurd h
+
+semi_tame : (anti : Bool) (on : List Pair) (rest : Option Expr) → rest_is_tame rest ≡ true → (o : Op) → IsSemi anti on rest o → is_tame_op o ≡ true
+semi_tame anti on rest tame (op.Semi own pairs test) h = ap rest_is_tame h.2 ∙ tame
+semi_tame anti on rest tame _ h = absurd h
+
+-- ---- nodes
+
+module _ (plan : Plan) where
+  abbrev TameAt : ℕ → Type 0
+  TameAt v = (node : Node) → numbered plan.nodes v ≡ Some node → is_tame_op node.op ≡ true
+
+  -- the nodes up to the last calculate nothing
+  abbrev TameUpTo : ℕ → Type 0
+  TameUpTo last = (v : ℕ) → v ≤ last → TameAt v
+
+  no_nodes : TameUpTo 0
+  no_nodes zero l node e = absurd (cc)
+  no_nodes (suc v) l node e = absurd (omega arith)
+
+  -- a node behind the last
+  more : (last root : ℕ) → TameUpTo last → root ≡ last + 1 → TameAt root → TameUpTo root
+  more last root before next here v l = elim (side v last) [ inl low ↦ before v low | inr high ↦ subst TameAt (let e : root ≡ v = omega arith in e) here ]
+
+  at_node : (v : ℕ) (IsOp : Op → Type 0) (inputs : List ℕ) → HasNode plan v IsOp inputs → ((o : Op) → IsOp o → is_tame_op o ≡ true) → TameAt v
+  at_node v IsOp inputs has tame node e = ap (λ (x : Node). is_tame_op x.op) (the_same node has.node (sym e ∙ has.is_there)) ∙ tame has.node.op has.is_op
+
+  scan_tame : (n : ℕ) (x : Exchange) (source : ℕ) (mode : Declared) (key : List ℕ) (root : ℕ) → TameUpTo n → ScanLaid plan n x source mode key root → TameUpTo root
+  scan_tame n x source Append key root before laid = more n root before laid.0 (at_node root (λ o. o ≡ op.Scan source) [] laid.1 (is_op (op.Scan source) refl))
+  scan_tame n x source Retract key root before laid = more n root before laid.0 (at_node root (λ o. o ≡ op.Scan source) [] laid.1 (is_op (op.Scan source) refl))
+  scan_tame n x source Upsert key root before laid =
+      let next = laid.0 in
+      more (n + 1) root (more n (n + 1) before refl (at_node (n + 1) (λ o. o ≡ op.Scan source) [] laid.1 (is_op (op.Scan source) refl))) (omega arith)
+      (at_node root (λ o. o ≡ op.Normalize key) ((n + 1) ∷ []) laid.3 (is_op (op.Normalize key) refl))
+
+  source_tame : (n : ℕ) (x : Exchange) (source : ℕ) (o : Option TableDef) (root : ℕ) → TameUpTo n → SourceLaid plan n x source o root → TameUpTo root
+  source_tame n x source None root before laid = absurd laid
+  source_tame n x source (Some table) root before laid = scan_tame n x source table.mode (unwrap_or table.key []) root before laid
+
+  mutual
+    tree_tame : (rel : Rel) → is_tame_rel rel ≡ true → (n : ℕ) (x : Exchange) (root : ℕ) → TameUpTo n → IsLaid plan n x rel root → TameUpTo root
+    tree_tame (r.Scan source) tame n x root before laid = source_tame n x source (slice_get plan.sources source) root before laid
+    tree_tame (r.Filter input condition) tame n x root before laid =
+        let p = and_parts _ _ tame in
+        more laid.0 root (tree_tame input p.0 n Forward laid.0 before laid.1) laid.2 (at_node root (IsFilter condition) (laid.0 ∷ []) laid.3 (filter_tame condition p.1))
+    tree_tame (r.Project input items) tame n x root before laid =
+        let p = and_parts _ _ tame in
+        more laid.0 root (tree_tame input p.0 n Forward laid.0 before laid.1) laid.2 (at_node root (IsProject items) (laid.0 ∷ []) laid.3 (project_tame items p.1))
+    tree_tame (r.Union inputs) tame n x root before laid =
+        more laid.1 root (trees_tame inputs tame n laid.0 laid.1 before laid.2) laid.3 (at_node root (λ o. o ≡ op.Union) laid.0 laid.4 (is_op op.Union refl))
+    tree_tame (r.Group input keys aggs) tame n x root before laid =
+        let p = and_parts _ _ tame in
+        more laid.0 root (tree_tame input p.0 n (Hash (first_columns keys)) laid.0 before laid.1) laid.2
+        (at_node root (λ o. o ≡ op.Group keys aggs) (laid.0 ∷ []) laid.3 (is_op (op.Group keys aggs) p.1))
+    tree_tame (r.Join left right kind pairs rest) tame n x root before laid =
+        let p = and_parts _ _ tame in
+        let q = and_parts _ _ p.1 in
+        let first = tree_tame left p.0 n (Hash (left_pairs pairs)) laid.0 before laid.2 in
+        more laid.1 root (tree_tame right q.0 laid.0 (Hash (right_pairs pairs)) laid.1 first laid.3) laid.4
+        (at_node root (IsJoin kind pairs rest) (laid.0 ∷ (laid.1 ∷ [])) laid.5 (join_tame kind pairs rest q.1))
+    tree_tame (r.Semi left right anti pairs rest) tame n x root before laid =
+        let p = and_parts _ _ tame in
+        let q = and_parts _ _ p.1 in
+        let first = tree_tame left p.0 n (Hash (left_pairs pairs)) laid.0 before laid.2 in
+        more laid.1 root (tree_tame right q.0 laid.0 (Hash (right_pairs pairs)) laid.1 first laid.3) laid.4
+        (at_node root (IsSemi anti pairs rest) (laid.0 ∷ (laid.1 ∷ [])) laid.5 (semi_tame anti pairs rest q.1))
+    tree_tame (r.Rank input partition order bound ranked) tame n x root before laid =
+        more laid.0 root (tree_tame input tame n (Hash partition) laid.0 before laid.1) laid.2
+        (at_node root (λ o. o ≡ op.TopN partition order bound ranked) (laid.0 ∷ []) laid.3 (is_op (op.TopN partition order bound ranked) refl))
+
+    trees_tame : (inputs : Rels) → are_tame_rels inputs ≡ true → (n : ℕ) (roots : List ℕ) (last : ℕ) → TameUpTo n → AreLaid plan n inputs roots last → TameUpTo last
+    trees_tame no_rels tame n roots last before laid = subst TameUpTo (sym laid.1) before
+    trees_tame (rel_and input inputs) tame n roots last before laid =
+        let p = and_parts _ _ tame in
+        trees_tame inputs p.1 laid.0 laid.1 last (tree_tame input p.0 n Forward laid.0 before laid.2) laid.3
+
+-- ---- the plan
+
+each_tame : (nodes : List Node) → ((n : ℕ) (node : Node) → slice_get nodes n ≡ Some node → is_tame_op node.op ≡ true) → list_all (λ node. is_tame_op node.op) nodes ≡ true
+each_tame [] h = refl
+each_tame (node ∷ nodes) h = and_from (is_tame_op node.op) _ (h 0 node refl) (each_tame nodes (λ n other e. h (suc n) other e))
+
+-- keys that are inferred change no operator
+keeps : (table : List KeyInfo) (v : ℕ) (nodes : List Node) → list_all (λ node. is_tame_op node.op) (keyed_from v table nodes) ≡ list_all (λ node. is_tame_op node.op) nodes
+keeps table v [] = refl
+keeps table v (node ∷ nodes) = ap (λ b. is_tame_op node.op && b) (keeps table (v + 1) nodes)
+
+pub trees_have_tame_plans : TreesHaveTamePlans
+trees_have_tame_plans plan rel is tame =
+    let tree = tree_tame plan rel tame 0 Forward is.root (no_nodes plan) is.laid in
+    let all = more plan is.root (is.root + 1) tree refl (at_node plan (is.root + 1) (λ o. o ≡ op.Sink) (is.root ∷ []) is.sink_node (is_op op.Sink refl)) in
+    let count = is.nodes in
+    keeps (inferred_of plan).keys 1 plan.nodes
+    ∙ each_tame plan.nodes (λ n node e. all (suc n) (let l = within plan.nodes n node e in omega arith) node e)

@@ -1,0 +1,4 @@
+pub mod Headline
+pub mod Rows
+pub mod Runs
+pub mod Stops

@@ -1,0 +1,26 @@
+-- The columns of what a run prints, whether it goes to its end or stops.
+use Rattle.std.specs.Prelude.{◌≡◌, ℕ, true, List, length}
+use Rattle.std.specs.List.{AllByRecursion}
+use Rattle.ct_value.specs.declared.ty.ColTy.{ColTy}
+use Rattle.ct_field.specs.Typed.{row_fits}
+use Rattle.phys_plan.specs.declared.plan.Plan.{Plan}
+use Rattle.stream_model.specs.Runs.{changes_in}
+use Rattle.ct_catalog.specs.Columns.{column_types}
+use Rattle.plan_rules.specs.Columns.{columns_at}
+use Rattle.plan_rules.specs.Doings.{network}
+use Rattle.plan_check.specs.Types.{fit_sink}
+use Rattle.sound_plans.specs.Sound.{IsRuled}
+use Rattle.source_lines.specs.Run.{printed_by, whole_run}
+
+-- the columns that a plan's sink sends
+abbrev pub sent_columns : Plan → List ColTy
+sent_columns plan = columns_at plan.sources plan.nodes (length plan.nodes)
+
+-- they may go into its table
+abbrev pub SinksFit : Type 0
+SinksFit = (plan : Plan) → IsRuled plan → fit_sink (sent_columns plan) (column_types plan.sink) ≡ true
+
+-- each row that a run over a sound plan has printed has these columns
+abbrev pub RunsPrintRows : Type 0
+RunsPrintRows = (plan : Plan) → IsRuled plan → (limit : ℕ) (bytes : List ℕ)
+    → AllByRecursion (λ change. row_fits (sent_columns plan) change.row ≡ true) (changes_in (printed_by (whole_run (network plan) limit plan.sources bytes)))

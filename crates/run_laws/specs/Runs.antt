@@ -1,0 +1,42 @@
+-- What a run never stops by, where its plan calculates nothing.
+use Rattle.std.specs.Prelude.{◌≡◌, ℕ, ◌<◌, Bool, true, List, map, option_map}
+use Rattle.std.specs.List.{list_all}
+use Rattle.ct_value.specs.declared.row.Row.{Row}
+use Rattle.ct_value.specs.declared.ty.ColTy.{ColTy}
+use Rattle.ct_expr.specs.View.{expr_view}
+use Rattle.rel_algebra.specs.Rel.{Rel}
+use Rattle.range_rules.specs.Tame.{is_tame, is_tame_rel, only_counts, rest_is_tame}
+use Rattle.phys_plan.specs.declared.node.Op.{Op}
+use Rattle.phys_plan.specs.declared.node.Op.TheVariants as op
+use Rattle.phys_plan.specs.declared.plan.Plan.{Plan}
+use Rattle.stream_model.specs.declared.events.StepFault.TheVariants.{Range}
+use Rattle.stream_model.specs.declared.events.PrintItem.{PrintItem}
+use Rattle.plan_rules.specs.Doings.{network}
+use Rattle.sound_plans.specs.Sound.{IsRuled}
+use Rattle.laid_plans.specs.Inferred.{with_inferred}
+use Rattle.laid_plans.specs.Shapes.{IsLaidOut}
+use Rattle.source_lines.specs.Run.{stopped, whole_run}
+
+-- an operator that calculates nothing
+abbrev pub is_tame_op : Op → Bool
+is_tame_op (op.Filter cond) = is_tame (expr_view cond)
+is_tame_op (op.Project items) = list_all is_tame (map expr_view items)
+is_tame_op (op.Group keys aggs) = list_all (λ agg. only_counts agg.call) aggs
+is_tame_op (op.Join kind on rest) = rest_is_tame (option_map expr_view rest)
+is_tame_op (op.Semi anti on rest) = rest_is_tame (option_map expr_view rest)
+is_tame_op _ = true
+
+-- a plan of such operators
+abbrev pub is_tame_plan : Plan → Bool
+is_tame_plan plan = list_all (λ node. is_tame_op node.op) plan.nodes
+
+-- that of a tree that calculates nothing is one, with what is inferred of it
+abbrev pub TreesHaveTamePlans : Type 0
+TreesHaveTamePlans = (plan : Plan) (rel : Rel) → IsLaidOut plan rel → is_tame_rel rel ≡ true → is_tame_plan (with_inferred plan) ≡ true
+
+-- a run over a sound plan that calculates nothing never stops by a value that leaves the range of its type, so far as it sends no
+-- more changes than a BIGINT counts
+abbrev pub RunsStayInRange : Type 0
+RunsStayInRange = (plan : Plan) → IsRuled plan → is_tame_plan plan ≡ true → (limit : ℕ) → limit < 9223372036854775808
+    → (bytes : List ℕ) (node subtask : ℕ) (row : Row) (types : List ColTy) (printed : List PrintItem)
+    → whole_run (network plan) limit plan.sources bytes ≡ stopped (Range node subtask row types) printed → ⊥

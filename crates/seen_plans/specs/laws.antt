@@ -1,4 +1,0 @@
-pub mod Nodes
-pub mod Types
-pub mod Inferred
-pub mod Refused

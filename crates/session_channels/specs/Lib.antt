@@ -1,3 +1,0 @@
-pub mod Lanes
-pub mod Routes
-pub mod Sending

@@ -1,0 +1,67 @@
+use Rattle.std.proofs.Common.{◌≡◌, ℕ, ◌<◌, List, [], ◌∷◌, sym, ap, ◌∙◌, arith}
+use Rattle.ct_change.specs.declared.change.Change.{Change}
+use Rattle.session_core.specs.Lanes.{flight_in}
+use Rattle.session_core.specs.LaidOut.{port_of}
+use Rattle.session_core.proofs.Flights.{carry_front}
+use Rattle.session_core.proofs.Wires.{channel_there, fed_there, move_unfed, move_off, move_empty}
+use Rattle.session_core.proofs.traffic.Traffic.fetch.Goals as goal
+
+pub returns-in_default-clause-err : goal.returns-in_default-clause-err
+returns-in_default-clause-err c = λ g limit handed s laid kept. move_unfed g limit s c.args.edge c.args.from c.args.to (sym (c.in_default.ensures g limit laid))
+
+pub returns-then-not-is_channel-clause-err : goal.returns-then-not-is_channel-clause-err
+returns-then-not-is_channel-clause-err c = λ g limit handed s laid kept.
+    move_off g limit s c.args.edge c.args.from c.args.to (port_of c.in-Some.feed) (sym (c.in-Some.ensures g limit laid)) (sym (c.is_channel.ensures g limit laid) ∙ c.if-not-is_channel.true)
+
+pub take_front-requires-clause-from : goal.take_front-requires-clause-from
+take_front-requires-clause-from c =
+    let r = c.requires.ready in
+    let there = channel_there r.0 c.args.edge c.args.from c.args.to (sym (c.is_channel.ensures r.0 r.1 r.4) ∙ c.if-not-is_channel.false) in
+    omega (arith, there.0, r.5.width)
+
+pub take_front-requires-clause-to : goal.take_front-requires-clause-to
+take_front-requires-clause-to c =
+    let r = c.requires.ready in
+    let there = channel_there r.0 c.args.edge c.args.from c.args.to (sym (c.is_channel.ensures r.0 r.1 r.4) ∙ c.if-not-is_channel.false) in
+    omega (arith, there.1, r.5.width)
+
+pub returns-in-Some-take_front-clause-ok : goal.returns-in-Some-take_front-clause-ok
+returns-in-Some-take_front-clause-ok c = λ g limit handed s laid kept.
+    let e = c.args.edge in
+    let i = c.args.from in
+    let j = c.args.to in
+    let new = c.take_front.new.self in
+    let fed = sym (c.in-Some.ensures g limit laid) in
+    let on = sym (c.is_channel.ensures g limit laid) ∙ c.if-not-is_channel.false in
+    let there = channel_there g e i j on in
+    let edge = (fed_there g laid.wired e (port_of c.in-Some.feed) fed).edge in
+    let rest = flight_in new.width new.lanes.items e i j in
+    let some = c.in-Some-take_front.ensures.some in
+    record {
+      fed = fed;
+      channel = on;
+      rest = rest;
+      front = sym (kept.flight.at e i j (omega (arith, edge, kept.edges)) (omega (arith, there.0, kept.width)) (omega (arith, there.1, kept.width))) ∙ some.0;
+      carries = record {
+        width = c.take_front.ensures.width ∙ kept.width;
+        edges = c.take_front.ensures.edges ∙ kept.edges;
+        flight = carry_front c.args.self.now.channels new s.flight e i j rest kept.flight c.take_front.ensures.edges c.take_front.ensures.width some.1;
+        sends = c.take_front.ensures.sent ∙ kept.sends;
+        within = kept.within;
+        took = kept.took;
+        few = kept.few;
+        printed = kept.printed;
+      };
+    }
+
+pub returns-in-None-clause-err : goal.returns-in-None-clause-err
+returns-in-None-clause-err c = λ g limit handed s laid kept.
+    let e = c.args.edge in
+    let i = c.args.from in
+    let j = c.args.to in
+    let fed = sym (c.in-Some.ensures g limit laid) in
+    let on = sym (c.is_channel.ensures g limit laid) ∙ c.if-not-is_channel.false in
+    let there = channel_there g e i j on in
+    let edge = (fed_there g laid.wired e (port_of c.in-Some.feed) fed).edge in
+    move_empty g limit s e i j (port_of c.in-Some.feed) fed on
+    (sym (kept.flight.at e i j (omega (arith, edge, kept.edges)) (omega (arith, there.0, kept.width)) (omega (arith, there.1, kept.width))) ∙ c.in-None.ensures.none)

@@ -1,0 +1,141 @@
+ghost use Rattle.std.specs.Prelude.{◌≡◌, ◌+◌, ◌<◌, ◌≤◌, ◌&&◌, nat_lt, nat_le, length, ℕ, List, OnOk, OnErr, IfOk, IfErr};
+ghost use Rattle.stream_model.specs.Network.{Network};
+ghost use Rattle.stream_model.specs.Machine as machine;
+ghost use Rattle.stream_model.specs.Machine.{State};
+ghost use Rattle.stream_model.specs.Tables.{Table, scanned_at};
+ghost use Rattle.stream_model.specs.Runs.{told_quiet};
+ghost use Rattle.stream_model.specs.Drain.{StopsBy};
+ghost use Rattle.stream_model.specs.declared.events.PrintItem.{PrintItem};
+ghost use Rattle.session_core.specs.LaidOut.{IsThere};
+ghost use Rattle.session_core.specs.Kept.{Carries, CarriesSome, Fetches, ForCarried, ForEach, ForSome, HasHandedOn, HasScanned, MayHandOn, MayScan};
+
+use crate::printing::print_all;
+use crate::{Channels, Feed, Lane, Wiring, scan_all, send_all};
+use ct_change::{Change, Changes};
+use ct_value::{Memory, OrderCode};
+use stream_model::{PrintItem, PrintList, StepFault};
+
+/// What is in flight, what was printed and not yet handed out, and how many changes were taken.
+#[derive(Drop)]
+pub struct Traffic {
+    pub channels: Channels,
+    pub printed: PrintList,
+    pub took: u32,
+}
+
+impl Traffic {
+    /// Takes the front of a channel, and answers the port that it feeds.
+    pub fn fetch(
+        &mut self,
+        wiring: &Wiring,
+        edge: u32,
+        from: u32,
+        to: u32,
+    ) -> Result<(Feed, Change), StepFault>
+        requires ready { CarriesSome wiring.now self.old }
+        ensures ok { IfOk result (λ got. ForCarried wiring.now self.old (Fetches self.new edge from to got.0 got.1)) }
+        ensures err { IfErr result (λ fault. ForCarried wiring.now self.old (λ g limit handed s. StopsBy (machine.move g limit s edge from to) fault)) }
+        ensures printed { self.new.printed ≡ self.old.printed }
+    {
+        let Some(feed) = wiring.feed(edge) else {
+            return Err(StepFault::Order(OrderCode::NoSuchPlace));
+        };
+        if !wiring.is_channel(edge, from, to) {
+            return Err(StepFault::Order(OrderCode::NoSuchPlace));
+        }
+        match self.channels.take_front(edge, from, to) {
+            Some(change) => Ok((feed, change)),
+            None => Err(StepFault::Order(OrderCode::TooFew(0))),
+        }
+    }
+
+    /// What a subtask emits is printed by the sink, and sent by any other node unless that would pass the limit.
+    pub fn hand_on(
+        &mut self,
+        wiring: &Wiring,
+        node: u32,
+        subtask: u32,
+        changes: Changes,
+    ) -> Result<(), StepFault>
+        requires ready { ForSome (MayHandOn wiring.now self.old node subtask changes) }
+        ensures ok { OnOk result (ForEach (MayHandOn wiring.now self.old node subtask changes) (HasHandedOn self.new node subtask changes)) }
+        ensures err { IfErr result (λ fault. ForEach (MayHandOn wiring.now self.old node subtask changes) (λ g limit handed s. StopsBy (machine.hand_on g limit node subtask changes s) fault)) }
+        ensures printed { OnErr result (self.new.printed ≡ self.old.printed) }
+    {
+        if node == wiring.nodes {
+            print_all(&mut self.printed, changes)?;
+            return Ok(());
+        }
+        if ((wiring.limit - self.channels.sent) as usize) < changes.len() {
+            return Err(StepFault::Limit);
+        }
+        let route = &wiring.routes[node as usize];
+        send_all(
+            wiring.alloc,
+            &mut self.channels,
+            route,
+            node,
+            subtask,
+            changes,
+        )?;
+        Ok(())
+    }
+
+    /// The scans of a table send a change, unless that would pass the limit.
+    pub fn scan(&mut self, wiring: &Wiring, table: u32, change: Change) -> Result<(), StepFault>
+        requires ready { (of : Table) × ForSome (MayScan wiring.now self.old table change of) }
+        ensures ok { OnOk result ((of : Table) → ForEach (MayScan wiring.now self.old table change of) (HasScanned self.new table change of)) }
+        ensures err { IfErr result (λ fault. (of : Table) → ForEach (MayScan wiring.now self.old table change of) (λ g limit handed s. StopsBy (machine.take_within g limit s table change (scanned_at of change)) fault)) }
+        ensures printed { self.new.printed ≡ self.old.printed }
+    {
+        let Some(kept) = wiring.table(table) else {
+            unreachable!()
+        };
+        if !has_room(
+            wiring.limit,
+            self.took,
+            self.channels.sent,
+            kept.scans.len(),
+        ) {
+            return Err(StepFault::Limit);
+        }
+        let from = kept
+            .spread
+            .subtask(wiring.alloc, wiring.parallelism, &change.row)?;
+        let scans = &kept.scans;
+        scan_all(
+            wiring.alloc,
+            &mut self.channels,
+            &wiring.routes,
+            scans,
+            from,
+            change,
+        )?;
+        self.took += 1;
+        Ok(())
+    }
+
+    /// How many changes are in flight in a channel that is there.
+    pub fn held(&self, lane: Lane) -> u32
+        requires ready { (g : Network) × (limit : ℕ) × (handed : List PrintItem) × (s : State) × IsThere g lane × Carries self.now g limit handed s }
+        ensures { (g : Network) (limit : ℕ) (handed : List PrintItem) (s : State) → IsThere g lane → Carries self.now g limit handed s → result ≡ length (s.flight lane.edge lane.from lane.to) }
+    {
+        self.channels.in_flight(lane.edge, lane.from, lane.to)
+    }
+
+    /// Prints that the job is quiet. After want of memory nothing is printed.
+    pub fn tell_quiet(&mut self) -> Result<(), Memory>
+        ensures ok { OnOk result ((g : Network) (limit : ℕ) (handed : List PrintItem) (s : State) → Carries self.old g limit handed s → Carries self.new g limit handed (told_quiet s)) }
+        ensures err { OnErr result (self.new.printed ≡ self.old.printed) }
+    {
+        self.printed.push(PrintItem::Quiet(self.took))
+    }
+}
+
+// Whether one more change may be taken, and so many sent.
+fn has_room(limit: u32, took: u32, sent: u32, count: usize) -> bool
+    requires { sent ≤ limit }
+    ensures { result ≡ (nat_lt took limit && nat_le (sent + count) limit) }
+{
+    took < limit && count <= (limit - sent) as usize
+}

@@ -1,2 +1,0 @@
-pub mod Flights
-pub mod Wires

@@ -1,0 +1,391 @@
+-- Each node of a sound plan agrees with what is inferred of it, where the keys of its inputs are in order.
+use Rattle.std.specs.Prelude.{◌≡◌, ℕ, ◌+◌, ◌<◌, ◌==◌, Bool, ◌||◌, not, nat_le, nat_lt, List, drop, length, map, slice_get, Option, option_map, unwrap_or}
+use Rattle.std.proofs.Common.{zero, suc, true, false, [], ◌∷◌, refl, sym, ap, subst, ◌∙◌, arith, Some, None}
+use Rattle.std.proofs.lemmas.Bool.{eqb-true, ltb-true}
+use Rattle.ct_change.specs.Changelog.{kinds_of, mode_of}
+use Rattle.ct_change.specs.declared.kind.KindSet.{KindSet}
+use Rattle.ct_change.specs.declared.kind.Declared.{Declared}
+use Rattle.ct_change.specs.declared.kind.Declared.TheVariants.{Append, Retract, Upsert}
+use Rattle.ct_catalog.specs.declared.table.TableDef.{TableDef}
+use Rattle.op_rules.specs.Edges.{IsKeyedBy}
+use Rattle.ct_change.specs.declared.update.Update.TheVariants.{Absent, After}
+use Rattle.phys_plan.specs.declared.node.Node.{Node}
+use Rattle.phys_plan.specs.declared.node.Op.{Op}
+use Rattle.phys_plan.specs.declared.node.Op.TheVariants as op
+use Rattle.phys_plan.specs.declared.plan.Plan.{Plan}
+use Rattle.phys_plan.specs.declared.plan.Rule.TheVariants as rule
+use Rattle.phys_plan.specs.Reading.{at, numbered as item, wires, numbered, first_input}
+use Rattle.upsert_keys.specs.Keys.{keys_of, scan_keys, table_keys}
+use Rattle.mode_infer.specs.Exchanges.{asked}
+use Rattle.mode_infer.specs.Kinds.{flow_of, plain, scan_kinds}
+use Rattle.ct_change.specs.Kinds.{has_more_than_inserts, is_upsert}
+use Rattle.mode_infer.specs.Modes.{edge_kinds, mode, no_mode, printed, with_sink}
+use Rattle.mode_infer.specs.UpdateKeys.{update_key_of}
+use Rattle.mode_infer.specs.Updates.{in_full, is_taken, scan_update, table_update, told, update_of}
+use Rattle.mode_infer.specs.declared.modes.EdgeMode.{EdgeMode}
+use Rattle.plan_inferred.specs.Ways.{way_of}
+use Rattle.plan_inferred.specs.declared.inferred.Inferred.{Inferred}
+use Rattle.plan_inferred.specs.Rules.{by_columns, comes_by, comes_keyed, fills, fills_sink, inserts_alone, is_direct, suits_table, way_at, way_from}
+use Rattle.plan_check.specs.Sound.{inferred_of}
+use Rattle.plan_rules.specs.Plans.{exchange_of, kinds_in, meaning_by}
+use Rattle.ct_catalog.specs.Columns.{column_types}
+use Rattle.plan_rules.specs.Columns.{columns_by}
+use Rattle.plan_shape.specs.Shape.{is_keyed_by, is_read, is_sink, is_upsert_by, normalizes_by, op_in, scans_by, suits_consumer, suits_input, suits_plan, takes as ports_of}
+use Rattle.plan_shape.specs.Shaped.{MeetsShape}
+use Rattle.plan_shape.specs.Tables.{is_declarable}
+use Rattle.sound_plans.specs.Agrees.{Agrees, AtPorts, Carries, IsAsked, NormalizeAgrees, ScanAgrees, SinkAgrees, Suits, first_width, taken_by}
+use Rattle.sound_plans.specs.Outputs.{AreWithin, IsProper, Output, seen}
+use Rattle.sound_plans.specs.Sound.{IsRuled, has_rule}
+use Rattle.sound_plans.proofs.laws.Lists.{both, found, map_length, not_true, same_numbers, the_same}
+use Rattle.sound_plans.specs.Promises.{Laws}
+use Rattle.sound_plans.proofs.laws.Local as l
+use Rattle.sound_plans.proofs.laws.Shapes as s
+use Rattle.sound_plans.proofs.laws.Tables.{key_ordered, key_within, upsert_has_key}
+use Rattle.sound_plans.proofs.laws.Outputs.{output_at}
+
+-- ---- operators that stand apart
+
+abbrev pub normalizes : Op → Bool
+normalizes (op.Normalize key) = true
+normalizes _ = false
+
+abbrev pub scans : Op → Bool
+scans (op.Scan source) = true
+scans _ = false
+
+abbrev pub sinks : Op → Bool
+sinks op.Sink = true
+sinks _ = false
+
+-- a table that isn't normalized tells its updates in full
+tells_in_full : (mode : Declared) (key : Option (List ℕ)) (kinds : KindSet) (above : Op) → normalizes above ≡ false → (not (is_upsert mode) || normalizes_by key (Some above)) ≡ true → table_update mode key kinds ≡ in_full kinds
+tells_in_full Append key kinds above n r = refl
+tells_in_full Retract key kinds above n r = refl
+tells_in_full Upsert None kinds above n r = refl
+tells_in_full Upsert (Some key) kinds (op.Normalize by) n r = absurd (cc)
+tells_in_full Upsert (Some key) kinds (op.Scan source) n r = absurd (cc)
+tells_in_full Upsert (Some key) kinds (op.Filter cond) n r = absurd (cc)
+tells_in_full Upsert (Some key) kinds (op.Project items) n r = absurd (cc)
+tells_in_full Upsert (Some key) kinds op.Union n r = absurd (cc)
+tells_in_full Upsert (Some key) kinds (op.Group keys aggs) n r = absurd (cc)
+tells_in_full Upsert (Some key) kinds (op.BatchGroup keys aggs) n r = absurd (cc)
+tells_in_full Upsert (Some key) kinds (op.Join kind on rest) n r = absurd (cc)
+tells_in_full Upsert (Some key) kinds (op.Semi anti on rest) n r = absurd (cc)
+tells_in_full Upsert (Some key) kinds (op.TopN partition order bound ranked) n r = absurd (cc)
+tells_in_full Upsert (Some key) kinds (op.Materialize shown) n r = absurd (cc)
+tells_in_full Upsert (Some key) kinds op.Sink n r = absurd (cc)
+tells_in_full Upsert (Some key) kinds (op.LocalGroup keys aggs) n r = absurd (cc)
+tells_in_full Upsert (Some key) kinds (op.MultiJoin on) n r = absurd (cc)
+tells_in_full Upsert (Some key) kinds (op.SetOp except all) n r = absurd (cc)
+
+scan_in_full : (table : Option TableDef) (kinds : KindSet) (above : Op) → normalizes above ≡ false → is_read table (Some above) ≡ true → scan_update table kinds ≡ in_full kinds
+scan_in_full None kinds above n r = refl
+scan_in_full (Some table) kinds above n r = tells_in_full table.mode table.key kinds above n r
+
+-- a node with a rule that neither scans nor is the sink tells updates by its update key
+told_apart : (sources : List TableDef) (o : Op) (kinds : KindSet) (key : Option (List ℕ)) (taken : Bool) → has_rule o ≡ true → scans o ≡ false → sinks o ≡ false → update_of sources o kinds key taken ≡ told kinds key taken
+told_apart sources (op.Scan source) kinds key taken r a b = absurd (cc)
+told_apart sources op.Sink kinds key taken r a b = absurd (cc)
+told_apart sources (op.Materialize shown) kinds key taken r a b = absurd (cc)
+told_apart sources _ kinds key taken r a b = refl
+
+-- ---- a sink's edge has no updates, and another's mode is its own
+
+sink_update : (sources : List TableDef) (declared : Declared) (modes : List EdgeMode) (o : Op) (inputs : List ℕ) (kinds sent : KindSet) (key : Option (List ℕ)) (taken : Bool)
+    → (with_sink declared modes o inputs (mode sent (update_of sources o kinds key taken))).update ≡ update_of sources o kinds key taken
+sink_update sources declared modes op.Sink inputs kinds sent key taken = refl
+sink_update sources declared modes _ inputs kinds sent key taken = refl
+
+own_kinds : (declared : Declared) (modes : List EdgeMode) (o : Op) (inputs : List ℕ) (own : EdgeMode) → sinks o ≡ false → (with_sink declared modes o inputs own).kinds ≡ own.kinds
+own_kinds declared modes op.Sink inputs own n = absurd (cc)
+own_kinds declared modes _ inputs own n = refl
+
+pub is_sink_too : (o : Op) → is_sink (Some o) ≡ sinks o
+is_sink_too op.Sink = refl
+is_sink_too _ = refl
+
+only_one : (x y p : ℕ) → slice_get (x ∷ []) p ≡ Some y → x ≡ y
+only_one x y zero e = the_same x y e
+only_one x y (suc p) e = absurd (cc)
+
+module _ (laws : Laws) (plan : Plan) (ruled : IsRuled plan) where
+  abbrev out : ℕ → Output
+  out v = output_at plan v
+
+  pub meets : MeetsShape plan
+  meets = l.shape laws plan ruled
+
+  -- how its edge tells updates, as it is inferred
+  pub own_update : (v : ℕ) (node : Node) → numbered plan.nodes v ≡ Some node → (out v).edge.update ≡ l.told_by laws plan ruled v node.op
+  own_update v node e =
+      (l.ruled_mode laws plan ruled v node e).1
+      ∙ sink_update plan.sources plan.sink.mode (l.mode_table laws plan ruled) node.op node.inputs (out v).sent (out v).sent (out v).update_key
+      (is_taken plan.sink (out v).update_key v (wires (drop v plan.nodes)) (drop v (l.told_table laws plan ruled)))
+
+  pub own_carries : (v : ℕ) (node : Node) → numbered plan.nodes v ≡ Some node → sinks node.op ≡ false → Carries (out v)
+  own_carries v node e n =
+      (l.ruled_mode laws plan ruled v node e).0
+      ∙ own_kinds plan.sink.mode (l.mode_table laws plan ruled) node.op node.inputs (mode (out v).sent (l.told_by laws plan ruled v node.op)) n
+      ∙ ap (edge_kinds (out v).sent) (sym (own_update v node e))
+
+  abbrev is_taken_at : ℕ → Bool
+  is_taken_at v = is_taken plan.sink (out v).update_key v (wires (drop v plan.nodes)) (drop v (l.told_table laws plan ruled))
+
+  own_tells : (v : ℕ) (node : Node) → numbered plan.nodes v ≡ Some node → scans node.op ≡ false → sinks node.op ≡ false → (out v).edge.update ≡ told (out v).sent (out v).update_key (is_taken_at v)
+  own_tells v node e a b = own_update v node e ∙ told_apart plan.sources node.op (out v).sent (out v).update_key (is_taken_at v) (ruled.rules v node e) a b
+
+  -- ---- inputs
+
+  input_no_sink : (v : ℕ) (node : Node) (p input : ℕ) (below : Node) → numbered plan.nodes v ≡ Some node → slice_get node.inputs p ≡ Some input → numbered plan.nodes input ≡ Some below → sinks below.op ≡ false
+  input_no_sink v node p input below e h f =
+      let a = s.among plan.nodes v node e in
+      let there = (s.input_there plan meets laws.shaped v node p input e h).1 in
+      sym (is_sink_too below.op) ∙ s.inner_no_sink plan meets laws.shaped input below f (let k = there.2 in let g = a.few in omega arith)
+
+  -- where an input scans, its table is read in full, or it is normalized
+  input_tells : (v : ℕ) (node : Node) (p input : ℕ) (below : Node) → numbered plan.nodes v ≡ Some node → slice_get node.inputs p ≡ Some input → numbered plan.nodes input ≡ Some below → normalizes node.op ≡ false
+      → (o : Op) → below.op ≡ o → (out input).edge.update ≡ told (out input).sent (out input).update_key (is_taken_at input)
+  input_tells v node p input below e h f n (op.Scan source) is =
+      let suits : is_read (slice_get plan.sources source) (Some node.op) ≡ true = sym (ap (λ x. suits_consumer plan.sources x (Some node.op)) is) ∙ s.suits_above plan meets laws.shaped v node p input below e h f in
+      let none : (out input).update_key ≡ None = l.update_key_is laws plan ruled input below f ∙ ap (λ x. update_key_of (first_width (map (output_at plan) below.inputs)) x (map (λ o. o.update_key) (map (output_at plan) below.inputs))) is in
+      own_update input below f ∙ ap (λ x. update_of plan.sources x (out input).sent (out input).update_key (is_taken_at input)) is
+      ∙ scan_in_full (slice_get plan.sources source) (out input).sent node.op n suits
+      ∙ ap (λ k. told (out input).sent k (is_taken_at input)) (sym none)
+  input_tells v node p input below e h f n _ is = own_tells input below f (ap scans is) (input_no_sink v node p input below e h f)
+
+  pub asked_at : (v : ℕ) (node : Node) (p input : ℕ) → numbered plan.nodes v ≡ Some node → slice_get node.inputs p ≡ Some input → normalizes node.op ≡ false → IsProper (out input) → IsAsked plan.sink node.op (out v).edge.update p (out input)
+  asked_at v node p input e h n proper =
+      let there = (s.input_there plan meets laws.shaped v node p input e h).1 in
+      record {
+        proper = proper;
+        carries = own_carries input there.0 there.1 (input_no_sink v node p input there.0 e h there.1);
+        tells =
+            input_tells v node p input there.0 e h there.1 n there.0.op refl
+            ∙ ap (told (out input).sent (out input).update_key) (l.taken laws plan ruled v node p input e h (out input).update_key ∙ ap (λ u. taken_by plan.sink node.op p u (out input).update_key) (sym (own_update v node e)));
+        exchanged = l.exchanged laws plan ruled v node p input e h;
+      }
+
+  ports : (P : ℕ → Output → Type 0) (from : ℕ) (inputs : List ℕ) → ((p input : ℕ) → slice_get inputs p ≡ Some input → P (from + p) (out input)) → AtPorts P from (map (output_at plan) inputs)
+  ports P from [] h = tt
+  ports P from (input ∷ inputs) h =
+      let here : from + 0 ≡ from = omega arith in (
+        subst (λ n. P n (out input)) here (h 0 input refl),
+        ports P (suc from) inputs (λ p other e. let there : from + suc p ≡ suc from + p = omega arith in subst (λ n. P n (out other)) there (h (suc p) other e)),
+      )
+
+  abbrev pub AreProper : List ℕ → Type 0
+  AreProper inputs = (p input : ℕ) → slice_get inputs p ≡ Some input → IsProper (out input)
+
+  -- ---- nodes
+
+  pub agrees : (v : ℕ) (node : Node) → numbered plan.nodes v ≡ Some node → scans node.op ≡ false → normalizes node.op ≡ false → sinks node.op ≡ false → AreProper node.inputs
+      → Agrees plan.sources plan.sink node.op (map (output_at plan) node.inputs) (out v)
+  agrees v node e a n b proper = record {
+    inputs_asked = ports (IsAsked plan.sink node.op (out v).edge.update) 0 node.inputs
+        (λ p input h. let here : 0 + p ≡ p = omega arith in subst (λ k. IsAsked plan.sink node.op (out v).edge.update k (out input)) (sym here) (asked_at v node p input e h n (proper p input h)));
+    typed = l.columns_made laws plan ruled v node e;
+    keyed = l.keys_are laws plan ruled v node e;
+    sends = l.kinds_are_sent laws plan ruled v node e;
+    updates = l.update_key_is laws plan ruled v node e;
+    carries = own_carries v node e b;
+    taken = is_taken_at v;
+    tells = own_tells v node e a b;
+  }
+
+  -- ---- scans
+
+  pub table_there : (v : ℕ) (node : Node) (source : ℕ) → numbered plan.nodes v ≡ Some node → node.op ≡ op.Scan source → (table : TableDef) × (slice_get plan.sources source ≡ Some table) × (is_declarable table ≡ true)
+  table_there v node source e is =
+      let suits : nat_lt source (length plan.sources) ≡ true = sym (ap (suits_plan plan) is) ∙ (s.told plan meets laws.shaped v node e).suits in
+      let t = found plan.sources source (ltb-true source (length plan.sources) suits) in
+      (t.0, t.1, s.declarable plan meets laws.shaped source t.0 t.1)
+
+  pub scan_agrees : (v : ℕ) (node : Node) (source : ℕ) (table : TableDef) → numbered plan.nodes v ≡ Some node → node.op ≡ op.Scan source → slice_get plan.sources source ≡ Some table → is_declarable table ≡ true
+      → ScanAgrees table (out v)
+  scan_agrees v node source table e is has made =
+      let columns = l.columns_made laws plan ruled v node e in
+      let kept : option_map column_types (slice_get plan.sources source) ≡ Some (out v).columns = sym (ap (λ x. columns_by plan.sources x (map (λ o. Some o.columns) (map (output_at plan) node.inputs))) is) ∙ columns in
+      record {
+        typed = sym (the_same (column_types table) (out v).columns (sym (ap (option_map column_types) has) ∙ kept));
+        ordered = λ key k. key_ordered table key made k;
+        within = λ key k. key_within table key made k;
+        has_key = λ m. upsert_has_key table made m;
+        keyed = l.keys_are laws plan ruled v node e ∙ ap (λ x. keys_of plan.sources x (map seen (map (output_at plan) node.inputs))) is ∙ ap scan_keys has;
+        sends =
+            l.kinds_are_sent laws plan ruled v node e ∙ ap (λ x. (flow_of plan.sources x (map (λ o. plain o.sent) (map (output_at plan) node.inputs))).sent) is ∙ ap scan_kinds has;
+        updates = l.update_key_is laws plan ruled v node e ∙ ap (λ x. update_key_of (first_width (map (output_at plan) node.inputs)) x (map (λ o. o.update_key) (map (output_at plan) node.inputs))) is;
+        carries = own_carries v node e (ap sinks is);
+        tells = own_update v node e ∙ ap (λ x. update_of plan.sources x (out v).sent (out v).update_key (is_taken_at v)) is ∙ ap (λ t. scan_update t (out v).sent) has;
+      }
+
+  -- ---- normalizers
+
+  -- the table under a normalizer
+  pub record IsNormalized (key : List ℕ) (input : ℕ) (below : Node) : Type 0 where
+    pub source : ℕ
+    pub table : TableDef
+    pub scanned : below.op ≡ op.Scan source
+    pub is_table : slice_get plan.sources source ≡ Some table
+    pub mode : table.mode ≡ Upsert
+    pub key_is : table.key ≡ Some key
+
+  upserts : (table : TableDef) (key : List ℕ) → is_upsert_by key (Some table) ≡ true → (table.mode ≡ Upsert) × (table.key ≡ Some key)
+  upserts table key e =
+      let b = both (is_upsert table.mode) (is_keyed_by key table.key) e in
+      (mode_is table.mode b.0, key_of table.key b.1)
+    where
+      mode_is : (m : Declared) → is_upsert m ≡ true → m ≡ Upsert
+      mode_is Append f = absurd (cc)
+      mode_is Retract f = absurd (cc)
+      mode_is Upsert f = refl
+
+      key_of : (o : Option (List ℕ)) → is_keyed_by key o ≡ true → o ≡ Some key
+      key_of None f = absurd (cc)
+      key_of (Some other) f = ap (λ k. Some k) (sym (same_numbers key other f))
+
+  normalized : (key : List ℕ) (input : ℕ) (below : Node) (o : Op) → below.op ≡ o → scans_by plan.sources key (Some o) ≡ true → IsNormalized key input below
+  normalized key input below (op.Scan source) is e = go (slice_get plan.sources source) refl e
+    where
+      go : (t : Option TableDef) → slice_get plan.sources source ≡ t → is_upsert_by key t ≡ true → IsNormalized key input below
+      go None has f = absurd (cc)
+      go (Some table) has f = let u = upserts table key f in record { source = source; table = table; scanned = is; is_table = has; mode = u.0; key_is = u.1 }
+  normalized key input below _ is e = absurd (cc)
+
+  only_input : (inputs : List ℕ) → (length inputs == 1) ≡ true → (input : ℕ) × (inputs ≡ input ∷ [])
+  only_input [] e = absurd (cc)
+  only_input (input ∷ []) e = (input, refl)
+  only_input (input ∷ (other ∷ inputs)) e = absurd (let h : suc (suc (length inputs)) ≡ 1 = eqb-true (suc (suc (length inputs))) 1 e in omega arith)
+
+  pub one_input : (v : ℕ) (node : Node) → numbered plan.nodes v ≡ Some node → ((n : ℕ) → ports_of node.op n ≡ (n == 1)) → (input : ℕ) × (node.inputs ≡ input ∷ [])
+  one_input v node e takes_one = only_input node.inputs (sym (takes_one (length node.inputs)) ∙ (s.told plan meets laws.shaped v node e).ports)
+
+  only_two : (inputs : List ℕ) → (length inputs == 2) ≡ true → (left : ℕ) × (right : ℕ) × (inputs ≡ left ∷ (right ∷ []))
+  only_two [] e = absurd (cc)
+  only_two (left ∷ []) e = absurd (cc)
+  only_two (left ∷ (right ∷ [])) e = (left, right, refl)
+  only_two (left ∷ (right ∷ (other ∷ inputs))) e = absurd (let h : suc (suc (suc (length inputs))) ≡ 2 = eqb-true (suc (suc (suc (length inputs)))) 2 e in omega arith)
+
+  pub two_inputs : (v : ℕ) (node : Node) → numbered plan.nodes v ≡ Some node → ((n : ℕ) → ports_of node.op n ≡ (n == 2)) → (left : ℕ) × (right : ℕ) × (node.inputs ≡ left ∷ (right ∷ []))
+  two_inputs v node e takes_two = only_two node.inputs (sym (takes_two (length node.inputs)) ∙ (s.told plan meets laws.shaped v node e).ports)
+
+  more_than_one : (inputs : List ℕ) → nat_le 2 (length inputs) ≡ true → (first : ℕ) × (rest : List ℕ) × (inputs ≡ first ∷ rest)
+  more_than_one [] e = absurd (cc)
+  more_than_one (first ∷ rest) e = (first, rest, refl)
+
+  pub some_inputs : (v : ℕ) (node : Node) → numbered plan.nodes v ≡ Some node → node.op ≡ op.Union → (first : ℕ) × (rest : List ℕ) × (node.inputs ≡ first ∷ rest)
+  some_inputs v node e is = more_than_one node.inputs (sym (ap (λ o. ports_of o (length node.inputs)) is) ∙ (s.told plan meets laws.shaped v node e).ports)
+
+  pub normalize_agrees : (v : ℕ) (node : Node) (key : List ℕ) (input : ℕ) → numbered plan.nodes v ≡ Some node → node.op ≡ op.Normalize key → node.inputs ≡ input ∷ [] → AreProper node.inputs → NormalizeAgrees key (out input) (out v)
+  normalize_agrees v node key input e is are proper =
+      let first : slice_get node.inputs 0 ≡ Some input = ap (λ (xs : List ℕ). slice_get xs 0) are in
+      let there = (s.input_there plan meets laws.shaped v node 0 input e first).1 in
+      let below = there.0 in
+      let fed = (s.told plan meets laws.shaped v node e).input in
+      let under : op_in (numbered plan.nodes (first_input node.inputs)) ≡ Some below.op = ap (λ xs. op_in (numbered plan.nodes (first_input xs))) are ∙ ap op_in there.1 in
+      let scan : scans_by plan.sources key (Some below.op) ≡ true =
+      sym ((λ k. suits_input plan.sources (is k) (op_in (numbered plan.nodes (first_input node.inputs))) (kinds_in (numbered plan.edges (first_input node.inputs)))) ∙ ap (scans_by plan.sources key) under) ∙ fed in
+      let n = normalized key input below below.op refl scan in
+      let made = s.declarable plan meets laws.shaped n.source n.table n.is_table in
+      let a = scan_agrees input below n.source n.table there.1 n.scanned n.is_table made in
+      let width : length (out input).columns ≡ length n.table.cols = ap length a.typed ∙ map_length (λ column. column.ty) n.table.cols in
+      let outs : map (output_at plan) node.inputs ≡ out input ∷ [] = ap (map (output_at plan)) are in
+      record {
+        ordered = key_ordered n.table key made n.key_is;
+        within = subst (λ w. AreWithin w key) (sym width) (key_within n.table key made n.key_is);
+        input_proper = proper 0 input first;
+        input_carries = a.carries;
+        input_sent = a.sends ∙ ap (λ m. kinds_of (mode_of m [])) n.mode;
+        input_tells = a.tells ∙ (λ k. table_update (n.mode k) (n.key_is k) (out input).sent);
+        input_keyed = a.keyed ∙ ap (λ o. table_keys o (length n.table.cols)) n.key_is;
+        exchanged = l.exchanged laws plan ruled v node 0 input e first ∙ ap (λ x. by_columns (asked (length (out input).columns) x 0)) is;
+        typed =
+            sym (the_same (out input).columns (out v).columns
+            (sym (λ k. columns_by plan.sources (is k) (map (λ o. Some o.columns) (outs k))) ∙ l.columns_made laws plan ruled v node e));
+        keyed = l.keys_are laws plan ruled v node e ∙ ap (λ x. keys_of plan.sources x (map seen (map (output_at plan) node.inputs))) is;
+        sends = l.kinds_are_sent laws plan ruled v node e ∙ ap (λ x. (flow_of plan.sources x (map (λ o. plain o.sent) (map (output_at plan) node.inputs))).sent) is;
+        updates = l.update_key_is laws plan ruled v node e ∙ ap (λ x. update_key_of (first_width (map (output_at plan) node.inputs)) x (map (λ o. o.update_key) (map (output_at plan) node.inputs))) is;
+        carries = own_carries v node e (ap sinks is);
+        taken = is_taken_at v;
+        tells = own_tells v node e (ap scans is) (ap sinks is);
+      }
+
+  -- ---- edges
+
+  -- the edge of an input that carries new rows alone keeps each key in one channel
+  pub keyed_at : (v : ℕ) (node : Node) (p input : ℕ) → numbered plan.nodes v ≡ Some node → slice_get node.inputs p ≡ Some input → IsProper (out input) → AreProper node.inputs
+      → IsKeyedBy (meaning_by (out input).edge.update) (exchange_of (out input).edge.exchange)
+  keyed_at v node p input e h proper all = go node.op refl
+    where
+      plain_at : normalizes node.op ≡ false → IsKeyedBy (meaning_by (out input).edge.update) (exchange_of (out input).edge.exchange)
+      plain_at n = laws.edges_are_keyed plan.sink node.op (out v).edge.update p (out input) (asked_at v node p input e h n proper)
+
+      under : (key : List ℕ) → node.op ≡ op.Normalize key → IsKeyedBy (meaning_by (out input).edge.update) (exchange_of (out input).edge.exchange)
+      under key is =
+          let i = one_input v node e (λ n. ap (λ x. ports_of x n) is) in
+          let a = normalize_agrees v node key i.0 e is i.1 all in
+          let same : i.0 ≡ input = only_one i.0 input p (sym (ap (λ (xs : List ℕ). slice_get xs p) i.1) ∙ h) in
+          subst (λ (n : ℕ). IsKeyedBy (meaning_by (out n).edge.update) (exchange_of (out n).edge.exchange)) same
+          (subst (λ u. IsKeyedBy (meaning_by u) (exchange_of (out i.0).edge.exchange)) (sym a.input_tells) (subst (λ x. IsKeyedBy (meaning_by (After key)) (exchange_of x)) (sym a.exchanged) (λ s t g. g)))
+
+      go : (o : Op) → node.op ≡ o → IsKeyedBy (meaning_by (out input).edge.update) (exchange_of (out input).edge.exchange)
+      go (op.Normalize key) is = under key is
+      go _ is = plain_at (ap normalizes is)
+
+  -- ---- the sink
+
+  -- a node with a rule isn't a materializer
+  comes_direct : (x : Inferred) (key : List ℕ) (input : ℕ) (o : Op) (inputs : List ℕ) → has_rule o ≡ true → comes_by x key input o inputs ≡ is_direct (way_at x false key input)
+  comes_direct x key input (op.Materialize shown) inputs r = absurd (cc)
+  comes_direct x key input _ inputs r = refl
+
+  way_is : (input : ℕ) (below : Node) (key : List ℕ) → numbered plan.nodes input ≡ Some below → way_at (inferred_of plan) false key input ≡ way_of false key (out input).sent (out input).update_key (out input).keys
+  way_is input below key f =
+      let flow = l.flow_item laws plan ruled input below f in
+      (λ k. way_from false key (flow.1 k) (l.update_item laws plan ruled input below f k) (l.key_item laws plan ruled input below f k))
+      ∙ ap (λ sent. way_of false key sent (out input).update_key (out input).keys) flow.2
+
+  suits_by : (input : ℕ) (below : Node) → numbered plan.nodes input ≡ Some below → (mode : Declared) (key : Option (List ℕ)) → suits_table (inferred_of plan) plan.nodes mode key input ≡ true → Suits mode key (out input)
+  suits_by input below f Append key h =
+      let one : inserts_alone (Some (l.one_mode laws plan ruled input below)) ≡ true = sym (ap inserts_alone (l.mode_there laws plan ruled input below f)) ∙ h in
+      ap has_more_than_inserts (l.ruled_mode laws plan ruled input below f).0 ∙ not_true (has_more_than_inserts (l.one_mode laws plan ruled input below).kinds) one
+  suits_by input below f Retract key h = tt
+  suits_by input below f Upsert None h = absurd (cc)
+  suits_by input below f Upsert (Some key) h =
+      let is : item plan.nodes input ≡ Some below = l.alike plan.nodes input ∙ f in
+      sym (ap is_direct (way_is input below key f)) ∙ sym (comes_direct (inferred_of plan) key input below.op below.inputs (ruled.rules input below f)) ∙ sym (ap (comes_keyed (inferred_of plan) key input) is) ∙ h
+
+  pub sink_agrees : (v : ℕ) (node : Node) (input : ℕ) → numbered plan.nodes v ≡ Some node → node.op ≡ op.Sink → v ≡ length plan.nodes → node.inputs ≡ input ∷ [] → AreProper node.inputs → SinkAgrees plan.sink (out input) (out v)
+  sink_agrees v node input e is last are proper =
+      let first : slice_get node.inputs 0 ≡ Some input = ap (λ (xs : List ℕ). slice_get xs 0) are in
+      let there = (s.input_there plan meets laws.shaped v node 0 input e first).1 in
+      let below = there.0 in
+      let told_is : (out v).edge.update ≡ Absent = own_update v node e ∙ ap (λ x. update_of plan.sources x (out v).sent (out v).update_key (is_taken_at v)) is in
+      let outs : map (output_at plan) node.inputs ≡ out input ∷ [] = ap (map (output_at plan)) are in
+      let held : item plan.nodes v ≡ Some node = l.alike plan.nodes v ∙ e in
+      let filled : suits_table (inferred_of plan) plan.nodes plan.sink.mode plan.sink.key input ≡ true =
+      sym (ap (fills_sink (inferred_of plan) plan) held ∙ (λ k. fills (inferred_of plan) plan (is k) (are k))) ∙ l.met laws plan ruled rule.SinkKey v node e in
+      let a = s.among plan.nodes input below there.1 in
+      let mode_of_input : at no_mode (l.mode_table laws plan ruled) input ≡ record { kinds = (out input).edge.kinds; update = (out input).edge.update } =
+      ap (at no_mode (l.mode_table laws plan ruled)) a.number ∙ ap (λ o. unwrap_or o no_mode) (l.own_mode laws plan ruled input below there.1 a)
+      ∙ (λ k. record {
+        kinds = (ap (edge_kinds (out input).sent) (sym (own_update input below there.1)) ∙ sym (own_carries input below there.1 (input_no_sink v node 0 input below e first there.1))) k;
+        update = sym (own_update input below there.1) k;
+      }) in
+      record {
+        asked =
+            subst (λ u. IsAsked plan.sink op.Sink u 0 (out input)) told_is
+            (subst (λ (x : Op). IsAsked plan.sink x (out v).edge.update 0 (out input)) is (asked_at v node 0 input e first (ap normalizes is) (proper 0 input first)));
+        typed =
+            sym (the_same (out input).columns (out v).columns
+            (sym (λ k. columns_by plan.sources (is k) (map (λ o. Some o.columns) (outs k))) ∙ l.columns_made laws plan ruled v node e));
+        keyed = l.keys_are laws plan ruled v node e ∙ ap (λ x. keys_of plan.sources x (map seen (map (output_at plan) node.inputs))) is;
+        sends = (l.kinds_are_sent laws plan ruled v node e ∙ (λ k. (flow_of plan.sources (is k) (map (λ o. plain o.sent) (outs k))).sent));
+        updates = l.update_key_is laws plan ruled v node e ∙ ap (λ x. update_key_of (first_width (map (output_at plan) node.inputs)) x (map (λ o. o.update_key) (map (output_at plan) node.inputs))) is;
+        forwards = l.forwards_last laws plan ruled v node e last;
+        tells = told_is;
+        prints =
+            (l.ruled_mode laws plan ruled v node e).0
+            ∙ (λ k. (with_sink plan.sink.mode (l.mode_table laws plan ruled) (is k) (are k) (mode (out v).sent (l.told_by laws plan ruled v (is k)))).kinds)
+            ∙ ap (printed plan.sink.mode) mode_of_input;
+        suits = suits_by input below there.1 plan.sink.mode plan.sink.key filled;
+      }

@@ -1,0 +1,117 @@
+-- What the nodes of a plan send, by their numbers, and the edges of the network.
+use Rattle.std.specs.Prelude.{◌≡◌, ℕ, ◌<◌, ◌==◌, Bool, cond, List, length, map, slice_get, Option, unwrap_or}
+use Rattle.std.proofs.Common.{zero, suc, true, false, [], ◌∷◌, refl, sym, ap, subst, ◌∙◌, arith, Some, None}
+use Rattle.ct_value.specs.declared.ty.ColTy.{ColTy}
+use Rattle.ct_catalog.specs.declared.table.TableDef.{TableDef}
+use Rattle.ct_field.specs.Typed.{row_fits}
+use Rattle.op_rules.specs.Edges.{Edge, meaning_of}
+use Rattle.phys_plan.specs.declared.edge.Edge.{Edge as PlanEdge}
+use Rattle.phys_plan.specs.declared.edge.Exchange.TheVariants.{Forward}
+use Rattle.ct_change.specs.declared.update.Update.TheVariants.{Both}
+use Rattle.phys_plan.specs.declared.node.KeyInfo.{KeyInfo}
+use Rattle.phys_plan.specs.declared.node.Node.{Node}
+use Rattle.phys_plan.specs.declared.plan.Plan.{Plan}
+use Rattle.phys_plan.specs.Reading.{at, wires, numbered, first_input, no_keys}
+use Rattle.phys_plan.specs.Columns.{columns_in}
+use Rattle.mode_infer.specs.Kinds.{flows, no_flow}
+use Rattle.mode_infer.specs.UpdateKeys.{update_keys}
+use Rattle.plan_rules.specs.Plans.{exchange_in, kinds_in, keys_in, meaning_in, no_kinds, route_by}
+use Rattle.ct_catalog.specs.Columns.{table_mode}
+use Rattle.plan_rules.specs.Columns.{columns_at}
+use Rattle.plan_rules.specs.Doings.{Around, Side, around_of, network, other_inputs, side_of, update_in}
+use Rattle.plan_check.specs.Sound.{sent_columns}
+use Rattle.plan_check.specs.Types.{all_types}
+use Rattle.sound_plans.specs.Outputs.{Output, around_by, edge_of, others_of, printed_edge, side_of as output_side}
+
+abbrev pub edge_or : Option PlanEdge → PlanEdge
+edge_or None = record { exchange = Forward; kinds = no_kinds; update = Both }
+edge_or (Some edge) = edge
+
+abbrev pub keys_or : Option Node → KeyInfo
+keys_or None = no_keys
+keys_or (Some node) = node.keys
+
+module _ (plan : Plan) where
+  -- the columns that each node sends, in the table of the inferences
+  abbrev pub inferred_columns : ℕ → List ColTy
+  inferred_columns = columns_in (sent_columns (all_types plan.sources plan.nodes))
+
+  abbrev pub output_at : ℕ → Output
+  output_at v = record {
+    columns = columns_at plan.sources plan.nodes v;
+    edge = edge_or (numbered plan.edges v);
+    keys = keys_or (numbered plan.nodes v);
+    sent = (at no_flow (flows plan.sources (wires plan.nodes)) v).sent;
+    update_key = at None (update_keys inferred_columns (wires plan.nodes)) v;
+  }
+
+  -- ---- edges of the network
+
+  abbrev edge_by : Bool → Option PlanEdge → Option Node → List ColTy → Edge
+  edge_by last edge node columns = record {
+    meaning = cond last (meaning_of (table_mode plan.sink)) (meaning_in edge);
+    exchange = exchange_in edge;
+    route = route_by plan.parallelism columns (exchange_in edge);
+    kinds = kinds_in edge;
+    fits = λ change. row_fits columns change.row;
+    holds = λ row. row_fits columns row;
+    unique = keys_in (λ n. n.keys.unique) node;
+    local = keys_in (λ n. n.keys.local) node;
+    fixing = keys_in (λ n. n.keys.fixing) node;
+  }
+
+  abbrev output_by : Option PlanEdge → Option Node → ℕ → Output
+  output_by edge node v = record {
+    columns = columns_at plan.sources plan.nodes v;
+    edge = edge_or edge;
+    keys = keys_or node;
+    sent = (at no_flow (flows plan.sources (wires plan.nodes)) v).sent;
+    update_key = at None (update_keys inferred_columns (wires plan.nodes)) v;
+  }
+
+  inner_edge : (v : ℕ) (edge : Option PlanEdge) (node : Option Node) → edge_by false edge node (columns_at plan.sources plan.nodes v) ≡ edge_of plan.parallelism (output_by edge node v)
+  inner_edge v None None = refl
+  inner_edge v None (Some node) = refl
+  inner_edge v (Some edge) None = refl
+  inner_edge v (Some edge) (Some node) = refl
+
+  last_edge : (v : ℕ) (edge : Option PlanEdge) (node : Option Node) → edge_by true edge node (columns_at plan.sources plan.nodes v) ≡ printed_edge plan.parallelism plan.sink (output_by edge node v)
+  last_edge v None None = refl
+  last_edge v None (Some node) = refl
+  last_edge v (Some edge) None = refl
+  last_edge v (Some edge) (Some node) = refl
+
+  pub edge_is : (v : ℕ) → (v == length plan.nodes) ≡ false → (network plan).edge v ≡ edge_of plan.parallelism (output_at v)
+  edge_is v inner = ap (λ b. edge_by b (numbered plan.edges v) (numbered plan.nodes v) (columns_at plan.sources plan.nodes v)) inner ∙ inner_edge v (numbered plan.edges v) (numbered plan.nodes v)
+
+  pub printed_is : (v : ℕ) → (v == length plan.nodes) ≡ true → (network plan).edge v ≡ printed_edge plan.parallelism plan.sink (output_at v)
+  printed_is v last = ap (λ b. edge_by b (numbered plan.edges v) (numbered plan.nodes v) (columns_at plan.sources plan.nodes v)) last ∙ last_edge v (numbered plan.edges v) (numbered plan.nodes v)
+
+  -- ---- what is around a node
+
+  pub update_is : (edge : Option PlanEdge) → update_in edge ≡ (edge_or edge).update
+  update_is None = refl
+  update_is (Some edge) = refl
+
+  pub kinds_is : (edge : Option PlanEdge) → kinds_in edge ≡ (edge_or edge).kinds
+  kinds_is None = refl
+  kinds_is (Some edge) = refl
+
+  sides : (inputs : List ℕ) → map (side_of plan) inputs ≡ map output_side (map output_at inputs)
+  sides [] = refl
+  sides (input ∷ inputs) = λ i. record { kinds = kinds_is (numbered plan.edges input) i; input = update_is (numbered plan.edges input) i; columns = columns_at plan.sources plan.nodes input } ∷ sides inputs i
+
+  many : (inputs : List ℕ) → length inputs ≡ length (map output_at inputs)
+  many [] = refl
+  many (input ∷ inputs) = ap suc (many inputs)
+
+  pub around_is : (v first : ℕ) (inputs : List ℕ) → around_of plan v (first ∷ inputs) ≡ around_by plan.sink (map output_at (first ∷ inputs)) (output_at v)
+  around_is v first inputs = λ i. record {
+    kinds = kinds_is (numbered plan.edges first) i;
+    input = update_is (numbered plan.edges first) i;
+    own = update_is (numbered plan.edges v) i;
+    columns = columns_at plan.sources plan.nodes first;
+    others = sides inputs i;
+    inputs = many (first ∷ inputs) i;
+    declared = plan.sink.mode;
+  }

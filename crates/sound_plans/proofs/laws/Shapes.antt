@@ -1,0 +1,156 @@
+-- What the rule Shape says of a node, of what feeds it and of what it feeds.
+use Rattle.std.specs.Prelude.{◌≡◌, ℕ, ◌+◌, ◌<◌, ◌≤◌, ◌==◌, Bool, ◌&&◌, ◌||◌, not, cond, nat_lt, List, drop, length, max, slice_get, Option}
+use Rattle.std.proofs.Common.{zero, suc, true, false, [], ◌∷◌, refl, sym, ap, subst, ◌∙◌, arith, Some, None}
+use Rattle.std.specs.List.{AllByRecursion, find, list_all}
+use Rattle.std.proofs.lemmas.Bool.{eqb-true, eqb-false, ltb-true, leb-true}
+use Rattle.ct_catalog.specs.declared.table.TableDef.{TableDef}
+use Rattle.phys_plan.specs.declared.node.Node.{Node}
+use Rattle.phys_plan.specs.declared.node.Op.{Op}
+use Rattle.phys_plan.specs.declared.node.Op.TheVariants as op
+use Rattle.phys_plan.specs.declared.plan.Plan.{Plan}
+use Rattle.plan_rules.specs.Plans.{HasInput, HasShape, kinds_in}
+use Rattle.phys_plan.specs.Reading.{numbered, first_input}
+use Rattle.plan_shape.specs.Shape.{are_before, consumer, has_shape, has_sizes, is_consumed, is_fed, is_shaped, is_sink, is_whole, node_has_shape, op_in, suits_consumer, suits_input, suits_plan, takes, uses}
+use Rattle.plan_shape.specs.Shaped.{MeetsShape, ShapedPlansHaveShape}
+use Rattle.plan_shape.specs.Tables.{are_tables, is_declarable}
+use Rattle.sound_plans.proofs.laws.Lists.{both, found, is_somewhere, is_there, not_true, of_each, same_number, the_same, within}
+use Rattle.sound_plans.proofs.laws.Consumers.{IsOnly, by_test, finds}
+
+all_true_at : {X : Type 0} (p : X → Bool) (xs : List X) (i : ℕ) (x : X) → list_all p xs ≡ true → slice_get xs i ≡ Some x → p x ≡ true
+all_true_at p [] i x a e = absurd (cc)
+all_true_at p (y ∷ xs) zero x a e = subst (λ z. p z ≡ true) (the_same y x e) (both (p y) (list_all p xs) a).0
+all_true_at p (y ∷ xs) (suc i) x a e = all_true_at p xs i x (both (p y) (list_all p xs) a).1 e
+
+-- a number that has a node
+pub record IsAmong (nodes : List Node) (v : ℕ) (node : Node) : Type 0 where
+  pub place : ℕ
+  pub number : v ≡ suc place
+  pub is : slice_get nodes place ≡ Some node
+  pub few : v ≤ length nodes
+
+pub among : (nodes : List Node) (v : ℕ) (node : Node) → numbered nodes v ≡ Some node → IsAmong nodes v node
+among nodes zero node e = absurd (cc)
+among nodes (suc n) node e = let l = within nodes n node e in record { place = n; number = refl; is = e; few = omega arith }
+
+pub node_there : (nodes : List Node) (v : ℕ) → 0 < v → v ≤ length nodes → (node : Node) × (numbered nodes v ≡ Some node)
+node_there nodes zero l h = absurd (omega arith)
+node_there nodes (suc n) l h = found nodes n (omega arith)
+
+none_there : {A B : Type 0} (xs : List A) (ys : List B) (n : ℕ) → length ys ≡ length xs → slice_get xs n ≡ None → slice_get ys n ≡ None
+none_there xs [] n l e = refl
+none_there [] (y ∷ ys) n l e = absurd (omega (arith, l))
+none_there (x ∷ xs) (y ∷ ys) zero l e = absurd (cc)
+none_there (x ∷ xs) (y ∷ ys) (suc n) l e = none_there xs ys n (omega (arith, l)) e
+
+-- what the rule says of one node
+pub record IsTold (plan : Plan) (v : ℕ) (node : Node) : Type 0 where
+  pub suits : suits_plan plan node.op ≡ true
+  pub ports : takes node.op (length node.inputs) ≡ true
+  pub input : suits_input plan.sources node.op (op_in (numbered plan.nodes (first_input node.inputs))) (kinds_in (numbered plan.edges (first_input node.inputs))) ≡ true
+  pub consumed : is_consumed plan v node.op ≡ true
+
+module _ (plan : Plan) (meets : MeetsShape plan) (shaped : ShapedPlansHaveShape) where
+  pub shape : HasShape plan
+  shape = shaped plan meets
+
+  pub told : (v : ℕ) (node : Node) → numbered plan.nodes v ≡ Some node → IsTold plan v node
+  told v node e =
+      let a = among plan.nodes v node e in
+      let low : 1 ≤ v = let n = a.number in omega arith in
+      let high : v ≤ max 1 (length plan.nodes) = let n = a.few in omega arith in
+      let here = (both (not (v == 1) || is_whole plan) (is_shaped plan v (numbered plan.nodes v)) (meets v low high)).1 in
+      let node_is : node_has_shape plan v node ≡ true = sym (ap (is_shaped plan v) e) ∙ here in
+      let first = both (are_before v node.inputs) _ node_is in
+      let second = both (suits_plan plan node.op) _ first.1 in
+      let third = both (is_fed plan node) (is_consumed plan v node.op) second.1 in
+      let fed = both (takes node.op (length node.inputs)) _ third.0 in
+      record { suits = second.0; ports = fed.0; input = fed.1; consumed = third.1 }
+
+  whole : is_whole plan ≡ true
+  whole =
+      let high : 1 ≤ max 1 (length plan.nodes) = omega arith in
+      (both (is_whole plan) (is_shaped plan 1 (numbered plan.nodes 1)) (meets 1 (omega arith) high)).0
+
+  -- there are as many edges as nodes
+  pub edges_many : length plan.edges ≡ length plan.nodes
+  edges_many =
+      let sizes = (both (has_sizes plan) (are_tables (plan.sink ∷ plan.sources)) whole).0 in
+      let nodes = (both _ _ sizes).0 in
+      eqb-true (length plan.edges) (length plan.nodes) (both _ _ nodes).1
+
+  -- a number without a node has no edge
+  pub no_edge : (v : ℕ) → numbered plan.nodes v ≡ None → numbered plan.edges v ≡ None
+  no_edge zero e = refl
+  no_edge (suc n) e = none_there plan.nodes plan.edges n edges_many e
+
+  -- each table may be declared
+  pub declarable : (source : ℕ) (table : TableDef) → slice_get plan.sources source ≡ Some table → is_declarable table ≡ true
+  declarable source table e =
+      let tables = (both (has_sizes plan) (are_tables (plan.sink ∷ plan.sources)) whole).1 in
+      let all = (both (list_all is_declarable (plan.sink ∷ plan.sources)) _ tables).0 in
+      let later = (both (is_declarable plan.sink) (list_all is_declarable plan.sources) all).1 in
+      all_true_at is_declarable plan.sources source table later e
+
+  -- ---- inputs
+
+  abbrev pub IsBefore : ℕ → ℕ → Type 0
+  IsBefore v input = (node : Node) × (numbered plan.nodes input ≡ Some node) × (input < v)
+
+  pub input_there : (v : ℕ) (node : Node) (p input : ℕ) → numbered plan.nodes v ≡ Some node → slice_get node.inputs p ≡ Some input → (0 < input) × IsBefore v input
+  input_there v node p input e i =
+      let b = shape.before v p input (record { node = node; is_node = e; is_input = i }) in
+      let a = among plan.nodes v node e in
+      let n = node_there plan.nodes input b.0 (let h = b.1 in let f = a.few in omega arith) in
+      (b.0, (n.0, n.1, b.1))
+
+  pub inputs_there : (v : ℕ) (node : Node) → numbered plan.nodes v ≡ Some node → AllByRecursion (IsBefore v) node.inputs
+  inputs_there v node e = of_each (IsBefore v) node.inputs (λ p input i. (input_there v node p input e i).1)
+
+  -- ---- consumers
+
+  -- a node that has an input is the only one that has it, at one port
+  pub consumes : (v : ℕ) (node : Node) (p input : ℕ) → numbered plan.nodes v ≡ Some node → slice_get node.inputs p ≡ Some input → (a : IsAmong plan.nodes v node) → IsOnly input plan.nodes a.place node
+  consumes v node p input e i a = record {
+    is_node = a.is;
+    has_it = is_there input node.inputs p i;
+    only = λ m other f h.
+        let q = is_somewhere input other.inputs h in
+        let both_have = shape.once (suc m) v q.0 p input (record { node = other; is_node = f; is_input = q.1 }) (record { node = node; is_node = e; is_input = i }) in
+        let k : suc m ≡ suc a.place = both_have.0 ∙ a.number in
+        omega arith;
+  }
+
+  pub port_once : (v : ℕ) (node : Node) (p q input : ℕ) → numbered plan.nodes v ≡ Some node → slice_get node.inputs p ≡ Some input → slice_get node.inputs q ≡ Some input → q ≡ p
+  port_once v node p q input e i j = (shape.once v v q p input (record { node = node; is_node = e; is_input = j }) (record { node = node; is_node = e; is_input = i })).1
+
+  -- ---- the last node
+
+  -- what is asked of a node before the last
+  abbrev feeds_one : ℕ → Op → Bool
+  feeds_one v o = not (is_sink (Some o)) && (uses v plan.nodes == 1 && suits_consumer plan.sources o (consumer v plan.nodes))
+
+  -- the last node is the sink
+  pub last_sinks : (v : ℕ) (node : Node) → numbered plan.nodes v ≡ Some node → v ≡ length plan.nodes → is_sink (Some node.op) ≡ true
+  last_sinks v node e last =
+      let here : (v == length plan.nodes) ≡ true = ap (λ n. n == length plan.nodes) last ∙ same_number (length plan.nodes) in
+      sym (ap (λ b. cond b (is_sink (Some node.op)) (feeds_one v node.op)) here) ∙ (told v node e).consumed
+
+  inner : (v : ℕ) (node : Node) → numbered plan.nodes v ≡ Some node → v < length plan.nodes → feeds_one v node.op ≡ true
+  inner v node e l =
+      let here : (v == length plan.nodes) ≡ false = by_test (v == length plan.nodes) (λ t. absurd (let k = eqb-true v (length plan.nodes) t in omega arith)) (λ f. f) in
+      sym (ap (λ b. cond b (is_sink (Some node.op)) (feeds_one v node.op)) here) ∙ (told v node e).consumed
+
+  -- no other is
+  pub inner_no_sink : (v : ℕ) (node : Node) → numbered plan.nodes v ≡ Some node → v < length plan.nodes → is_sink (Some node.op) ≡ false
+  inner_no_sink v node e l = not_true (is_sink (Some node.op)) (both (not (is_sink (Some node.op))) _ (inner v node e l)).0
+
+  -- a node suits what it feeds
+  pub suits_above : (v : ℕ) (node : Node) (p input : ℕ) (below : Node) → numbered plan.nodes v ≡ Some node → slice_get node.inputs p ≡ Some input → numbered plan.nodes input ≡ Some below
+      → suits_consumer plan.sources below.op (Some node.op) ≡ true
+  suits_above v node p input below e i f =
+      let a = among plan.nodes v node e in
+      let there = input_there v node p input e i in
+      let l : input < length plan.nodes = let h = there.1.2 in let g = a.few in omega arith in
+      let fed = (both (not (is_sink (Some below.op))) (uses input plan.nodes == 1 && suits_consumer plan.sources below.op (consumer input plan.nodes)) (inner input below f l)).1 in
+      let suits = (both (uses input plan.nodes == 1) (suits_consumer plan.sources below.op (consumer input plan.nodes)) fed).1 in
+      sym (ap (λ o. suits_consumer plan.sources below.op (op_in o)) (finds input plan.nodes a.place node (consumes v node p input e i a))) ∙ suits

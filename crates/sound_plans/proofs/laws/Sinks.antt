@@ -1,0 +1,245 @@
+-- A sink fits between its edges, and prints kinds of its table's mode alone.
+use Rattle.std.proofs.Common.{◌≡◌, ℕ, Bool, true, false, cond, ◌&&◌, ◌||◌, List, [], ◌∷◌, length, Option, Some, None, refl, sym, ap, subst, ◌∙◌}
+use Rattle.std.specs.Prelude.{unwrap_or}
+use Rattle.ct_value.specs.declared.ty.ColTy.{ColTy}
+use Rattle.ct_field.specs.Typed.{row_fits}
+use Rattle.ct_change.specs.declared.kind.Kind.{Kind}
+use Rattle.ct_change.specs.declared.kind.Kind.TheVariants.{I, UB, UA, D}
+use Rattle.ct_change.specs.declared.kind.KindSet.{KindSet}
+use Rattle.ct_change.specs.declared.kind.Declared.{Declared}
+use Rattle.ct_change.specs.declared.kind.Declared.TheVariants.{Append, Retract, Upsert}
+use Rattle.ct_change.specs.Changelog.{mode_of, has, admits}
+use Rattle.ct_catalog.specs.declared.table.TableDef.{TableDef}
+use Rattle.rel_algebra.proofs.laws.Fits.{second}
+use Rattle.ct_change.specs.declared.update.Update.{Update}
+use Rattle.ct_change.specs.declared.update.Update.TheVariants.{Absent, After, Both}
+use Rattle.phys_plan.specs.declared.node.KeyInfo.{KeyInfo}
+use Rattle.phys_plan.specs.declared.node.Op.TheVariants as op
+use Rattle.op_rules.specs.Edges.{Meaning, bag, last_rows, meaning_of, HoldsOver}
+use Rattle.emission_rules.specs.Sink.{splits, kind_printed, MayBeRead, SinkFits}
+use Rattle.column_sets.specs.Sets.{is_within, same_set}
+use Rattle.upsert_keys.specs.Seen.{everywhere}
+use Rattle.ct_change.specs.Kinds.{has_more_than_inserts, is_upsert}
+use Rattle.mode_infer.specs.Modes.{edge_kinds, printed}
+use Rattle.mode_infer.specs.Updates.{same_key, in_full, told}
+use Rattle.plan_inferred.specs.declared.ways.Way.TheVariants.{NewRows, Direct, Materialized, Refused}
+use Rattle.plan_inferred.specs.Ways.{holds_everywhere, holds_in_answers, tells_by}
+use Rattle.plan_inferred.specs.Rules.{is_direct}
+use Rattle.plan_rules.specs.Plans.{exchange_of, meaning_by}
+use Rattle.ct_catalog.specs.Columns.{table_mode}
+use Rattle.plan_rules.specs.Doings.{after_key, sink_of}
+use Rattle.plan_rules.proofs.laws.Reading.{retract_admits}
+use Rattle.sound_plans.specs.Outputs.{Output, AreWithin, IsProper, around_by, edge_of, printed_edge}
+use Rattle.sound_plans.specs.Agrees.{taken_by, Suits, SinkAgrees}
+use Rattle.sound_plans.proofs.laws.KeyFamilies.{one_within}
+use Rattle.sound_plans.proofs.laws.Seen.{over_of}
+use Rattle.sound_plans.proofs.laws.Sets.{lies_within, lies_same, lies_through}
+use Rattle.sound_plans.specs.RowFits.{SinksFit}
+use Rattle.sound_plans.proofs.laws.RowFamilies.{from_none, each_from_none}
+use Rattle.sound_plans.proofs.laws.RowInputs.{comes_by, comes_keyed}
+use Rattle.sound_plans.proofs.laws.Updates.{meaning_full, told_untaken, meaning_after, kinds_admitted, mode_keyed}
+
+-- ---- kinds
+
+-- an edge without updates has no rows of updates, and one of new rows no old ones
+abbrev IsQuiet : KindSet → Update → Type 0
+IsQuiet kinds Absent = (kinds.ub ≡ false) × (kinds.ua ≡ false)
+IsQuiet kinds (After key) = kinds.ub ≡ false
+IsQuiet kinds Both = Unit {0}
+
+wrong : (b : Bool) → b ≡ false → b ≡ true → ⊥
+wrong b e h = let both : false ≡ true = sym e ∙ h in cc
+
+never : (b c : Bool) → (b ≡ true → c ≡ true) → c ≡ false → b ≡ false
+never true c h e = absurd (wrong c e (h refl))
+never false c h e = refl
+
+quiet_full : (sent : KindSet) → (sent.ub ≡ true → sent.ua ≡ true) → IsQuiet (edge_kinds sent (in_full sent)) (in_full sent)
+quiet_full sent replaces = go sent.ua refl
+  where
+    go : (b : Bool) → sent.ua ≡ b → IsQuiet (edge_kinds sent (cond b Both Absent)) (cond b Both Absent)
+    go true is = tt
+    go false is = (never sent.ub sent.ua replaces is, is)
+
+quiet_told : (sent : KindSet) (key : Option (List ℕ)) (taken : Bool) → (sent.ub ≡ true → sent.ua ≡ true) → IsQuiet (edge_kinds sent (told sent key taken)) (told sent key taken)
+quiet_told sent None taken replaces = quiet_full sent replaces
+quiet_told sent (Some key) taken replaces =
+    elim (sent.ua && taken) as (λ b. IsQuiet (edge_kinds sent (cond b (After key) (in_full sent))) (cond b (After key) (in_full sent))) [ true ↦ refl | false ↦ quiet_full sent replaces ]
+
+-- all that comes is printed, as it is or split
+prints : (mode : Declared) (kinds : KindSet) (update : Update) (kind : Kind) → IsQuiet kinds update → has kinds kind ≡ true
+    → has (printed mode (record { kinds = kinds; update = update })) (kind_printed (splits mode (after_key update)) kind) ≡ true
+prints Append kinds update kind quiet h = h
+prints Retract kinds update kind quiet h = h
+prints Upsert kinds Absent I quiet h = h
+prints Upsert kinds Absent UB quiet h = absurd (wrong kinds.ub quiet.0 h)
+prints Upsert kinds Absent UA quiet h = absurd (wrong kinds.ua quiet.1 h)
+prints Upsert kinds Absent D quiet h = h
+prints Upsert kinds (After key) kind quiet h = h
+prints Upsert kinds Both I quiet h = refl
+prints Upsert kinds Both UB quiet h = refl
+prints Upsert kinds Both UA quiet h = refl
+prints Upsert kinds Both D quiet h = refl
+
+-- and is of a kind of the table's mode
+only_inserts : (kinds : KindSet) (kind : Kind) → has_more_than_inserts kinds ≡ false → has kinds kind ≡ true → has (record { i = true; ub = false; ua = false; d = false }) kind ≡ true
+only_inserts kinds I none h = refl
+only_inserts kinds UB none h = absurd (wrong (has_more_than_inserts kinds) none (ap (λ b. b || (kinds.ua || kinds.d)) h))
+only_inserts kinds UA none h = absurd (wrong (has_more_than_inserts kinds) none (ap (λ b. kinds.ub || (b || kinds.d)) h ∙ ends kinds.ub))
+  where
+    ends : (b : Bool) → (b || true) ≡ true
+    ends true = refl
+    ends false = refl
+only_inserts kinds D none h = absurd (wrong (has_more_than_inserts kinds) none (ap (λ b. kinds.ub || (kinds.ua || b)) h ∙ ends kinds.ub kinds.ua))
+  where
+    ends : (a b : Bool) → (a || (b || true)) ≡ true
+    ends true b = refl
+    ends false true = refl
+    ends false false = refl
+
+printed_admitted : (mode : Declared) (key : Option (List ℕ)) (input : Output) (kinds : KindSet) (update : Update) (kind : Kind) → input.edge.kinds ≡ kinds → IsQuiet kinds update → Suits mode key input
+    → has (printed mode (record { kinds = kinds; update = update })) kind ≡ true → admits (mode_of mode (unwrap_or key [])) kind ≡ true
+printed_admitted Append key input kinds update kind is quiet suits h = only_inserts kinds kind (ap has_more_than_inserts (sym is) ∙ suits) h
+printed_admitted Retract key input kinds update kind is quiet suits h = retract_admits kind
+printed_admitted Upsert key input kinds Absent I is quiet suits h = refl
+printed_admitted Upsert key input kinds Absent UB is quiet suits h = absurd (wrong kinds.ub quiet.0 h)
+printed_admitted Upsert key input kinds Absent UA is quiet suits h = refl
+printed_admitted Upsert key input kinds Absent D is quiet suits h = refl
+printed_admitted Upsert key input kinds (After own) I is quiet suits h = refl
+printed_admitted Upsert key input kinds (After own) UB is quiet suits h = absurd (wrong kinds.ub quiet h)
+printed_admitted Upsert key input kinds (After own) UA is quiet suits h = refl
+printed_admitted Upsert key input kinds (After own) D is quiet suits h = refl
+printed_admitted Upsert key input kinds Both kind is quiet suits h = split kind h
+  where
+    split : (kind : Kind) → has (record { i = true; ub = false; ua = false; d = true }) kind ≡ true → admits (mode_of Upsert (unwrap_or key [])) kind ≡ true
+    split I h = refl
+    split UB h = h
+    split UA h = refl
+    split D h = refl
+
+-- ---- how what was printed may be read
+
+-- whether a table of this mode and key takes new rows alone by a key
+abbrev takes_by : Declared → Option (List ℕ) → Option (List ℕ) → Bool
+takes_by mode own None = false
+takes_by mode own (Some key) = is_upsert mode && same_key own key
+
+-- as the sink of the table does
+takes_so : (sink : TableDef) (key : Option (List ℕ)) → taken_by sink op.Sink 0 Absent key ≡ takes_by sink.mode sink.key key
+takes_so sink None = refl
+takes_so sink (Some key) = refl
+
+both_ways : (a b : Bool) → (a && b) ≡ (b && a)
+both_ways true true = refl
+both_ways true false = refl
+both_ways false true = refl
+both_ways false false = refl
+
+-- an upsert table takes new rows alone where they tell by its key
+told_new : (sent : KindSet) (key : List ℕ) (own : Option (List ℕ)) → told sent own (takes_by Upsert (Some key) own) ≡ cond (tells_by sent own key) (After (unwrap_or own [])) (in_full sent)
+told_new sent key None = refl
+told_new sent key (Some own) = ap (λ b. cond (sent.ua && b) (After own) (in_full sent)) (both_ways (is_within key own) (is_within own key))
+
+tells_same : (sent : KindSet) (own : Option (List ℕ)) (key : List ℕ) → tells_by sent own key ≡ true → same_set (unwrap_or own []) key ≡ true
+tells_same sent None key e = absurd (cc)
+tells_same sent (Some own) key e = second sent.ua (same_set own key) e
+
+-- and otherwise rows as they come, where a set of columns holds everywhere
+direct_holds : (all some : Bool) → is_direct (cond all Direct (cond some Materialized Refused)) ≡ true → all ≡ true
+direct_holds true some e = refl
+direct_holds false true e = absurd (let h : false ≡ true = e in cc)
+direct_holds false false e = absurd (let h : false ≡ true = e in cc)
+
+module _ (many : ℕ) (input : Output) where
+  -- a set of columns that holds everywhere lies in the key
+  holds_over : (key : List ℕ) → holds_everywhere input.keys key ≡ true → HoldsOver (edge_of many input) key
+  holds_over key e =
+      let one = one_within (everywhere input.keys) key e in
+      let over = over_of many input one.0 one.1 in
+      let lies = lies_within one.0 key one.2 in
+      record {
+        local = over.local;
+        fixing = over.fixing;
+        is_local = over.is_local;
+        is_fixing = over.is_fixing;
+        has_local = lies_through over.local one.0 key over.has_local lies;
+        has_fixing = lies_through over.fixing one.0 key over.has_fixing lies;
+      }
+
+  -- what comes in full may be read as a bag, and by a key that holds everywhere
+  read_in_full : (update : Update) (meaning : Meaning) → update ≡ in_full input.sent → MayBeRead (edge_of many input) bag meaning → MayBeRead (edge_of many input) (meaning_by update) meaning
+  read_in_full update meaning is may = subst (λ (m : Meaning). MayBeRead (edge_of many input) m meaning) (sym (ap meaning_by is ∙ meaning_full input.sent)) may
+
+  by_key : (key : List ℕ) (update : Update) (b : Bool) → tells_by input.sent input.update_key key ≡ b → update ≡ cond b (After (unwrap_or input.update_key [])) (in_full input.sent)
+      → is_direct (cond b NewRows (cond (holds_everywhere input.keys key) Direct (cond (holds_in_answers input.keys key) Materialized Refused))) ≡ true
+      → MayBeRead (edge_of many input) (meaning_by update) (last_rows key)
+  by_key key update true tells is direct =
+      subst (λ (u : Update). MayBeRead (edge_of many input) (meaning_by u) (last_rows key)) (sym is) (lies_same (unwrap_or input.update_key []) key (tells_same input.sent input.update_key key tells))
+  by_key key update false tells is direct =
+      read_in_full update (last_rows key) is (holds_over key (direct_holds (holds_everywhere input.keys key) (holds_in_answers input.keys key) direct))
+
+  may_be_read : (mode : Declared) (key : Option (List ℕ)) (update : Update) → update ≡ told input.sent input.update_key (takes_by mode key input.update_key) → Suits mode key input
+      → MayBeRead (edge_of many input) (meaning_by update) (meaning_of (mode_of mode (unwrap_or key [])))
+  may_be_read Append key update is suits = read_in_full update bag (is ∙ ap (told input.sent input.update_key) (not_taken input.update_key) ∙ told_untaken input.sent input.update_key) tt
+    where
+      not_taken : (own : Option (List ℕ)) → takes_by Append key own ≡ false
+      not_taken None = refl
+      not_taken (Some own) = refl
+  may_be_read Retract key update is suits = read_in_full update bag (is ∙ ap (told input.sent input.update_key) (not_taken input.update_key) ∙ told_untaken input.sent input.update_key) tt
+    where
+      not_taken : (own : Option (List ℕ)) → takes_by Retract key own ≡ false
+      not_taken None = refl
+      not_taken (Some own) = refl
+  may_be_read Upsert None update is suits = absurd suits
+  may_be_read Upsert (Some key) update is suits = by_key key update (tells_by input.sent input.update_key key) refl (is ∙ told_new input.sent key input.update_key) suits
+
+-- ---- the node
+
+module _ (many : ℕ) (sink : TableDef) (input own : Output) (agrees : SinkAgrees sink input own) where
+  -- how what comes is told, and what follows for its kinds
+  told_so : input.edge.update ≡ told input.sent input.update_key (takes_by sink.mode sink.key input.update_key)
+  told_so = agrees.asked.tells ∙ ap (told input.sent input.update_key) (takes_so sink input.update_key)
+
+  quiet : IsQuiet input.edge.kinds input.edge.update
+  quiet =
+      let by = quiet_told input.sent input.update_key (takes_by sink.mode sink.key input.update_key) agrees.asked.proper.replaces in
+      let here : IsQuiet (edge_kinds input.sent input.edge.update) input.edge.update = subst (λ (u : Update). IsQuiet (edge_kinds input.sent u) u) (sym told_so) by in
+      subst (λ (k : KindSet). IsQuiet k input.edge.update) (sym agrees.asked.carries) here
+
+  same_columns : input.columns ≡ own.columns
+  same_columns = sym agrees.typed
+
+  sink_fits : SinkFits (sink_of (around_by sink (input ∷ []) own)) (edge_of many input) (printed_edge many sink own)
+  sink_fits = record {
+    forwards = ap exchange_of (comes_by sink op.Sink Absent 0 input agrees.asked None refl);
+    reads = meaning_after input.edge.update;
+    writes = may_be_read many input sink.mode sink.key input.edge.update told_so agrees.suits;
+    admitted = λ kind h. kinds_admitted input.sent input.edge.update kind (subst (λ (k : KindSet). has k kind ≡ true) agrees.asked.carries h);
+    keyed = λ change h. mode_keyed input.columns input.update_key input.edge.update (comes_keyed sink op.Sink Absent 0 input agrees.asked) agrees.asked.proper.update_key change.row h;
+    kinds = λ kind h.
+        subst (λ (k : KindSet). has k (kind_printed (splits sink.mode (after_key input.edge.update)) kind) ≡ true) (sym agrees.prints)
+        (prints sink.mode input.edge.kinds input.edge.update kind quiet h);
+    fits = λ change h. subst (λ (columns : List ColTy). row_fits columns change.row ≡ true) same_columns h;
+    holds = λ row h. subst (λ (columns : List ColTy). row_fits columns row ≡ true) same_columns h;
+    unique = λ key h. absurd (from_none own.keys.unique (ap (λ (k : KeyInfo). k.unique) agrees.keyed) key h);
+    local = λ key h. absurd (from_none own.keys.local (ap (λ (k : KeyInfo). k.local) agrees.keyed) key h);
+    fixing = λ set h. absurd (from_none own.keys.fixing (ap (λ (k : KeyInfo). k.fixing) agrees.keyed) set h);
+  }
+
+  sink_proper : IsProper own
+  sink_proper = record {
+    unique = each_from_none (AreWithin (length own.columns)) own.keys.unique (ap (λ (k : KeyInfo). k.unique) agrees.keyed);
+    local = each_from_none (AreWithin (length own.columns)) own.keys.local (ap (λ (k : KeyInfo). k.local) agrees.keyed);
+    fixing = each_from_none (AreWithin (length own.columns)) own.keys.fixing (ap (λ (k : KeyInfo). k.fixing) agrees.keyed);
+    update_key = λ key is. absurd (let none : None ≡ Some key = sym agrees.updates ∙ is in cc);
+    inserts = ap (λ (k : KindSet). k.i) agrees.sends ∙ agrees.asked.proper.inserts;
+    replaces = λ h. ap (λ (k : KindSet). k.ua) agrees.sends ∙ agrees.asked.proper.replaces (sym (ap (λ (k : KindSet). k.ub) agrees.sends) ∙ h);
+  }
+
+  of_mode : (kind : Kind) → has own.edge.kinds kind ≡ true → admits (table_mode sink) kind ≡ true
+  of_mode kind h =
+      printed_admitted sink.mode sink.key input input.edge.kinds input.edge.update kind refl quiet agrees.suits
+      (subst (λ (k : KindSet). has k kind ≡ true) agrees.prints h)
+
+pub sinks_fit : SinksFit
+sinks_fit many sink input own agrees = (sink_fits many sink input own agrees, sink_proper many sink input own agrees, of_mode many sink input own agrees)

@@ -1,0 +1,398 @@
+-- Each node of a sound plan meets its facts, and its ports take what their edges carry.
+use Rattle.std.specs.Prelude.{◌≡◌, ℕ, ◌<◌, ◌≤◌, ◌⊎◌, ◌==◌, Bool, List, length, map, slice_get, slice_index_or, Option, option_map}
+use Rattle.std.proofs.Common.{zero, suc, true, false, [], ◌∷◌, refl, sym, ap, subst, ◌∙◌, arith, Some, None, inl, inr}
+use Rattle.std.proofs.lemmas.Bool.{eqb-true, eqb-false}
+use Rattle.ct_catalog.specs.declared.table.TableDef.{TableDef}
+use Rattle.ct_expr.specs.declared.expr.Expr.{Expr}
+use Rattle.ct_expr.specs.View.{expr_view}
+use Rattle.rel_algebra.specs.declared.agg.Agg.{Agg}
+use Rattle.rel_algebra.specs.declared.join.JoinKind.{JoinKind}
+use Rattle.rel_algebra.specs.declared.join.Pair.{Pair}
+use Rattle.rel_algebra.specs.declared.sort.SortCol.{SortCol}
+use Rattle.op_rules.specs.Edges.{Edge}
+use Rattle.op_rules.specs.Tasks.{Task, Facts}
+use Rattle.op_rules.specs.Ports.{TakesAll}
+use Rattle.emission_rules.proofs.laws.Filters.{filters_stand, filters_take}
+use Rattle.emission_rules.proofs.laws.Projects.{projects_stand, projects_take}
+use Rattle.emission_rules.proofs.laws.Unions.{unions_stand, unions_take}
+use Rattle.emission_rules.proofs.laws.Normalizes.{normalizes_stand, normalizes_take}
+use Rattle.emission_rules.proofs.laws.Sinks.{sinks_stand, sinks_take}
+use Rattle.emission_rules.specs.Grouping.{group_rule}
+use Rattle.emission_rules.specs.GroupFits.{group_task}
+use Rattle.emission_rules.specs.Joining.{joins, matched}
+use Rattle.emission_rules.proofs.laws.Nodes.{joins_stand, joins_take}
+use Rattle.emission_rules.specs.Ranking.{topn_rule}
+use Rattle.emission_rules.specs.TopFits.{topn_task}
+use Rattle.emission_rules.proofs.laws.TopFacts.{topn_stands, topn_takes}
+use Rattle.phys_plan.specs.declared.node.Node.{Node}
+use Rattle.phys_plan.specs.declared.node.Op.{Op}
+use Rattle.phys_plan.specs.declared.node.Op.TheVariants as op
+use Rattle.phys_plan.specs.declared.plan.Plan.{Plan}
+use Rattle.stream_model.specs.Network.{task, ScanFacts}
+use Rattle.plan_rules.specs.Plans.{inputs_in, scan_of, table_of}
+use Rattle.phys_plan.specs.Reading.{numbered}
+use Rattle.plan_rules.specs.Doings.{Around, around_of, doing_by, doing_in, filter_of, grouping_of, joining_of, network, normalize_of, project_of, ranking_of, rule_by, sink_of, union_of}
+use Rattle.plan_shape.specs.Shape.{is_sink, takes as ports_of}
+use Rattle.plan_shape.specs.Shaped.{MeetsShape}
+use Rattle.sound_plans.specs.Agrees.{Agrees, NormalizeAgrees, SinkAgrees}
+use Rattle.sound_plans.specs.Outputs.{IsProper, Output, around_by, edge_of, edges_of, no_output, printed_edge}
+use Rattle.sound_plans.specs.Sound.{IsRuled, has_rule}
+use Rattle.sound_plans.proofs.laws.Inputs.{facts_of_ports, takes_of_ports}
+use Rattle.sound_plans.proofs.laws.Numbers.{index_at}
+use Rattle.sound_plans.proofs.laws.Lists.{map_length, same_number}
+use Rattle.sound_plans.proofs.laws.Consumers.{by_test}
+use Rattle.sound_plans.specs.Promises.{Laws}
+use Rattle.sound_plans.proofs.laws.Agreed as a
+use Rattle.sound_plans.proofs.laws.Shapes as s
+use Rattle.sound_plans.proofs.laws.Outputs.{around_is, edge_is, output_at, printed_is}
+
+-- ---- one operator, between what its inputs send and its own edge
+
+module _ (laws : Laws) (many : ℕ) (some : 0 < many) (sources : List TableDef) (sink : TableDef) where
+  abbrev pub task_by : Op → Around → List Output → Edge → Task
+  task_by o around inputs to = record {
+    subtasks = many;
+    ports = length inputs;
+    input = edges_of many inputs;
+    output = to;
+    opening = (doing_by o around).opening;
+    emits = (doing_by o around).emits;
+    part = (doing_by o around).part;
+    batch = (doing_by o around).batch;
+  }
+
+  abbrev pub StandsBy : Op → List Output → Output → Edge → Type 0
+  StandsBy o inputs own to = Facts (task_by o (around_by sink inputs own) inputs to) × TakesAll (rule_by o (around_by sink inputs own)) (task_by o (around_by sink inputs own) inputs to)
+
+  abbrev pub Works : Op → List Output → Output → Type 0
+  Works o inputs own = StandsBy o inputs own (edge_of many own) × IsProper own
+
+  one_port : (input : Output) (p : ℕ) → p < 1 → edges_of many (input ∷ []) p ≡ edge_of many input
+  one_port input zero l = refl
+  one_port input (suc p) l = absurd (omega arith)
+
+  filter_works : (cond : Expr) (input own : Output) → Agrees sources sink (op.Filter cond) (input ∷ []) own → Works (op.Filter cond) (input ∷ []) own
+  filter_works cond input own agrees =
+      let f = laws.filters_fit many sources sink cond input own agrees in
+      let rule = filter_of (expr_view cond) in
+      ((filters_stand rule many (edges_of many (input ∷ [])) (edge_of many own) f.0, filters_take rule many (edges_of many (input ∷ [])) (edge_of many own) f.0), f.1)
+
+  project_works : (items : List Expr) (input own : Output) → Agrees sources sink (op.Project items) (input ∷ []) own → Works (op.Project items) (input ∷ []) own
+  project_works items input own agrees =
+      let f = laws.projects_fit many sources sink items input own agrees in
+      let rule = project_of (map expr_view items) (around_by sink (input ∷ []) own) in
+      ((projects_stand rule many (edges_of many (input ∷ [])) (edge_of many own) f.0, projects_take rule many (edges_of many (input ∷ [])) (edge_of many own) f.0), f.1)
+
+  union_works : (inputs : List Output) (own : Output) → Agrees sources sink op.Union inputs own → Works op.Union inputs own
+  union_works inputs own agrees =
+      let f = laws.unions_fit many sources sink inputs own agrees in
+      let rule = union_of (around_by sink inputs own) in
+      ((unions_stand rule many (edges_of many inputs) (edge_of many own) f.0, unions_take rule many (edges_of many inputs) (edge_of many own) f.0), f.1)
+
+  normalize_works : (key : List ℕ) (input own : Output) → NormalizeAgrees key input own → Works (op.Normalize key) (input ∷ []) own
+  normalize_works key input own agrees =
+      let f = laws.normalizes_fit many some sink key input own agrees in
+      let rule = normalize_of key (around_by sink (input ∷ []) own) in
+      ((normalizes_stand rule many (edges_of many (input ∷ [])) (edge_of many own) f.0, normalizes_take rule many (edges_of many (input ∷ [])) (edge_of many own) f.0), f.1)
+
+  group_works : (keys : ℕ) (aggs : List Agg) (input own : Output) → Agrees sources sink (op.Group keys aggs) (input ∷ []) own → Works (op.Group keys aggs) (input ∷ []) own
+  group_works keys aggs input own agrees =
+      let f = laws.groups_fit many some sources sink keys aggs input own agrees in
+      let g = grouping_of keys aggs (around_by sink (input ∷ []) own) in
+      let t = group_task many g (edge_of many input) (edge_of many own) in (
+        (
+          facts_of_ports t (edges_of many (input ∷ [])) (one_port input) (laws.groups_stand many g (edge_of many input) (edge_of many own) f.0),
+          takes_of_ports t (edges_of many (input ∷ [])) (one_port input) (group_rule g) (laws.groups_take many g (edge_of many input) (edge_of many own) f.0),
+        ),
+        f.1,
+      )
+
+  join_works : (kind : JoinKind) (on : List Pair) (rest : Option Expr) (left right own : Output) → Agrees sources sink (op.Join kind on rest) (left ∷ (right ∷ [])) own → Works (op.Join kind on rest) (left ∷ (right ∷ [])) own
+  join_works kind on rest left right own agrees =
+      let f = laws.joins_fit many some sources sink kind on rest left right own agrees in
+      let j = joining_of (joins kind) on (option_map expr_view rest) (around_by sink (left ∷ (right ∷ [])) own) in
+      ((joins_stand many j (edges_of many (left ∷ (right ∷ []))) (edge_of many own) f.0, joins_take many j (edges_of many (left ∷ (right ∷ []))) (edge_of many own) f.0), f.1)
+
+  semi_works : (anti : Bool) (on : List Pair) (rest : Option Expr) (left right own : Output) → Agrees sources sink (op.Semi anti on rest) (left ∷ (right ∷ [])) own → Works (op.Semi anti on rest) (left ∷ (right ∷ [])) own
+  semi_works anti on rest left right own agrees =
+      let f = laws.semis_fit many some sources sink anti on rest left right own agrees in
+      let j = joining_of (matched anti) on (option_map expr_view rest) (around_by sink (left ∷ (right ∷ [])) own) in
+      ((joins_stand many j (edges_of many (left ∷ (right ∷ []))) (edge_of many own) f.0, joins_take many j (edges_of many (left ∷ (right ∷ []))) (edge_of many own) f.0), f.1)
+
+  rank_works : (partition : List ℕ) (order : List SortCol) (bound : ℕ) (ranked : Bool) (input own : Output) → Agrees sources sink (op.TopN partition order bound ranked) (input ∷ []) own → Works (op.TopN partition order bound ranked) (input ∷ []) own
+  rank_works partition order bound ranked input own agrees =
+      let f = laws.topns_fit many some sources sink partition order bound ranked input own agrees in
+      let r = ranking_of partition order bound ranked (around_by sink (input ∷ []) own) in
+      let t = topn_task many r (edge_of many input) (edge_of many own) in (
+        (
+          facts_of_ports t (edges_of many (input ∷ [])) (one_port input) (topn_stands many r (edge_of many input) (edge_of many own) f.0),
+          takes_of_ports t (edges_of many (input ∷ [])) (one_port input) (topn_rule r) (topn_takes many r (edge_of many input) (edge_of many own) f.0),
+        ),
+        f.1,
+      )
+
+  sink_works : (input own : Output) → SinkAgrees sink input own → StandsBy op.Sink (input ∷ []) own (printed_edge many sink own) × IsProper own
+  sink_works input own agrees =
+      let f = laws.sinks_fit many sink input own agrees in
+      let rule = sink_of (around_by sink (input ∷ []) own) in
+      ((sinks_stand rule many (edges_of many (input ∷ [])) (printed_edge many sink own) f.0, sinks_take rule many (edges_of many (input ∷ [])) (printed_edge many sink own) f.0), f.1)
+
+-- ---- nodes of a plan
+
+module _ (laws : Laws) (plan : Plan) (ruled : IsRuled plan) where
+  abbrev pub edge_at : ℕ → Edge
+  edge_at v = (network plan).edge v
+
+  abbrev outs : List ℕ → List Output
+  outs inputs = map (output_at plan) inputs
+
+  meets : MeetsShape plan
+  meets = a.meets laws plan ruled
+
+  some : 0 < plan.parallelism
+  some = (s.shape plan meets laws.shaped).parallel
+
+  abbrev Fits : Op → List Output → Output → Edge → Type 0
+  Fits o inputs own to = StandsBy laws plan.parallelism some plan.sources plan.sink o inputs own to
+
+  abbrev pub Stands : ℕ → Node → Type 0
+  Stands v node = Facts (task (network plan) v) × TakesAll (rule_by node.op (around_of plan v node.inputs)) (task (network plan) v)
+
+  -- ---- a node as the network has it
+
+  abbrev task_in : ℕ → Option Node → Task
+  task_in v o = record {
+    subtasks = plan.parallelism;
+    ports = length (inputs_in o);
+    input = λ p. edge_at (slice_index_or (inputs_in o) p 0);
+    output = edge_at v;
+    opening = (doing_in plan v o).opening;
+    emits = (doing_in plan v o).emits;
+    part = (doing_in plan v o).part;
+    batch = (doing_in plan v o).batch;
+  }
+
+  abbrev task_told : ℕ → Op → List ℕ → ℕ → Around → Task
+  task_told v o inputs ports around = record {
+    subtasks = plan.parallelism;
+    ports = ports;
+    input = λ p. edge_at (slice_index_or inputs p 0);
+    output = edge_at v;
+    opening = (doing_by o around).opening;
+    emits = (doing_by o around).emits;
+    part = (doing_by o around).part;
+    batch = (doing_by o around).batch;
+  }
+
+  out_there : (inputs : List ℕ) (p : ℕ) → p < length inputs → slice_index_or (outs inputs) p no_output ≡ output_at plan (slice_index_or inputs p 0)
+  out_there [] p l = absurd (omega arith)
+  out_there (input ∷ inputs) zero l = refl
+  out_there (input ∷ inputs) (suc p) l = out_there inputs p (omega arith)
+
+  not_last : (v : ℕ) → v < length plan.nodes → (v == length plan.nodes) ≡ false
+  not_last v l = by_test (v == length plan.nodes) (λ t. absurd (let k = eqb-true v (length plan.nodes) t in omega arith)) (λ f. f)
+
+  ports_are : (v : ℕ) (node : Node) → numbered plan.nodes v ≡ Some node → (p : ℕ) → p < length (outs node.inputs) → edge_at (slice_index_or node.inputs p 0) ≡ edges_of plan.parallelism (outs node.inputs) p
+  ports_are v node e p l =
+      let many = map_length (output_at plan) node.inputs in
+      let near : p < length node.inputs = omega arith in
+      let input = slice_index_or node.inputs p 0 in
+      let there = (s.input_there plan meets laws.shaped v node p input e (index_at node.inputs p near)).1 in
+      let few = (s.among plan.nodes v node e).few in
+      edge_is plan input (not_last input (let k = there.2 in omega arith)) ∙ ap (edge_of plan.parallelism) (sym (out_there node.inputs p near))
+
+  stands_at : (v : ℕ) (node : Node) (first : ℕ) (rest : List ℕ) → numbered plan.nodes v ≡ Some node → node.inputs ≡ first ∷ rest → Fits node.op (outs node.inputs) (output_at plan v) (edge_at v) → Stands v node
+  stands_at v node first rest e are h =
+      let own = output_at plan v in
+      let around = around_by plan.sink (outs node.inputs) own in
+      let t = task_by laws plan.parallelism some plan.sources plan.sink node.op around (outs node.inputs) (edge_at v) in
+      let other = λ (p : ℕ). edge_at (slice_index_or node.inputs p 0) in
+      let told : task_told v node.op node.inputs (length (outs node.inputs)) around ≡ task_told v node.op node.inputs (length (outs node.inputs)) around = refl in
+      let facts : Facts (task_told v node.op node.inputs (length (outs node.inputs)) around) = facts_of_ports t other (ports_are v node e) h.0 in
+      let takes : TakesAll (rule_by node.op around) (task_told v node.op node.inputs (length (outs node.inputs)) around) = takes_of_ports t other (ports_are v node e) (rule_by node.op around) h.1 in
+      let seen : around_of plan v node.inputs ≡ around = subst (λ (xs : List ℕ). around_of plan v xs ≡ around_by plan.sink (outs xs) own) (sym are) (around_is plan v first rest) in
+      let many = map_length (output_at plan) node.inputs in
+      let counted = subst (λ n. Facts (task_told v node.op node.inputs n around) × TakesAll (rule_by node.op around) (task_told v node.op node.inputs n around)) many (facts, takes) in
+      let around_told = subst (λ (x : Around). Facts (task_told v node.op node.inputs (length node.inputs) x) × TakesAll (rule_by node.op x) (task_told v node.op node.inputs (length node.inputs) x)) (sym seen) counted in
+      subst (λ (o : Option Node). Facts (task_in v o) × TakesAll (rule_by node.op (around_of plan v node.inputs)) (task_in v o)) (sym e) around_told
+
+  -- ---- all nodes
+
+  pub record IsScanNode (v : ℕ) (node : Node) : Type 0 where
+    pub source : ℕ
+    pub table : TableDef
+    pub scans : scan_of node.op ≡ Some source
+    pub no_inputs : node.inputs ≡ []
+    pub is_table : slice_get plan.sources source ≡ Some table
+    pub facts : ScanFacts plan.parallelism (table_of plan.parallelism table) (edge_at v)
+
+  pub record IsWorker (v : ℕ) (node : Node) : Type 0 where
+    pub no_scan : scan_of node.op ≡ None
+    pub has_inputs : 0 < length node.inputs
+    pub stands : Stands v node
+
+  pub record NodeStands (v : ℕ) (node : Node) : Type 0 where
+    pub works : IsScanNode v node ⊎ IsWorker v node
+    pub proper : IsProper (output_at plan v)
+
+  inner_edge : (v : ℕ) (node : Node) → numbered plan.nodes v ≡ Some node → a.sinks node.op ≡ false → edge_at v ≡ edge_of plan.parallelism (output_at plan v)
+  inner_edge v node e n =
+      edge_is plan v (by_test (v == length plan.nodes)
+      (λ t. absurd (let h : is_sink (Some node.op) ≡ true = s.last_sinks plan meets laws.shaped v node e (eqb-true v (length plan.nodes) t) in let k : false ≡ true = sym n ∙ sym (a.is_sink_too node.op) ∙ h in cc))
+      (λ f. f))
+
+  is_last : (v : ℕ) (node : Node) → numbered plan.nodes v ≡ Some node → node.op ≡ op.Sink → v ≡ length plan.nodes
+  is_last v node e is =
+      by_test (v == length plan.nodes) (λ t. eqb-true v (length plan.nodes) t)
+      (λ f.
+      let few = (s.among plan.nodes v node e).few in
+      let apart = eqb-false v (length plan.nodes) f in
+      absurd (let h = s.inner_no_sink plan meets laws.shaped v node e (omega arith) in let k : true ≡ false = sym (ap (λ x. is_sink (Some x)) is) ∙ h in cc))
+
+  -- a node with one input, by its operator
+  one : (v : ℕ) (node : Node) → numbered plan.nodes v ≡ Some node → (o : Op) → node.op ≡ o → ((n : ℕ) → ports_of o n ≡ (n == 1)) → scan_of o ≡ None → a.scans o ≡ false → a.normalizes o ≡ false → a.sinks o ≡ false
+      → a.AreProper laws plan ruled node.inputs → ((input own : Output) → Agrees plan.sources plan.sink o (input ∷ []) own → Works laws plan.parallelism some plan.sources plan.sink o (input ∷ []) own) → NodeStands v node
+  one v node e o is takes_one no_scan x y z proper works =
+      let i = a.one_input laws plan ruled v node e (λ n. ap (λ p. ports_of p n) is ∙ takes_one n) in
+      let own = output_at plan v in
+      let agrees = a.agrees laws plan ruled v node e (ap a.scans is ∙ x) (ap a.normalizes is ∙ y) (ap a.sinks is ∙ z) proper in
+      let sent : outs node.inputs ≡ output_at plan i.0 ∷ [] = ap outs i.1 in
+      let w = works (output_at plan i.0) own (subst (λ xs. Agrees plan.sources plan.sink o xs own) sent (subst (λ p. Agrees plan.sources plan.sink p (outs node.inputs) own) is agrees)) in
+      let fits : Fits o (outs node.inputs) own (edge_at v) = subst (λ (to : Edge). Fits o (outs node.inputs) own to) (sym (inner_edge v node e (ap a.sinks is ∙ z))) (subst (λ xs. Fits o xs own (edge_of plan.parallelism own)) (sym sent) w.0) in
+      record {
+        works = inr (record {
+          no_scan = ap scan_of is ∙ no_scan;
+          has_inputs = subst (λ (xs : List ℕ). 0 < length xs) (sym i.1) (omega arith);
+          stands = stands_at v node i.0 [] e i.1 (subst (λ p. Fits p (outs node.inputs) own (edge_at v)) (sym is) fits);
+        });
+        proper = w.1;
+      }
+
+  -- a node with two inputs, by its operator
+  two : (v : ℕ) (node : Node) → numbered plan.nodes v ≡ Some node → (o : Op) → node.op ≡ o → ((n : ℕ) → ports_of o n ≡ (n == 2)) → scan_of o ≡ None → a.scans o ≡ false → a.normalizes o ≡ false → a.sinks o ≡ false
+      → a.AreProper laws plan ruled node.inputs
+      → ((left right own : Output) → Agrees plan.sources plan.sink o (left ∷ (right ∷ [])) own → Works laws plan.parallelism some plan.sources plan.sink o (left ∷ (right ∷ [])) own) → NodeStands v node
+  two v node e o is takes_two no_scan x y z proper works =
+      let i = a.two_inputs laws plan ruled v node e (λ n. ap (λ p. ports_of p n) is ∙ takes_two n) in
+      let own = output_at plan v in
+      let agrees = a.agrees laws plan ruled v node e (ap a.scans is ∙ x) (ap a.normalizes is ∙ y) (ap a.sinks is ∙ z) proper in
+      let sent : outs node.inputs ≡ output_at plan i.0 ∷ (output_at plan i.1 ∷ []) = ap outs i.2 in
+      let w = works (output_at plan i.0) (output_at plan i.1) own (subst (λ xs. Agrees plan.sources plan.sink o xs own) sent (subst (λ p. Agrees plan.sources plan.sink p (outs node.inputs) own) is agrees)) in
+      let fits : Fits o (outs node.inputs) own (edge_at v) = subst (λ (to : Edge). Fits o (outs node.inputs) own to) (sym (inner_edge v node e (ap a.sinks is ∙ z))) (subst (λ xs. Fits o xs own (edge_of plan.parallelism own)) (sym sent) w.0) in
+      record {
+        works = inr (record {
+          no_scan = ap scan_of is ∙ no_scan;
+          has_inputs = subst (λ (xs : List ℕ). 0 < length xs) (sym i.2) (omega arith);
+          stands = stands_at v node i.0 (i.1 ∷ []) e i.2 (subst (λ p. Fits p (outs node.inputs) own (edge_at v)) (sym is) fits);
+        });
+        proper = w.1;
+      }
+
+  scan : (v : ℕ) (node : Node) → numbered plan.nodes v ≡ Some node → (source : ℕ) → node.op ≡ op.Scan source → NodeStands v node
+  scan v node e source is =
+      let t = a.table_there laws plan ruled v node source e is in
+      let f = laws.scans_fit plan.parallelism some t.0 (output_at plan v) (a.scan_agrees laws plan ruled v node source t.0 e is t.1 t.2) in
+      record {
+        works = inl (record {
+          source = source;
+          table = t.0;
+          scans = ap scan_of is;
+          no_inputs = ((s.shape plan meets laws.shaped).scans v source node e (ap scan_of is)).0;
+          is_table = t.1;
+          facts =
+              subst (λ (x : Edge). ScanFacts plan.parallelism (table_of plan.parallelism t.0) x) (sym (inner_edge v node e (ap a.sinks is)))
+              (laws.scans_stand plan.parallelism (table_of plan.parallelism t.0) (edge_of plan.parallelism (output_at plan v)) f.0);
+        });
+        proper = f.1;
+      }
+
+  union : (v : ℕ) (node : Node) → numbered plan.nodes v ≡ Some node → node.op ≡ op.Union → a.AreProper laws plan ruled node.inputs → NodeStands v node
+  union v node e is proper =
+      let i = a.some_inputs laws plan ruled v node e is in
+      let own = output_at plan v in
+      let agrees = a.agrees laws plan ruled v node e (ap a.scans is) (ap a.normalizes is) (ap a.sinks is) proper in
+      let w = union_works laws plan.parallelism some plan.sources plan.sink (outs node.inputs) own (subst (λ p. Agrees plan.sources plan.sink p (outs node.inputs) own) is agrees) in
+      let fits : Fits op.Union (outs node.inputs) own (edge_at v) = subst (λ (to : Edge). Fits op.Union (outs node.inputs) own to) (sym (inner_edge v node e (ap a.sinks is))) w.0 in
+      record {
+        works = inr (record {
+          no_scan = ap scan_of is;
+          has_inputs = subst (λ (xs : List ℕ). 0 < length xs) (sym i.2) (omega arith);
+          stands = stands_at v node i.0 i.1 e i.2 (subst (λ p. Fits p (outs node.inputs) own (edge_at v)) (sym is) fits);
+        });
+        proper = w.1;
+      }
+
+  normalize : (v : ℕ) (node : Node) → numbered plan.nodes v ≡ Some node → (key : List ℕ) → node.op ≡ op.Normalize key → a.AreProper laws plan ruled node.inputs → NodeStands v node
+  normalize v node e key is proper =
+      let i = a.one_input laws plan ruled v node e (λ n. ap (λ p. ports_of p n) is) in
+      let own = output_at plan v in
+      let sent : outs node.inputs ≡ output_at plan i.0 ∷ [] = ap outs i.1 in
+      let w = normalize_works laws plan.parallelism some plan.sources plan.sink key (output_at plan i.0) own (a.normalize_agrees laws plan ruled v node key i.0 e is i.1 proper) in
+      let fits : Fits (op.Normalize key) (outs node.inputs) own (edge_at v) =
+      subst (λ (to : Edge). Fits (op.Normalize key) (outs node.inputs) own to) (sym (inner_edge v node e (ap a.sinks is))) (subst (λ xs. Fits (op.Normalize key) xs own (edge_of plan.parallelism own)) (sym sent) w.0) in
+      record {
+        works = inr (record {
+          no_scan = ap scan_of is;
+          has_inputs = subst (λ (xs : List ℕ). 0 < length xs) (sym i.1) (omega arith);
+          stands = stands_at v node i.0 [] e i.1 (subst (λ p. Fits p (outs node.inputs) own (edge_at v)) (sym is) fits);
+        });
+        proper = w.1;
+      }
+
+  pub sink_is : (v : ℕ) (node : Node) → numbered plan.nodes v ≡ Some node → node.op ≡ op.Sink → a.AreProper laws plan ruled node.inputs
+      → (input : ℕ) × (node.inputs ≡ input ∷ []) × SinkAgrees plan.sink (output_at plan input) (output_at plan v)
+  sink_is v node e is proper =
+      let i = a.one_input laws plan ruled v node e (λ n. ap (λ p. ports_of p n) is) in
+      (i.0, i.1, a.sink_agrees laws plan ruled v node i.0 e is (is_last v node e is) i.1 proper)
+
+  sink : (v : ℕ) (node : Node) → numbered plan.nodes v ≡ Some node → node.op ≡ op.Sink → a.AreProper laws plan ruled node.inputs → NodeStands v node
+  sink v node e is proper =
+      let i = sink_is v node e is proper in
+      let own = output_at plan v in
+      let sent : outs node.inputs ≡ output_at plan i.0 ∷ [] = ap outs i.1 in
+      let w = sink_works laws plan.parallelism some plan.sources plan.sink (output_at plan i.0) own i.2 in
+      let last : (v == length plan.nodes) ≡ true = ap (λ n. n == length plan.nodes) (is_last v node e is) ∙ same_number (length plan.nodes) in
+      let fits : Fits op.Sink (outs node.inputs) own (edge_at v) =
+      subst (λ (to : Edge). Fits op.Sink (outs node.inputs) own to) (sym (printed_is plan v last)) (subst (λ xs. Fits op.Sink xs own (printed_edge plan.parallelism plan.sink own)) (sym sent) w.0) in
+      record {
+        works = inr (record {
+          no_scan = ap scan_of is;
+          has_inputs = subst (λ (xs : List ℕ). 0 < length xs) (sym i.1) (omega arith);
+          stands = stands_at v node i.0 [] e i.1 (subst (λ p. Fits p (outs node.inputs) own (edge_at v)) (sym is) fits);
+        });
+        proper = w.1;
+      }
+
+  by_op : (v : ℕ) (node : Node) → numbered plan.nodes v ≡ Some node → a.AreProper laws plan ruled node.inputs → (o : Op) → node.op ≡ o → has_rule o ≡ true → NodeStands v node
+  by_op v node e proper (op.Scan source) is r = scan v node e source is
+  by_op v node e proper (op.Filter cond) is r = one v node e (op.Filter cond) is (λ n. refl) refl refl refl refl proper (filter_works laws plan.parallelism some plan.sources plan.sink cond)
+  by_op v node e proper (op.Project items) is r = one v node e (op.Project items) is (λ n. refl) refl refl refl refl proper (project_works laws plan.parallelism some plan.sources plan.sink items)
+  by_op v node e proper op.Union is r = union v node e is proper
+  by_op v node e proper (op.Normalize key) is r = normalize v node e key is proper
+  by_op v node e proper (op.Group keys aggs) is r = one v node e (op.Group keys aggs) is (λ n. refl) refl refl refl refl proper (group_works laws plan.parallelism some plan.sources plan.sink keys aggs)
+  by_op v node e proper (op.Join kind on rest) is r = two v node e (op.Join kind on rest) is (λ n. refl) refl refl refl refl proper (join_works laws plan.parallelism some plan.sources plan.sink kind on rest)
+  by_op v node e proper (op.Semi anti on rest) is r = two v node e (op.Semi anti on rest) is (λ n. refl) refl refl refl refl proper (semi_works laws plan.parallelism some plan.sources plan.sink anti on rest)
+  by_op v node e proper (op.TopN partition order bound ranked) is r =
+      one v node e (op.TopN partition order bound ranked) is (λ n. refl) refl refl refl refl proper (rank_works laws plan.parallelism some plan.sources plan.sink partition order bound ranked)
+  by_op v node e proper op.Sink is r = sink v node e is proper
+  by_op v node e proper (op.BatchGroup keys aggs) is r = absurd (cc)
+  by_op v node e proper (op.Materialize key) is r = absurd (cc)
+  by_op v node e proper (op.LocalGroup keys aggs) is r = absurd (cc)
+  by_op v node e proper (op.MultiJoin on) is r = absurd (cc)
+  by_op v node e proper (op.SetOp except all) is r = absurd (cc)
+
+  -- by the numbers below a bound
+  up_to : (bound v : ℕ) (node : Node) → v < bound → numbered plan.nodes v ≡ Some node → NodeStands v node
+  up_to zero v node l e = absurd (omega arith)
+  up_to (suc bound) v node l e =
+      by_op v node e
+      (λ p input h.
+      let there = (s.input_there plan meets laws.shaped v node p input e h).1 in
+      (up_to bound input there.0 (let k = there.2 in omega arith) there.1).proper)
+      node.op refl (ruled.rules v node e)
+
+  pub node_stands : (v : ℕ) (node : Node) → numbered plan.nodes v ≡ Some node → NodeStands v node
+  node_stands v node e = up_to (suc v) v node (omega arith) e
+
+  pub proper_inputs : (v : ℕ) (node : Node) → numbered plan.nodes v ≡ Some node → a.AreProper laws plan ruled node.inputs
+  proper_inputs v node e p input h = let there = (s.input_there plan meets laws.shaped v node p input e h).1 in (node_stands input there.0 there.1).proper

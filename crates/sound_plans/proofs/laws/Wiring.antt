@@ -1,0 +1,199 @@
+-- A sound plan is wired, each of its nodes meets its facts, and what it prints folds to its sink's answer.
+use Rattle.std.specs.Prelude.{◌≡◌, ℕ, ◌+◌, ◌<◌, ◌≤◌, ◌⊎◌, ◌==◌, Bool, cond, List, length, slice_get, Option, option_map, unwrap_or}
+use Rattle.std.proofs.Common.{zero, suc, true, false, [], ◌∷◌, refl, sym, ap, subst, ◌∙◌, arith, Some, None, inl, inr}
+use Rattle.std.proofs.lemmas.Bool.{eqb-true}
+use Rattle.ct_value.specs.declared.ty.ColTy.{ColTy}
+use Rattle.ct_change.specs.Changelog.{Mode, append, retract, upsert, has}
+use Rattle.op_rules.specs.Edges.{Edge, forward, meaning_of, IsKeyedBy}
+use Rattle.op_rules.specs.Ports.{TakesAll}
+use Rattle.op_rules.specs.Tasks.{Facts}
+use Rattle.phys_plan.specs.declared.edge.Edge.{Edge as PlanEdge}
+use Rattle.phys_plan.specs.declared.edge.Exchange.TheVariants.{Forward}
+use Rattle.ct_change.specs.declared.update.Update.{Update}
+use Rattle.ct_change.specs.declared.update.Update.TheVariants.{Absent, After, Both}
+use Rattle.phys_plan.specs.declared.node.Node.{Node}
+use Rattle.phys_plan.specs.declared.node.Op.{Op}
+use Rattle.phys_plan.specs.declared.node.Op.TheVariants as op
+use Rattle.phys_plan.specs.declared.plan.Plan.{Plan}
+use Rattle.stream_model.specs.Tables.{Table}
+use Rattle.stream_model.specs.Network.{task, ScanFacts, MeetsFacts}
+use Rattle.stream_model.specs.Theorem.{PrintedFolds}
+use Rattle.mode_infer.specs.Updates.{is_input}
+use Rattle.plan_inferred.specs.Rules.{consumer}
+use Rattle.plan_rules.specs.Plans.{inputs_in, scan_of, scan_in, meaning_by, meaning_in, exchange_in, exchange_of, table_of, HasShape, FitsShape, PlansAreWired}
+use Rattle.phys_plan.specs.Reading.{numbered}
+use Rattle.ct_catalog.specs.Columns.{table_mode}
+use Rattle.plan_rules.specs.Columns.{columns_at}
+use Rattle.plan_rules.specs.Doings.{Around, around_of, rule_by, doing_by, doing_in, network}
+use Rattle.plan_shape.specs.Shape.{is_sink}
+use Rattle.plan_shape.specs.Shaped.{MeetsShape}
+use Rattle.sound_plans.specs.Sound.{IsRuled, SoundPlansAreWired, SoundPlansMeetFacts, SoundNodesHaveColumns, SoundPortsTake, SoundPlansPrint}
+use Rattle.sound_plans.proofs.laws.Lists.{is_somewhere, same_number, the_same}
+use Rattle.sound_plans.proofs.laws.Consumers.{by_test}
+use Rattle.sound_plans.specs.Promises.{Laws}
+use Rattle.sound_plans.proofs.laws.Agreed as a
+use Rattle.sound_plans.proofs.laws.Local as l
+use Rattle.sound_plans.proofs.laws.Shapes as s
+use Rattle.sound_plans.proofs.laws.Outputs.{edge_or, output_at, printed_is}
+use Rattle.sound_plans.proofs.laws.Stands.{IsScanNode, IsWorker, NodeStands, edge_at, node_stands, proper_inputs, sink_is}
+
+scans_open : (o : Op) (around : Around) (source j : ℕ) → scan_of o ≡ Some source → (doing_by o around).opening j ≡ []
+scans_open (op.Scan s) around source j e = refl
+scans_open _ around source j e = absurd (cc)
+
+-- the consumer of an edge is a node that has it among its inputs
+consumer_there : (v : ℕ) (nodes : List Node) (node : Node) → consumer v nodes ≡ Some node → (n : ℕ) × (slice_get nodes n ≡ Some node) × (is_input v node.inputs ≡ true)
+consumer_there v [] node e = absurd (cc)
+consumer_there v (first ∷ nodes) node e =
+    by_test (is_input v first.inputs)
+    (λ t.
+    let same : first ≡ node = the_same first node (sym (ap (λ b. cond b (Some first) (consumer v nodes)) t) ∙ e) in
+    (0, ap (λ x. Some x) same, sym (ap (λ (x : Node). is_input v x.inputs) same) ∙ t))
+    (λ f. let later = consumer_there v nodes node (sym (ap (λ b. cond b (Some first) (consumer v nodes)) f) ∙ e) in (suc later.0, later.1, later.2))
+
+-- an edge that isn't spread keeps each key in one channel
+forward_keyed : (mode : Mode) → IsKeyedBy (meaning_of mode) forward
+forward_keyed append = tt
+forward_keyed retract = tt
+forward_keyed (upsert key) = tt
+
+any_forward_keyed : (update : Update) → IsKeyedBy (meaning_by update) forward
+any_forward_keyed Absent = tt
+any_forward_keyed (After key) = tt
+any_forward_keyed Both = tt
+
+module _ (laws : Laws) (plan : Plan) (ruled : IsRuled plan) where
+  meets : MeetsShape plan
+  meets = a.meets laws plan ruled
+
+  shape : HasShape plan
+  shape = s.shape plan meets laws.shaped
+
+  -- ---- the shape
+
+  keyed_inner : (v : ℕ) (node : Node) → numbered plan.nodes v ≡ Some node → IsKeyedBy (meaning_by (output_at plan v).edge.update) (exchange_of (output_at plan v).edge.exchange)
+  keyed_inner v node e = go (consumer v plan.nodes) refl
+    where
+      go : (o : Option Node) → consumer v plan.nodes ≡ o → IsKeyedBy (meaning_by (output_at plan v).edge.update) (exchange_of (output_at plan v).edge.exchange)
+      go None none =
+          subst (λ x. IsKeyedBy (meaning_by (output_at plan v).edge.update) (exchange_of x)) (sym (l.forwards_alone laws plan ruled v node e none)) (any_forward_keyed (output_at plan v).edge.update)
+      go (Some above) is =
+          let has = consumer_there v plan.nodes above is in
+          let p = is_somewhere v above.inputs has.2 in
+          a.keyed_at laws plan ruled (suc has.0) above p.0 v has.1 p.1 (node_stands laws plan ruled v node e).proper (proper_inputs laws plan ruled (suc has.0) above has.1)
+
+  keyed_edge : (v : ℕ) → IsKeyedBy (meaning_in (numbered plan.edges v)) (exchange_in (numbered plan.edges v))
+  keyed_edge v = go (numbered plan.nodes v) refl
+    where
+      told : (o : Option PlanEdge) → IsKeyedBy (meaning_by (edge_or o).update) (exchange_of (edge_or o).exchange) → IsKeyedBy (meaning_in o) (exchange_in o)
+      told None h = tt
+      told (Some edge) h = h
+
+      go : (o : Option Node) → numbered plan.nodes v ≡ o → IsKeyedBy (meaning_in (numbered plan.edges v)) (exchange_in (numbered plan.edges v))
+      go (Some node) e = told (numbered plan.edges v) (keyed_inner v node e)
+      go None e = subst (λ (o : Option PlanEdge). IsKeyedBy (meaning_in o) (exchange_in o)) (sym (s.no_edge plan meets laws.shaped v e)) tt
+
+  last_node : (node : Node) × (numbered plan.nodes (length plan.nodes) ≡ Some node) × (node.op ≡ op.Sink)
+  last_node =
+      let n = shape.last in
+      (n.0, n.1, sink_op n.0.op (s.last_sinks plan meets laws.shaped (length plan.nodes) n.0 n.1 refl))
+    where
+      sink_op : (o : Op) → is_sink (Some o) ≡ true → o ≡ op.Sink
+      sink_op op.Sink h = refl
+      sink_op _ h = absurd (cc)
+
+  opens : (v j : ℕ) → length plan.nodes ≤ v → (o : Option Node) → numbered plan.nodes v ≡ o → (doing_in plan v o).opening j ≡ []
+  opens v j h None e = refl
+  opens v j h (Some node) e =
+      let few = (s.among plan.nodes v node e).few in
+      let last : v ≡ length plan.nodes = omega arith in
+      let n = last_node in
+      let same : node ≡ n.0 = the_same node n.0 (sym e ∙ ap (numbered plan.nodes) last ∙ n.1) in
+      subst (λ (o : Op). (doing_by o (around_of plan v node.inputs)).opening j ≡ []) (sym (ap (λ (x : Node). x.op) same ∙ n.2)) refl
+
+  scan_opens : (v source j : ℕ) (o : Option Node) → scan_in o ≡ Some source → (doing_in plan v o).opening j ≡ []
+  scan_opens v source j None e = absurd (cc)
+  scan_opens v source j (Some node) e = scans_open node.op (around_of plan v node.inputs) source j e
+
+  -- the sink's edge goes to no other node
+  keyed_last : IsKeyedBy (meaning_of (table_mode plan.sink)) (exchange_in (numbered plan.edges (length plan.nodes)))
+  keyed_last =
+      let n = last_node in
+      let edge = l.edge_there laws plan ruled (length plan.nodes) n.0 n.1 in
+      let goes : (edge_or (numbered plan.edges (length plan.nodes))).exchange ≡ Forward = l.forwards_last laws plan ruled (length plan.nodes) n.0 n.1 refl in
+      let is : exchange_in (numbered plan.edges (length plan.nodes)) ≡ forward = ap exchange_in edge.1 ∙ ap exchange_of (sym (ap (λ o. (edge_or o).exchange) edge.1) ∙ goes) in
+      subst (λ x. IsKeyedBy (meaning_of (table_mode plan.sink)) x) (sym is) (forward_keyed (table_mode plan.sink))
+
+  keyed : (v : ℕ) → IsKeyedBy (cond (v == length plan.nodes) (meaning_of (table_mode plan.sink)) (meaning_in (numbered plan.edges v))) (exchange_in (numbered plan.edges v))
+  keyed v =
+      by_test (v == length plan.nodes)
+      (λ t.
+      let last : v ≡ length plan.nodes = eqb-true v (length plan.nodes) t in
+      subst (λ b. IsKeyedBy (cond b (meaning_of (table_mode plan.sink)) (meaning_in (numbered plan.edges v))) (exchange_in (numbered plan.edges v))) (sym t)
+      (subst (λ n. IsKeyedBy (meaning_of (table_mode plan.sink)) (exchange_in (numbered plan.edges n))) (sym last) keyed_last))
+      (λ f. subst (λ b. IsKeyedBy (cond b (meaning_of (table_mode plan.sink)) (meaning_in (numbered plan.edges v))) (exchange_in (numbered plan.edges v))) (sym f) (keyed_edge v))
+
+  fits : FitsShape (columns_at plan.sources plan.nodes) (λ v. doing_in plan v (numbered plan.nodes v)) plan
+  fits = record {
+    scans_open = λ v source j e. scan_opens v source j (numbered plan.nodes v) e;
+    opens = λ v j h. opens v j h (numbered plan.nodes v) refl;
+    keyed = keyed;
+  }
+
+  -- ---- facts
+
+  facts_at : (v : ℕ) (o : Option Node) → numbered plan.nodes v ≡ o → 0 < length (inputs_in o) → Facts (task (network plan) v)
+  facts_at v None e h = absurd (omega arith)
+  facts_at v (Some node) e h = go (node_stands laws plan ruled v node e).works
+    where
+      go : IsScanNode laws plan ruled v node ⊎ IsWorker laws plan ruled v node → Facts (task (network plan) v)
+      go (inl n) = absurd (let none : length node.inputs ≡ 0 = ap length n.no_inputs in omega arith)
+      go (inr w) = w.stands.0
+
+  scan_facts : (v source : ℕ) (t : Table) (o : Option Node) → numbered plan.nodes v ≡ o → scan_in o ≡ Some source → option_map (table_of plan.parallelism) (slice_get plan.sources source) ≡ Some t
+      → ScanFacts plan.parallelism t (edge_at laws plan ruled v)
+  scan_facts v source t None e h has = absurd (cc)
+  scan_facts v source t (Some node) e h has = go (node_stands laws plan ruled v node e).works
+    where
+      go : IsScanNode laws plan ruled v node ⊎ IsWorker laws plan ruled v node → ScanFacts plan.parallelism t (edge_at laws plan ruled v)
+      go (inl n) =
+          let same : n.source ≡ source = the_same n.source source (sym n.scans ∙ h) in
+          let one : table_of plan.parallelism n.table ≡ t = the_same (table_of plan.parallelism n.table) t (ap (option_map (table_of plan.parallelism)) (sym n.is_table ∙ ap (slice_get plan.sources) same) ∙ has) in
+          subst (λ (u : Table). ScanFacts plan.parallelism u (edge_at laws plan ruled v)) one n.facts
+      go (inr w) = absurd (let clash : None ≡ Some source = sym w.no_scan ∙ h in cc)
+
+  meets_facts : MeetsFacts (network plan)
+  meets_facts = record {
+    facts = λ v h. facts_at v (numbered plan.nodes v) refl h;
+    scans = λ v source t h has. scan_facts v source t (numbered plan.nodes v) refl h has;
+  }
+
+  takes : (v : ℕ) (node : Node) → numbered plan.nodes v ≡ Some node → scan_of node.op ≡ None → TakesAll (rule_by node.op (around_of plan v node.inputs)) (task (network plan) v)
+  takes v node e h = go (node_stands laws plan ruled v node e).works
+    where
+      go : IsScanNode laws plan ruled v node ⊎ IsWorker laws plan ruled v node → TakesAll (rule_by node.op (around_of plan v node.inputs)) (task (network plan) v)
+      go (inl n) = absurd (let clash : None ≡ Some n.source = sym h ∙ n.scans in cc)
+      go (inr w) = w.stands.1
+
+pub sound_plans_are_wired : Laws → PlansAreWired → SoundPlansAreWired
+sound_plans_are_wired laws wired plan ruled = wired (columns_at plan.sources plan.nodes) (λ v. doing_in plan v (numbered plan.nodes v)) plan (shape laws plan ruled) (fits laws plan ruled)
+
+pub sound_plans_meet_facts : Laws → SoundPlansMeetFacts
+sound_plans_meet_facts laws plan ruled = meets_facts laws plan ruled
+
+pub sound_ports_take : Laws → SoundPortsTake
+sound_ports_take laws plan ruled v node e h = takes laws plan ruled v node e h
+
+pub sound_nodes_have_columns : Laws → SoundNodesHaveColumns
+sound_nodes_have_columns laws plan ruled v some most =
+    let node = s.node_there plan.nodes v some most in (columns_at plan.sources plan.nodes v, (l.columns_are laws plan ruled v node.0 node.1).1)
+
+pub sound_plans_print : Laws → PlansAreWired → PrintedFolds → SoundPlansPrint
+sound_plans_print laws wired printed plan ruled limit items typed =
+    let n = last_node laws plan ruled in
+    let sink = sink_is laws plan ruled (length plan.nodes) n.0 n.1 n.2 (proper_inputs laws plan ruled (length plan.nodes) n.0 n.1) in
+    let last = printed_is plan (length plan.nodes) (same_number (length plan.nodes)) in
+    printed (network plan) (sound_plans_are_wired laws wired plan ruled) (meets_facts laws plan ruled) (table_mode plan.sink)
+    (ap (λ (x : Edge). x.meaning) last)
+    (λ kind h. (laws.sinks_fit plan.parallelism plan.sink (output_at plan sink.0) (output_at plan (length plan.nodes)) sink.2).2 kind (subst (λ (x : Edge). has x.kinds kind ≡ true) last h))
+    limit items typed

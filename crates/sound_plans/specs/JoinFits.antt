@@ -1,0 +1,39 @@
+-- Joins, semi joins and Top-N of a sound plan fit between their edges.
+use Rattle.std.specs.Prelude.{ℕ, ◌<◌, Bool, List, [], ◌∷◌, Option, option_map}
+use Rattle.ct_catalog.specs.declared.table.TableDef.{TableDef}
+use Rattle.ct_expr.specs.View.{expr_view}
+use Rattle.ct_expr.specs.declared.expr.Expr.{Expr}
+use Rattle.rel_algebra.specs.declared.join.JoinKind.{JoinKind}
+use Rattle.rel_algebra.specs.declared.join.Pair.{Pair}
+use Rattle.rel_algebra.specs.declared.sort.SortCol.{SortCol}
+use Rattle.op_rules.specs.Edges.{IsKeyedBy}
+use Rattle.ct_change.specs.declared.update.Update.{Update}
+use Rattle.phys_plan.specs.declared.node.Op.{Op}
+use Rattle.phys_plan.specs.declared.node.Op.TheVariants as op
+use Rattle.emission_rules.specs.Joining.{joins, matched}
+use Rattle.emission_rules.specs.JoinFits.{JoinFits}
+use Rattle.emission_rules.specs.TopFits.{TopNFits}
+use Rattle.plan_rules.specs.Plans.{exchange_of, meaning_by}
+use Rattle.plan_rules.specs.Doings.{joining_of, ranking_of}
+use Rattle.sound_plans.specs.Outputs.{Output, IsProper, around_by, edge_of, edges_of}
+use Rattle.sound_plans.specs.Agrees.{Agrees, IsAsked}
+
+abbrev pub JoinsFit : Type 0
+JoinsFit = (many : ℕ) → 0 < many → (sources : List TableDef) (sink : TableDef) (kind : JoinKind) (on : List Pair) (rest : Option Expr) (left right own : Output)
+    → Agrees sources sink (op.Join kind on rest) (left ∷ (right ∷ [])) own
+    → JoinFits many (joining_of (joins kind) on (option_map expr_view rest) (around_by sink (left ∷ (right ∷ [])) own)) (edges_of many (left ∷ (right ∷ []))) (edge_of many own) × IsProper own
+
+abbrev pub SemisFit : Type 0
+SemisFit = (many : ℕ) → 0 < many → (sources : List TableDef) (sink : TableDef) (anti : Bool) (on : List Pair) (rest : Option Expr) (left right own : Output)
+    → Agrees sources sink (op.Semi anti on rest) (left ∷ (right ∷ [])) own
+    → JoinFits many (joining_of (matched anti) on (option_map expr_view rest) (around_by sink (left ∷ (right ∷ [])) own)) (edges_of many (left ∷ (right ∷ []))) (edge_of many own) × IsProper own
+
+abbrev pub TopNsFit : Type 0
+TopNsFit = (many : ℕ) → 0 < many → (sources : List TableDef) (sink : TableDef) (partition : List ℕ) (order : List SortCol) (bound : ℕ) (ranked : Bool) (input own : Output)
+    → Agrees sources sink (op.TopN partition order bound ranked) (input ∷ []) own
+    → TopNFits many (ranking_of partition order bound ranked (around_by sink (input ∷ []) own)) (edge_of many input) (edge_of many own) × IsProper own
+
+-- an edge that carries new rows alone keeps each key in one channel
+abbrev pub EdgesAreKeyed : Type 0
+EdgesAreKeyed = (sink : TableDef) (o : Op) (own : Update) (port : ℕ) (input : Output) → IsAsked sink o own port input
+    → IsKeyedBy (meaning_by input.edge.update) (exchange_of input.edge.exchange)

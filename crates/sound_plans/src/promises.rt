@@ -1,0 +1,14 @@
+//! Each function stands for a theorem, which is its contract.
+ghost use Rattle.sound_plans.specs.Sound.{SoundPlansMeetFacts, SoundPlansPrint, SoundPortsTake};
+
+/// Each of its nodes meets its facts, in however many subtasks it runs, and each port takes what its edge carries.
+pub fn sound_plans_meet_facts()
+    ensures facts { SoundPlansMeetFacts }
+    ensures takes { SoundPortsTake }
+{}
+
+/// In every run over a sound plan each prefix of what was printed is a valid changelog of the sink's mode, and at every quiet moment it
+/// folds to the sink's batch answer over the rows that the changes taken leave of each table.
+pub fn sound_plans_print()
+    ensures { SoundPlansPrint }
+{}

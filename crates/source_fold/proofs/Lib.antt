@@ -1,5 +1,0 @@
-pub mod Counts
-pub mod Keyed
-pub mod Nulls
-pub mod Takes
-pub mod Values

@@ -1,7 +1,0 @@
-use Rattle.std.proofs.Common.{ap, ◌∙◌}
-use Rattle.std.specs.FinMap as map
-use Rattle.ct_value.specs.Maps.{one_gone}
-use Rattle.source_fold.proofs.keyed_rows.KeyedRows.remove.Goals as goal
-
-pub returns : goal.returns
-returns c = one_gone c.self.inside.rows c.remove.new.self c.args.key.now c.remove.ensures.updates.0 ∙ ap (λ m. map.remove m c.args.key.now) c.self.view_is

@@ -1,0 +1,89 @@
+-- The rows that taken lines leave have their tables' columns.
+use Rattle.std.proofs.Common.{◌≡◌, ◌==◌, ◌+◌, ℕ, suc, Bool, true, false, cond, List, [], ◌∷◌, ◌++◌, slice_get, Option, Some, None, Result, Ok, Err, refl, sym, ◌∙◌, ap, subst}
+use Rattle.std.proofs.lemmas.Bool.{eqb-true}
+use Rattle.ct_value.specs.Order.{row_total, row_exact}
+use Rattle.ct_value.specs.declared.codes.ChangeCode.{ChangeCode}
+use Rattle.ct_change.specs.declared.change.Change.{Change}
+use Rattle.ct_change.specs.Changelog.{fold}
+use Rattle.ct_change.proofs.laws.Folds.{fold-push}
+use Rattle.ct_catalog.specs.declared.table.TableDef.{TableDef}
+use Rattle.job_text.specs.declared.line.Line.{Line}
+use Rattle.job_text.specs.Fitting.{IsOfTable, LinesFit}
+use Rattle.job_text.specs.Lines.{Record, line_of, records_of}
+use Rattle.ct_catalog.specs.Columns.{table_mode, column_types}
+use Rattle.rel_algebra.specs.Clauses.{Fits}
+use Rattle.rel_algebra.specs.Sums.{Each}
+use Rattle.rel_algebra.proofs.laws.Bags.{each-none}
+use Rattle.source_lines.specs.Kept.{refusal_after, taker_of}
+use Rattle.source_lines.specs.Taken.{RefusedLine, Taken, and_then, first_of, line_refusal, nothing_taken, refusal_in, rows_of, take_line, take_records, taken_of, unless_refused, with_line}
+use Rattle.source_lines.specs.Fitting.{LinesFitColumns, LinesWithoutNullsFit, RowsFit}
+use Rattle.source_lines.proofs.Columns.{fits_from}
+use Rattle.source_lines.proofs.LineFolds.{each_after, unrefused}
+
+-- the rows of each source have its columns
+abbrev Fit : List TableDef → Taken → Type 0
+Fit sources taken = (k : ℕ) (table : TableDef) → slice_get sources k ≡ Some table → Each (Fits (column_types table)) (fold (table_mode table) (taken k))
+
+-- with one change more
+fit_with : (table : TableDef) (changes : List Change) (change : Change) → IsOfTable table change → refusal_after table changes change ≡ None → Each (Fits (column_types table)) (fold (table_mode table) changes)
+    → Each (Fits (column_types table)) (fold (table_mode table) (changes ++ change ∷ []))
+fit_with table changes change of free h =
+    subst (Each (Fits (column_types table))) (sym (fold-push (table_mode table) changes change))
+    (each_after (Fits (column_types table)) (taker_of table) (fold (table_mode table) changes) change (fits_from 0 [] table.cols change.row refl of.fits (unrefused (taker_of table) (fold (table_mode table) changes) change free).0) free h)
+
+some_same : {A : Type 0} (o : Option A) (a b : A) → o ≡ Some a → o ≡ Some b → a ≡ b
+some_same o a b p q = cc (p, q)
+
+fit_at : (sources : List TableDef) (taken : Taken) (line : Line) (own : TableDef) → slice_get sources line.table ≡ Some own → IsOfTable own line.change → line_refusal sources taken line ≡ None → Fit sources taken
+    → (k : ℕ) (table : TableDef) → slice_get sources k ≡ Some table → (test : Bool) → (k == line.table) ≡ test → Each (Fits (column_types table)) (fold (table_mode table) (cond test (taken k ++ line.change ∷ []) (taken k)))
+fit_at sources taken line own there of free fit k table at false e = fit k table at
+fit_at sources taken line own there of free fit k table at true e =
+    let here : k ≡ line.table = eqb-true k line.table e in
+    let same : own ≡ table = some_same (slice_get sources line.table) own table there (ap (slice_get sources) (sym here) ∙ at) in
+    let refused : refusal_after table (taken k) line.change ≡ None =
+    ap (λ n. refusal_after table (taken n) line.change) here ∙ ap (λ (t : TableDef). refusal_after t (taken line.table) line.change) (sym same) ∙ sym (ap (λ (o : Option TableDef). refusal_in o (taken line.table) line.change) there) ∙ free in
+    fit_with table (taken k) line.change (subst (λ t. IsOfTable t line.change) same of) refused (fit k table at)
+
+fit_line : (sources : List TableDef) (taken : Taken) (line : Line) → ((table : TableDef) × (slice_get sources line.table ≡ Some table) × IsOfTable table line.change) → line_refusal sources taken line ≡ None → Fit sources taken → Fit sources (with_line taken line)
+fit_line sources taken line one free fit = λ k table at. fit_at sources taken line one.0 one.1 one.2 free fit k table at (k == line.table) refl
+
+module _ (lines_fit : LinesFit) (sources : List TableDef) where
+  fit_unless : (number : ℕ) (taken result : Taken) (fields : Record) (line : Line) (o : Option ChangeCode) → line_of sources fields ≡ Ok line → line_refusal sources taken line ≡ o → unless_refused number taken line o ≡ Ok result → Fit sources taken → Fit sources result
+  fit_unless number taken result fields line (Some code) is refusal e fit = absurd (cc (e))
+  fit_unless number taken result fields line None is refusal e fit =
+      let same : with_line taken line ≡ result = cc (e) in
+      subst (Fit sources) same (fit_line sources taken line (lines_fit sources fields line is) refusal fit)
+
+  fit_taken : (number : ℕ) (taken result : Taken) (fields : Record) (r : Result Line ChangeCode) → line_of sources fields ≡ r → take_line sources number taken r ≡ Ok result → Fit sources taken → Fit sources result
+  fit_taken number taken result fields (Err code) is e fit = absurd (cc (e))
+  fit_taken number taken result fields (Ok line) is e fit = fit_unless number taken result fields line (line_refusal sources taken line) is refl e fit
+
+  fit_step : (number : ℕ) (taken result : Taken) (fields : Record) (next : Taken → Result Taken RefusedLine) (r : Result Taken RefusedLine) → take_line sources number taken (line_of sources fields) ≡ r → and_then r next ≡ Ok result → Fit sources taken
+      → ((more : Taken) → next more ≡ Ok result → Fit sources more → Fit sources result) → Fit sources result
+  fit_step number taken result fields next (Err refusal) is e fit others = absurd (cc (e))
+  fit_step number taken result fields next (Ok more) is e fit others = others more e (fit_taken number taken more fields (line_of sources fields) refl is fit)
+
+  fit_records : (number : ℕ) (taken result : Taken) (records : List Record) → take_records sources number taken records ≡ Ok result → Fit sources taken → Fit sources result
+  fit_records number taken result [] e fit = let same : taken ≡ result = cc (e) in subst (Fit sources) same fit
+  fit_records number taken result (fields ∷ rest) e fit =
+      fit_step number taken result fields (λ more. take_records sources (number + 1) more rest) (take_line sources number taken (line_of sources fields)) refl e fit
+      (λ more is fine. fit_records (number + 1) more result rest is fine)
+
+rows_fit : (sources : List TableDef) (taken : Taken) → Fit sources taken → RowsFit sources (rows_of sources taken)
+rows_fit [] taken fit = tt
+rows_fit (table ∷ tables) taken fit = (fit 0 table refl, rows_fit tables (λ k. taken (suc k)) (λ k. fit (suc k)))
+
+pub taken_fit : LinesFit → (sources : List TableDef) (first : Option ℕ) (bytes : List ℕ) (taken : Taken) → taken_of sources first bytes ≡ Ok taken → RowsFit sources (rows_of sources taken)
+taken_fit lines_fit sources first bytes taken e =
+    rows_fit sources taken (fit_records lines_fit sources 1 nothing_taken taken (first_of first (records_of bytes)) e (λ k table at. each-none row_total row_exact (Fits (column_types table))))
+
+pub lines_have_columns : LinesFit → LinesFitColumns
+lines_have_columns lines_fit sources fields line taken is free =
+    let one = lines_fit sources fields line is in
+    let refused : refusal_after one.0 (taken line.table) line.change ≡ None = sym (ap (λ (o : Option TableDef). refusal_in o (taken line.table) line.change) one.1) ∙ free in
+    (one.0, one.1, fits_from 0 [] one.0.cols line.change.row refl one.2.fits (unrefused (taker_of one.0) (fold (table_mode one.0) (taken line.table)) line.change refused).0)
+
+pub lines_without_nulls : LinesFit → LinesWithoutNullsFit
+lines_without_nulls lines_fit sources fields line is =
+    let one = lines_fit sources fields line is in
+    (one.0, one.1, λ free. fits_from 0 [] one.0.cols line.change.row refl one.2.fits free)

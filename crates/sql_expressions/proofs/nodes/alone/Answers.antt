@@ -1,5 +1,0 @@
-use Rattle.std.proofs.Common.{length, ap, arith}
-use Rattle.sql_expressions.proofs.nodes.alone.Goals as goal
-
-pub returns-in-None-clause-others : goal.returns-in-None-clause-others
-returns-in-None-clause-others c = absurd (omega (arith, ap length c.in-None.ensures.none))

@@ -1,0 +1,3 @@
+pub mod Depths
+pub mod Steps
+pub mod Theorems

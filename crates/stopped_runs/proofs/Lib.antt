@@ -1,5 +1,0 @@
-mod Outs
-mod Rows
-mod Types
-mod Answers
-mod Joins

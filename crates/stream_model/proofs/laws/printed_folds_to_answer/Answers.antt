@@ -1,5 +1,0 @@
-use Rattle.stream_model.proofs.Theorem.{printed_folds}
-use Rattle.stream_model.proofs.laws.printed_folds_to_answer.Goals as goal
-
-pub returns : goal.returns
-returns c = printed_folds

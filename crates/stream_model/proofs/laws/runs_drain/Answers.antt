@@ -1,5 +1,0 @@
-use Rattle.stream_model.proofs.Drain as drain
-use Rattle.stream_model.proofs.laws.runs_drain.Goals as goal
-
-pub returns : goal.returns
-returns c = drain.runs_drain

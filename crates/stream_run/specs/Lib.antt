@@ -1,4 +1,0 @@
-pub mod Headline
-pub mod Rows
-pub mod Run
-pub mod laws

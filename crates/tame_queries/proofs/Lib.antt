@@ -1,7 +1,0 @@
-pub mod Bound
-pub mod Calls
-pub mod Checked
-pub mod InGroups
-pub mod Nodes
-pub mod Queries
-pub mod Selects

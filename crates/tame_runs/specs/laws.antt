@@ -1,5 +1,0 @@
-pub mod Lines
-pub mod Steps
-pub mod Nodes
-pub mod Trees
-pub mod Runs

@@ -1,0 +1,3 @@
+pub mod JudgeTheorems
+pub mod LineTheorems
+pub mod TextTheorems

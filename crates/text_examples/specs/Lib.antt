@@ -1,0 +1,11 @@
+pub mod Items
+pub mod JudgeChecks
+pub mod Lines
+pub mod Nested
+pub mod Queries
+pub mod Refused
+pub mod Scripts
+pub mod Settings
+pub mod Tables
+pub mod TextChecks
+pub mod Words

@@ -1,2 +1,0 @@
-pub mod Exist
-pub mod laws

@@ -1,0 +1,9 @@
+pub mod Choices
+pub mod Columns
+pub mod Forms
+pub mod Items
+pub mod Kinds
+pub mod Lifted
+pub mod Named
+pub mod Reach
+pub mod Typed

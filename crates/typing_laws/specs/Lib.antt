@@ -1,0 +1,3 @@
+pub mod Exist
+pub mod Meaning
+pub mod Reads

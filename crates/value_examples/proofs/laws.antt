@@ -1,0 +1,2 @@
+pub mod ChangeTheorems
+pub mod ExpressionTheorems
