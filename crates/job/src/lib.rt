@@ -11,7 +11,9 @@ ghost use Rattle.ct_io.specs.Holdings.{Holdings};
 ghost use Rattle.ct_io.specs.Written.{Appends, AppendsPart};
 ghost use Rattle.job_ending.specs.Endings.{ending_line};
 ghost use Rattle.job_ending.specs.Runs.{is_free, IsCaused};
+ghost use Rattle.job_run.specs.Answers.{AreAnswers, Wrote};
 ghost use Rattle.job_run.specs.Complete.{HasNoArithmetic, MayEndWell};
+ghost use Rattle.job_run.specs.Edges.{AreCarried};
 ghost use Rattle.job_run.specs.Headline.{IsHeadline};
 ghost use Rattle.job_run.specs.Outcome.{outcome};
 
@@ -50,7 +52,14 @@ pub fn run_job<F: Shelf, K: Sink, E: Sink>(
     ensures part { (h : Holdings) → F.holdings shelf.old ≡ Some h → AppendsPart (K.written out.old) (K.written out.new) (outcome words.now h).bytes }
     ensures whole { is_free result ≡ false → (h : Holdings) → F.holdings shelf.old ≡ Some h → Appends (K.written out.old) (K.written out.new) (outcome words.now h).bytes }
 
-    // A run that ends well has printed the answer, and a batch answer that ends well is the query's.
+    // Whatever the ending: a run has written the lines of items and a first part of one more, and before each quiet line numbered n they
+    // fold to the query's answer over the tables that the first n lines leave.
+    ensures answers { (h : Holdings) → F.holdings shelf.old ≡ Some h → Wrote (K.written out.old) (K.written out.new) (AreAnswers words.now h) }
+
+    // And they are what the script's sound plan printed on the machine, where every edge carried only the kinds of its mode.
+    ensures edges { (h : Holdings) → F.holdings shelf.old ≡ Some h → Wrote (K.written out.old) (K.written out.new) (AreCarried words.now h) }
+
+    // A run that ends well has written its answers to the last line of the change file, and a batch answer that ends well is the query's.
     ensures headline { result ≡ Ending.Done → (h : Holdings) → F.holdings shelf.old ≡ Some h → IsHeadline words.now h (outcome words.now h).bytes }
 
     // A run of a script without arithmetic never leaves a type's range.

@@ -5,7 +5,6 @@ use Rattle.std.specs.Str.{bytes_eq}
 use Rattle.std.proofs.lemmas.Bool.{and_from, not_from_false, or_from, or_parts}
 use Rattle.std.proofs.lemmas.Slice.Eq.{bytes_eq-Decides}
 use Rattle.std.proofs.Common.{true, false, [], ◌∷◌, refl, sym, ap, subst, ◌∙◌, Some, None}
-use Rattle.ct_value.specs.declared.codes.ScriptCode.TheVariants.{UnknownTable, SinkShape}
 use Rattle.ct_catalog.specs.Tables.{repeats}
 use Rattle.ct_catalog.specs.declared.table.TableDef.{TableDef}
 use Rattle.rel_algebra.specs.Rel.{Rel}
@@ -13,11 +12,9 @@ use Rattle.rel_algebra.specs.Types.{columns_of}
 use Rattle.sql_syntax.specs.Tree.{Query, Text}
 use Rattle.query_answer.specs.Answer.{types}
 use Rattle.rel_algebra.specs.Unions.{has_full_unions}
-use Rattle.binding.specs.Checked.{Checked, ◌>>=◌, or_code, refused_if}
-use Rattle.binding.specs.Inserts.{Inserted, insert_bound, into_sink, sunk, is_table, scans, sources_for}
+use Rattle.binding.specs.Inserts.{Inserted, insert_bound, is_table, sources_for}
 use Rattle.rel_algebra.specs.GoesInto.{go_into}
 use Rattle.ct_catalog.specs.Columns.{column_types}
-use Rattle.binding.specs.Queries.{Relation, query_bound}
 use Rattle.phys_plan.specs.declared.plan.Plan.{Plan}
 use Rattle.plan_rules.specs.Laid.{IsPlanOf}
 use Rattle.plan_shape.specs.Tables.{are_tables, is_declarable, table_name}
@@ -26,38 +23,7 @@ use Rattle.job_plan.specs.Inserts.{InsertsHaveLaidPlans, SubtasksAreFew}
 use Rattle.judge.specs.Judgement.{Asked, asked_of}
 use Rattle.judge.specs.WellDeclared.{HasTypes}
 use Rattle.job_plan.proofs.Tables.{AreDeclared, are_declared}
-
--- ---- the tables of an INSERT
-
--- what an INSERT is bound to has its sources and its sink of the tables
-record IsOf (tables : List TableDef) (name : Text) (bound : Inserted) : Type 0 where
-  pub sources : bound.sources ≡ sources_for tables name
-  pub sink : find (is_table name) tables ≡ Some bound.sink
-
-of_test : (tables : List TableDef) (name : Text) (sink : TableDef) → find (is_table name) tables ≡ Some sink → (x : Relation) (test : Bool) (bound : Inserted)
-    → refused_if test SinkShape (Ok (record { query = x; sources = sources_for tables name; sink = sink })) ≡ Ok bound → IsOf tables name bound
-of_test tables name sink found x true bound e = absurd (cc (e))
-of_test tables name sink found x false bound e =
-    let same : record { query = x; sources = sources_for tables name; sink = sink } ≡ bound = cc (e) in
-    record { sources = sym (ap (λ (b : Inserted). b.sources) same); sink = found ∙ ap (λ (b : Inserted). Some b.sink) same }
-
-of_query : (tables : List TableDef) (name : Text) (sink : TableDef) → find (is_table name) tables ≡ Some sink → (o : Checked Relation) (bound : Inserted)
-    → (o >>= λ x. refused_if (scans (length (sources_for tables name)) x.rel || not (go_into (types x.scope) (column_types sink))) SinkShape (Ok (record { query = x; sources = sources_for tables name; sink = sink }))) ≡ Ok bound → IsOf tables name bound
-of_query tables name sink found (Err code) bound e = absurd (cc (e))
-of_query tables name sink found (Ok x) bound e = of_test tables name sink found x (scans (length (sources_for tables name)) x.rel || not (go_into (types x.scope) (column_types sink))) bound e
-
--- what a step behind another answers
-behind : {A B : Type 0} (r : Checked A) (s : Checked B) (x : B) → (r >>= λ y. s) ≡ Ok x → s ≡ Ok x
-behind (Ok y) s x e = e
-behind (Err code) s x e = absurd (cc)
-
-of_sink : (tables : List TableDef) (name : Text) (query : Query) (o : Option TableDef) → find (is_table name) tables ≡ o → (bound : Inserted) → (or_code UnknownTable o >>= into_sink (sources_for tables name) query) ≡ Ok bound → IsOf tables name bound
-of_sink tables name query None found bound e = absurd (cc (e))
-of_sink tables name query (Some sink) found bound e =
-    of_query tables name sink found (query_bound false (sources_for tables name ++ sink ∷ []) query) bound (behind (sunk true (sources_for tables name) query sink) (sunk false (sources_for tables name) query sink) bound e)
-
-of_insert : (tables : List TableDef) (name : Text) (query : Query) (bound : Inserted) → insert_bound tables name query ≡ Ok bound → IsOf tables name bound
-of_insert tables name query bound e = of_sink tables name query (find (is_table name) tables) refl bound e
+use Rattle.job_plan.proofs.laws.BoundTo.{IsOf, of_insert}
 
 -- ---- are ones that a plan may have
 

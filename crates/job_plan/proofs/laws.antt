@@ -1,3 +1,4 @@
+pub mod BoundTo
 pub mod Inferred
 pub mod Nodes
 pub mod PlannedInserts

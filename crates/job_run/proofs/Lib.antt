@@ -2,6 +2,9 @@ pub mod Alike
 pub mod Asked
 pub mod Headline
 pub mod InRange
+pub mod Inserted
 pub mod Loads
 pub mod Printable
+pub mod Printed
+pub mod Torn
 pub mod laws

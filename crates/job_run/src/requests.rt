@@ -7,7 +7,9 @@ ghost use Rattle.ct_io.specs.Counts.{Rose};
 ghost use Rattle.ct_io.specs.Holdings.{Holdings};
 ghost use Rattle.job_ending.specs.Endings.{IsPrintable};
 ghost use Rattle.job_ending.specs.Runs.{Runs};
+ghost use Rattle.job_run.specs.Answers.{AreAnswers, Wrote};
 ghost use Rattle.job_run.specs.Complete.{HasNoArithmetic};
+ghost use Rattle.job_run.specs.Edges.{AreCarried};
 ghost use Rattle.job_run.specs.Headline.{IsHeadline};
 ghost use Rattle.job_run.specs.Outcome.{outcome};
 
@@ -29,6 +31,8 @@ pub fn run<F: Shelf, K: Sink>(alloc: Global, words: &[Text], shelf: &mut F, out:
     ensures printable { IsPrintable result }
     ensures usage { result ≡ Ending.Usage → request_of words.now ≡ None }
     ensures wrong_use { request_of words.now ≡ None → (result ≡ Ending.Usage) ⊎ (result ≡ Ending.Memory) }
+    ensures answers { (h : Holdings) → F.holdings shelf.old ≡ Some h → Wrote (K.written out.old) (K.written out.new) (AreAnswers words.now h) }
+    ensures edges { (h : Holdings) → F.holdings shelf.old ≡ Some h → Wrote (K.written out.old) (K.written out.new) (AreCarried words.now h) }
     ensures headline { result ≡ Ending.Done → (h : Holdings) → F.holdings shelf.old ≡ Some h → IsHeadline words.now h (outcome words.now h).bytes }
     ensures range { (h : Holdings) → F.holdings shelf.old ≡ Some h → HasNoArithmetic words.now h → (node subtask : ℕ) (row : Row) (columns : List ColTy) → result ≡ Ending.Range node subtask row columns → ⊥ }
 {

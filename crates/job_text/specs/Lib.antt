@@ -2,3 +2,4 @@ pub mod Fitting
 pub mod Lines
 pub mod Printed
 pub mod Reading
+pub mod Told

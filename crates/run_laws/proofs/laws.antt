@@ -1,7 +1,9 @@
+pub mod Answered
 pub mod Ends
 pub mod Lines
 pub mod Nodes
 pub mod Prints
+pub mod Reached
 pub mod Runs
 pub mod Sinks
 pub mod Steps

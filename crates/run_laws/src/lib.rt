@@ -1,7 +1,7 @@
 //! What is known of runs over a change file, as the machine makes them.
 //!
-//! Promised: a run over a sound plan that answers what a tree does, and that goes to its end, has printed, before each quiet item
-//! numbered n, a changelog whose fold by the mode of the sink's table is the tree's answer over the first n lines, and every edge
+//! Promised: a run over a sound plan that answers what a tree does, whether it goes to its end or stops, has printed, before each quiet
+//! item numbered n, a changelog whose fold by the mode of the sink's table is the tree's answer over the first n lines, and every edge
 //! carried only the kinds of its mode (`specs/Headline`); each row that a run prints, also one that stops, has the columns that the
 //! sink sends, which may go into its table (`specs/Rows`). A run that stops out of range does so at a subtask of a node that is out
 //! of range, by what the node does, on changes on which that subtask may rely, and the row at which it stops has the columns that the
@@ -19,8 +19,8 @@ ghost use Rattle.run_laws.specs.Headline.{RunsPrintAnswers};
 pub use stopped_runs::runs_stop_where_out;
 pub use tame_runs::runs_stay_in_range;
 
-/// In a run over a sound plan that answers what a tree does, and that goes to its end, what was printed before each quiet item is a valid
-/// changelog of the sink's mode, and folds by it to the tree's answer over the rows that so many first lines leave in each source.
+/// In a run over a sound plan that answers what a tree does, what was printed before each quiet item numbered n is a valid changelog of
+/// the sink's mode, and folds by it to the tree's answer over the rows that the first n lines leave in each source.
 pub fn runs_print_answers()
     ensures { RunsPrintAnswers }
 {}

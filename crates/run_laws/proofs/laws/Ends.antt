@@ -39,7 +39,7 @@ use Rattle.source_lines.proofs.laws.Along.{ok_same, ended_same, leads_both, lead
 use Rattle.source_lines.specs.Run as run
 use Rattle.source_lines.specs.Run.{Ran, ended, refused, stopped, and_then, stepped, took, whole_run}
 pub use Rattle.source_lines.specs.Run.{printed_by}
-use Rattle.run_laws.specs.Headline.{Headline, IsAnswered, with_rows, RunsPrintAnswers}
+use Rattle.run_laws.specs.Headline.{with_rows, RunsEndQuiet}
 use Rattle.source_lines.specs.Run.{Begins, IsStop}
 
 some_same : {A : Type 0} (o : Option A) (a b : A) → o ≡ Some a → o ≡ Some b → a ≡ b
@@ -132,7 +132,7 @@ module _ (fit : LinesFitColumns) (plan : Plan) (limit : ℕ) where
     pub counted : t.took ≡ s.took + length lines
     pub printed : t.printed ≡ s.printed
 
-  taken_one : (number : ℕ) (s : State) (line : Line) (t : State) → TookOne s line t → take_line plan.sources number s.taken (Ok line) ≡ Ok t.taken
+  pub taken_one : (number : ℕ) (s : State) (line : Line) (t : State) → TookOne s line t → take_line plan.sources number s.taken (Ok line) ≡ Ok t.taken
   taken_one number s line t one = ap (unless_refused number s.taken line) one.free ∙ ap Ok (sym one.taken)
 
   took_line : (number : ℕ) (s : State) (fields : Record) (rest : List Record) (r : Result Line ChangeCode) (u t : State) → line_of plan.sources fields ≡ r → run.take_line g limit plan.sources number s r ≡ ended u → TookAll (number + 1) u rest t → TookAll number s (fields ∷ rest) t
@@ -171,61 +171,28 @@ changes_before [] n = refl
 changes_before (Printed change ∷ items) n = ap (λ changes. change ∷ changes) (changes_before items n)
 changes_before (Quiet m ∷ items) n = changes_before items n
 
--- a list of changes with a quiet item behind them has no other quiet item
-one_quiet : (items before after : List PrintItem) (m n : ℕ) → NoQuiet items → items ++ Quiet m ∷ [] ≡ before ++ Quiet n ∷ after → (items ≡ before) × (m ≡ n)
-one_quiet [] [] after m n h e = (refl, cc (e))
-one_quiet [] (x ∷ []) after m n h e = absurd (cc (e))
-one_quiet [] (x ∷ (y ∷ before)) after m n h e = absurd (cc (e))
-one_quiet (Printed change ∷ items) [] after m n h e = absurd (cc (e))
-one_quiet (Printed change ∷ items) (x ∷ before) after m n h e =
-    let rest = one_quiet items before after m n h (cc (e)) in
-    let same : Printed change ≡ x = cc (e) in
-    (rw (same, rest.0) refl, rest.1)
-one_quiet (Quiet k ∷ items) before after m n h e = absurd h
-
 -- ---- the rows of the sources
 
-with_same : (sources : List TableDef) (rows : ℕ → Rows) (taken : Taken) → ((k : ℕ) (table : TableDef) → slice_get sources k ≡ Some table → rows k ≡ fold (table_mode table) (taken k)) → tables_with sources rows ≡ with_rows sources (rows_of sources taken)
+pub with_same : (sources : List TableDef) (rows : ℕ → Rows) (taken : Taken) → ((k : ℕ) (table : TableDef) → slice_get sources k ≡ Some table → rows k ≡ fold (table_mode table) (taken k)) → tables_with sources rows ≡ with_rows sources (rows_of sources taken)
 with_same [] rows taken same = refl
 with_same (source ∷ sources) rows taken same =
     let first = same 0 source refl in
     let others = with_same sources (λ k. rows (suc k)) (λ k. taken (suc k)) (λ k. same (suc k)) in
     rw (first, others) refl
 
-take_whole : {A : Type 0} (xs : List A) → take (length xs) xs ≡ xs
+pub take_whole : {A : Type 0} (xs : List A) → take (length xs) xs ≡ xs
 take_whole [] = refl
 take_whole (x ∷ xs) = ap (λ ys. x ∷ ys) (take_whole xs)
 
--- ---- the law
-
--- before the only quiet item stands a changelog that folds to the answer, where all changes are one
-answered_before : (mode : Mode) (sources : List TableDef) (answers : List Rows → Option Rows) (lines : List Record) (taken : Taken) (changes : List Change) (printed : List PrintItem)
-    → take_records sources 1 nothing_taken lines ≡ Ok taken → ((n : ℕ) → IsValid mode (take n changes)) → answers (rows_of sources taken) ≡ Some (fold mode changes) → changes ≡ changes_in printed → NoQuiet printed
-    → (before after : List PrintItem) (n : ℕ) → printed ++ Quiet (length lines) ∷ [] ≡ before ++ Quiet n ∷ after → IsAnswered mode sources answers lines n (changes_in before)
-answered_before mode sources answers lines taken changes printed is_taken valid folds all none before after n e =
-    let one = one_quiet printed before after (length lines) n none e in
-    let same : changes ≡ changes_in before = all ∙ ap changes_in one.0 in
-    record {
-      taken = taken;
-      is_taken = ap (λ k. take_records sources 1 nothing_taken (take k lines)) (sym one.1) ∙ ap (take_records sources 1 nothing_taken) (take_whole lines) ∙ is_taken;
-      valid = subst (IsValid mode) (take_whole changes ∙ same) (valid (length changes));
-      folds = folds ∙ ap (λ c. Some (fold mode c)) same;
-    }
+-- ---- how a run comes to its end
 
 opened_ended : (g : Network) (b : Bool) (s : State) → cond b (ended (opened g)) (stopped Limit []) ≡ ended s → opened g ≡ s
 opened_ended g true s e = ended_same (opened g) s e
 opened_ended g false s e = absurd (cc (e))
 
--- how a run came to its end: by these items and a drain, which printed one quiet item
+-- how a run came to its end: a drain printed one quiet item, behind all else
 record Comes (plan : Plan) (limit : ℕ) (lines : List Record) (s : State) : Type 0 where
-  items : List Item
-  between : State
-  typed : AreTyped (network plan) items
-  leads : Leads (network plan) limit (opened (network plan)) items between
-  drained : Leads (network plan) limit between (drain (network plan) limit between) s
-  taken : take_records plan.sources 1 nothing_taken lines ≡ Ok s.taken
   before : List PrintItem
-  none : NoQuiet before
   printed : s.printed ≡ before ++ Quiet (length lines) ∷ []
 
 module _ (fit : LinesFitColumns) (plan : Plan) (limit : ℕ) (lines : List Record) where
@@ -236,14 +203,7 @@ module _ (fit : LinesFitColumns) (plan : Plan) (limit : ℕ) (lines : List Recor
       let d = drained_parts g limit u s leads in
       let count : u.took ≡ length lines = omega (arith, all.counted) in
       record {
-        items = all.items;
-        between = u;
-        typed = all.typed;
-        leads = all.leads;
-        drained = leads;
-        taken = all.taken ∙ ap (λ (x : Taken). let r : Result Taken RefusedLine = Ok x in r) (sym d.taken);
         before = d.before;
-        none = d.no_quiet (subst NoQuiet (sym all.printed) tt);
         printed = d.printed ∙ ap (λ n. d.before ++ Quiet n ∷ []) count;
       }
 
@@ -260,32 +220,6 @@ comes fit plan limit bytes s e =
     let o = parts (run.opens g limit plan.sources) rest s e in
     comes_taken fit plan limit (records_of bytes) s (ap rest (opened_ended g (nat_le (opened g).sends limit) o.between o.first) ∙ o.second)
 
--- what such a run has printed, where its items printed the sink's answer, and what holds in each state holds at its end
-headline : (plan : Plan) (rel : Rel) (limit : ℕ) (lines : List Record) (s : State) → (c : Comes plan limit lines s) → Answers plan rel → PrintsAnswer (network plan) (table_mode plan.sink) s → Holds (network plan) s → IsQuiet (network plan) s
-    → Headline (network plan) (table_mode plan.sink) plan.sources (λ rows. answer (with_rows plan.sources rows) rel) lines s s.printed
-headline plan rel limit lines s c told tells holds still =
-    let g = network plan in
-    let mode = table_mode plan.sink in
-    let changes : changes_in s.printed ≡ changes_in c.before = ap changes_in c.printed ∙ changes_before c.before (length lines) in
-    let rows = with_same plan.sources (table_rows g s) s.taken (λ k table at. ap (λ (o : Option TableDef). rows_left (option_map (table_of plan.parallelism) o) (s.taken k)) at) in
-    let folds : answer (with_rows plan.sources (rows_of plan.sources s.taken)) rel ≡ Some (fold mode (changes_in s.printed)) =
-    subst (λ tables. answer tables rel ≡ Some (fold mode (changes_in s.printed))) rows (told (table_rows g s) (fold mode (changes_in s.printed)) (tells.folds still)) in
-    record {
-      ends = (c.before, c.printed);
-      answered = λ before after n e.
-          answered_before mode plan.sources (λ rows. answer (with_rows plan.sources rows) rel) lines s.taken (changes_in s.printed) c.before c.taken tells.valid folds changes c.none before after n (sym c.printed ∙ e);
-      carried = record { edges = λ v i node li. (holds.fine v node).kinds i li; printed = holds.printed_kinds };
-    }
-
-pub ends : LinesFitColumns → SoundPlansAreWired → SoundPlansMeetFacts → SoundPlansPrint → Composes → RunsDrain → RunsPrintAnswers
-ends fit wired meets prints composes drains plan rel ruled told limit bytes s e =
-    let g = network plan in
-    let c = comes fit plan limit bytes s e in
-    let items = c.items ++ drain g limit c.between in
-    let here : after g limit (opened g) c.items ≡ c.between = leads_after g limit (opened g) c.items c.between c.leads in
-    let there : after g limit (opened g) items ≡ s = leads_after g limit (opened g) items s (leads_both g limit (opened g) c.items (drain g limit c.between) c.between s c.leads c.drained) in
-    let typed : AreTyped g items = typed_both g c.items (drain g limit c.between) c.typed (typed_drain g limit c.between) in
-    headline plan rel limit (records_of bytes) s c told
-    (subst (PrintsAnswer g (table_mode plan.sink)) there (prints plan ruled limit items typed))
-    (subst (Holds g) there (composes g (wired plan ruled) (meets plan ruled) limit items typed))
-    ((drains g (wired plan ruled) limit c.items c.typed).drained s (subst (λ v. Leads g limit v (drain g limit v) s) (sym here) c.drained))
+-- a run that goes to its end has told a quiet moment after all lines
+pub ends_quiet : LinesFitColumns → RunsEndQuiet
+ends_quiet fit plan limit bytes s e = let c = comes fit plan limit bytes s e in (c.before, c.printed)

@@ -8,8 +8,7 @@ use Rattle.ct_value.specs.declared.codes.OrderCode.TheVariants.{NoSuchPlace}
 use Rattle.ct_field.specs.Typed.{row_fits}
 use Rattle.ct_change.specs.declared.change.Change.{Change}
 use Rattle.ct_change.specs.Changelog.{fold}
-use Rattle.job_text.specs.declared.line.Line.{Line}
-use Rattle.job_text.specs.Lines.{Record, line_of, records_of}
+use Rattle.job_text.specs.Lines.{Record, records_of}
 use Rattle.op_rules.specs.History.{Arrival, joined}
 use Rattle.op_rules.specs.Rules.{Answer}
 use Rattle.phys_plan.specs.declared.plan.Plan.{Plan}
@@ -21,18 +20,16 @@ use Rattle.stream_model.specs.declared.events.PrintItem.TheVariants.{Change as P
 use Rattle.stream_model.specs.Tables.{Table as Source, scanned_at, refusal}
 use Rattle.stream_model.specs.Network.{Feed, Network, IsWired}
 use Rattle.stream_model.specs.Machine.{State, put, opened, send, print, joins, folded, answered, flushed, size_of, flushed_if_full, is_channel, move_front, move_to, flush_held, flush_bundle, is_place, is_scan_of, scan_count, scanned, take_unless, take_of}
-use Rattle.stream_model.specs.Machine as machine
 use Rattle.stream_model.specs.Runs.{Item, happens, quiet, step_item, state_in, after, changes_in, IsTyped, AreTyped}
 use Rattle.stream_model.specs.Theorem.{Composes, Holds}
-use Rattle.stream_model.specs.Drain.{drain}
+use Rattle.stream_model.specs.Drain.{RunsDrain}
 use Rattle.plan_rules.specs.Doings.{network}
 use Rattle.sound_plans.specs.Sound.{SoundPlansAreWired, SoundPlansMeetFacts}
 use Rattle.source_lines.specs.Fitting.{LinesFitColumns}
-use Rattle.source_lines.specs.Run as run
-use Rattle.source_lines.specs.Run.{Ran, ended, refused, stopped, and_then, stepped, took, printed_by, whole_run}
+use Rattle.source_lines.specs.Run.{Ran, ended, refused, stopped, printed_by, whole_run}
 use Rattle.run_laws.specs.Rows.{sent_columns, RunsPrintRows}
-use Rattle.run_laws.proofs.laws.Ends.{took_one, one_typed, changes_before}
-use Rattle.source_lines.proofs.laws.Along.{typed_drain}
+use Rattle.run_laws.proofs.laws.Ends.{changes_before}
+use Rattle.run_laws.proofs.laws.Reached.{Ends, Reached, run_ends}
 
 -- ---- lists
 
@@ -196,103 +193,28 @@ module _ (g : Network) (limit : ℕ) (P : Change → Type 0) where
 
 -- ---- runs
 
-module _ (g : Network) (limit : ℕ) where
-  after_one : (s : State) (items : List Item) (item : Item) → after g limit s (items ++ item ∷ []) ≡ state_in (after g limit s items) (step_item g limit (after g limit s items) item)
-  after_one s [] item = refl
-  after_one s (first ∷ items) item = after_one (state_in s (step_item g limit s first)) items item
-
-one_more_typed : (g : Network) (items : List Item) (item : Item) → AreTyped g items → IsTyped g item → AreTyped g (items ++ item ∷ [])
-one_more_typed g [] item all one = (one, tt)
-one_more_typed g (first ∷ items) item all one = (all.0, one_more_typed g items item all.1 one)
-
-module _ (fit : LinesFitColumns) (plan : Plan) (wired : IsWired (network plan)) (holds : (limit : ℕ) (items : List Item) → AreTyped (network plan) items → Holds (network plan) (after (network plan) limit (opened (network plan)) items)) (limit : ℕ) where
+module _ (fit : LinesFitColumns) (plan : Plan) (wired : IsWired (network plan)) (limit : ℕ) (holds : (items : List Item) → AreTyped (network plan) items → Holds (network plan) (after (network plan) limit (opened (network plan)) items)) where
   abbrev g : Network
   g = network plan
 
   abbrev Fit : Change → Type 0
   Fit change = row_fits (sent_columns plan) change.row ≡ true
 
-  -- the run has come to a state
-  record Reached (s : State) : Type 0 where
-    pub items : List Item
-    pub typed : AreTyped g items
-    pub there : after g limit (opened g) items ≡ s
+  fits_at : (lines rest : List Record) (s : State) → Reached fit plan limit lines rest s → AllByRecursion Fit (changes_in s.printed)
+  fits_at lines rest s r =
+      let all = (holds r.events r.typed).fine g.count (inr wired.sink) in
+      let sent : SinkSent g limit Fit (after g limit (opened g) r.events) = λ i l. all.types i l in
+      subst (λ (t : State). AllByRecursion Fit (changes_in t.printed)) r.there (all_sent g limit Fit r.events sent)
 
-  fits_at : (s : State) → Reached s → AllByRecursion Fit (changes_in s.printed)
-  fits_at s r =
-      let all = (holds limit r.items r.typed).fine g.count (inr wired.sink) in
-      let sent : SinkSent g limit Fit (after g limit (opened g) r.items) = λ i l. all.types i l in
-      subst (λ (t : State). AllByRecursion Fit (changes_in t.printed)) r.there (all_sent g limit Fit r.items sent)
-
-  reached_one : (s t : State) (item : Item) → Reached s → IsTyped g item → step_item g limit s item ≡ Ok t → Reached t
-  reached_one s t item r one e = record {
-    items = r.items ++ item ∷ [];
-    typed = one_more_typed g r.items item r.typed one;
-    there = after_one g limit (opened g) r.items item ∙ ap (λ u. state_in u (step_item g limit u item)) r.there ∙ ap (state_in s) e;
-  }
-
-  -- a run that went on has come to a state, and one that stopped has printed rows that fit
-  abbrev Fits : Ran → Type 0
-  Fits (ended s) = Reached s
-  Fits (refused number code) = Unit {0}
-  Fits (stopped cause printed) = AllByRecursion Fit (changes_in printed)
-
-  fits_then : (ran : Ran) (next : State → Ran) → Fits ran → ((s : State) → Reached s → Fits (next s)) → Fits (and_then ran next)
-  fits_then (ended s) next r later = later s r
-  fits_then (refused number code) next r later = tt
-  fits_then (stopped cause printed) next r later = r
-
-  fits_step : (s : State) (item : Item) → Reached s → IsTyped g item → (result : Result State StepFault) → step_item g limit s item ≡ result → Fits (stepped s result)
-  fits_step s item r one (Ok t) e = reached_one s t item r one e
-  fits_step s item r one (Err cause) e = fits_at s r
-
-  fits_along : (items : List Item) → AreTyped g items → (s : State) → Reached s → Fits (run.go_along g limit plan.sources s items)
-  fits_along [] typed s r = r
-  fits_along (item ∷ items) typed s r =
-      fits_then (stepped s (step_item g limit s item)) (λ next. run.go_along g limit plan.sources next items)
-      (fits_step s item r typed.0 (step_item g limit s item) refl) (fits_along items typed.1)
-
-  fits_took : (number : ℕ) (s : State) (fields : Record) (line : Line) → line_of plan.sources fields ≡ Ok line → Reached s
-      → (result : Result State StepFault) → machine.take g limit s line.table line.change ≡ result → Fits (took number s result)
-  fits_took number s fields line is r (Ok t) e =
-      let one = took_one fit plan limit number s line t (ap (took number s) e) in
-      reached_one s t (happens (Take line.table line.change)) r (one_typed fit plan limit s fields line t is one) e
-  fits_took number s fields line is r (Err (Refused code)) e = tt
-  fits_took number s fields line is r (Err (Order code)) e = fits_at s r
-  fits_took number s fields line is r (Err (Range node subtask row types)) e = fits_at s r
-  fits_took number s fields line is r (Err Limit) e = fits_at s r
-  fits_took number s fields line is r (Err Memory) e = fits_at s r
-
-  fits_line : (number : ℕ) (s : State) (fields : Record) → Reached s → (result : Result Line ChangeCode) → line_of plan.sources fields ≡ result → Fits (run.take_line g limit plan.sources number s result)
-  fits_line number s fields r (Err code) is = tt
-  fits_line number s fields r (Ok line) is = fits_took number s fields line is r (machine.take g limit s line.table line.change) refl
-
-  fits_lines : (lines : List Record) (number : ℕ) (s : State) → Reached s → Fits (run.take_lines g limit plan.sources number s lines)
-  fits_lines [] number s r = r
-  fits_lines (fields ∷ rest) number s r =
-      fits_then (run.take_line g limit plan.sources number s (line_of plan.sources fields)) (λ next. run.take_lines g limit plan.sources (number + 1) next rest)
-      (fits_line number s fields r (line_of plan.sources fields) refl) (fits_lines rest (number + 1))
-
-  fits_opened : (b : Bool) → Fits (cond b (ended (opened g)) (stopped Limit []))
-  fits_opened true = record { items = []; typed = tt; there = refl }
-  fits_opened false = tt
-
-  fits_run : (bytes : List ℕ) → Fits (whole_run g limit plan.sources bytes)
-  fits_run bytes =
-      fits_then (run.opens g limit plan.sources) (λ s. and_then (run.take_lines g limit plan.sources 1 s (records_of bytes)) (run.drained g limit plan.sources))
-      (fits_opened (nat_le (opened g).sends limit))
-      (λ s r. fits_then (run.take_lines g limit plan.sources 1 s (records_of bytes)) (run.drained g limit plan.sources) (fits_lines (records_of bytes) 1 s r)
-      (λ t k. fits_along (drain g limit t) (typed_drain g limit t) t k))
-
-  by_fits : (ran : Ran) → Fits ran → AllByRecursion Fit (changes_in (printed_by ran))
-  by_fits (ended s) h = fits_at s h
-  by_fits (refused number code) h = tt
-  by_fits (stopped cause printed) h = h
-
-  pub rows_fit : (bytes : List ℕ) → AllByRecursion Fit (changes_in (printed_by (whole_run g limit plan.sources bytes)))
-  rows_fit bytes = by_fits (whole_run g limit plan.sources bytes) (fits_run bytes)
+  pub rows_fit : (lines rest : List Record) (ran : Ran) → Ends fit plan limit lines rest ran → AllByRecursion Fit (changes_in (printed_by ran))
+  rows_fit lines rest (ended s) h = fits_at lines rest s h.reached
+  rows_fit lines rest (refused number code) h = tt
+  rows_fit lines rest (stopped cause printed) h = subst (λ items. AllByRecursion Fit (changes_in items)) h.same (fits_at lines h.rest h.state h.stands.reached)
 
 -- ---- the law
 
-pub prints_rows : LinesFitColumns → SoundPlansAreWired → SoundPlansMeetFacts → Composes → RunsPrintRows
-prints_rows fit wired meets composes plan ruled limit bytes = rows_fit fit plan (wired plan ruled) (composes (network plan) (wired plan ruled) (meets plan ruled)) limit bytes
+pub prints_rows : LinesFitColumns → SoundPlansAreWired → SoundPlansMeetFacts → Composes → RunsDrain → RunsPrintRows
+prints_rows fit wired meets composes drains plan ruled limit bytes =
+    let g = network plan in
+    rows_fit fit plan (wired plan ruled) limit (composes g (wired plan ruled) (meets plan ruled) limit) (records_of bytes) [] (whole_run g limit plan.sources bytes)
+    (run_ends fit plan limit (records_of bytes) (drains g (wired plan ruled) limit))

@@ -64,7 +64,7 @@ gathered_named f step (o ∷ os) [] h = absurd h
 gathered_named f step (None ∷ os) (ty ∷ tys) h = tt
 gathered_named f step (Some d ∷ os) (ty ∷ tys) h = joined_named f step os tys h.1 d ty h.0
 
-same_types : (s t : Ty) → same_ty s t ≡ true → s ≡ t
+pub same_types : (s t : Ty) → same_ty s t ≡ true → s ≡ t
 same_types Truths Truths e = refl
 same_types Int Int e = refl
 same_types BigInt BigInt e = refl

@@ -1,0 +1,93 @@
+-- What a run prints are items of its sink: the sink's columns are as wide as those that are sent, and no quiet moment has a number beyond the
+-- lines of the change file.
+use Rattle.std.specs.Prelude.{◌&&◌, ◌||◌, ◌+ℤ◌, ◌≤ℤ◌, ◌^◌, Bool, ℤ, int_le, int_lt, map, nat_le, nat_lt, neg_ℤ, pos, unsigned_abs}
+use Rattle.std.proofs.Common.{◌≡◌, ◌∙◌, ◌++◌, ◌<◌, ◌≤◌, ℕ, true, false, List, [], ◌∷◌, length, refl, sym, ap, subst, arith, append_assoc, lit<}
+use Rattle.std.specs.List.{AllByRecursion}
+use Rattle.std.proofs.lemmas.Bool.{leb-true, ltb-true, lt-ltb}
+use Rattle.std.proofs.lemmas.Int.{ints}
+use Rattle.std.proofs.Math.Nat.{pow-le-pow_right}
+use Rattle.ct_value.specs.declared.ty.ColTy.{ColTy}
+use Rattle.ct_value.specs.declared.ty.Ty.{Ty}
+use Rattle.ct_value.specs.declared.ty.Ty.TheVariants.{Bool as Truths, Int, BigInt, Decimal, Text as Texts}
+use Rattle.ct_value.specs.declared.value.Value.{Value}
+use Rattle.ct_value.specs.declared.value.Value.TheVariants.{Null, Bool as Truth, Num, Text}
+use Rattle.ct_field.specs.Numbers.{in_range}
+use Rattle.ct_field.specs.Typed.{col_fits, row_fits, value_fits}
+use Rattle.ct_field.proofs.laws.Numbers.{both_true, first_true, second_true}
+use Rattle.ct_expr.specs.Types.{same_ty}
+use Rattle.ct_catalog.specs.declared.table.ColDef.{ColDef}
+use Rattle.rel_algebra.specs.GoesInto.{go_into, goes_into, widens}
+use Rattle.stream_model.specs.declared.events.PrintItem.{PrintItem}
+use Rattle.stream_model.specs.declared.events.PrintItem.TheVariants.{Change as Printed, Quiet}
+use Rattle.stream_model.specs.Runs.{changes_in}
+use Rattle.job_text.specs.Told.{AreItemsOf, are_of}
+use Rattle.typing_laws.proofs.laws.Named.{same_types}
+
+-- ---- wider types
+
+le_of : (a b : ℤ) → int_le a b ≡ true → a ≤ℤ b
+le_of a b e = grind (arith, ints)
+
+lt_of : (a b : ℤ) → int_lt a b ≡ true → (a +ℤ pos 1) ≤ℤ b
+lt_of a b e = grind (arith, ints)
+
+le_test : (a b : ℤ) → a ≤ℤ b → int_le a b ≡ true
+le_test a b h = grind (arith, ints)
+
+lt_test : (a b : ℤ) → (a +ℤ pos 1) ≤ℤ b → int_lt a b ≡ true
+lt_test a b h = grind (arith, ints)
+
+wider_whole : (n : ℤ) → in_range Int n ≡ true → in_range BigInt n ≡ true
+wider_whole n e =
+    let low = le_of (neg_ℤ (pos (2 ^ 31))) n (first_true (int_le (neg_ℤ (pos (2 ^ 31))) n) (int_lt n (pos (2 ^ 31))) e) in
+    let high = lt_of n (pos (2 ^ 31)) (second_true (int_le (neg_ℤ (pos (2 ^ 31))) n) (int_lt n (pos (2 ^ 31))) e) in
+    both_true (int_le (neg_ℤ (pos (2 ^ 63))) n) (int_lt n (pos (2 ^ 63))) (le_test (neg_ℤ (pos (2 ^ 63))) n (omega (arith, ints, low))) (lt_test n (pos (2 ^ 63)) (omega (arith, ints, high)))
+
+wider_decimal : (p q s u : ℕ) (n : ℤ) → nat_le p q ≡ true → in_range (Decimal p s) n ≡ true → in_range (Decimal q u) n ≡ true
+wider_decimal p q s u n more e =
+    let within = ltb-true (unsigned_abs n) (10 ^ p) e in
+    let powers : 10 ^ p ≤ 10 ^ q = pow-le-pow_right (lit< tt) (leb-true p q more) in
+    lt-ltb (unsigned_abs n) (10 ^ q) (omega (arith, within, powers))
+
+wider_value : (from into : Ty) (v : Value) → widens from into ≡ true → value_fits from v ≡ true → value_fits into v ≡ true
+wider_value Int BigInt Null e h = refl
+wider_value Int BigInt (Num n) e h = wider_whole n h
+wider_value Int BigInt (Truth b) e h = absurd (cc (h))
+wider_value Int BigInt (Text t) e h = absurd (cc (h))
+wider_value (Decimal p s) (Decimal q u) Null e h = refl
+wider_value (Decimal p s) (Decimal q u) (Num n) e h = wider_decimal p q s u n (first_true (nat_le p q) _ e) h
+wider_value (Decimal p s) (Decimal q u) (Truth b) e h = absurd (cc (h))
+wider_value (Decimal p s) (Decimal q u) (Text t) e h = absurd (cc (h))
+wider_value _ _ v e h = absurd (cc (e))
+
+goes_value : (from into : Ty) (v : Value) (same wider : Bool) → same_ty from into ≡ same → widens from into ≡ wider → (same || wider) ≡ true → value_fits from v ≡ true → value_fits into v ≡ true
+goes_value from into v true wider is may e h = subst (λ ty. value_fits ty v ≡ true) (same_types from into is) h
+goes_value from into v false true is may e h = wider_value from into v may h
+goes_value from into v false false is may e h = absurd (cc (e))
+
+pub goes_row : (columns : List ColTy) (cols : List ColDef) (row : List Value) → go_into columns (map (λ c. c.ty) cols) ≡ true → row_fits columns row ≡ true → are_of (map (λ c. c.ty.ty) cols) row ≡ true
+goes_row [] [] [] e h = refl
+goes_row [] [] (v ∷ vs) e h = absurd (cc (h))
+goes_row [] (col ∷ cols) row e h = absurd (cc (e))
+goes_row (column ∷ columns) [] row e h = absurd (cc (e))
+goes_row (column ∷ columns) (col ∷ cols) [] e h = absurd (cc (h))
+goes_row (column ∷ columns) (col ∷ cols) (v ∷ vs) e h =
+    let one = first_true (goes_into column col.ty) (go_into columns (map (λ c. c.ty) cols)) e in
+    let fits = first_true (value_fits column.ty v) _ (first_true (col_fits column v) (row_fits columns vs) h) in
+    both_true (value_fits col.ty.ty v) (are_of (map (λ c. c.ty.ty) cols) vs)
+    (goes_value column.ty col.ty.ty v (same_ty column.ty col.ty.ty) (widens column.ty col.ty.ty) refl refl one fits)
+    (goes_row columns cols vs (second_true (goes_into column col.ty) (go_into columns (map (λ c. c.ty) cols)) e) (second_true (col_fits column v) (row_fits columns vs) h))
+
+-- ---- items
+
+module _ (columns : List ColTy) (cols : List ColDef) (goes : go_into columns (map (λ c. c.ty) cols) ≡ true) (all : List PrintItem) (most : ℕ) (few : most < 2 ^ 64)
+    (within : (before after : List PrintItem) (n : ℕ) → all ≡ before ++ Quiet n ∷ after → n ≤ most) where
+  behind : (before items : List PrintItem) → all ≡ before ++ items → AllByRecursion (λ change. row_fits columns change.row ≡ true) (changes_in items) → AreItemsOf (map (λ c. c.ty.ty) cols) items
+  behind before [] is fit = tt
+  behind before (Printed change ∷ items) is fit =
+      (goes_row columns cols change.row goes fit.0, behind (before ++ Printed change ∷ []) items (is ∙ sym (append_assoc before (Printed change ∷ []) items)) fit.1)
+  behind before (Quiet n ∷ items) is fit =
+      (omega (arith, few, within before items n is), behind (before ++ Quiet n ∷ []) items (is ∙ sym (append_assoc before (Quiet n ∷ []) items)) fit)
+
+  pub items_of_sink : AllByRecursion (λ change. row_fits columns change.row ≡ true) (changes_in all) → AreItemsOf (map (λ c. c.ty.ty) cols) all
+  items_of_sink fit = behind [] all refl fit
