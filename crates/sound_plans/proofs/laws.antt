@@ -30,6 +30,7 @@ pub mod Sets
 pub mod Shapes
 pub mod Sinks
 pub mod Stands
+pub mod States
 pub mod Tables
 pub mod Theorems
 pub mod TopN

@@ -4,3 +4,4 @@ pub mod Outputs
 pub mod Promises
 pub mod RowFits
 pub mod Sound
+pub mod States

@@ -14,9 +14,11 @@ use Rattle.sound_plans.proofs.laws.Normalizes.{normalizes_fit}
 use Rattle.sound_plans.proofs.laws.Groups.{groups_fit}
 use Rattle.sound_plans.proofs.laws.Sinks.{sinks_fit}
 use Rattle.sound_plans.proofs.laws.Scans.{scans_fit}
-use Rattle.stream_model.proofs.laws.Theorems.{scans_stand, printed_folds_to_answer}
+use Rattle.stream_model.proofs.laws.Theorems.{plans_compose, scans_stand, printed_folds_to_answer}
+use Rattle.sound_plans.proofs.laws.States.{plans_hold}
 use Rattle.sound_plans.proofs.laws.Wiring as wiring
 use Rattle.sound_plans.specs.Sound.{SoundNodesHaveColumns, SoundPlansMeetFacts, SoundPortsTake, SoundPlansAreWired, SoundPlansPrint}
+use Rattle.sound_plans.specs.States.{SoundPlansHold}
 use Rattle.plan_rules.proofs.laws.Theorems.{plans_are_wired}
 
 -- The laws of lower crates on which these stand: a plan of this shape is fed as the composition theorem asks, what is inferred of a node
@@ -63,3 +65,8 @@ sound_plans_are_wired = wiring.sound_plans_are_wired nodes_fit plans_are_wired
 -- folds to the sink's batch answer over the rows that the changes taken leave of each table.
 pub sound_plans_print : SoundPlansPrint
 sound_plans_print = wiring.sound_plans_print nodes_fit plans_are_wired printed_folds_to_answer
+
+-- In every state of every run over a sound plan all holds that the composition theorem says, and changes that agree on the key of an edge of
+-- last rows go through one channel.
+pub sound_plans_hold : SoundPlansHold
+sound_plans_hold = plans_hold sound_plans_are_wired sound_plans_meet_facts_facts plans_compose
