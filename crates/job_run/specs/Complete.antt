@@ -2,6 +2,8 @@
 use Rattle.std.specs.Prelude.{◌≡◌, ℕ, false, Bool, List, Option, Some, None, Result, Ok}
 use Rattle.command_line.specs.Words.{FileNames, Request, run, batch, explain, request_of}
 use Rattle.ct_io.specs.Holdings.{Holdings, Loaded, Whole, loaded}
+use Rattle.ct_value.specs.declared.row.Row.{Row}
+use Rattle.ct_value.specs.declared.ty.ColTy.{ColTy}
 use Rattle.ct_change.specs.Changelog.{Rows}
 use Rattle.sql_syntax.specs.Tree.{Script}
 use Rattle.sql_grammar.specs.Scripts.{IsScript}
@@ -13,9 +15,10 @@ use Rattle.job_ending.specs.declared.ending.Ending.TheVariants.{Done}
 use Rattle.job_ending.specs.declared.ending.LimitName.TheVariants.{Script as ScriptLimit, Changes as ChangesLimit}
 use Rattle.job_ending.specs.Outcome.{Outcome}
 use Rattle.phys_plan.specs.declared.plan.Plan.{Plan}
-use Rattle.stream_model.specs.Machine.{State}
+use Rattle.stream_model.specs.declared.events.PrintItem.{PrintItem}
+use Rattle.stream_model.specs.declared.events.StepFault.TheVariants.{Limit, Range}
 use Rattle.plan_rules.specs.Doings.{network}
-use Rattle.source_lines.specs.Run.{Ran, ended, whole_run}
+use Rattle.source_lines.specs.Run.{Ran, stopped, whole_run}
 use Rattle.job_judgement.specs.Judgement.{Accepted, judgement}
 use Rattle.range_rules.specs.Arithmetic.{in_statements}
 use Rattle.job_batch.specs.Agree.{query_answer}
@@ -26,16 +29,18 @@ use Rattle.job_stream.specs.Stream.{most_sent, outcome_of, sink_types, streamed}
 use Rattle.job_run.specs.Held.{AreHeld}
 use Rattle.job_run.specs.Outcome.{script_limit, after_load, after_judgement, over_changes, with_script, run_script, batch_script, explain_script, with_request, outcome}
 
--- nothing is refused: two files are held, each within its limit, the script is accepted and can be run, and the machine's run of its plan
--- takes each line and goes to its end, no step being out of range or past the limit
+-- nothing is refused: two files are held, each within its limit; the script is accepted and can be run; each line passes; and the machine's run
+-- of its plan over the lines is nowhere out of range, nor would it pass the limit on changes
 pub record MayRun (names : FileNames) (h : Holdings) : Type 0 where
   pub script : Accepted
   pub plan : Plan
   pub changes : List ℕ
-  pub state : State
+  pub taken : Taken
   pub held : AreHeld names h script changes
   pub runs : runnable script ≡ Ok plan
-  pub ends : whole_run (network plan) most_sent plan.sources changes ≡ ended state
+  pub lines_taken : taken_of script.inserted.sources None changes ≡ Ok taken
+  pub in_range : (node subtask : ℕ) (row : Row) (types : List ColTy) (printed : List PrintItem) → whole_run (network plan) most_sent plan.sources changes ≡ stopped (Range node subtask row types) printed → ⊥
+  pub few : (printed : List PrintItem) → whole_run (network plan) most_sent plan.sources changes ≡ stopped Limit printed → ⊥
 
 -- the same of a batch answer: the script has a plan or waits for one, the first lines are taken, and nothing that is evaluated is out of range
 pub record MayAnswer (names : FileNames) (first : Option ℕ) (h : Holdings) : Type 0 where

@@ -41,7 +41,8 @@ use Rattle.plan_shape.specs.Tables.{are_tables, has_columns, has_type, is_declar
 use Rattle.plan_check.specs.Sound.{IsSound}
 use Rattle.plan_check.specs.Types.{fit_sink, keep_nulls}
 use Rattle.sound_plans.proofs.laws.Lists.{both}
-use Rattle.job_stream.specs.Stream.{outcome_of, halt_of, sink_types}
+use Rattle.job_ending.specs.declared.ending.LimitName.TheVariants.{Sent}
+use Rattle.job_stream.specs.Stream.{IsHaltOf, outcome_of, sink_types}
 use Rattle.job_stream.specs.Writing.{Finishes}
 use Rattle.job_stream.proofs.Items.{lines_both}
 
@@ -105,18 +106,26 @@ stopped_finishes tys ran cause printed halt is caused =
       whole = λ free. bytes;
     }
 
-pub stop_finishes : {T : Type 0} (tys : List Ty) (ran : Ran) (cause : StepFault) (printed : List PrintItem) → IsDrainFault cause → IsStop cause printed ran → let r : Result T Halt = Err (halt_of cause) in Finishes tys (outcome_of tys ran) printed r
-stop_finishes tys ran (fault.Change code) printed drains stop = absurd drains
-stop_finishes tys ran (fault.Order code) printed drains stop = absurd drains
-stop_finishes tys ran (fault.Range node subtask row types) printed drains stop = stopped_finishes tys ran (fault.Range node subtask row types) printed (h.Range node subtask row types) stop (ap (λ r. (outcome_of tys r).ending) stop)
-stop_finishes tys ran fault.Limit printed drains stop = stopped_finishes tys ran fault.Limit printed (halt_of fault.Limit) stop (ap (λ r. (outcome_of tys r).ending) stop)
-stop_finishes tys ran fault.Memory printed drains stop =
-    record {
-      cause = tt;
-      rest = item_lines tys stop.0;
-      begins = bytes_are tys ran ∙ ap (item_lines tys) stop.1 ∙ lines_both tys printed stop.0;
-      whole = λ free. absurd (cc (free));
-    }
+memory_finishes : {T : Type 0} (tys : List Ty) (ran : Ran) (printed : List PrintItem) → IsStop fault.Memory printed ran → let r : Result T Halt = Err h.Memory in Finishes tys (outcome_of tys ran) printed r
+memory_finishes tys ran printed stop = record {
+  cause = tt;
+  rest = item_lines tys stop.0;
+  begins = bytes_are tys ran ∙ ap (item_lines tys) stop.1 ∙ lines_both tys printed stop.0;
+  whole = λ free. absurd (cc (free));
+}
+
+pub stop_finishes : {T : Type 0} (tys : List Ty) (ran : Ran) (cause : StepFault) (printed : List PrintItem) (halt : Halt) → IsHaltOf cause halt → IsStop cause printed ran → let r : Result T Halt = Err halt in Finishes tys (outcome_of tys ran) printed r
+stop_finishes tys ran (fault.Change code) printed halt is stop = absurd is
+stop_finishes tys ran (fault.Order code) printed halt is stop = absurd is
+stop_finishes {T} tys ran (fault.Range node subtask row types) printed halt is stop =
+    subst (λ (x : Halt). let r : Result T Halt = Err x in Finishes tys (outcome_of tys ran) printed r) (sym is)
+    (stopped_finishes tys ran (fault.Range node subtask row types) printed (h.Range node subtask row types) stop (ap (λ r. (outcome_of tys r).ending) stop))
+stop_finishes {T} tys ran fault.Limit printed halt is stop =
+    subst (λ (x : Halt). let r : Result T Halt = Err x in Finishes tys (outcome_of tys ran) printed r) (sym is)
+    (stopped_finishes tys ran fault.Limit printed (h.Limit Sent) stop (ap (λ r. (outcome_of tys r).ending) stop))
+stop_finishes {T} tys ran fault.Memory printed halt is stop =
+    subst (λ (x : Halt). let r : Result T Halt = Err x in Finishes tys (outcome_of tys ran) printed r) (sym is)
+    (memory_finishes tys ran printed stop)
 
 -- a line is refused before anything is written
 pub refused_runs : {T : Type 0} (tys : List Ty) (ran : Ran) (line : ℕ) (code : ChangeCode) (write : Type 0) (o : Option (List ℕ)) → ran ≡ refused line code → let r : Result T Halt = Err (h.Change code line) in RunsThere (outcome_of tys ran) write o o r

@@ -1,5 +1,5 @@
 -- What a run over a plan and a change file answers and writes: it is composed of the machine's run.
-use Rattle.std.specs.Prelude.{ℕ, List, map}
+use Rattle.std.specs.Prelude.{◌≡◌, ℕ, List, map}
 use Rattle.ct_value.specs.declared.ty.Ty.{Ty}
 use Rattle.ct_catalog.specs.declared.table.TableDef.{TableDef}
 use Rattle.phys_plan.specs.declared.plan.Plan.{Plan}
@@ -26,13 +26,13 @@ ending_of_stop (fault.Range node subtask row types) = Range node subtask row typ
 ending_of_stop fault.Limit = Limit Sent
 ending_of_stop fault.Memory = Memory
 
--- why a run halts where its drain stops; it stops by no refusal
-abbrev pub halt_of : StepFault → Halt
-halt_of (fault.Change code) = h.Memory
-halt_of (fault.Order code) = h.Memory
-halt_of (fault.Range node subtask row types) = h.Range node subtask row types
-halt_of fault.Limit = h.Limit Sent
-halt_of fault.Memory = h.Memory
+-- why a run halts where its drain stops; that stops by no refusal
+abbrev pub IsHaltOf : StepFault → Halt → Type 0
+IsHaltOf (fault.Change code) halt = ⊥
+IsHaltOf (fault.Order code) halt = ⊥
+IsHaltOf (fault.Range node subtask row types) halt = halt ≡ h.Range node subtask row types
+IsHaltOf fault.Limit halt = halt ≡ h.Limit Sent
+IsHaltOf fault.Memory halt = halt ≡ h.Memory
 
 -- what was printed is written, each item as a line by the types of the sink's columns; a line is refused before anything is printed
 abbrev pub outcome_of : List Ty → Ran → Outcome

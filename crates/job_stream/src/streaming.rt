@@ -4,7 +4,7 @@ ghost use Rattle.ct_io.specs.Counts.{Rose};
 ghost use Rattle.sound_plans.specs.Sound.{IsRuled};
 ghost use Rattle.stream_model.specs.Drain.{IsDrainFault};
 ghost use Rattle.job_ending.specs.Runs.{RunsThere};
-ghost use Rattle.job_stream.specs.Stream.{halt_of, streamed, streamed_within};
+ghost use Rattle.job_stream.specs.Stream.{IsHaltOf, streamed, streamed_within};
 
 use crate::finishing::finish;
 use crate::opened::printed_of;
@@ -60,7 +60,7 @@ pub fn stream_within<K: Sink>(
 // Why a run halts where its drain stops.
 fn halt_of(cause: StepFault) -> Halt
     requires { IsDrainFault cause }
-    ensures { result ≡ halt_of cause }
+    ensures { IsHaltOf cause result }
 {
     match cause {
         StepFault::Range {

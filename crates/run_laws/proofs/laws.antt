@@ -2,6 +2,7 @@ pub mod Answered
 pub mod Ends
 pub mod Lines
 pub mod Nodes
+pub mod Passing
 pub mod Prints
 pub mod Reached
 pub mod Runs

@@ -1,7 +1,10 @@
 -- A job of which nothing is refused ends well.
-use Rattle.std.proofs.Common.{◌≡◌, ℕ, false, Bool, List, Option, Some, None, Result, Ok, ap, ◌∙◌}
+use Rattle.std.proofs.Common.{◌≡◌, ℕ, false, Bool, List, Option, Some, None, Result, Ok, refl, ap, ◌∙◌}
 use Rattle.command_line.specs.Words.{FileNames, Request, run, batch, explain, request_of}
 use Rattle.ct_io.specs.Holdings.{Holdings, Loaded, Whole, loaded}
+use Rattle.ct_value.specs.declared.row.Row.{Row}
+use Rattle.ct_value.specs.declared.ty.ColTy.{ColTy}
+use Rattle.ct_value.specs.declared.ty.Ty.{Ty}
 use Rattle.ct_change.specs.Changelog.{Rows}
 use Rattle.sql_syntax.specs.Tree.{Script}
 use Rattle.sql_grammar.specs.Scripts.{IsScript}
@@ -13,9 +16,13 @@ use Rattle.job_ending.specs.declared.ending.Ending.TheVariants.{Done}
 use Rattle.job_ending.specs.declared.ending.LimitName.TheVariants.{Script as ScriptLimit, Changes as ChangesLimit}
 use Rattle.job_ending.specs.Outcome.{Outcome}
 use Rattle.phys_plan.specs.declared.plan.Plan.{Plan}
-use Rattle.stream_model.specs.Machine.{State}
+use Rattle.stream_model.specs.declared.events.PrintItem.{PrintItem}
+use Rattle.stream_model.specs.declared.events.StepFault.TheVariants as fault
 use Rattle.plan_rules.specs.Doings.{network}
-use Rattle.source_lines.specs.Run.{Ran, ended, whole_run}
+use Rattle.source_lines.specs.Run.{Ran, ended, refused, stopped, whole_run}
+use Rattle.run_laws.specs.Stops.{EndsOrStops}
+use Rattle.run_laws.proofs.laws.Theorems.{runs_end_or_stop}
+use Rattle.job_plan.proofs.laws.Theorems.{runnable_scripts_are_planned}
 use Rattle.job_judgement.specs.Judgement.{Accepted, judgement}
 use Rattle.range_rules.specs.Arithmetic.{in_statements}
 use Rattle.job_batch.specs.Agree.{query_answer}
@@ -38,12 +45,26 @@ held_well names h script changes held next = script_well names.script held.scrip
 over_well : (names : FileNames) (h : Holdings) (script : Accepted) (changes : List ℕ) → AreHeld names h script changes → (next : List ℕ → Outcome) → (over_changes h names.changes next).ending ≡ (next changes).ending
 over_well names h script changes held next = ap (λ (l : Loaded). (after_load ChangesLimit next l).ending) held.changes_held
 
+-- a run that is neither out of range nor past the limit
+ended_well : (tys : List Ty) (r : Ran) → EndsOrStops r → ((node subtask : ℕ) (row : Row) (types : List ColTy) (printed : List PrintItem) → r ≡ stopped (fault.Range node subtask row types) printed → ⊥)
+    → ((printed : List PrintItem) → r ≡ stopped fault.Limit printed → ⊥) → (outcome_of tys r).ending ≡ Done
+ended_well tys (ended s) ends in_range few = refl
+ended_well tys (refused number code) ends in_range few = absurd ends
+ended_well tys (stopped (fault.Range node subtask row types) printed) ends in_range few = absurd (in_range node subtask row types printed refl)
+ended_well tys (stopped fault.Limit printed) ends in_range few = absurd (few printed refl)
+ended_well tys (stopped (fault.Change code) printed) ends in_range few = absurd ends
+ended_well tys (stopped (fault.Order code) printed) ends in_range few = absurd ends
+ended_well tys (stopped fault.Memory printed) ends in_range few = absurd ends
+
 run_well : (names : FileNames) (h : Holdings) → MayRun names h → (with_script h names.script (run_script h names.changes)).ending ≡ Done
 run_well names h may =
+    let plan = may.plan in
+    let is = runnable_scripts_are_planned may.script (record { text = may.held.script_text; judged = may.held.accepted }) plan may.runs in
+    let passes : taken_of plan.sources None may.changes ≡ Ok may.taken = ap (λ (p : Plan). taken_of p.sources None may.changes) is.is ∙ may.lines_taken in
     held_well names h may.script may.changes may.held (run_script h names.changes)
     ∙ ap (λ (j : Judged Plan). (after_judgement (λ plan. over_changes h names.changes (streamed plan)) j).ending) may.runs
-    ∙ over_well names h may.script may.changes may.held (streamed may.plan)
-    ∙ ap (λ (r : Ran). (outcome_of (sink_types may.plan.sink) r).ending) may.ends
+    ∙ over_well names h may.script may.changes may.held (streamed plan)
+    ∙ ended_well (sink_types plan.sink) (whole_run (network plan) most_sent plan.sources may.changes) (runs_end_or_stop plan is.ruled most_sent may.changes may.taken passes) may.in_range may.few
 
 answer_well : (names : FileNames) (first : Option ℕ) (h : Holdings) → MayAnswer names first h → (with_script h names.script (batch_script h names.changes first)).ending ≡ Done
 answer_well names first h may =

@@ -149,7 +149,7 @@ module _ (fit : LinesFitColumns) (plan : Plan) (limit : ℕ) where
         printed = all.printed ∙ one.printed;
       }
 
-  took_all : (number : ℕ) (s : State) (lines : List Record) (t : State) → run.take_lines g limit plan.sources number s lines ≡ ended t → TookAll number s lines t
+  pub took_all : (number : ℕ) (s : State) (lines : List Record) (t : State) → run.take_lines g limit plan.sources number s lines ≡ ended t → TookAll number s lines t
   took_all number s [] t e =
       let same = ended_same s t e in
       record {

@@ -2,7 +2,9 @@
 use Rattle.run_laws.proofs.laws.Sinks.{sinks_fit}
 use Rattle.run_laws.specs.Rows.{SinksFit, RunsPrintRows}
 use Rattle.plan_shape.proofs.laws.Theorems.{shaped_plans_have_shape}
+use Rattle.run_laws.proofs.laws.Passing.{end_or_stop}
 use Rattle.run_laws.proofs.laws.Prints.{prints_rows}
+use Rattle.run_laws.specs.Stops.{RunsEndOrStop}
 use Rattle.sound_plans.proofs.laws.Theorems.{sound_plans_are_wired, sound_plans_meet_facts_facts, sound_plans_print}
 use Rattle.source_lines.proofs.laws.Theorems.{taken_lines_fit}
 use Rattle.stream_model.proofs.laws.Theorems.{plans_compose, runs_drain}
@@ -30,3 +32,7 @@ runs_carry_kinds = carry_kinds taken_lines_fit sound_plans_are_wired sound_plans
 -- A run that goes to its end has told a quiet moment after all lines.
 pub runs_end_quiet : RunsEndQuiet
 runs_end_quiet = ends_quiet taken_lines_fit
+
+-- A run each of whose lines may be taken goes to its end, or stops where a node is out of range or by the limit.
+pub runs_end_or_stop : RunsEndOrStop
+runs_end_or_stop = end_or_stop taken_lines_fit sound_plans_are_wired runs_drain

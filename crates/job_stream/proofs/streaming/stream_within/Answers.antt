@@ -63,8 +63,7 @@ returns-in-Err-Stopped g c =
     let stop = c.in-Err-Stopped.stopped in
     let is = subst (λ fault. IsRan fault ran) c.in-Err-Stopped.field-0-is c.in-Err-Stopped.ensures.refused in
     let tys = c.as_slice-in-Err-Stopped.ensures.value ∙ c.in-Ok.ensures ∙ ap (λ (cols : List ColDef). map (λ x. x.ty.ty) cols) c.as_slice.ensures in
-    let ends = stop_finishes (sink_types plan.sink) ran stop.cause stop.printed is.0 is.1 in
-    let halted = subst (λ (halt : Halt). let r : Result (Unit {0}) Halt = Err halt in Finishes (sink_types plan.sink) (streamed_within c.args.sent_limit plan c.args.bytes) stop.printed r) (sym c.halt_of-halt.ensures) ends in
+    let halted = stop_finishes (sink_types plan.sink) ran stop.cause stop.printed c.halt_of-halt.result c.halt_of-halt.ensures is.1 in
     c.finish-in-Err-Stopped.ensures (streamed_within c.args.sent_limit plan c.args.bytes) (subst (λ (l : List Ty). let r : Result (Unit {0}) Halt = Err c.halt_of-halt.result in Finishes l (streamed_within c.args.sent_limit plan c.args.bytes) stop.printed r) (sym tys) halted)
 
 pub returns : goal.returns
