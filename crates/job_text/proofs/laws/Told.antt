@@ -177,9 +177,9 @@ no_line tys item is x e =
 
 pub bytes_tell_items : BytesTellItems
 bytes_tell_items tys exist [] [] h k e = refl
-bytes_tell_items tys exist [] (b ∷ bs) h k e = absurd (no_line tys b k.0 (item_lines tys bs) e)
-bytes_tell_items tys exist (a ∷ as) [] h k e = absurd (no_line tys a h.0 (item_lines tys as) (sym e))
-bytes_tell_items tys exist (a ∷ as) (b ∷ bs) h k e =
-    let one = lines_tell_items tys exist a b h.0 k.0 (item_lines tys as) (item_lines tys bs) e in
-    let others = bytes_tell_items tys exist as bs h.1 k.1 one.1 in
-    rw (one.0, others) refl
+bytes_tell_items tys exist [] (b ∷ others) h k e = absurd (no_line tys b k.0 (item_lines tys others) e)
+bytes_tell_items tys exist (a ∷ more) [] h k e = absurd (no_line tys a h.0 (item_lines tys more) (sym e))
+bytes_tell_items tys exist (a ∷ more) (b ∷ others) h k e =
+    let one = lines_tell_items tys exist a b h.0 k.0 (item_lines tys more) (item_lines tys others) e in
+    let rest = bytes_tell_items tys exist more others h.1 k.1 one.1 in
+    rw (one.0, rest) refl
