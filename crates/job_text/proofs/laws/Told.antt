@@ -159,7 +159,11 @@ item_read tys (Quiet taken) few x =
     ap (λ line. next_record default_config StartRecord [] [] (line ++ x)) (quiet_is taken few) ∙ read_line (codes "=") (decimal taken ∷ []) x
 
 read_same : (fields others : List (List ℕ)) (x y : List ℕ) → (let r : Option Read = Some (fields, StartRecord, x) in r ≡ Some (others, StartRecord, y)) → (fields ≡ others) × (x ≡ y)
-read_same fields others x y e = (cc (e), cc (e))
+read_same fields others x y e =
+    let first : Read = (fields, StartRecord, x) in
+    let second : Read = (others, StartRecord, y) in
+    let same : first ≡ second = cc (e) in
+    (ap (λ (p : Read). p.0) same, ap (λ (p : Read). p.2) same)
 
 pub lines_tell_items : LinesTellItems
 lines_tell_items tys exist a b h k x y e =
