@@ -58,11 +58,11 @@ module _ (fit : LinesFitColumns) (plan : Plan) (ruled : IsRuled plan) (limit : �
         }
 
     all_answered : (items : List PrintItem) → Told fit plan limit lines items → AreAnswered mode plan.sources answers lines items
-    all_answered items all before after n cut = answered_at before n (all before after n cut)
+    all_answered items all before behind n cut = answered_at before n (all before behind n cut)
 
     pub ran_answered : (rest : List Record) (ran : Ran) → Ends fit plan limit lines rest ran → AreAnswered mode plan.sources answers lines (printed_by ran)
     ran_answered rest (ended s) h = all_answered s.printed h.told
-    ran_answered rest (refused number code) h before after n cut = absurd (no_quiet_in [] before after n cut)
+    ran_answered rest (refused number code) h = λ before behind n cut. absurd (no_quiet_in [] before behind n cut)
     ran_answered rest (stopped cause printed) h = subst (AreAnswered mode plan.sources answers lines) h.same (all_answered h.state.printed h.stands.told)
 
   module _ (holds : (items : List Item) → AreTyped g items → Holds g (after g limit (opened g) items)) where
