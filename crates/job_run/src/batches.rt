@@ -1,5 +1,6 @@
 //! The batch answer of a script.
 ghost use Rattle.std.specs.Prelude.{◌≤◌};
+ghost use Rattle.command_line.specs.Requests.{names_view};
 ghost use Rattle.ct_io.specs.Counts.{Rose};
 ghost use Rattle.job_ending.specs.Endings.{IsPrintable};
 ghost use Rattle.job_ending.specs.Runs.{Runs, ending_of};
@@ -27,7 +28,7 @@ pub fn batch_names<F: Shelf, K: Sink>(
     shelf: &mut F,
     out: &mut K,
 ) -> Result<(), Halt>
-    ensures runs { Runs (F.holdings shelf.old) (batch_named names.now first) (Rose (F.faults shelf.old) (F.faults shelf.new)) (Rose (K.faults out.old) (K.faults out.new)) (K.written out.old) (K.written out.new) (ending_of result) }
+    ensures runs { Runs (F.holdings shelf.old) (batch_named (names_view names.now) first) (Rose (F.faults shelf.old) (F.faults shelf.new)) (Rose (K.faults out.old) (K.faults out.new)) (K.written out.old) (K.written out.new) (ending_of result) }
     ensures printable { IsPrintable (ending_of result) }
 {
     let script = load_script(alloc, shelf, &names.script)?;

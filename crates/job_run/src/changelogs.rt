@@ -1,5 +1,6 @@
 //! The changelog of a script.
 ghost use Rattle.std.specs.Prelude.{◌≤◌, length};
+ghost use Rattle.command_line.specs.Requests.{names_view};
 ghost use Rattle.ct_io.specs.Counts.{Rose};
 ghost use Rattle.job_ending.specs.Endings.{IsPrintable};
 ghost use Rattle.job_ending.specs.Runs.{Runs, RunsThere, ending_of};
@@ -28,7 +29,7 @@ pub fn run_names<F: Shelf, K: Sink>(
     shelf: &mut F,
     out: &mut K,
 ) -> Result<(), Halt>
-    ensures runs { Runs (F.holdings shelf.old) (run_named names.now) (Rose (F.faults shelf.old) (F.faults shelf.new)) (Rose (K.faults out.old) (K.faults out.new)) (K.written out.old) (K.written out.new) (ending_of result) }
+    ensures runs { Runs (F.holdings shelf.old) (run_named (names_view names.now)) (Rose (F.faults shelf.old) (F.faults shelf.new)) (Rose (K.faults out.old) (K.faults out.new)) (K.written out.old) (K.written out.new) (ending_of result) }
     ensures printable { IsPrintable (ending_of result) }
 {
     let script = load_script(alloc, shelf, &names.script)?;
