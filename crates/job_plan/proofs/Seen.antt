@@ -11,12 +11,12 @@ use Rattle.ct_expr.specs.View.{expr_view}
 use Rattle.ct_expr.specs.Views.{as_seen}
 use Rattle.ct_expr.proofs.laws.Seen.{seen}
 use Rattle.rel_algebra.specs.Joins.{join_columns}
-use Rattle.rel_algebra.specs.Batch.{filter_answer, project_answer}
+use Rattle.rel_algebra.specs.Rel.{filter_by, project_on, join_on, semi_on}
 use Rattle.rel_algebra.specs.Types.{columns_if, is_condition, item_columns}
 use Rattle.op_rules.specs.Edges.{meaning_of}
 use Rattle.emission_rules.specs.Filter.{filter_rule}
 use Rattle.emission_rules.specs.Project.{project_rule}
-use Rattle.emission_rules.specs.Joining.{joins, matched}
+use Rattle.emission_rules.specs.Joining.{joins, matched, join_rule}
 use Rattle.phys_plan.specs.declared.node.Op.{Op}
 use Rattle.phys_plan.specs.declared.node.Op.TheVariants as op
 use Rattle.phys_plan.specs.declared.node.Node.{Node}
@@ -25,7 +25,10 @@ use Rattle.plan_rules.specs.Plans.{inputs_in, scan_of, scan_in, bundle_of, bundl
 use Rattle.phys_plan.specs.Reading.{numbered, first_input}
 use Rattle.ct_catalog.specs.Columns.{table_mode}
 use Rattle.plan_rules.specs.Columns.{only, matched_columns, columns_by, numbered_columns, next_columns, columns_after, columns_at}
-use Rattle.plan_rules.specs.Doings.{Around, alike, filter_of, project_of, joining_of, joined_alike, doing_by, update_in, other_inputs, around_of, doing_in, network}
+use Rattle.plan_rules.specs.Around.{Around, filter_of, project_of, joining_of}
+use Rattle.plan_rules.specs.Behaviours.{behaviour_by, doing_of}
+use Rattle.plan_rules.specs.Doings.{doing_by, update_in, other_inputs, around_of, doing_in, network}
+use Rattle.plan_rules.specs.Roles.{one_of, two_of}
 use Rattle.planner.specs.Seen.{op_as_seen, node_as_seen, plan_as_seen}
 
 exprs_seen : (items : List Expr) → map expr_view (map as_seen items) ≡ map expr_view items
@@ -61,10 +64,10 @@ numbered_seen nodes zero = refl
 numbered_seen nodes (suc n) = slice_get-map node_as_seen nodes n
 
 doing_by_seen : (o : Op) (around : Around) → doing_by (op_as_seen o) around ≡ doing_by o around
-doing_by_seen (op.Filter cond) around = ap (λ c. alike (filter_rule (filter_of c)) around.columns (λ rows. filter_answer c (rows 0))) (seen (expr_view cond))
-doing_by_seen (op.Project items) around = ap (λ es. alike (project_rule (project_of es around)) around.columns (λ rows. project_answer es (rows 0))) (exprs_seen items)
-doing_by_seen (op.Join kind on rest) around = ap (λ r. joined_alike (joining_of (joins kind) on r around)) (rest_seen rest)
-doing_by_seen (op.Semi anti on rest) around = ap (λ r. joined_alike (joining_of (matched anti) on r around)) (rest_seen rest)
+doing_by_seen (op.Filter cond) around = ap (λ c. doing_of (behaviour_by (Some (λ around. filter_rule (filter_of c))) (one_of (filter_by c)) around)) (seen (expr_view cond))
+doing_by_seen (op.Project items) around = ap (λ es. doing_of (behaviour_by (Some (λ around. project_rule (project_of es around))) (one_of (project_on es)) around)) (exprs_seen items)
+doing_by_seen (op.Join kind on rest) around = ap (λ r. doing_of (behaviour_by (Some (λ around. join_rule (joining_of (joins kind) on r around))) (two_of (join_on kind on r)) around)) (rest_seen rest)
+doing_by_seen (op.Semi anti on rest) around = ap (λ r. doing_of (behaviour_by (Some (λ around. join_rule (joining_of (matched anti) on r around))) (two_of (semi_on anti on r)) around)) (rest_seen rest)
 doing_by_seen _ around = refl
 
 module _ (plan : Plan) where

@@ -1,2 +1,5 @@
+pub mod Answering
+pub mod Behaviours
+pub mod Numbers
 pub mod Reading
 pub mod Theorems

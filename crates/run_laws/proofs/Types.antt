@@ -13,9 +13,10 @@ use Rattle.rel_algebra.specs.declared.join.Pair.{Pair}
 use Rattle.rel_algebra.specs.Groups.{group_columns}
 use Rattle.rel_algebra.specs.Joins.{join_columns}
 use Rattle.rel_algebra.specs.Ranks.{rank_columns}
-use Rattle.rel_algebra.specs.Rel.{Rel, no_rels, rel_and}
+use Rattle.rel_algebra.specs.Rel.{Rel, no_rels, rel_and, Unary, filter_by, project_on, group_by, rank_in}
 use Rattle.rel_algebra.specs.Rel as r
 use Rattle.rel_algebra.specs.Types.{columns_if, is_condition, match_fits, item_columns, common_columns, rank_fits, columns_of}
+use Rattle.op_rules.specs.Rules.{Rule}
 use Rattle.phys_plan.specs.declared.node.Node.{Node}
 use Rattle.phys_plan.specs.declared.node.Op.{Op}
 use Rattle.phys_plan.specs.declared.node.Op.TheVariants as op
@@ -24,7 +25,10 @@ use Rattle.phys_plan.specs.declared.plan.Rule.TheVariants as rule
 use Rattle.phys_plan.specs.Reading.{numbered, first_input}
 use Rattle.ct_catalog.specs.Columns.{column_types}
 use Rattle.plan_rules.specs.Columns.{only, common_with, common_of, matched_columns, columns_by, numbered_columns, next_columns, columns_after, node_columns, columns_at}
-use Rattle.plan_rules.specs.Doings.{Around, other_inputs, side_of, first_side, second, around_of, doing_by, doing_in, network}
+use Rattle.plan_rules.specs.Around.{Around, first_side, second}
+use Rattle.plan_rules.specs.Behaviours.{behaviour_by, doing_of, rule_of}
+use Rattle.plan_rules.specs.Doings.{other_inputs, side_of, around_of, doing_in, network}
+use Rattle.plan_rules.specs.Roles.{Role, reads_table, one_of, two_of, all_of, same_as, not_told, range_by, range_of_one, role}
 use Rattle.plan_shape.specs.Shape.{has_shape, has_sizes, is_shaped, is_whole}
 use Rattle.plan_shape.specs.Tables.{are_tables, has_columns, has_type, is_declarable}
 use Rattle.sound_plans.specs.Sound.{IsRuled}
@@ -184,21 +188,27 @@ module _ (types_exist : ColumnsHaveTypes) (plan : Plan) (ruled : IsRuled plan) w
   second_known (input ∷ []) = tt
   second_known (input ∷ (other ∷ inputs)) = known other
 
-  op_types : (o : Op) (around : Around) → Exist around.columns → Exist (second around).columns → Exist (doing_by o around).range_types
-  op_types (op.Filter cond) around h k = h
-  op_types (op.Project items) around h k = h
-  op_types op.Union around h k = h
-  op_types (op.Normalize key) around h k = h
-  op_types (op.Group keys aggs) around h k = all_first _ keys around.columns h
-  op_types (op.Join kind on rest) around h k = all_both _ around.columns (second around).columns h k
-  op_types (op.Semi anti on rest) around h k = all_both _ around.columns (second around).columns h k
-  op_types (op.TopN partition order bound ranked) around h k = h
-  op_types op.Sink around h k = h
-  op_types _ around h k = tt
+  one_types : (how : Unary) (columns : List ColTy) → Exist columns → Exist (range_of_one how columns)
+  one_types (filter_by condition) columns h = h
+  one_types (project_on items) columns h = h
+  one_types (group_by keys aggs) columns h = all_first _ keys columns h
+  one_types (rank_in partition order bound ranked) columns h = h
+
+  role_types : (r : Role) (columns others : List ColTy) → Exist columns → Exist others → Exist (range_by r columns others)
+  role_types (reads_table source) columns others h k = tt
+  role_types (one_of how) columns others h k = one_types how columns h
+  role_types (two_of how) columns others h k = all_both _ columns others h k
+  role_types all_of columns others h k = h
+  role_types same_as columns others h k = h
+  role_types (not_told so_many) columns others h k = tt
+
+  does_types : (told : Option (Around → Rule)) (r : Role) (around : Around) → Exist around.columns → Exist (second around).columns → Exist (doing_of (behaviour_by told r around)).range_types
+  does_types None r around h k = tt
+  does_types (Some told) r around h k = role_types r around.columns (second around).columns h k
 
   node_types : (v : ℕ) (o : Option Node) → Exist (doing_in plan v o).range_types
   node_types v None = tt
-  node_types v (Some node) = op_types node.op (around_of plan v node.inputs) (known (first_input node.inputs)) (second_known node.inputs)
+  node_types v (Some node) = does_types (rule_of node.op) (role node.op) (around_of plan v node.inputs) (known (first_input node.inputs)) (second_known node.inputs)
 
   range_types_exist : (v : ℕ) → Exist ((network plan).range_types v)
   range_types_exist v = node_types v (numbered plan.nodes v)
