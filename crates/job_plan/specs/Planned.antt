@@ -5,7 +5,7 @@ use Rattle.rel_algebra.specs.Rel.{Rel, Rels, no_rels, rel_and}
 use Rattle.rel_algebra.specs.Rel as r
 use Rattle.judge.specs.Judgement.{Judged, refused, then}
 use Rattle.phys_plan.specs.declared.plan.Plan.{Plan}
-use Rattle.planner.specs.Trees.{plan_of_tree}
+use Rattle.plan_rules.specs.Pieces.{plan_of_tree}
 use Rattle.planner.specs.Planned.{Made, Refused, Waits, Planned, made}
 use Rattle.job_judgement.specs.Judgement.{Accepted}
 

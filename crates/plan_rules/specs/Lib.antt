@@ -5,5 +5,6 @@ pub mod Columns
 pub mod Doings
 pub mod Erased
 pub mod Laid
+pub mod Pieces
 pub mod Plans
 pub mod Roles

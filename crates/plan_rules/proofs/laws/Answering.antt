@@ -1,5 +1,5 @@
 -- Each node of a plan whose operators have rules answers as its tree does.
-use Rattle.std.proofs.Common.{◌≡◌, ℕ, zero, suc, ◌<◌, ◌==◌, eqb-true, true, false, List, [], ◌∷◌, length, map, slice_index_or, Option, Some, None, option_and_then, refl, sym, ap, ap₂, subst, ◌∙◌, arith}
+use Rattle.std.proofs.Common.{◌≡◌, ℕ, zero, suc, ◌<◌, ◌==◌, eqb-true, true, false, cond, List, [], ◌∷◌, length, map, slice_index_or, Option, Some, None, option_and_then, refl, sym, ap, ap₂, subst, ◌∙◌, arith}
 use Rattle.std.specs.Option.{unwrap_or}
 use Rattle.std.proofs.lemmas.List.{length-map}
 use Rattle.std.proofs.lemmas.Option.{slice_get-map}
@@ -25,7 +25,7 @@ use Rattle.stream_model.specs.Network.{IsAnswer, of_scan, of_node}
 use Rattle.plan_rules.specs.Answers.{tables_with, HasRoles, PlansAnswerAsErased}
 use Rattle.plan_rules.specs.Around.{Around}
 use Rattle.plan_rules.specs.Behaviours.{has_rule, rule_of, behaviour_by, doing_of}
-use Rattle.plan_rules.specs.Columns.{common_with, columns_by, numbered_columns, next_columns, columns_after, node_columns, columns_at}
+use Rattle.plan_rules.specs.Columns.{common_with, columns_as, columns_by, numbered_columns, next_columns, columns_after, node_columns, columns_at}
 use Rattle.plan_rules.specs.Doings.{around_of, doing_in, network}
 use Rattle.plan_rules.specs.Erased.{erased_at}
 use Rattle.plan_rules.specs.Plans.{inputs_in, scan_of, scan_in, HasShape}
@@ -63,39 +63,27 @@ module _ (sources : List TableDef) where
   abbrev types : List (List ColTy)
   types = map column_types sources
 
-  abbrev Typed : Op → List Rel → Type 0
-  Typed o inputs = columns_by sources o (map (columns_of types) inputs) ≡ columns_of types (tree_of (role o) inputs)
-
-  with_one : (o : Op) → ((x : Rel) → Typed o (x ∷ [])) → (inputs : List Rel) → (length inputs == 1) ≡ true → Typed o inputs
-  with_one o h inputs t = let one = one_list inputs t in subst (Typed o) (sym one.1) (h one.0)
-
-  with_two : (o : Op) → ((x y : Rel) → Typed o (x ∷ (y ∷ []))) → (inputs : List Rel) → (length inputs == 2) ≡ true → Typed o inputs
-  with_two o h inputs t = let two = two_list inputs t in subst (Typed o) (sym two.2) (h two.0 two.1)
+  abbrev Typed : Role → List Rel → Type 0
+  Typed r inputs = columns_as sources r (map (columns_of types) inputs) ≡ columns_of types (tree_of r inputs)
 
   common_same : (inputs : List Rel) (first : Option (List ColTy)) → common_with first (map (columns_of types) inputs) ≡ common_from types first (rels inputs)
   common_same [] first = refl
   common_same (input ∷ inputs) first = common_same inputs (both_of common_columns first (columns_of types input))
 
-  common_is : (inputs : List Rel) → Typed op.Union inputs
+  common_is : (inputs : List Rel) → Typed all_of inputs
   common_is [] = refl
   common_is (input ∷ inputs) = common_same inputs (columns_of types input)
 
-  op_columns : (o : Op) (inputs : List Rel) → takes (role o) (length inputs) ≡ true → has_rule o ≡ true → Typed o inputs
-  op_columns (op.Scan source) inputs t r = sym (slice_get-map column_types sources source)
-  op_columns (op.Filter cond) inputs t r = with_one (op.Filter cond) (λ x. refl) inputs t
-  op_columns (op.Project items) inputs t r = with_one (op.Project items) (λ x. refl) inputs t
-  op_columns op.Union inputs t r = common_is inputs
-  op_columns (op.Normalize key) inputs t r = with_one (op.Normalize key) (λ x. refl) inputs t
-  op_columns (op.Group keys aggs) inputs t r = with_one (op.Group keys aggs) (λ x. refl) inputs t
-  op_columns (op.BatchGroup keys aggs) inputs t r = absurd (cc)
-  op_columns (op.Join kind on rest) inputs t r = with_two (op.Join kind on rest) (λ x y. refl) inputs t
-  op_columns (op.Semi anti on rest) inputs t r = with_two (op.Semi anti on rest) (λ x y. refl) inputs t
-  op_columns (op.TopN partition order bound ranked) inputs t r = with_one (op.TopN partition order bound ranked) (λ x. refl) inputs t
-  op_columns (op.Materialize key) inputs t r = absurd (cc)
-  op_columns op.Sink inputs t r = with_one op.Sink (λ x. refl) inputs t
-  op_columns (op.LocalGroup keys aggs) inputs t r = absurd (cc)
-  op_columns (op.MultiJoin on) inputs t r = absurd (cc)
-  op_columns (op.SetOp except all) inputs t r = absurd (cc)
+  role_columns : (r : Role) (inputs : List Rel) → takes r (length inputs) ≡ true → Typed r inputs
+  role_columns (reads_table source) inputs t = sym (slice_get-map column_types sources source)
+  role_columns (one_of how) inputs t = let one = one_list inputs t in subst (Typed (one_of how)) (sym one.1) refl
+  role_columns (two_of how) inputs t = let two = two_list inputs t in subst (Typed (two_of how)) (sym two.2) refl
+  role_columns all_of inputs t = common_is inputs
+  role_columns same_as inputs t = let one = one_list inputs t in subst (Typed same_as) (sym one.1) refl
+  role_columns (not_told so_many) inputs t = refl
+
+  op_columns : (o : Op) (inputs : List Rel) → takes (role o) (length inputs) ≡ true → has_rule o ≡ true → columns_by sources o (map (columns_of types) inputs) ≡ columns_of types (tree_of (role o) inputs)
+  op_columns o inputs t ruled = ap (λ b. cond b (columns_as sources (role o) (map (columns_of types) inputs)) None) ruled ∙ role_columns (role o) inputs t
 
 -- where it has a batch answer, that is its role's
 batch_of : (rule : Option (Around → Rule)) (r : Role) (around : Around) (whole : ℕ → Rows) (result : Rows) → (doing_of (behaviour_by rule r around)).batch whole ≡ Some result → batch_by r around whole ≡ Some result
