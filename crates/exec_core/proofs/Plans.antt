@@ -43,14 +43,14 @@ use Rattle.sound_plans.proofs.laws.Consumers.{by_test}
 use Rattle.sound_plans.specs.Promises.{Laws}
 use Rattle.sound_plans.proofs.laws.Lists.{both, found, is_somewhere, of_each, the_same, within}
 use Rattle.sound_plans.proofs.laws.Local as local
+use Rattle.sound_plans.proofs.laws.SentTypes.{ColumnsHaveTypes, sent_types_exist}
 use Rattle.sound_plans.proofs.laws.Outputs.{around_is, edge_or, output_at}
 use Rattle.sound_plans.proofs.laws.Shapes as shapes
 use Rattle.sound_plans.proofs.laws.Stands.{proper_inputs}
 use Rattle.typing_laws.specs.Exist.{Exist}
 use Rattle.session_open.specs.Opening.{AreRoutable, IsExchange}
 use Rattle.exec_core.specs.Opening.{PlansOpen}
-use Rattle.exec_core.proofs.Types.{ColumnsHaveTypes, AnyExist, sent_exist}
-use Rattle.exec_core.proofs.Tables.{routable, table_exists, table_routable}
+use Rattle.exec_core.proofs.Tables.{routable, table_routable}
 use Rattle.exec_core.proofs.Ports.{few_once}
 
 -- a node with a rule keeps no bundles
@@ -146,21 +146,8 @@ module _ (types : ColumnsHaveTypes) (laws : Laws) (plan : Plan) (ruled : IsRuled
 
   -- ---- types
 
-  inputs_exist : (inputs : List ℕ) → AllByRecursion (λ input. Exist (columns_of input)) inputs → AllByRecursion AnyExist (map (λ (out : Output). Some out.columns) (map (output_at plan) inputs))
-  inputs_exist [] h = tt
-  inputs_exist (input ∷ inputs) h = (h.0, inputs_exist inputs h.1)
-
-  -- by the numbers below a bound
-  exist_below : (bound v : ℕ) (node : Node) → v < bound → numbered plan.nodes v ≡ Some node → Exist (columns_of v)
-  exist_below zero v node below e = absurd (omega (arith, below))
-  exist_below (suc bound) v node below e =
-      sent_exist types plan.sources (λ source table has. table_exists table (shapes.declarable plan meets laws.shaped source table has)) node.op
-      (map (λ (out : Output). Some out.columns) (map (output_at plan) node.inputs)) (columns_of v) (local.columns_made laws plan ruled v node e)
-      (inputs_exist node.inputs (of_each (λ input. Exist (columns_of input)) node.inputs
-      (λ p input h. let there = before v node p input e h in exist_below bound input there.0 (let lower = there.2 in omega (arith, lower, below)) there.1)))
-
-  exist : (v : ℕ) (node : Node) → numbered plan.nodes v ≡ Some node → Exist (columns_of v)
-  exist v node e = exist_below (suc v) v node (omega arith) e
+  exist : (v : ℕ) → Exist (columns_of v)
+  exist v = sent_types_exist types plan ruled v
 
   -- ---- operators
 
@@ -279,7 +266,7 @@ module _ (types : ColumnsHaveTypes) (laws : Laws) (plan : Plan) (ruled : IsRuled
       let w = suc has.0 in
       let p = is_somewhere v above.inputs has.2 in
       subst (λ x. IsExchange (columns_of v) x) (sym (local.exchanged laws plan ruled w above p.0 v has.1 p.1))
-      (asked_by w above p.0 v has.1 p.1 (exist v node e) above.op refl (ruled.rules w above has.1))
+      (asked_by w above p.0 v has.1 p.1 (exist v) above.op refl (ruled.rules w above has.1))
 
   pub exchanged : (v : ℕ) (edge : PlanEdge) → numbered plan.edges v ≡ Some edge → IsExchange (columns_of v) edge.exchange
   exchanged v edge there =

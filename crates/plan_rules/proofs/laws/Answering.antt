@@ -121,6 +121,17 @@ read_columns sources done (node ∷ nodes) =
     read_columns sources (done ++ next_columns sources done node ∷ []) nodes
     ∙ ap (λ below. read_up (λ w below. columns_by sources w.op below) None (done ++ columns_by sources node.op below ∷ []) (wires nodes)) (map_flat done node.inputs)
 
+columns_are : (sources : List TableDef) (nodes : List Node) (v : ℕ) → node_columns sources nodes v ≡ at None (read_up (λ w below. columns_by sources w.op below) None [] (wires nodes)) v
+columns_are sources nodes v = flat (numbered (columns_after sources [] nodes) v) ∙ ap (λ l. at None l v) (read_columns sources [] nodes)
+
+-- the columns of a node are made of those of its inputs, where these have smaller numbers
+pub columns_made : (sources : List TableDef) (nodes : List Node) (v : ℕ) (node : Node) → numbered nodes v ≡ Some node → ((p : ℕ) → p < length node.inputs → slice_index_or node.inputs p 0 < v)
+    → node_columns sources nodes v ≡ columns_by sources node.op (map (node_columns sources nodes) node.inputs)
+columns_made sources nodes v node is lower =
+    columns_are sources nodes v ∙ read_at (λ w below. columns_by sources w.op below) None nodes v node is lower
+    ∙ ap (columns_by sources node.op) (map_same (at None (read_up (λ w below. columns_by sources w.op below) None [] (wires nodes))) (node_columns sources nodes) node.inputs
+    (λ p l. sym (columns_are sources nodes (slice_index_or node.inputs p 0))))
+
 module _ (plan : Plan) (has : HasRoles plan) where
   abbrev shape : HasShape plan
   shape = has.shape
@@ -128,14 +139,8 @@ module _ (plan : Plan) (has : HasRoles plan) where
   abbrev columns : ℕ → Option (List ColTy)
   columns v = node_columns plan.sources plan.nodes v
 
-  abbrev table : List (Option (List ColTy))
-  table = read_up (λ w below. columns_by plan.sources w.op below) None [] (wires plan.nodes)
-
   abbrev tree_columns_at : ℕ → Option (List ColTy)
   tree_columns_at v = columns_of (map column_types plan.sources) (erased_at plan v)
-
-  columns_are : (v : ℕ) → columns v ≡ at None table v
-  columns_are v = flat (numbered (columns_after plan.sources [] plan.nodes) v) ∙ ap (λ l. at None l v) (read_columns plan.sources [] plan.nodes)
 
   module _ (v : ℕ) (node : Node) (is : numbered plan.nodes v ≡ Some node) where
     abbrev input : ℕ → ℕ
@@ -154,15 +159,10 @@ module _ (plan : Plan) (has : HasRoles plan) where
         let b = before p l in
         numbered_below plan.nodes (input p) b.0 (omega (arith, b.1, some.1))
 
-    node_columns_are : columns v ≡ columns_by plan.sources node.op (map columns node.inputs)
-    node_columns_are =
-        columns_are v ∙ read_at (λ w below. columns_by plan.sources w.op below) None plan.nodes v node is below
-        ∙ ap (columns_by plan.sources node.op) (map_same (at None table) columns node.inputs (λ p l. sym (columns_are (input p))))
-
   columns_below : (n v : ℕ) (node : Node) → numbered plan.nodes v ≡ Some node → v < n → columns v ≡ tree_columns_at v
   columns_below zero v node is l = absurd (omega arith)
   columns_below (suc n) v node is l =
-      node_columns_are v node is
+      columns_made plan.sources plan.nodes v node is (below v node is)
       ∙ ap (columns_by plan.sources node.op) (map_same columns tree_columns_at node.inputs
       (λ p m. let other = input_node v node is p m in columns_below n (slice_index_or node.inputs p 0) other.0 other.1 (omega (arith, below v node is p m)))
       ∙ map_map (columns_of (map column_types plan.sources)) (erased_at plan) node.inputs)
