@@ -40,8 +40,8 @@ rule_of (op.LocalGroup keys aggs) = None
 rule_of (op.MultiJoin on) = None
 rule_of (op.SetOp except all) = None
 
--- whether the modes around an operator suit it: a normalizer tells by its key, the rows of a group come and are told by its key, those of a
--- Top-N by columns of which its partition is made
+-- what an operator asks of what is around it: a normalizer tells by its key, a group's calls have types and modes suit it, and a Top-N's
+-- columns are there and modes suit it
 abbrev pub Suits : Op → Around → Type 0
 Suits (op.Scan source) around = Unit {0}
 Suits (op.Filter cond) around = Unit {0}
