@@ -5,13 +5,10 @@ use Rattle.ct_change.specs.declared.kind.Declared.{Declared}
 use Rattle.ct_change.specs.declared.kind.Declared.TheVariants.{Append, Retract, Upsert}
 use Rattle.ct_catalog.specs.declared.table.TableDef.{TableDef}
 use Rattle.rel_algebra.specs.Answer.{answer}
-use Rattle.rel_algebra.specs.Rel.{Rel, Rels, One, Two, Many, filter_by, project_on, join_on, semi_on, no_rels, rel_and, rels}
-use Rattle.rel_algebra.specs.Rel as r
-use Rattle.emission_rules.specs.GroupFits.{first_columns}
-use Rattle.emission_rules.specs.JoinFits.{left_pairs, right_pairs}
+use Rattle.rel_algebra.specs.Rel.{Unary, filter_by, project_on, group_by, rank_in, Binary, join_on, semi_on, Rel, Rels, Scan, One, Two, Many, no_rels, rel_and, rels}
 use Rattle.phys_plan.specs.Reading.{at, read_up}
 use Rattle.phys_plan.specs.declared.edge.Exchange.{Exchange}
-use Rattle.phys_plan.specs.declared.edge.Exchange.TheVariants.{Forward, Hash}
+use Rattle.phys_plan.specs.declared.edge.Exchange.TheVariants.{Forward}
 use Rattle.phys_plan.specs.declared.node.Op.{Op}
 use Rattle.phys_plan.specs.declared.node.Op.TheVariants as op
 use Rattle.phys_plan.specs.declared.plan.Plan.{Plan}
@@ -19,7 +16,8 @@ use Rattle.upsert_keys.proofs.laws.Keys.{wires_keyed}
 use Rattle.plan_check.specs.Sound.{inferred_of}
 use Rattle.plan_rules.specs.Answers.{tables_with}
 use Rattle.plan_rules.specs.Erased.{erased, erased_at}
-use Rattle.plan_rules.specs.Laid.{HasNode, ScanLaid, SourceLaid, IsLaid, AreLaid}
+use Rattle.plan_rules.specs.Laid.{HasNode, IsUnary, IsBinary, ScanLaid, SourceLaid, IsLaid, AreLaid}
+use Rattle.plan_rules.specs.Pieces.{unary_way, binary_way}
 use Rattle.plan_rules.specs.Roles.{nothing, role, tree_of}
 use Rattle.plan_rules.proofs.laws.Answering.{tree_is}
 use Rattle.sound_plans.specs.Sound.{SoundPlansAnswer}
@@ -27,6 +25,20 @@ use Rattle.laid_plans.specs.Erased.{InferredPlansAnswer, LaidPlansAreErased}
 use Rattle.laid_plans.specs.Inferred.{with_inferred}
 use Rattle.laid_plans.proofs.laws.Given.{nodes_many}
 use Rattle.laid_plans.proofs.laws.Laid.{filter_is, project_is, join_is, semi_is}
+
+-- ---- operators
+
+unary_tree : (how : Unary) (o : Op) → IsUnary how o → (input : Rel) → tree_of (role o) (input ∷ []) ≡ One how input
+unary_tree (filter_by condition) o is input = let f = filter_is condition o is in ap (λ p. tree_of (role p) (input ∷ [])) f.1 ∙ ap (λ c. One (filter_by c) input) f.2
+unary_tree (project_on items) o is input = let f = project_is items o is in ap (λ p. tree_of (role p) (input ∷ [])) f.1 ∙ ap (λ l. One (project_on l) input) f.2
+unary_tree (group_by keys aggs) o is input = ap (λ p. tree_of (role p) (input ∷ [])) is
+unary_tree (rank_in partition order bound ranked) o is input = ap (λ p. tree_of (role p) (input ∷ [])) is
+
+binary_tree : (how : Binary) (o : Op) → IsBinary how o → (left right : Rel) → tree_of (role o) (left ∷ (right ∷ [])) ≡ Two how left right
+binary_tree (join_on kind pairs rest) o is left right =
+    let f = join_is kind pairs rest o is in ap (λ p. tree_of (role p) (left ∷ (right ∷ []))) f.1 ∙ ap (λ r. Two (join_on kind pairs r) left right) f.2
+binary_tree (semi_on anti pairs rest) o is left right =
+    let f = semi_is anti pairs rest o is in ap (λ p. tree_of (role p) (left ∷ (right ∷ []))) f.1 ∙ ap (λ r. Two (semi_on anti pairs r) left right) f.2
 
 -- ---- inputs with smaller numbers
 
@@ -89,14 +101,14 @@ module _ (plan : Plan) where
 
   -- ---- tables
 
-  table_root : (n : ℕ) (x : Exchange) (source : ℕ) (mode : Declared) (key : List ℕ) (root : ℕ) → ScanLaid plan n x source mode key root → IsRoot n root (r.Scan source)
+  table_root : (n : ℕ) (x : Exchange) (source : ℕ) (mode : Declared) (key : List ℕ) (root : ℕ) → ScanLaid plan n x source mode key root → IsRoot n root (Scan source)
   table_root n x source Append key root l = record { behind = omega (arith, l.0); tree = tree_from root (op.Scan source) [] l.1 l.1.is_op (none_lower root) }
   table_root n x source Retract key root l = record { behind = omega (arith, l.0); tree = tree_from root (op.Scan source) [] l.1 l.1.is_op (none_lower root) }
   table_root n x source Upsert key root l =
-      let scan : IsRoot n (n + 1) (r.Scan source) = record { behind = omega arith; tree = tree_from (n + 1) (op.Scan source) [] l.1 l.1.is_op (none_lower (n + 1)) } in
-      over_one n (n + 1) root (op.Normalize key) (r.Scan source) (r.Scan source) l.3 l.3.is_op (omega (arith, l.0)) scan refl
+      let scan : IsRoot n (n + 1) (Scan source) = record { behind = omega arith; tree = tree_from (n + 1) (op.Scan source) [] l.1 l.1.is_op (none_lower (n + 1)) } in
+      over_one n (n + 1) root (op.Normalize key) (Scan source) (Scan source) l.3 l.3.is_op (omega (arith, l.0)) scan refl
 
-  source_root : (n : ℕ) (x : Exchange) (source root : ℕ) (o : Option TableDef) → SourceLaid plan n x source o root → IsRoot n root (r.Scan source)
+  source_root : (n : ℕ) (x : Exchange) (source root : ℕ) (o : Option TableDef) → SourceLaid plan n x source o root → IsRoot n root (Scan source)
   source_root n x source root None l = absurd l
   source_root n x source root (Some table) l = table_root n x source table.mode (unwrap_or table.key []) root l
 
@@ -104,32 +116,19 @@ module _ (plan : Plan) where
 
   mutual
     tree_root : (rel : Rel) (n : ℕ) (x : Exchange) (root : ℕ) → IsLaid plan n x rel root → IsRoot n root rel
-    tree_root (r.Scan source) n x root laid = source_root n x source root (slice_get plan.sources source) laid
-    tree_root (r.Filter input condition) n x root laid =
-        let f = filter_is condition laid.3.node.op laid.3.is_op in
-        over_one n laid.0 root (op.Filter f.0) input (r.Filter input condition) laid.3 f.1 laid.2 (tree_root input n Forward laid.0 laid.1) (ap (λ c. One (filter_by c) input) f.2)
-    tree_root (r.Project input items) n x root laid =
-        let f = project_is items laid.3.node.op laid.3.is_op in
-        over_one n laid.0 root (op.Project f.0) input (r.Project input items) laid.3 f.1 laid.2 (tree_root input n Forward laid.0 laid.1) (ap (λ l. One (project_on l) input) f.2)
-    tree_root (r.Union inputs) n x root laid =
+    tree_root (Scan source) n x root laid = source_root n x source root (slice_get plan.sources source) laid
+    tree_root (One how input) n x root laid =
+        over_one n laid.0 root laid.3.node.op input (One how input) laid.3 refl laid.2 (tree_root input n (unary_way how).asks laid.0 laid.1) (unary_tree how laid.3.node.op laid.3.is_op input)
+    tree_root (Two how left right) n x root laid =
+        over_two n laid.0 laid.1 root laid.5.node.op left right (Two how left right) laid.5 refl laid.4 (tree_root left n (binary_way how).left laid.0 laid.2)
+        (tree_root right laid.0 (binary_way how).right laid.1 laid.3) (binary_tree how laid.5.node.op laid.5.is_op left right)
+    tree_root (Many inputs) n x root laid =
         let all = trees_root inputs n laid.0 laid.1 laid.2 in
         let before = all.behind in
         record {
           behind = omega (arith, before, laid.3);
           tree = tree_from root op.Union laid.0 laid.4 laid.4.is_op (λ p l. let k = all.within p l in omega (arith, k, laid.3)) ∙ ap Many all.trees;
         }
-    tree_root (r.Group input keys aggs) n x root laid =
-        over_one n laid.0 root (op.Group keys aggs) input (r.Group input keys aggs) laid.3 laid.3.is_op laid.2 (tree_root input n (Hash (first_columns keys)) laid.0 laid.1) refl
-    tree_root (r.Join left right kind pairs rest) n x root laid =
-        let f = join_is kind pairs rest laid.5.node.op laid.5.is_op in
-        over_two n laid.0 laid.1 root (op.Join kind pairs f.0) left right (r.Join left right kind pairs rest) laid.5 f.1 laid.4 (tree_root left n (Hash (left_pairs pairs)) laid.0 laid.2)
-        (tree_root right laid.0 (Hash (right_pairs pairs)) laid.1 laid.3) (ap (λ o. Two (join_on kind pairs o) left right) f.2)
-    tree_root (r.Semi left right anti pairs rest) n x root laid =
-        let f = semi_is anti pairs rest laid.5.node.op laid.5.is_op in
-        over_two n laid.0 laid.1 root (op.Semi anti pairs f.0) left right (r.Semi left right anti pairs rest) laid.5 f.1 laid.4 (tree_root left n (Hash (left_pairs pairs)) laid.0 laid.2)
-        (tree_root right laid.0 (Hash (right_pairs pairs)) laid.1 laid.3) (ap (λ o. Two (semi_on anti pairs o) left right) f.2)
-    tree_root (r.Rank input partition order bound ranked) n x root laid =
-        over_one n laid.0 root (op.TopN partition order bound ranked) input (r.Rank input partition order bound ranked) laid.3 laid.3.is_op laid.2 (tree_root input n (Hash partition) laid.0 laid.1) refl
 
     trees_root : (inputs : Rels) (n : ℕ) (roots : List ℕ) (last : ℕ) → AreLaid plan n inputs roots last → AreRoots n last roots inputs
     trees_root no_rels n roots last laid = subst (λ (rs : List ℕ). AreRoots n last rs no_rels) (sym laid.0) (record { behind = omega (arith, laid.1); within = none_lower (last + 1); trees = refl })
