@@ -1,5 +1,4 @@
 pub mod Plans
 pub mod Ports
 pub mod Tables
-pub mod Types
 pub mod laws

@@ -26,7 +26,8 @@ use Rattle.plan_rules.specs.Plans.{HasShape, bundle_of, spread_of}
 use Rattle.phys_plan.specs.Reading.{numbered, first_input}
 use Rattle.ct_catalog.specs.Columns.{column_types}
 use Rattle.plan_rules.specs.Columns.{columns_at, columns_by, matched_columns}
-use Rattle.plan_rules.specs.Doings.{Around, around_of}
+use Rattle.plan_rules.specs.Around.{Around}
+use Rattle.plan_rules.specs.Doings.{around_of}
 use Rattle.plan_shape.specs.Shape.{has_nodes, has_sizes, is_shaped, is_up_to, is_whole, most_bundled, most_nodes, most_subtasks, takes as ports_of}
 use Rattle.plan_shape.specs.Shaped.{MeetsShape}
 use Rattle.plan_shape.specs.Tables.{are_tables}
@@ -35,21 +36,21 @@ use Rattle.sound_plans.specs.Outputs.{Output, around_by}
 use Rattle.sound_plans.proofs.laws.Widths.{first_within}
 use Rattle.sound_plans.proofs.laws.JoinColumns.{made_if}
 use Rattle.sound_plans.proofs.laws.Routes.{left_within, right_within}
-use Rattle.sound_plans.specs.Sound.{IsRuled, SoundPlansAreWired, SoundPlansMeetFacts, SoundPortsTake, has_rule}
+use Rattle.plan_rules.specs.Behaviours.{has_rule, Suits}
+use Rattle.sound_plans.specs.Sound.{IsRuled, SoundPlansAreWired, SoundPlansMeetFacts, SoundPortsTake}
 use Rattle.sound_plans.proofs.laws.Agreed as agreed
 use Rattle.sound_plans.proofs.laws.Consumers.{by_test}
 use Rattle.sound_plans.specs.Promises.{Laws}
 use Rattle.sound_plans.proofs.laws.Lists.{both, found, is_somewhere, of_each, the_same, within}
 use Rattle.sound_plans.proofs.laws.Local as local
+use Rattle.sound_plans.proofs.laws.SentTypes.{ColumnsHaveTypes, sent_types_exist}
 use Rattle.sound_plans.proofs.laws.Outputs.{around_is, edge_or, output_at}
 use Rattle.sound_plans.proofs.laws.Shapes as shapes
 use Rattle.sound_plans.proofs.laws.Stands.{proper_inputs}
 use Rattle.typing_laws.specs.Exist.{Exist}
 use Rattle.session_open.specs.Opening.{AreRoutable, IsExchange}
-use Rattle.session_open.specs.Running.{IsBuilt}
 use Rattle.exec_core.specs.Opening.{PlansOpen}
-use Rattle.exec_core.proofs.Types.{ColumnsHaveTypes, AnyExist, sent_exist}
-use Rattle.exec_core.proofs.Tables.{routable, table_exists, table_routable}
+use Rattle.exec_core.proofs.Tables.{routable, table_routable}
 use Rattle.exec_core.proofs.Ports.{few_once}
 
 -- a node with a rule keeps no bundles
@@ -145,28 +146,15 @@ module _ (types : ColumnsHaveTypes) (laws : Laws) (plan : Plan) (ruled : IsRuled
 
   -- ---- types
 
-  inputs_exist : (inputs : List ℕ) → AllByRecursion (λ input. Exist (columns_of input)) inputs → AllByRecursion AnyExist (map (λ (out : Output). Some out.columns) (map (output_at plan) inputs))
-  inputs_exist [] h = tt
-  inputs_exist (input ∷ inputs) h = (h.0, inputs_exist inputs h.1)
-
-  -- by the numbers below a bound
-  exist_below : (bound v : ℕ) (node : Node) → v < bound → numbered plan.nodes v ≡ Some node → Exist (columns_of v)
-  exist_below zero v node below e = absurd (omega (arith, below))
-  exist_below (suc bound) v node below e =
-      sent_exist types plan.sources (λ source table has. table_exists table (shapes.declarable plan meets laws.shaped source table has)) node.op
-      (map (λ (out : Output). Some out.columns) (map (output_at plan) node.inputs)) (columns_of v) (local.columns_made laws plan ruled v node e)
-      (inputs_exist node.inputs (of_each (λ input. Exist (columns_of input)) node.inputs
-      (λ p input h. let there = before v node p input e h in exist_below bound input there.0 (let lower = there.2 in omega (arith, lower, below)) there.1)))
-
-  exist : (v : ℕ) (node : Node) → numbered plan.nodes v ≡ Some node → Exist (columns_of v)
-  exist v node e = exist_below (suc v) v node (omega arith) e
+  exist : (v : ℕ) → Exist (columns_of v)
+  exist v = sent_types_exist types plan ruled v
 
   -- ---- operators
 
   -- what fits a node with one input, by what the input sends
-  built_over : (v : ℕ) (node : Node) (o : Op) (input : ℕ) → node.inputs ≡ input ∷ [] → IsBuilt o (around_by plan.sink (output_at plan input ∷ []) (output_at plan v)) → IsBuilt o (around_of plan v node.inputs)
-  built_over v node o input are built =
-      subst (λ (inputs : List ℕ). IsBuilt o (around_of plan v inputs)) (sym are) (subst (λ (around : Around). IsBuilt o around) (sym (around_is plan v input [])) built)
+  suits_over : (v : ℕ) (node : Node) (o : Op) (input : ℕ) → node.inputs ≡ input ∷ [] → Suits o (around_by plan.sink (output_at plan input ∷ []) (output_at plan v)) → Suits o (around_of plan v node.inputs)
+  suits_over v node o input are fits =
+      subst (λ (inputs : List ℕ). Suits o (around_of plan v inputs)) (sym are) (subst (λ (around : Around). Suits o around) (sym (around_is plan v input [])) fits)
 
   agrees_over : (v : ℕ) (node : Node) → numbered plan.nodes v ≡ Some node → (o : Op) (input : ℕ) → node.op ≡ o → node.inputs ≡ input ∷ []
       → agreed.scans o ≡ false → agreed.normalizes o ≡ false → agreed.sinks o ≡ false → Agrees plan.sources plan.sink o (output_at plan input ∷ []) (output_at plan v)
@@ -178,43 +166,36 @@ module _ (types : ColumnsHaveTypes) (laws : Laws) (plan : Plan) (ruled : IsRuled
   one_input : (v : ℕ) (node : Node) → numbered plan.nodes v ≡ Some node → (o : Op) → node.op ≡ o → ((n : ℕ) → ports_of o n ≡ (n == 1)) → (input : ℕ) × (node.inputs ≡ input ∷ [])
   one_input v node e o is takes_one = agreed.one_input laws plan ruled v node e (λ n. ap (λ p. ports_of p n) is ∙ takes_one n)
 
-  normalizes : (v : ℕ) (node : Node) → numbered plan.nodes v ≡ Some node → (key : List ℕ) → node.op ≡ op.Normalize key → IsBuilt (op.Normalize key) (around_of plan v node.inputs)
+  normalizes : (v : ℕ) (node : Node) → numbered plan.nodes v ≡ Some node → (key : List ℕ) → node.op ≡ op.Normalize key → Suits (op.Normalize key) (around_of plan v node.inputs)
   normalizes v node e key is =
       let i = one_input v node e (op.Normalize key) is (λ n. refl) in
       let agrees = agreed.normalize_agrees laws plan ruled v node key i.0 e is i.1 (proper_inputs laws plan ruled v node e) in
       let fits = laws.normalizes_fit plan.parallelism shape.parallel plan.sink key (output_at plan i.0) (output_at plan v) agrees in
-      built_over v node (op.Normalize key) i.0 i.1 fits.0.tells
+      suits_over v node (op.Normalize key) i.0 i.1 fits.0.tells
 
-  groups : (v : ℕ) (node : Node) → numbered plan.nodes v ≡ Some node → (keys : ℕ) (aggs : List Agg) → node.op ≡ op.Group keys aggs → IsBuilt (op.Group keys aggs) (around_of plan v node.inputs)
+  groups : (v : ℕ) (node : Node) → numbered plan.nodes v ≡ Some node → (keys : ℕ) (aggs : List Agg) → node.op ≡ op.Group keys aggs → Suits (op.Group keys aggs) (around_of plan v node.inputs)
   groups v node e keys aggs is =
       let i = one_input v node e (op.Group keys aggs) is (λ n. refl) in
       let agrees = agrees_over v node e (op.Group keys aggs) i.0 is i.1 refl refl refl in
       let fits = laws.groups_fit plan.parallelism shape.parallel plan.sources plan.sink keys aggs (output_at plan i.0) (output_at plan v) agrees in
-      built_over v node (op.Group keys aggs) i.0 i.1 fits.0.sound
+      suits_over v node (op.Group keys aggs) i.0 i.1 fits.0.sound
 
   ranks : (v : ℕ) (node : Node) → numbered plan.nodes v ≡ Some node → (partition : List ℕ) (order : List SortCol) (bound : ℕ) (ranked : Bool) → node.op ≡ op.TopN partition order bound ranked
-      → IsBuilt (op.TopN partition order bound ranked) (around_of plan v node.inputs)
+      → Suits (op.TopN partition order bound ranked) (around_of plan v node.inputs)
   ranks v node e partition order bound ranked is =
       let i = one_input v node e (op.TopN partition order bound ranked) is (λ n. refl) in
       let agrees = agrees_over v node e (op.TopN partition order bound ranked) i.0 is i.1 refl refl refl in
       let fits = laws.topns_fit plan.parallelism shape.parallel plan.sources plan.sink partition order bound ranked (output_at plan i.0) (output_at plan v) agrees in
-      built_over v node (op.TopN partition order bound ranked) i.0 i.1 fits.0.sound
+      suits_over v node (op.TopN partition order bound ranked) i.0 i.1 fits.0.sound
 
-  built_by : (v : ℕ) (node : Node) → numbered plan.nodes v ≡ Some node → (o : Op) → node.op ≡ o → has_rule o ≡ true → IsBuilt o (around_of plan v node.inputs)
-  built_by v node e (op.Scan source) is r = tt
-  built_by v node e (op.Filter cond) is r = tt
-  built_by v node e (op.Project items) is r = tt
-  built_by v node e op.Union is r = tt
-  built_by v node e (op.Normalize key) is r = normalizes v node e key is
-  built_by v node e (op.Group keys aggs) is r = groups v node e keys aggs is
-  built_by v node e (op.Join kind on rest) is r = tt
-  built_by v node e (op.Semi anti on rest) is r = tt
-  built_by v node e (op.TopN partition order bound ranked) is r = ranks v node e partition order bound ranked is
-  built_by v node e op.Sink is r = tt
-  built_by v node e _ is r = absurd (cc)
+  suits_by : (v : ℕ) (node : Node) → numbered plan.nodes v ≡ Some node → (o : Op) → node.op ≡ o → Suits o (around_of plan v node.inputs)
+  suits_by v node e (op.Normalize key) is = normalizes v node e key is
+  suits_by v node e (op.Group keys aggs) is = groups v node e keys aggs is
+  suits_by v node e (op.TopN partition order bound ranked) is = ranks v node e partition order bound ranked is
+  suits_by v node e _ is = tt
 
-  pub built : (v : ℕ) (node : Node) → numbered plan.nodes v ≡ Some node → IsBuilt node.op (around_of plan v node.inputs)
-  built v node e = built_by v node e node.op refl (ruled.rules v node e)
+  pub suits : (v : ℕ) (node : Node) → numbered plan.nodes v ≡ Some node → Suits node.op (around_of plan v node.inputs)
+  suits v node e = suits_by v node e node.op refl
 
   -- ---- exchanges
 
@@ -285,7 +266,7 @@ module _ (types : ColumnsHaveTypes) (laws : Laws) (plan : Plan) (ruled : IsRuled
       let w = suc has.0 in
       let p = is_somewhere v above.inputs has.2 in
       subst (λ x. IsExchange (columns_of v) x) (sym (local.exchanged laws plan ruled w above p.0 v has.1 p.1))
-      (asked_by w above p.0 v has.1 p.1 (exist v node e) above.op refl (ruled.rules w above has.1))
+      (asked_by w above p.0 v has.1 p.1 (exist v) above.op refl (ruled.rules w above has.1))
 
   pub exchanged : (v : ℕ) (edge : PlanEdge) → numbered plan.edges v ≡ Some edge → IsExchange (columns_of v) edge.exchange
   exchanged v edge there =
@@ -317,7 +298,7 @@ plans_open types laws wired facts takes plan columns ruled columns_are many =
           network_is = refl;
           columns_are = columns_are;
           nodes = λ v node there. record {
-            built = built types laws plan ruled v node there;
+            suits = suits types laws plan ruled v node there;
             scans = λ source scans. (plan_shape.scans v source node there scans).0;
             ports = λ works. plan_shape.others v node there works;
             takes = λ works. takes plan ruled v node there works;

@@ -17,7 +17,7 @@ use Rattle.phys_plan.specs.declared.plan.Plan.{Plan}
 use Rattle.planner.specs.Faults.{lacks_table}
 use Rattle.planner.specs.Promises.{TreesHaveOnePlan, TreesHavePlans}
 use Rattle.planner.specs.Seen.{plan_as_seen}
-use Rattle.planner.specs.Trees.{plan_of_tree}
+use Rattle.plan_rules.specs.Pieces.{plan_of_tree}
 use Rattle.plan_inferred.specs.declared.inferred.Inferred.{Inferred}
 use Rattle.plan_check.specs.declared.checked.CheckedPlan.{CheckedPlan}
 use Rattle.plan_check.specs.Checked.{plan_in}

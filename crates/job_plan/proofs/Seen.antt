@@ -1,5 +1,5 @@
 -- What a plan's network reads of the plan is what is seen of it.
-use Rattle.std.specs.Prelude.{◌≡◌, ℕ, ◌==◌, cond, List, ◌++◌, length, map, slice_get, slice_index_or, Option, option_map, option_and_then, unwrap_or}
+use Rattle.std.specs.Prelude.{◌≡◌, ℕ, ◌==◌, ◌||◌, cond, is_some, List, ◌++◌, length, map, slice_get, slice_index_or, Option, option_map, unwrap_or}
 use Rattle.std.proofs.Common.{zero, suc, [], ◌∷◌, refl, ap, ◌∙◌, Some, None}
 use Rattle.std.proofs.lemmas.List.{length-map}
 use Rattle.std.proofs.lemmas.Option.{slice_get-map}
@@ -10,13 +10,11 @@ use Rattle.ct_expr.specs.declared.expr.Expr.{Expr}
 use Rattle.ct_expr.specs.View.{expr_view}
 use Rattle.ct_expr.specs.Views.{as_seen}
 use Rattle.ct_expr.proofs.laws.Seen.{seen}
-use Rattle.rel_algebra.specs.Joins.{join_columns}
-use Rattle.rel_algebra.specs.Batch.{filter_answer, project_answer}
-use Rattle.rel_algebra.specs.Types.{columns_if, is_condition, item_columns}
+use Rattle.rel_algebra.specs.Rel.{filter_by, project_on, join_on, semi_on}
 use Rattle.op_rules.specs.Edges.{meaning_of}
 use Rattle.emission_rules.specs.Filter.{filter_rule}
 use Rattle.emission_rules.specs.Project.{project_rule}
-use Rattle.emission_rules.specs.Joining.{joins, matched}
+use Rattle.emission_rules.specs.Joining.{joins, matched, join_rule}
 use Rattle.phys_plan.specs.declared.node.Op.{Op}
 use Rattle.phys_plan.specs.declared.node.Op.TheVariants as op
 use Rattle.phys_plan.specs.declared.node.Node.{Node}
@@ -24,8 +22,11 @@ use Rattle.phys_plan.specs.declared.plan.Plan.{Plan}
 use Rattle.plan_rules.specs.Plans.{inputs_in, scan_of, scan_in, bundle_of, bundle_in, port_of, feed_at, feed_from, exchange_in, route_by, meaning_in, kinds_in, keys_in, table_of, Doing, network_edge, network_of}
 use Rattle.phys_plan.specs.Reading.{numbered, first_input}
 use Rattle.ct_catalog.specs.Columns.{table_mode}
-use Rattle.plan_rules.specs.Columns.{only, matched_columns, columns_by, numbered_columns, next_columns, columns_after, columns_at}
-use Rattle.plan_rules.specs.Doings.{Around, alike, filter_of, project_of, joining_of, joined_alike, doing_by, update_in, other_inputs, around_of, doing_in, network}
+use Rattle.plan_rules.specs.Columns.{columns_as, columns_by, numbered_columns, next_columns, columns_after, columns_at}
+use Rattle.plan_rules.specs.Around.{Around, filter_of, project_of, joining_of}
+use Rattle.plan_rules.specs.Behaviours.{behaviour_by, doing_of, rule_of}
+use Rattle.plan_rules.specs.Doings.{doing_by, update_in, other_inputs, around_of, doing_in, network}
+use Rattle.plan_rules.specs.Roles.{one_of, two_of, role}
 use Rattle.planner.specs.Seen.{op_as_seen, node_as_seen, plan_as_seen}
 
 exprs_seen : (items : List Expr) → map expr_view (map as_seen items) ≡ map expr_view items
@@ -36,14 +37,30 @@ rest_seen : (rest : Option Expr) → option_map expr_view (option_map as_seen re
 rest_seen None = refl
 rest_seen (Some x) = ap Some (seen (expr_view x))
 
+-- ---- operators
+
+role_seen : (o : Op) → role (op_as_seen o) ≡ role o
+role_seen (op.Filter cond) = ap (λ c. one_of (filter_by c)) (seen (expr_view cond))
+role_seen (op.Project items) = ap (λ es. one_of (project_on es)) (exprs_seen items)
+role_seen (op.Join kind on rest) = ap (λ r. two_of (join_on kind on r)) (rest_seen rest)
+role_seen (op.Semi anti on rest) = ap (λ r. two_of (semi_on anti on r)) (rest_seen rest)
+role_seen _ = refl
+
+rule_seen : (o : Op) → rule_of (op_as_seen o) ≡ rule_of o
+rule_seen (op.Filter cond) = ap (λ c. Some (λ (around : Around). filter_rule (filter_of c))) (seen (expr_view cond))
+rule_seen (op.Project items) = ap (λ es. Some (λ around. project_rule (project_of es around))) (exprs_seen items)
+rule_seen (op.Join kind on rest) = ap (λ r. Some (λ around. join_rule (joining_of (joins kind) on r around))) (rest_seen rest)
+rule_seen (op.Semi anti on rest) = ap (λ r. Some (λ around. join_rule (joining_of (matched anti) on r around))) (rest_seen rest)
+rule_seen _ = refl
+
+scan_of_seen : (o : Op) → scan_of (op_as_seen o) ≡ scan_of o
+scan_of_seen (op.Filter cond) = refl
+scan_of_seen _ = refl
+
 -- ---- columns
 
 columns_by_seen : (sources : List TableDef) (o : Op) (inputs : List (Option (List ColTy))) → columns_by sources (op_as_seen o) inputs ≡ columns_by sources o inputs
-columns_by_seen sources (op.Filter cond) inputs = ap (λ c. option_and_then (λ columns. columns_if (is_condition columns c) columns) (only inputs)) (seen (expr_view cond))
-columns_by_seen sources (op.Project items) inputs = ap (λ es. option_and_then (λ columns. item_columns columns es) (only inputs)) (exprs_seen items)
-columns_by_seen sources (op.Join kind on rest) inputs = ap (λ r. matched_columns on r (join_columns kind) inputs) (rest_seen rest)
-columns_by_seen sources (op.Semi anti on rest) inputs = ap (λ r. matched_columns on r (λ left right. left) inputs) (rest_seen rest)
-columns_by_seen sources _ inputs = refl
+columns_by_seen sources o inputs = λ i. cond (is_some (scan_of_seen o i) || is_some (rule_seen o i)) (columns_as sources (role_seen o i) inputs) None
 
 columns_after_seen : (sources : List TableDef) (done : List (Option (List ColTy))) (nodes : List Node) → columns_after sources done (map node_as_seen nodes) ≡ columns_after sources done nodes
 columns_after_seen sources done [] = refl
@@ -61,11 +78,7 @@ numbered_seen nodes zero = refl
 numbered_seen nodes (suc n) = slice_get-map node_as_seen nodes n
 
 doing_by_seen : (o : Op) (around : Around) → doing_by (op_as_seen o) around ≡ doing_by o around
-doing_by_seen (op.Filter cond) around = ap (λ c. alike (filter_rule (filter_of c)) around.columns (λ rows. filter_answer c (rows 0))) (seen (expr_view cond))
-doing_by_seen (op.Project items) around = ap (λ es. alike (project_rule (project_of es around)) around.columns (λ rows. project_answer es (rows 0))) (exprs_seen items)
-doing_by_seen (op.Join kind on rest) around = ap (λ r. joined_alike (joining_of (joins kind) on r around)) (rest_seen rest)
-doing_by_seen (op.Semi anti on rest) around = ap (λ r. joined_alike (joining_of (matched anti) on r around)) (rest_seen rest)
-doing_by_seen _ around = refl
+doing_by_seen o around = λ i. doing_of (behaviour_by (rule_seen o i) (role_seen o i) around)
 
 module _ (plan : Plan) where
   around_seen : (v : ℕ) (inputs : List ℕ) → around_of (plan_as_seen plan) v inputs ≡ around_of plan v inputs
@@ -91,10 +104,6 @@ module _ (plan : Plan) where
 inputs_seen : (node : Option Node) → inputs_in (option_map node_as_seen node) ≡ inputs_in node
 inputs_seen None = refl
 inputs_seen (Some node) = refl
-
-scan_of_seen : (o : Op) → scan_of (op_as_seen o) ≡ scan_of o
-scan_of_seen (op.Filter cond) = refl
-scan_of_seen _ = refl
 
 scan_seen : (node : Option Node) → scan_in (option_map node_as_seen node) ≡ scan_in node
 scan_seen None = refl

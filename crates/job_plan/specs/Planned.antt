@@ -1,29 +1,25 @@
 -- The plan of an accepted script, which refusals come with it, and which scripts wait for what isn't built.
-use Rattle.std.specs.Prelude.{ℕ, Bool, false, not, ◌||◌, ◌&&◌, ◌==◌, cond, Option, Some, None, Ok}
+use Rattle.std.specs.Prelude.{ℕ, Bool, false, not, ◌&&◌, ◌==◌, cond, Option, Some, None, Ok}
 use Rattle.ct_value.specs.declared.codes.ScriptCode.TheVariants.{Unsupported}
-use Rattle.rel_algebra.specs.Rel.{Rel, Rels, no_rels, rel_and}
-use Rattle.rel_algebra.specs.Rel as r
+use Rattle.rel_algebra.specs.Rel.{Group, Rel, Rels}
+use Rattle.rel_algebra.specs.Walks.{some_part, some_part_of_any}
 use Rattle.judge.specs.Judgement.{Judged, refused, then}
 use Rattle.phys_plan.specs.declared.plan.Plan.{Plan}
-use Rattle.planner.specs.Trees.{plan_of_tree}
+use Rattle.plan_rules.specs.Pieces.{plan_of_tree}
 use Rattle.planner.specs.Planned.{Made, Refused, Waits, Planned, made}
 use Rattle.job_judgement.specs.Judgement.{Accepted}
 
-abbrev mutual
-  -- a part of the tree groups by keys
-  pub has_keyed_group : Rel → Bool
-  has_keyed_group (r.Scan source) = false
-  has_keyed_group (r.Filter input condition) = has_keyed_group input
-  has_keyed_group (r.Project input items) = has_keyed_group input
-  has_keyed_group (r.Union inputs) = any_has_keyed_group inputs
-  has_keyed_group (r.Group input keys aggs) = not (keys == 0) || has_keyed_group input
-  has_keyed_group (r.Join left right kind pairs rest) = has_keyed_group left || has_keyed_group right
-  has_keyed_group (r.Semi left right anti pairs rest) = has_keyed_group left || has_keyed_group right
-  has_keyed_group (r.Rank input partition order bound ranked) = has_keyed_group input
+-- it groups by keys
+abbrev pub groups_by_keys : Rel → Bool
+groups_by_keys (Group input keys aggs) = not (keys == 0)
+groups_by_keys _ = false
 
-  pub any_has_keyed_group : Rels → Bool
-  any_has_keyed_group no_rels = false
-  any_has_keyed_group (rel_and input inputs) = has_keyed_group input || any_has_keyed_group inputs
+-- a part of the tree does
+abbrev pub has_keyed_group : Rel → Bool
+has_keyed_group = some_part groups_by_keys
+
+abbrev pub any_has_keyed_group : Rels → Bool
+any_has_keyed_group = some_part_of_any groups_by_keys
 
 -- in mini-batches a group by keys keeps bundles, which isn't built yet
 abbrev pub keeps_bundles : Accepted → Bool

@@ -46,7 +46,9 @@ use Rattle.job_batch.specs.Agree.{AnswersAgree, query_answer}
 use Rattle.job_batch.specs.Batch.{after_lines, answered, sink_types as answer_types, with_changes as batch_changes, with_rows}
 use Rattle.job_plan.specs.Shown.{shown}
 use Rattle.job_stream.specs.Stream.{most_sent, outcome_of, sink_types, streamed}
-use Rattle.laid_plans.specs.Answers.{Answers, InferredPlansAnswer}
+use Rattle.laid_plans.specs.Erased.{InferredPlansAnswer}
+use Rattle.plan_rules.specs.Answers.{Answers}
+use Rattle.sound_plans.specs.Sound.{IsRuled}
 use Rattle.job_plan.specs.Promises.{IsScriptPlan, RunnableScriptsArePlanned}
 use Rattle.job_plan.specs.Planned.{laid, planned, runnable}
 use Rattle.job_run.specs.Answers.{AreAnswers, AreAnswersOf, HasAnswers, HasRun, Wrote}
@@ -103,7 +105,7 @@ module _ (agree : AnswersAgree) (fit : RowsTakenFit) (script : Accepted) (judged
 
 plan_answers : InferredPlansAnswer → (script : Accepted) (plan : Plan) → IsScriptPlan script plan → Answers plan script.inserted.query.rel
 plan_answers answers script plan is =
-    subst (λ (p : Plan). Answers p script.inserted.query.rel) (sym is.is) (answers (laid script) script.inserted.query.rel is.laid_well.columns is.laid_well.laid_out is.laid_well.typed)
+    subst (λ (p : Plan). Answers p script.inserted.query.rel) (sym is.is) (answers (laid script) script.inserted.query.rel is.laid_well.laid_out (subst IsRuled is.is is.ruled))
 
 -- ---- files
 

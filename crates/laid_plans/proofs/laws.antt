@@ -1,7 +1,6 @@
-pub mod Answers
-pub mod AnswersGiven
 pub mod Columns
 pub mod Edges
+pub mod Erased
 pub mod Given
 pub mod Inferences
 pub mod Laid
@@ -12,7 +11,6 @@ pub mod Parts
 pub mod Plans
 pub mod Same
 pub mod Segments
-pub mod Sent
 pub mod Shapes
 pub mod Tables
 pub mod Theorems

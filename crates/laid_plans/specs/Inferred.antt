@@ -7,7 +7,7 @@ use Rattle.upsert_keys.specs.Keys.{keyed}
 use Rattle.mode_infer.specs.Modes.{moded}
 use Rattle.phys_plan.specs.Reading.{numbered}
 use Rattle.plan_check.specs.Sound.{inferred_of, IsSound, Meets}
-use Rattle.sound_plans.specs.Sound.{has_rule}
+use Rattle.plan_rules.specs.Behaviours.{has_rule}
 
 -- its nodes say the keys that are inferred of them, and its edges carry the kinds, and tell updates in the way, that are inferred
 abbrev pub with_inferred : Plan → Plan

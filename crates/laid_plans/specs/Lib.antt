@@ -1,3 +1,3 @@
-pub mod Answers
+pub mod Erased
 pub mod Inferred
 pub mod Shapes

@@ -17,7 +17,7 @@ use Rattle.plan_rules.specs.Laid.{HasNode, IsLaid}
 use Rattle.plan_shape.specs.Tables.{are_tables}
 use Rattle.plan_check.specs.Sound.{Meets}
 use Rattle.plan_check.specs.Types.{fit_sink}
-use Rattle.sound_plans.specs.Sound.{has_rule}
+use Rattle.plan_rules.specs.Behaviours.{has_rule}
 
 -- the columns of the tables
 abbrev pub types_of : List TableDef → List (List ColTy)

@@ -13,7 +13,7 @@ use Rattle.phys_plan.specs.declared.node.Node.{Node}
 use Rattle.phys_plan.specs.declared.plan.Plan.{Plan}
 use Rattle.phys_plan.specs.Reading.{numbered}
 use Rattle.ct_catalog.specs.Columns.{column_types}
-use Rattle.plan_rules.specs.Columns.{columns_by, numbered_columns, only}
+use Rattle.plan_rules.specs.Columns.{columns_by, numbered_columns, of_two, only}
 use Rattle.plan_check.specs.Chains.{chain_columns}
 use Rattle.plan_check.specs.Partials.{partial_columns}
 
@@ -37,11 +37,6 @@ set_columns except [] [] = Some []
 set_columns except [] (right ∷ rights) = None
 set_columns except (left ∷ lefts) [] = None
 set_columns except (left ∷ lefts) (right ∷ rights) = both_of (λ column columns. Some (column ∷ columns)) (set_column except left right) (set_columns except lefts rights)
-
--- those of two inputs
-abbrev pub of_two : (List ColTy → List ColTy → Option (List ColTy)) → List (Option (List ColTy)) → Option (List ColTy)
-of_two made (left ∷ (right ∷ [])) = both_of made left right
-of_two made _ = None
 
 -- the columns of a node, from those of its inputs; none where it isn't well-typed
 abbrev pub types_by : List TableDef → Op → List (Option (List ColTy)) → Option (List ColTy)

@@ -14,7 +14,7 @@ pub(crate) fn set_joined(
     done: &NodeColumns,
     inputs: &Numbers,
 ) -> Result<Option<ColTys>, Memory>
-    ensures { IfOk result (λ made. made ≡ t.of_two (t.set_columns except) (map (c.numbered_columns done.now) inputs.now)) }
+    ensures { IfOk result (λ made. made ≡ c.of_two (t.set_columns except) (map (c.numbered_columns done.now) inputs.now)) }
 {
     if inputs.len() == 2 {
         let left = numbered_columns(done, inputs.as_slice()[0]);

@@ -19,36 +19,14 @@ use Rattle.stream_model.specs.Network.{Feed, IsNode, IsWired}
 use Rattle.plan_rules.specs.Plans.{inputs_in, scan_of, scan_in, port_of, feed_at, feed_from, route_by, meaning_by, meaning_in, table_of, spread_of, Doing, network_edge, network_of, HasInput, HasShape, FitsShape, PlansAreWired}
 use Rattle.phys_plan.specs.Reading.{numbered}
 use Rattle.ct_catalog.specs.Columns.{table_mode, column_types}
+use Rattle.plan_rules.proofs.laws.Numbers.{get_below, index_there, numbered_below, numbered_within}
 
 -- ---- lists
-
-index_at : (xs : List ℕ) (n : ℕ) → n < length xs → slice_get xs n ≡ Some (slice_index_or xs n 0)
-index_at [] n l = absurd (omega arith)
-index_at (x ∷ xs) zero l = refl
-index_at (x ∷ xs) (suc n) l = index_at xs n (omega arith)
 
 at_index : (xs : List ℕ) (n x : ℕ) → slice_get xs n ≡ Some x → (n < length xs) × (slice_index_or xs n 0 ≡ x)
 at_index [] n x e = absurd (cc)
 at_index (y ∷ xs) zero x e = (omega arith, let same : y ≡ x = cc in same)
 at_index (y ∷ xs) (suc n) x e = let rest = at_index xs n x e in (omega (arith, rest.0), rest.1)
-
-within : {A : Type 0} (xs : List A) (n : ℕ) (x : A) → slice_get xs n ≡ Some x → n < length xs
-within [] n x e = absurd (cc)
-within (y ∷ xs) zero x e = omega arith
-within (y ∷ xs) (suc n) x e = omega (arith, within xs n x e)
-
-found : {A : Type 0} (xs : List A) (n : ℕ) → n < length xs → (x : A) × (slice_get xs n ≡ Some x)
-found [] n l = absurd (omega arith)
-found (x ∷ xs) zero l = (x, refl)
-found (x ∷ xs) (suc n) l = found xs n (omega arith)
-
-numbered_within : {A : Type 0} (xs : List A) (v : ℕ) (x : A) → numbered xs v ≡ Some x → (0 < v) × (v ≤ length xs)
-numbered_within xs zero x e = absurd (cc)
-numbered_within xs (suc n) x e = (omega arith, omega (arith, within xs n x e))
-
-numbered_found : {A : Type 0} (xs : List A) (v : ℕ) → 0 < v → v ≤ length xs → (x : A) × (numbered xs v ≡ Some x)
-numbered_found xs zero l h = absurd (omega arith)
-numbered_found xs (suc n) l h = found xs n (omega arith)
 
 -- ---- the port that an edge feeds
 
@@ -101,7 +79,7 @@ module _ (columns : ℕ → List ColTy) (doing : ℕ → Doing) (plan : Plan) (s
     where
       go : (o : Option Node) → numbered plan.nodes v ≡ o → p < length (inputs_in o) → HasInput plan v p (slice_index_or (inputs_in o) p 0)
       go None is l = absurd (omega arith)
-      go (Some node) is l = record { node = node; is_node = is; is_input = index_at node.inputs p l }
+      go (Some node) is l = record { node = node; is_node = is; is_input = index_there node.inputs p l }
 
   input_at : (v p e : ℕ) → HasInput plan v p e → (p < length (inputs_in (numbered plan.nodes v))) × (slice_index_or (inputs_in (numbered plan.nodes v)) p 0 ≡ e)
   input_at v p e h = subst (λ o. (p < length (inputs_in o)) × (slice_index_or (inputs_in o) p 0 ≡ e)) (sym h.is_node) (at_index h.node.inputs p e h.is_input)
@@ -169,7 +147,7 @@ module _ (columns : ℕ → List ColTy) (doing : ℕ → Doing) (plan : Plan) (s
         let h = has_input v p l in
         let b = shape.before v p _ h in
         let high = numbered_within plan.nodes v h.node h.is_node in
-        let n = numbered_found plan.nodes (slice_index_or (inputs_in (numbered plan.nodes v)) p 0) b.0 (let x = b.1 in let y = high.1 in omega arith) in
+        let n = numbered_below plan.nodes (slice_index_or (inputs_in (numbered plan.nodes v)) p 0) b.0 (let x = b.1 in let y = high.1 in omega arith) in
         is_node _ n.0 n.1;
     feeds = λ v p l. input_fed v p _ (has_input v p l);
     feeds_port = λ e feed q. input_at feed.node feed.port e (fed_input e feed q);
@@ -180,7 +158,7 @@ module _ (columns : ℕ → List ColTy) (doing : ℕ → Doing) (plan : Plan) (s
     scan_counted = λ v source s. let n = scan_node v source s in (shape.scans v source n.0 n.1 n.2).2;
     scan_table = λ v source s.
         let n = scan_node v source s in
-        let t = found plan.sources source (shape.scans v source n.0 n.1 n.2).1 in
+        let t = get_below plan.sources source (shape.scans v source n.0 n.1 n.2).1 in
         (table_of plan.parallelism t.0, ap (option_map (table_of plan.parallelism)) t.1);
     scan_opens = λ v source s j. fits.scans_open v source j s;
     opens = λ v j l. fits.opens v j l;

@@ -1,2 +1,6 @@
+pub mod Answering
+pub mod Behaviours
+pub mod Erasing
+pub mod Numbers
 pub mod Reading
 pub mod Theorems

@@ -1,20 +1,17 @@
 -- The columns that each node of a plan sends.
-use Rattle.std.specs.Prelude.{◌≡◌, ℕ, List, [], ◌∷◌, ◌++◌, map, slice_get, get_or, Option, None, option_map, option_and_then, unwrap_or}
+use Rattle.std.specs.Prelude.{◌≡◌, ℕ, cond, List, [], ◌∷◌, ◌++◌, map, slice_get, get_or, Option, None, option_map, option_and_then, unwrap_or}
 use Rattle.ct_value.specs.declared.ty.ColTy.{ColTy}
+use Rattle.ct_catalog.specs.Columns.{column_types}
 use Rattle.ct_catalog.specs.declared.table.TableDef.{TableDef}
-use Rattle.ct_expr.specs.View.{expr_view}
+use Rattle.ct_expr.specs.Expr.{Expr}
 use Rattle.ct_expr.specs.Types.{both_of}
 use Rattle.rel_algebra.specs.declared.join.Pair.{Pair}
-use Rattle.ct_expr.specs.Expr.{Expr}
-use Rattle.rel_algebra.specs.Groups.{group_columns}
-use Rattle.rel_algebra.specs.Joins.{join_columns}
-use Rattle.rel_algebra.specs.Ranks.{rank_columns}
-use Rattle.rel_algebra.specs.Types.{columns_if, is_condition, match_fits, item_columns, common_columns, rank_fits}
+use Rattle.rel_algebra.specs.Types.{columns_if, match_fits, common_columns, unary_columns, binary_columns}
 use Rattle.phys_plan.specs.declared.node.Op.{Op}
-use Rattle.phys_plan.specs.declared.node.Op.TheVariants as op
 use Rattle.phys_plan.specs.declared.node.Node.{Node}
 use Rattle.phys_plan.specs.Reading.{numbered}
-use Rattle.ct_catalog.specs.Columns.{column_types}
+use Rattle.plan_rules.specs.Behaviours.{has_rule}
+use Rattle.plan_rules.specs.Roles.{Role, reads_table, one_of, two_of, all_of, same_as, not_told, role}
 
 -- column by column the common columns of these and of further inputs, one after the other
 abbrev pub common_with : Option (List ColTy) → List (Option (List ColTy)) → Option (List ColTy)
@@ -30,24 +27,27 @@ abbrev pub only : List (Option (List ColTy)) → Option (List ColTy)
 only (input ∷ []) = input
 only _ = None
 
--- of two inputs, joined on these pairs and this rest: what is made of the columns of both, where the condition fits them
+-- of two inputs: what is made of the columns of both
+abbrev pub of_two : (List ColTy → List ColTy → Option (List ColTy)) → List (Option (List ColTy)) → Option (List ColTy)
+of_two made (left ∷ (right ∷ [])) = both_of made left right
+of_two made _ = None
+
+-- of two that are joined on these pairs and this rest, where the condition fits them
 abbrev pub matched_columns : List Pair → Option Expr → (List ColTy → List ColTy → List ColTy) → List (Option (List ColTy)) → Option (List ColTy)
-matched_columns on rest made (left ∷ (right ∷ [])) = both_of (λ l r. columns_if (match_fits l r on rest) (made l r)) left right
-matched_columns on rest made _ = None
+matched_columns on rest made inputs = of_two (λ l r. columns_if (match_fits l r on rest) (made l r)) inputs
+
+-- by the role of a node
+abbrev pub columns_as : List TableDef → Role → List (Option (List ColTy)) → Option (List ColTy)
+columns_as sources (reads_table source) inputs = option_map column_types (slice_get sources source)
+columns_as sources (one_of how) inputs = option_and_then (unary_columns how) (only inputs)
+columns_as sources (two_of how) inputs = of_two (binary_columns how) inputs
+columns_as sources all_of inputs = common_of inputs
+columns_as sources same_as inputs = only inputs
+columns_as sources (not_told so_many) inputs = None
 
 -- the columns of a node, from those of its inputs; none where it isn't well-typed, or isn't built yet
 abbrev pub columns_by : List TableDef → Op → List (Option (List ColTy)) → Option (List ColTy)
-columns_by sources (op.Scan source) inputs = option_map column_types (slice_get sources source)
-columns_by sources (op.Filter cond) inputs = option_and_then (λ columns. columns_if (is_condition columns (expr_view cond)) columns) (only inputs)
-columns_by sources (op.Project items) inputs = option_and_then (λ columns. item_columns columns (map expr_view items)) (only inputs)
-columns_by sources op.Union inputs = common_of inputs
-columns_by sources (op.Normalize key) inputs = only inputs
-columns_by sources (op.Group keys aggs) inputs = option_and_then (λ columns. group_columns keys columns aggs) (only inputs)
-columns_by sources (op.Join kind on rest) inputs = matched_columns on (option_map expr_view rest) (join_columns kind) inputs
-columns_by sources (op.Semi anti on rest) inputs = matched_columns on (option_map expr_view rest) (λ left right. left) inputs
-columns_by sources (op.TopN partition order bound ranked) inputs = option_and_then (λ columns. columns_if (rank_fits columns partition order bound) (rank_columns ranked columns)) (only inputs)
-columns_by sources op.Sink inputs = only inputs
-columns_by sources _ inputs = None
+columns_by sources operator inputs = cond (has_rule operator) (columns_as sources (role operator) inputs) None
 
 -- those of a node by its number, from 1, among these; none where there is no such node, or it has none
 abbrev pub numbered_columns : List (Option (List ColTy)) → ℕ → Option (List ColTy)

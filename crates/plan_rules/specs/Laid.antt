@@ -9,10 +9,7 @@ use Rattle.ct_expr.specs.Expr.{Expr}
 use Rattle.ct_expr.specs.View.{expr_view}
 use Rattle.rel_algebra.specs.declared.join.JoinKind.{JoinKind}
 use Rattle.rel_algebra.specs.declared.join.Pair.{Pair}
-use Rattle.rel_algebra.specs.Rel.{Rel, Rels, no_rels, rel_and}
-use Rattle.rel_algebra.specs.Rel as r
-use Rattle.emission_rules.specs.GroupFits.{first_columns}
-use Rattle.emission_rules.specs.JoinFits.{left_pairs, right_pairs}
+use Rattle.rel_algebra.specs.Rel.{Unary, filter_by, project_on, group_by, rank_in, Binary, join_on, semi_on, Rel, Rels, Scan, One, Two, Many, no_rels, rel_and}
 use Rattle.phys_plan.specs.declared.edge.Exchange.{Exchange}
 use Rattle.phys_plan.specs.declared.edge.Exchange.TheVariants.{Forward, Hash}
 use Rattle.ct_change.specs.declared.update.Update.{Update}
@@ -23,6 +20,7 @@ use Rattle.phys_plan.specs.declared.node.Op.TheVariants as op
 use Rattle.phys_plan.specs.declared.node.Node.{Node}
 use Rattle.phys_plan.specs.declared.plan.Plan.{Plan}
 use Rattle.phys_plan.specs.Reading.{numbered, no_keys}
+use Rattle.plan_rules.specs.Pieces.{unary_way, binary_way}
 
 -- ---- operators
 
@@ -41,6 +39,17 @@ IsJoin kind pairs rest _ = ⊥
 abbrev pub IsSemi : Bool → List Pair → Option Expr → Op → Type 0
 IsSemi anti pairs rest (op.Semi own on test) = (own ≡ anti) × (on ≡ pairs) × (option_map expr_view test ≡ rest)
 IsSemi anti pairs rest _ = ⊥
+
+-- that of a tree with one input, and with two
+abbrev pub IsUnary : Unary → Op → Type 0
+IsUnary (filter_by condition) = IsFilter condition
+IsUnary (project_on items) = IsProject items
+IsUnary (group_by keys aggs) = λ o. o ≡ op.Group keys aggs
+IsUnary (rank_in partition order bound ranked) = λ o. o ≡ op.TopN partition order bound ranked
+
+abbrev pub IsBinary : Binary → Op → Type 0
+IsBinary (join_on kind pairs rest) = IsJoin kind pairs rest
+IsBinary (semi_on anti pairs rest) = IsSemi anti pairs rest
 
 -- ---- nodes and edges
 
@@ -76,24 +85,15 @@ module _ (plan : Plan) where
 
   abbrev mutual
     pub IsLaid : ℕ → Exchange → Rel → ℕ → Type 0
-    IsLaid n exchange (r.Scan source) root = SourceLaid n exchange source (slice_get plan.sources source) root
-    IsLaid n exchange (r.Filter input condition) root =
-        (below : ℕ) × IsLaid n Forward input below × (root ≡ below + 1) × HasNode root (IsFilter condition) (below ∷ []) × CarriesAll root exchange
-    IsLaid n exchange (r.Project input items) root =
-        (below : ℕ) × IsLaid n Forward input below × (root ≡ below + 1) × HasNode root (IsProject items) (below ∷ []) × CarriesAll root exchange
-    IsLaid n exchange (r.Union inputs) root =
-        (roots : List ℕ) × (below : ℕ) × AreLaid n inputs roots below × (root ≡ below + 1) × HasNode root (λ o. o ≡ op.Union) roots × CarriesAll root exchange
-    IsLaid n exchange (r.Group input keys aggs) root =
-        (below : ℕ) × IsLaid n (Hash (first_columns keys)) input below × (root ≡ below + 1) × HasNode root (λ o. o ≡ op.Group keys aggs) (below ∷ []) × CarriesAll root exchange
+    IsLaid n exchange (Scan source) root = SourceLaid n exchange source (slice_get plan.sources source) root
+    IsLaid n exchange (One how input) root =
+        (below : ℕ) × IsLaid n (unary_way how).asks input below × (root ≡ below + 1) × HasNode root (IsUnary how) (below ∷ []) × CarriesAll root exchange
     -- the right side lies behind the left
-    IsLaid n exchange (r.Join left right kind pairs rest) root =
-        (first : ℕ) × (second : ℕ) × IsLaid n (Hash (left_pairs pairs)) left first × IsLaid first (Hash (right_pairs pairs)) right second
-        × (root ≡ second + 1) × HasNode root (IsJoin kind pairs rest) (first ∷ (second ∷ [])) × CarriesAll root exchange
-    IsLaid n exchange (r.Semi left right anti pairs rest) root =
-        (first : ℕ) × (second : ℕ) × IsLaid n (Hash (left_pairs pairs)) left first × IsLaid first (Hash (right_pairs pairs)) right second
-        × (root ≡ second + 1) × HasNode root (IsSemi anti pairs rest) (first ∷ (second ∷ [])) × CarriesAll root exchange
-    IsLaid n exchange (r.Rank input partition order bound ranked) root =
-        (below : ℕ) × IsLaid n (Hash partition) input below × (root ≡ below + 1) × HasNode root (λ o. o ≡ op.TopN partition order bound ranked) (below ∷ []) × CarriesAll root exchange
+    IsLaid n exchange (Two how left right) root =
+        (first : ℕ) × (second : ℕ) × IsLaid n (binary_way how).left left first × IsLaid first (binary_way how).right right second
+        × (root ≡ second + 1) × HasNode root (IsBinary how) (first ∷ (second ∷ [])) × CarriesAll root exchange
+    IsLaid n exchange (Many inputs) root =
+        (roots : List ℕ) × (below : ℕ) × AreLaid n inputs roots below × (root ≡ below + 1) × HasNode root (λ o. o ≡ op.Union) roots × CarriesAll root exchange
 
     -- several trees behind one another, with their roots, up to the last
     pub AreLaid : ℕ → Rels → List ℕ → ℕ → Type 0

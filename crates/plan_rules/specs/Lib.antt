@@ -1,4 +1,10 @@
+pub mod Answers
+pub mod Around
+pub mod Behaviours
 pub mod Columns
 pub mod Doings
+pub mod Erased
 pub mod Laid
+pub mod Pieces
 pub mod Plans
+pub mod Roles

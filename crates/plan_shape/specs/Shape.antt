@@ -12,6 +12,7 @@ use Rattle.phys_plan.specs.declared.node.Op.{Op}
 use Rattle.phys_plan.specs.declared.node.Op.TheVariants as op
 use Rattle.phys_plan.specs.declared.plan.Plan.{Plan}
 use Rattle.plan_rules.specs.Plans.{kinds_in}
+use Rattle.plan_rules.specs.Roles.{role, takes as takes_as}
 use Rattle.phys_plan.specs.Reading.{numbered, first_input}
 use Rattle.plan_shape.specs.Tables.{are_tables}
 use Rattle.ct_change.specs.Kinds.{is_upsert}
@@ -46,13 +47,7 @@ is_whole plan = has_sizes plan && are_tables (plan.sink ∷ plan.sources)
 
 -- how many inputs an operator has
 abbrev pub takes : Op → ℕ → Bool
-takes (op.Scan source) inputs = inputs == 0
-takes op.Union inputs = nat_le 2 inputs
-takes (op.Join kind on rest) inputs = inputs == 2
-takes (op.Semi anti on rest) inputs = inputs == 2
-takes (op.MultiJoin on) inputs = nat_le 3 inputs && nat_le inputs 8
-takes (op.SetOp except all) inputs = inputs == 2
-takes _ inputs = inputs == 1
+takes operator inputs = takes_as (role operator) inputs
 
 -- each is a node with a smaller number
 abbrev pub are_before : ℕ → List ℕ → Bool

@@ -25,7 +25,8 @@ use Rattle.phys_plan.specs.declared.plan.Plan.{Plan}
 use Rattle.phys_plan.specs.Reading.{numbered}
 use Rattle.plan_rules.specs.Laid.{IsFilter, IsProject, IsJoin, IsSemi, HasNode, HasEdge, ScanLaid, SourceLaid, IsLaid, AreLaid, IsPlanOf}
 use Rattle.planner.specs.Faults.{lacks_table, any_lacks}
-use Rattle.planner.specs.Trees.{Piece, node_of, edge_of, piece, full_piece, topped_both, scan_pieces, source_pieces, pieces_of, pieces_of_all, roots_of, with_sink, plan_of_tree}
+use Rattle.plan_rules.proofs.laws.Erasing.{each_seen, rest_seen}
+use Rattle.plan_rules.specs.Pieces.{Piece, node_of, edge_of, piece, full_piece, topped_both, scan_pieces, source_pieces, pieces_of, pieces_of_all, roots_of, with_sink, plan_of_tree}
 use Rattle.planner.proofs.Places.{one_longer, Stand, front_stands, back_stands, stand_alone}
 
 left_not : (a b : Bool) → (a || b) ≡ false → a ≡ false
@@ -35,14 +36,6 @@ left_not false b e = refl
 right_not : (a b : Bool) → (a || b) ≡ false → b ≡ false
 right_not true b e = absurd (cc)
 right_not false b e = e
-
-each_seen : (items : List Expr) → map expr_view (map expr_of items) ≡ items
-each_seen [] = refl
-each_seen (x ∷ items) = λ i. seen x i ∷ each_seen items i
-
-rest_seen : (rest : Option Expr) → option_map expr_view (option_map expr_of rest) ≡ rest
-rest_seen None = refl
-rest_seen (Some x) = ap Some (seen x)
 
 module _ (plan : Plan) where
   abbrev Placed : ℕ → List Piece → Type 0

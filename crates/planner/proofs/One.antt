@@ -27,7 +27,7 @@ use Rattle.phys_plan.specs.declared.node.Op.TheVariants as op
 use Rattle.phys_plan.specs.declared.plan.Plan.{Plan}
 use Rattle.phys_plan.specs.Reading.{numbered}
 use Rattle.plan_rules.specs.Laid.{IsFilter, IsProject, IsJoin, IsSemi, HasNode, HasEdge, CarriesAll, ScanLaid, SourceLaid, IsLaid, AreLaid, IsPlanOf}
-use Rattle.planner.specs.Trees.{Piece, node_of, edge_of, piece, scan_pieces, source_pieces, topped, topped_both, pieces_of, pieces_of_all, roots_of, with_sink, plan_of_tree}
+use Rattle.plan_rules.specs.Pieces.{Piece, node_of, edge_of, piece, scan_pieces, source_pieces, topped, topped_both, pieces_of, pieces_of_all, roots_of, with_sink, plan_of_tree}
 use Rattle.planner.specs.Seen.{op_as_seen, node_as_seen, plan_as_seen}
 use Rattle.planner.proofs.Places.{one_longer, Stand, stand_behind, all_there_is}
 

@@ -3,7 +3,7 @@ use Rattle.std.specs.Prelude.{◌≡◌, ℕ, ◌+◌, List, ◌++◌, length, s
 use Rattle.std.proofs.Common.{suc, [], ◌∷◌, refl, sym, subst, arith, Some}
 use Rattle.phys_plan.specs.declared.edge.Edge.{Edge}
 use Rattle.phys_plan.specs.declared.node.Node.{Node}
-use Rattle.planner.specs.Trees.{Piece, nodes_in, edges_in}
+use Rattle.plan_rules.specs.Pieces.{Piece, nodes_in, edges_in}
 
 pub one_longer : {A : Type 0} (xs : List A) (y : A) → length (xs ++ y ∷ []) ≡ length xs + 1
 one_longer [] y = refl

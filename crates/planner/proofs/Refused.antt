@@ -33,7 +33,8 @@ use Rattle.plan_check.specs.Sound.{inferred_of, IsSound, Meets}
 use Rattle.rel_algebra.specs.GoesInto.{go_into}
 use Rattle.plan_check.specs.Types.{keep_nulls, types_at}
 use Rattle.planner.specs.Refusals.{below_sink, brings_null, changes_rows, has_materializer, inputs_in, is_forced, is_large, is_large_with, is_refused, or_else, refusal, sink_way, tells_more, way_into}
-use Rattle.sound_plans.specs.Sound.{IsRuled, has_rule}
+use Rattle.plan_rules.specs.Behaviours.{has_rule}
+use Rattle.sound_plans.specs.Sound.{IsRuled}
 use Rattle.sound_plans.proofs.laws.Columns.{inferred_columns}
 use Rattle.sound_plans.proofs.laws.Consumers.{by_test}
 use Rattle.sound_plans.proofs.laws.Lists.{both, the_same}

@@ -4,4 +4,3 @@ pub mod Planned
 pub mod Promises
 pub mod Refusals
 pub mod Seen
-pub mod Trees

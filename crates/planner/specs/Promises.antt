@@ -5,7 +5,7 @@ use Rattle.rel_algebra.specs.Rel.{Rel}
 use Rattle.phys_plan.specs.declared.plan.Plan.{Plan}
 use Rattle.plan_rules.specs.Laid.{IsPlanOf}
 use Rattle.planner.specs.Faults.{lacks_table}
-use Rattle.planner.specs.Trees.{plan_of_tree}
+use Rattle.plan_rules.specs.Pieces.{plan_of_tree}
 use Rattle.planner.specs.Seen.{plan_as_seen}
 
 -- a tree has one plan, as plans are seen, over these tables and in so many subtasks

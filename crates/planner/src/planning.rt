@@ -4,6 +4,7 @@ ghost use Rattle.rel_algebra.specs.Rel.{Rel};
 ghost use Rattle.laid_plans.specs.Inferred.{with_inferred};
 ghost use Rattle.plan_check.specs.Checked.{plan_in};
 ghost use Rattle.plan_check.specs.Sound.{IsSound, inferred_of};
+ghost use Rattle.plan_rules.specs.Erased.{erased};
 ghost use Rattle.planner.specs.Refusals as r;
 ghost use Rattle.planner.specs.Planned.{IsLaidPlan, Planned, Says, made};
 
@@ -18,11 +19,12 @@ use std::alloc::Global;
 use upsert_keys::set_keys;
 
 /// The plan of a tree, from the nodes and exchanges that are laid of it, by the script's setting for materializers: with the keys that are inferred
-/// of each node, and the kinds and updates of each edge. `Refused` comes with the first refusal (ties, the sink's mode, its key, NULL, a
+/// of each node, and the kinds and updates of each edge. Its algebra is the tree. `Refused` comes with the first refusal (ties, the sink's mode, its key, NULL, a
 /// materializer that is off, too many nodes), and `Waits` where there is none and a materializer is needed.
 pub fn plan(alloc: Global, laid: Plan, setting: Materialize) -> Result<CheckedPlan, PlannerFault>
     requires { (rel : Rel) × IsLaidPlan laid rel }
     ensures planned { IfOk result (λ checked. made laid setting ≡ Planned (plan_in checked)) }
+    ensures erased { IfOk result (λ checked. (rel : Rel) → IsLaidPlan laid rel → erased (plan_in checked) ≡ rel) }
     ensures refused { IfErr result (λ fault. Says (made laid setting) fault) }
 {
     let inferred = infer_plan(alloc, &laid)?;

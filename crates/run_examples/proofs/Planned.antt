@@ -14,7 +14,8 @@ use Rattle.rel_algebra.specs.Clauses.{collect}
 use Rattle.rel_algebra.proofs.laws.Bags.{total-restrict, total-mapped}
 use Rattle.rel_algebra.specs.GroupedCounts.{count_all}
 use Rattle.emission_rules.specs.Grouping.{Grouping, members, row_count}
-use Rattle.plan_rules.specs.Doings.{around_of, grouping_of, network}
+use Rattle.plan_rules.specs.Around.{grouping_of}
+use Rattle.plan_rules.specs.Doings.{around_of, network}
 use Rattle.op_rules.specs.History.{arrival}
 use Rattle.op_rules.specs.Rules.{Answer, appended}
 use Rattle.stream_model.specs.Network.{Network}

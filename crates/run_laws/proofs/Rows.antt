@@ -30,7 +30,10 @@ use Rattle.stream_model.specs.Network.{task}
 use Rattle.plan_rules.specs.Plans.{inputs_in, scan_of}
 use Rattle.phys_plan.specs.Reading.{numbered, first_input}
 use Rattle.plan_rules.specs.Columns.{columns_at}
-use Rattle.plan_rules.specs.Doings.{Around, other_inputs, side_of, first_side, second, around_of, rule_by, doing_by, doing_in, filter_of, project_of, grouping_of, joining_of, sink_of, network}
+use Rattle.plan_rules.specs.Around.{Around, first_side, second, filter_of, project_of, grouping_of, joining_of, sink_of}
+use Rattle.plan_rules.specs.Behaviours.{behaviour, ports_by}
+use Rattle.plan_rules.specs.Doings.{other_inputs, side_of, around_of, doing_by, doing_in, network}
+use Rattle.plan_rules.proofs.laws.Behaviours.{ports_taken}
 use Rattle.sound_plans.specs.Sound.{IsRuled, SoundPortsTake}
 use Rattle.emission_rules.specs.Joining.{joins, matched, Joining, emits}
 use Rattle.run_laws.proofs.Answers.{not_err, err_same, OutsAt, outs_both}
@@ -140,12 +143,12 @@ module _ (plan : Plan) (ruled : IsRuled plan) (takes : SoundPortsTake) (v j : �
     abbrev around : Around
     around = around_of plan v node.inputs
 
-    one_port : (o : Op) → node.op ≡ o → scan_of o ≡ None → (rule_by o around).ports ≡ 1 → (task (network plan) v).ports ≡ 1
-    one_port o own no_scan one = (takes plan ruled v node there (ap scan_of own ∙ no_scan)).0 ∙ ap (λ (p : Op). (rule_by p around).ports) own ∙ one
+    one_port : (o : Op) → node.op ≡ o → scan_of o ≡ None → ports_by (behaviour o around) ≡ 1 → (task (network plan) v).ports ≡ 1
+    one_port o own no_scan one = ports_taken (behaviour node.op around) (task (network plan) v) (takes plan ruled v node there (ap scan_of own ∙ no_scan)) ∙ ap (λ (p : Op). ports_by (behaviour p around)) own ∙ one
 
     -- a join's inputs are two
-    two_ports : (o : Op) → node.op ≡ o → scan_of o ≡ None → (rule_by o around).ports ≡ 2 → (task (network plan) v).ports ≡ 2
-    two_ports o own no_scan two = (takes plan ruled v node there (ap scan_of own ∙ no_scan)).0 ∙ ap (λ (p : Op). (rule_by p around).ports) own ∙ two
+    two_ports : (o : Op) → node.op ≡ o → scan_of o ≡ None → ports_by (behaviour o around) ≡ 2 → (task (network plan) v).ports ≡ 2
+    two_ports o own no_scan two = ports_taken (behaviour node.op around) (task (network plan) v) (takes plan ruled v node there (ap scan_of own ∙ no_scan)) ∙ ap (λ (p : Op). ports_by (behaviour p around)) own ∙ two
 
     second_is : (inputs : List ℕ) → length inputs ≡ 2 → columns_at plan.sources plan.nodes (slice_index_or inputs 1 0) ≡ (first_side (map (side_of plan) (other_inputs inputs))).columns
     second_is [] two = absurd (omega (arith, two))

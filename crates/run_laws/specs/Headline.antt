@@ -16,7 +16,7 @@ use Rattle.stream_model.specs.Runs.{Item, after, changes_in, AreTyped}
 use Rattle.ct_catalog.specs.Columns.{table_mode, column_types}
 use Rattle.plan_rules.specs.Doings.{network}
 use Rattle.sound_plans.specs.Sound.{IsRuled}
-use Rattle.laid_plans.specs.Answers.{Answers}
+use Rattle.plan_rules.specs.Answers.{Answers}
 use Rattle.source_lines.specs.Taken.{Taken, nothing_taken, take_records, rows_of}
 use Rattle.source_lines.specs.Run.{Ran, ended, refused, stopped, printed_by, whole_run}
 

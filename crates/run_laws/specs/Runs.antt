@@ -1,30 +1,42 @@
 -- What a run never stops by, where its plan calculates nothing.
-use Rattle.std.specs.Prelude.{◌≡◌, ℕ, ◌<◌, Bool, true, List, map, option_map}
+use Rattle.std.specs.Prelude.{◌≡◌, ℕ, ◌<◌, Bool, true, false, List}
 use Rattle.std.specs.List.{list_all}
 use Rattle.ct_value.specs.declared.row.Row.{Row}
 use Rattle.ct_value.specs.declared.ty.ColTy.{ColTy}
-use Rattle.ct_expr.specs.View.{expr_view}
-use Rattle.rel_algebra.specs.Rel.{Rel}
+use Rattle.rel_algebra.specs.Rel.{Unary, filter_by, project_on, group_by, rank_in, Binary, join_on, semi_on, Rel}
 use Rattle.range_rules.specs.Tame.{is_tame, is_tame_rel, only_counts, rest_is_tame}
 use Rattle.phys_plan.specs.declared.node.Op.{Op}
-use Rattle.phys_plan.specs.declared.node.Op.TheVariants as op
 use Rattle.phys_plan.specs.declared.plan.Plan.{Plan}
 use Rattle.stream_model.specs.declared.events.StepFault.TheVariants.{Range}
 use Rattle.stream_model.specs.declared.events.PrintItem.{PrintItem}
 use Rattle.plan_rules.specs.Doings.{network}
+use Rattle.plan_rules.specs.Roles.{Role, reads_table, one_of, two_of, all_of, same_as, not_told, role}
 use Rattle.sound_plans.specs.Sound.{IsRuled}
 use Rattle.laid_plans.specs.Inferred.{with_inferred}
 use Rattle.laid_plans.specs.Shapes.{IsLaidOut}
 use Rattle.source_lines.specs.Run.{stopped, whole_run}
 
--- an operator that calculates nothing
+-- an operator that calculates nothing, by its role
+abbrev pub is_tame_unary : Unary → Bool
+is_tame_unary (filter_by condition) = is_tame condition
+is_tame_unary (project_on items) = list_all is_tame items
+is_tame_unary (group_by keys aggs) = list_all (λ agg. only_counts agg.call) aggs
+is_tame_unary (rank_in partition order bound ranked) = true
+
+abbrev pub is_tame_binary : Binary → Bool
+is_tame_binary (join_on kind pairs rest) = rest_is_tame rest
+is_tame_binary (semi_on anti pairs rest) = rest_is_tame rest
+
+abbrev pub is_tame_role : Role → Bool
+is_tame_role (reads_table source) = true
+is_tame_role (one_of how) = is_tame_unary how
+is_tame_role (two_of how) = is_tame_binary how
+is_tame_role all_of = true
+is_tame_role same_as = true
+is_tame_role (not_told so_many) = false
+
 abbrev pub is_tame_op : Op → Bool
-is_tame_op (op.Filter cond) = is_tame (expr_view cond)
-is_tame_op (op.Project items) = list_all is_tame (map expr_view items)
-is_tame_op (op.Group keys aggs) = list_all (λ agg. only_counts agg.call) aggs
-is_tame_op (op.Join kind on rest) = rest_is_tame (option_map expr_view rest)
-is_tame_op (op.Semi anti on rest) = rest_is_tame (option_map expr_view rest)
-is_tame_op _ = true
+is_tame_op operator = is_tame_role (role operator)
 
 -- a plan of such operators
 abbrev pub is_tame_plan : Plan → Bool

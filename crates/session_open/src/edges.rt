@@ -3,7 +3,8 @@ ghost use Rattle.ct_change.specs.Changelog.{upsert};
 ghost use Rattle.plan_rules.specs.Plans.{kinds_in};
 ghost use Rattle.phys_plan.specs.Reading.{numbered, first_input};
 ghost use Rattle.ct_change.specs.declared.update.Update.TheVariants.{Absent};
-ghost use Rattle.plan_rules.specs.Doings.{after_key, mode_read, mode_told, update_in};
+ghost use Rattle.plan_rules.specs.Around.{after_key, mode_read, mode_told};
+ghost use Rattle.plan_rules.specs.Doings.{update_in};
 ghost use Rattle.session_open.specs.Modes.{mode_in};
 
 use crate::AnyMode;

@@ -9,9 +9,11 @@ ghost use Rattle.emission_rules.specs.Grouping.{group_rule, IsSound as GroupsWel
 ghost use Rattle.emission_rules.specs.Joining.{joins, matched, join_rule};
 ghost use Rattle.emission_rules.specs.Ranking.{topn_rule, IsSound as RanksWell};
 ghost use Rattle.phys_plan.specs.Reading.{numbered, first_input};
-ghost use Rattle.plan_rules.specs.Doings.{after_key, around_of, second, update_in};
+ghost use Rattle.plan_rules.specs.Around.{after_key, second};
+ghost use Rattle.plan_rules.specs.Behaviours.{behaviour, Suits};
+ghost use Rattle.plan_rules.specs.Doings.{around_of, update_in};
 ghost use Rattle.session_open.specs.Modes.{mode_in};
-ghost use Rattle.session_open.specs.Running.{IsBuilt, IsBuiltPlan, IsNew, IsOperatorOf, second_input};
+ghost use Rattle.session_open.specs.Running.{IsBuiltPlan, IsNew, IsOperatorBy, second_input};
 
 use crate::edges::{after_of, written_at};
 use crate::inputs::{Input, both_inputs, only_input};
@@ -59,7 +61,7 @@ impl PlanOperator for AnyOperator {
     }
 }
 
-// The operator of a node.
+// The operator of a node, and none where the node has no rule.
 fn operator_of(
     alloc: Global,
     plan: &Plan,
@@ -67,13 +69,12 @@ fn operator_of(
     number: u32,
     node: &Node,
 ) -> Result<Option<AnyOperator>, Memory>
-    requires built { IsBuilt node.now.op (around_of plan.now number node.now.inputs) }
+    requires suits { Suits node.now.op (around_of plan.now number node.now.inputs) }
     requires columns { get_or columns.now (first_input node.now.inputs) [] ≡ (around_of plan.now number node.now.inputs).columns }
     requires others { get_or columns.now (second_input node.now.inputs) [] ≡ (second (around_of plan.now number node.now.inputs)).columns }
-    ensures { IfOk result (λ made. IsOperatorOf ⟦<AnyOperator as Operator>⟧.rule ⟦<AnyOperator as Operator>⟧.broken ⟦<AnyOperator as Operator>⟧.stands_for node.now.op (around_of plan.now number node.now.inputs) made) }
+    ensures { IfOk result (λ made. IsOperatorBy ⟦<AnyOperator as Operator>⟧.rule ⟦<AnyOperator as Operator>⟧.broken ⟦<AnyOperator as Operator>⟧.stands_for (behaviour node.now.op (around_of plan.now number node.now.inputs)) made) }
 {
     match &node.op {
-        Op::Scan { .. } => Ok(None),
         Op::Filter { cond } => Ok(Some(filter_by(alloc, cond)?)),
         Op::Project { items } => Ok(Some(project_to(alloc, plan, &node.inputs, items)?)),
         Op::Union => Ok(Some(union_of(alloc, &node.inputs)?)),
@@ -106,7 +107,7 @@ fn operator_of(
             Ok(Some(made))
         }
         Op::Sink => Ok(Some(sink_of(alloc, plan, &node.inputs)?)),
-        _ => unreachable!(),
+        _ => Ok(None),
     }
 }
 

@@ -1,6 +1,8 @@
 ghost use Rattle.std.specs.Prelude.{◌≡◌, [], ◌++◌, IfOk, get_or, take};
 ghost use Rattle.phys_plan.specs.Reading.{first_input};
-ghost use Rattle.session_open.specs.Running.{range_types_by, second_input};
+ghost use Rattle.plan_rules.specs.Behaviours.{range_types_by, rule_of};
+ghost use Rattle.plan_rules.specs.Roles.{role};
+ghost use Rattle.session_open.specs.Running.{second_input};
 
 use crate::numbers::{first_of, second_of};
 use ct_value::{ColTys, List, Memory, Numbers};
@@ -13,7 +15,7 @@ pub(crate) fn range_types_of(
     columns: &List<ColTys>,
     node: &Node,
 ) -> Result<ColTys, Memory>
-    ensures { IfOk result (λ types. types ≡ range_types_by node.now.op (get_or columns.now (first_input node.now.inputs) []) (get_or columns.now (second_input node.now.inputs) [])) }
+    ensures { IfOk result (λ types. types ≡ range_types_by (rule_of node.now.op) (role node.now.op) (get_or columns.now (first_input node.now.inputs) []) (get_or columns.now (second_input node.now.inputs) [])) }
 {
     match &node.op {
         Op::Filter { .. } => input_types(alloc, columns, &node.inputs),

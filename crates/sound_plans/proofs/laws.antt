@@ -26,6 +26,7 @@ pub mod RowFamilies
 pub mod RowInputs
 pub mod Scans
 pub mod Seen
+pub mod SentTypes
 pub mod Sets
 pub mod Shapes
 pub mod Sinks

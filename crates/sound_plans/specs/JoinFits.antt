@@ -14,7 +14,7 @@ use Rattle.emission_rules.specs.Joining.{joins, matched}
 use Rattle.emission_rules.specs.JoinFits.{JoinFits}
 use Rattle.emission_rules.specs.TopFits.{TopNFits}
 use Rattle.plan_rules.specs.Plans.{exchange_of, meaning_by}
-use Rattle.plan_rules.specs.Doings.{joining_of, ranking_of}
+use Rattle.plan_rules.specs.Around.{joining_of, ranking_of}
 use Rattle.sound_plans.specs.Outputs.{Output, IsProper, around_by, edge_of, edges_of}
 use Rattle.sound_plans.specs.Agrees.{Agrees, IsAsked}
 

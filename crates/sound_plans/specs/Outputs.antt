@@ -13,7 +13,7 @@ use Rattle.phys_plan.specs.declared.node.KeyInfo.{KeyInfo}
 use Rattle.op_rules.specs.Edges.{meaning_of, Edge}
 use Rattle.plan_rules.specs.Plans.{exchange_of, route_by, meaning_by, no_kinds}
 use Rattle.ct_catalog.specs.Columns.{table_mode}
-use Rattle.plan_rules.specs.Doings.{Around, Side}
+use Rattle.plan_rules.specs.Around.{Around, Side}
 use Rattle.upsert_keys.specs.Seen.{seen_over}
 use Rattle.phys_plan.specs.Reading.{no_keys}
 use Rattle.upsert_keys.specs.declared.seen.Seen.{Seen}

@@ -16,7 +16,7 @@ use Rattle.emission_rules.specs.GroupFits.{GroupFits}
 use Rattle.stream_model.specs.Scans.{CarriesTable}
 use Rattle.plan_rules.specs.Plans.{table_of}
 use Rattle.ct_catalog.specs.Columns.{table_mode}
-use Rattle.plan_rules.specs.Doings.{project_of, union_of, normalize_of, grouping_of, sink_of}
+use Rattle.plan_rules.specs.Around.{project_of, union_of, normalize_of, grouping_of, sink_of}
 use Rattle.sound_plans.specs.Outputs.{Output, IsProper, around_by, edge_of, edges_of, printed_edge}
 use Rattle.sound_plans.specs.Agrees.{Agrees, NormalizeAgrees, ScanAgrees, SinkAgrees}
 

@@ -1,30 +1,23 @@
 -- Sound plans whose operators have rules, and what is known of them.
-use Rattle.std.specs.Prelude.{◌≡◌, ℕ, ◌<◌, ◌≤◌, Bool, true, false, List, length, None, Some}
+use Rattle.std.specs.Prelude.{◌≡◌, ℕ, ◌<◌, ◌≤◌, true, List, length, None, Some}
 use Rattle.ct_value.specs.declared.ty.ColTy.{ColTy}
-use Rattle.op_rules.specs.Ports.{TakesAll}
+use Rattle.ct_change.specs.Changelog.{Rows}
+use Rattle.rel_algebra.specs.Answer.{answer}
 use Rattle.phys_plan.specs.declared.node.Node.{Node}
-use Rattle.phys_plan.specs.declared.node.Op.{Op}
-use Rattle.phys_plan.specs.declared.node.Op.TheVariants as op
 use Rattle.phys_plan.specs.declared.plan.Plan.{Plan}
 use Rattle.stream_model.specs.Machine.{opened}
-use Rattle.stream_model.specs.Network.{task, IsWired, MeetsFacts}
+use Rattle.stream_model.specs.Network.{task, IsAnswer, IsWired, MeetsFacts}
 use Rattle.stream_model.specs.Runs.{Item, after, AreTyped}
 use Rattle.stream_model.specs.Theorem.{PrintsAnswer}
 use Rattle.plan_rules.specs.Plans.{scan_of}
 use Rattle.phys_plan.specs.Reading.{numbered}
 use Rattle.ct_catalog.specs.Columns.{table_mode}
 use Rattle.plan_rules.specs.Columns.{node_columns}
-use Rattle.plan_rules.specs.Doings.{around_of, rule_by, network}
+use Rattle.plan_rules.specs.Answers.{tables_with}
+use Rattle.plan_rules.specs.Behaviours.{behaviour, has_rule, TakesBy}
+use Rattle.plan_rules.specs.Doings.{around_of, network}
+use Rattle.plan_rules.specs.Erased.{erased_at}
 use Rattle.plan_check.specs.Sound.{IsSound}
-
--- so far no rule is told of these operators
-abbrev pub has_rule : Op → Bool
-has_rule (op.BatchGroup keys aggs) = false
-has_rule (op.Materialize key) = false
-has_rule (op.LocalGroup keys aggs) = false
-has_rule (op.MultiJoin on) = false
-has_rule (op.SetOp except all) = false
-has_rule _ = true
 
 pub record IsRuled (plan : Plan) : Type 0 where
   pub sound : IsSound plan
@@ -42,7 +35,11 @@ SoundNodesHaveColumns = (plan : Plan) → IsRuled plan → (v : ℕ) → 0 < v �
 
 abbrev pub SoundPortsTake : Type 0
 SoundPortsTake = (plan : Plan) → IsRuled plan → (v : ℕ) (node : Node) → numbered plan.nodes v ≡ Some node → scan_of node.op ≡ None
-    → TakesAll (rule_by node.op (around_of plan v node.inputs)) (task (network plan) v)
+    → TakesBy (behaviour node.op (around_of plan v node.inputs)) (task (network plan) v)
+
+-- each node answers as its tree does, over whatever rows the tables have
+abbrev pub SoundPlansAnswer : Type 0
+SoundPlansAnswer = (plan : Plan) → IsRuled plan → (rows : ℕ → Rows) (v : ℕ) (result : Rows) → IsAnswer (network plan) rows v result → answer (tables_with plan.sources rows) (erased_at plan v) ≡ Some result
 
 -- so of what a run printed each prefix is a valid changelog of the sink's mode, and at a quiet moment it folds to the sink's batch answer
 abbrev pub SoundPlansPrint : Type 0

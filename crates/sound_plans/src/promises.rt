@@ -1,11 +1,16 @@
 //! Each function stands for a theorem, which is its contract.
-ghost use Rattle.sound_plans.specs.Sound.{SoundPlansMeetFacts, SoundPlansPrint, SoundPortsTake};
+ghost use Rattle.sound_plans.specs.Sound.{SoundPlansAnswer, SoundPlansMeetFacts, SoundPlansPrint, SoundPortsTake};
 ghost use Rattle.sound_plans.specs.States.{SoundPlansHold};
 
 /// Each of its nodes meets its facts, in however many subtasks it runs, and each port takes what its edge carries.
 pub fn sound_plans_meet_facts()
     ensures facts { SoundPlansMeetFacts }
     ensures takes { SoundPortsTake }
+{}
+
+/// Each of its nodes answers as the node's tree does, over whatever rows the tables have.
+pub fn sound_plans_answer()
+    ensures { SoundPlansAnswer }
 {}
 
 /// In every run over a sound plan each prefix of what was printed is a valid changelog of the sink's mode, and at every quiet moment it

@@ -18,7 +18,7 @@ use Rattle.phys_plan.specs.Reading.{numbered, first_input}
 use Rattle.plan_rules.specs.Laid.{HasNode}
 use Rattle.plan_shape.specs.Shape.{is_sink, op_in, suits_consumer, suits_input, suits_plan, takes}
 use Rattle.plan_check.specs.Types.{is_typed_by, types_at, types_by}
-use Rattle.sound_plans.specs.Sound.{has_rule}
+use Rattle.plan_rules.specs.Behaviours.{has_rule}
 use Rattle.laid_plans.proofs.laws.Types.{types_made}
 
 -- ---- the first columns, made from the last and from the first

@@ -24,7 +24,7 @@ use Rattle.plan_shape.specs.Shape.{are_before, consumer, has_nodes, has_sizes, i
 use Rattle.plan_shape.specs.Tables.{are_tables, is_declarable}
 use Rattle.plan_check.specs.Sound.{inferred_of, Meets}
 use Rattle.plan_check.specs.Types.{is_typed, is_typed_by, types_at, types_by}
-use Rattle.sound_plans.specs.Sound.{has_rule}
+use Rattle.plan_rules.specs.Behaviours.{has_rule}
 use Rattle.sound_plans.proofs.laws.Lists.{both, found, the_same}
 use Rattle.sound_plans.proofs.laws.Consumers.{by_test}
 use Rattle.laid_plans.specs.Shapes.{IsLaidWell, LaidPlansHaveShape}

@@ -9,7 +9,7 @@ use Rattle.phys_plan.specs.Columns.{columns_in}
 use Rattle.plan_inferred.specs.Rules.{has_keys, has_kinds, has_old_rows, has_update, is_exchanged, says_kinds, says_update, suits_sink}
 use Rattle.plan_shape.specs.Shaped.{MeetsShape, ShapedPlansHaveShape}
 use Rattle.plan_check.specs.Sound.{inferred_of, IsSound, Meets}
-use Rattle.sound_plans.specs.Sound.{has_rule}
+use Rattle.plan_rules.specs.Behaviours.{has_rule}
 use Rattle.sound_plans.proofs.laws.Shapes as s
 use Rattle.laid_plans.specs.Inferred.{InferredPlansAreSound, with_inferred}
 use Rattle.laid_plans.proofs.laws.Columns.{typed_same}

@@ -13,7 +13,7 @@ use Rattle.plan_rules.specs.Plans.{kinds_in}
 use Rattle.phys_plan.specs.Reading.{numbered, first_input}
 use Rattle.plan_shape.specs.Shape.{are_before, has_shape, is_consumed, is_fed, is_shaped, is_sink, is_up_to, is_whole, most_bundled, most_nodes, most_subtasks, op_in, scans_by, suits_consumer, suits_input, suits_plan, takes}
 use Rattle.plan_shape.specs.Tables.{are_tables}
-use Rattle.sound_plans.specs.Sound.{has_rule}
+use Rattle.plan_rules.specs.Behaviours.{has_rule}
 use Rattle.laid_plans.proofs.laws.Given.{edges_many, given, nodes_many}
 use Rattle.laid_plans.proofs.laws.Nodes.{consumer_read, node_read, used}
 

@@ -9,19 +9,10 @@ use Rattle.ct_value.specs.declared.ty.ColTy.{ColTy}
 use Rattle.ct_change.specs.declared.kind.Declared.{Declared}
 use Rattle.ct_change.specs.declared.kind.Declared.TheVariants.{Append, Retract, Upsert}
 use Rattle.ct_catalog.specs.declared.table.TableDef.{TableDef}
-use Rattle.ct_expr.specs.declared.expr.Expr.{Expr as CodeExpr}
-use Rattle.ct_expr.specs.View.{expr_view}
 use Rattle.ct_expr.specs.Types.{both_of}
-use Rattle.rel_algebra.specs.declared.join.Pair.{Pair}
-use Rattle.rel_algebra.specs.Groups.{group_columns}
 use Rattle.rel_algebra.specs.Joins.{join_columns}
-use Rattle.rel_algebra.specs.Ranks.{rank_columns}
-use Rattle.rel_algebra.specs.Rel.{Rel, Rels, no_rels, rel_and}
-use Rattle.rel_algebra.specs.Rel as r
-use Rattle.rel_algebra.specs.Types.{columns_if, is_column, is_condition, match_fits, item_columns, common_columns, rank_fits, columns_of, common_from}
-use Rattle.emission_rules.specs.GroupFits as g
-use Rattle.emission_rules.specs.Joining.{Shape, joins, matched}
-use Rattle.emission_rules.specs.JoinFits.{left_pairs, right_pairs, columns_by as joined_columns}
+use Rattle.rel_algebra.specs.Rel.{Unary, filter_by, project_on, group_by, rank_in, Binary, join_on, semi_on, Rel, Rels, Scan, One, Two, Many, no_rels, rel_and}
+use Rattle.rel_algebra.specs.Types.{columns_if, is_column, is_condition, match_fits, item_columns, common_columns, columns_of, common_from, unary_columns, binary_columns}
 use Rattle.phys_plan.specs.declared.edge.Edge.{Edge}
 use Rattle.phys_plan.specs.declared.edge.Exchange.{Exchange}
 use Rattle.phys_plan.specs.declared.edge.Exchange.TheVariants.{Forward, Hash}
@@ -34,7 +25,8 @@ use Rattle.plan_inferred.specs.Rules.{by_columns}
 use Rattle.phys_plan.specs.Reading.{numbered}
 use Rattle.ct_catalog.specs.Columns.{column_types}
 use Rattle.plan_rules.specs.Columns.{common_with}
-use Rattle.plan_rules.specs.Laid.{IsFilter, IsProject, IsJoin, IsSemi, HasNode, CarriesAll, ScanLaid, SourceLaid, IsLaid, AreLaid}
+use Rattle.plan_rules.specs.Laid.{IsUnary, IsBinary, HasNode, CarriesAll, ScanLaid, SourceLaid, IsLaid, AreLaid}
+use Rattle.plan_rules.specs.Pieces.{unary_way, binary_way}
 use Rattle.plan_shape.specs.Shape.{is_keyed_by, is_read, is_upsert_by, normalizes_by, scans_by, suits_consumer, takes, op_in}
 use Rattle.plan_shape.specs.Tables.{is_declarable}
 use Rattle.ct_change.specs.Kinds.{is_upsert}
@@ -44,7 +36,7 @@ use Rattle.sound_plans.proofs.laws.Numbers.{below_is_not, then_parts}
 use Rattle.sound_plans.proofs.laws.Lists.{both, map_at, map_length, of_each, the_same, within}
 use Rattle.sound_plans.proofs.laws.Tables.{key_within, upsert_has_key}
 use Rattle.laid_plans.specs.Shapes.{types_of}
-use Rattle.laid_plans.proofs.laws.Laid.{both_parts, filter_is, project_is, op_by, join_is, semi_is, renamed}
+use Rattle.laid_plans.proofs.laws.Laid.{both_parts, filter_is, project_is, join_is, semi_is, renamed}
 use Rattle.laid_plans.proofs.laws.LaidNodes.{IsFed, IsInner, OpMeets, inner, same_first, types_from}
 use Rattle.laid_plans.proofs.laws.Parts.{Part, next_part, no_part, two_parts}
 
@@ -55,12 +47,6 @@ common_some types start (rel_and input inputs) columns t =
     let q = common_some types (both_of common_columns start (columns_of types input)) inputs columns t in
     let p = both_parts common_columns start (columns_of types input) q.0 q.1 in
     (p.0, p.2)
-
--- the columns of a join by its shape
-types_by_shape : (sources : List TableDef) (shape : Shape) (on : List Pair) (rest : Option CodeExpr) (left right : List ColTy)
-    → types_by sources (op_by shape on rest) (Some left ∷ (Some right ∷ [])) ≡ columns_if (match_fits left right on (option_map expr_view rest)) (joined_columns shape left right)
-types_by_shape sources (joins kind) on rest left right = refl
-types_by_shape sources (matched anti) on rest left right = refl
 
 -- numbers below a width are columns of so many
 are_columns : (columns : List ColTy) (key : List ℕ) → AllByRecursion (λ column. column < length columns) key → list_all (is_column columns) key ≡ true
@@ -148,19 +134,65 @@ module _ (plan : Plan) where
       (one_port o below (feeds_port n x below own o 0 asks t))
 
   -- with two
-  on_two : (n first second root : ℕ) (y : Exchange) (shape : Shape) (pairs : List Pair) (own : Option CodeExpr) (left right columns : List ColTy)
-      → Told n (Hash (left_pairs pairs)) first left → Told first (Hash (right_pairs pairs)) second right → columns_if (match_fits left right pairs (option_map expr_view own)) (joined_columns shape left right) ≡ Some columns
-      → root ≡ second + 1 → HasNode plan root (λ p. p ≡ op_by shape pairs own) (first ∷ (second ∷ [])) → CarriesAll plan root y → root < length plan.nodes → Told n y root columns
-  on_two n first second root y (joins kind) pairs own left right columns s t typed next has carries high =
-      let o = op_by (joins kind) pairs own in
-      inner_node n second root y o (first ∷ (second ∷ [])) columns (inner plan o refl) (two_parts plan n first second (second ∷ []) s.part t.part) next has carries high refl
-      ((λ i. types_by plan.sources o (s.columns_are i ∷ (t.columns_are i ∷ []))) ∙ types_by_shape plan.sources (joins kind) pairs own left right ∙ typed)
-      (two_ports o first second (feeds_port n (Hash (left_pairs pairs)) first left o 0 (λ width. refl) s) (feeds_port first (Hash (right_pairs pairs)) second right o 1 (λ width. refl) t))
-  on_two n first second root y (matched anti) pairs own left right columns s t typed next has carries high =
-      let o = op_by (matched anti) pairs own in
-      inner_node n second root y o (first ∷ (second ∷ [])) columns (inner plan o refl) (two_parts plan n first second (second ∷ []) s.part t.part) next has carries high refl
-      ((λ i. types_by plan.sources o (s.columns_are i ∷ (t.columns_are i ∷ []))) ∙ types_by_shape plan.sources (matched anti) pairs own left right ∙ typed)
-      (two_ports o first second (feeds_port n (Hash (left_pairs pairs)) first left o 0 (λ width. refl) s) (feeds_port first (Hash (right_pairs pairs)) second right o 1 (λ width. refl) t))
+  on_two : (n first second root : ℕ) (x y z : Exchange) (o : Op) (left right columns : List ColTy) → IsInner plan o → Told n x first left → Told first y second right
+      → ((width : ℕ) → by_columns (asked width o 0) ≡ x) → ((width : ℕ) → by_columns (asked width o 1) ≡ y) → takes o 2 ≡ true
+      → types_by plan.sources o (Some left ∷ (Some right ∷ [])) ≡ Some columns → root ≡ second + 1 → HasNode plan root (λ p. p ≡ o) (first ∷ (second ∷ [])) → CarriesAll plan root z → root < length plan.nodes → Told n z root columns
+  on_two n first second root x y z o left right columns is s t left_asks right_asks ports typed next has carries high =
+      inner_node n second root z o (first ∷ (second ∷ [])) columns is (two_parts plan n first second (second ∷ []) s.part t.part) next has carries high ports
+      ((λ i. types_by plan.sources o (s.columns_are i ∷ (t.columns_are i ∷ []))) ∙ typed)
+      (two_ports o first second (feeds_port n x first left o 0 left_asks s) (feeds_port first y second right o 1 right_asks t))
+
+  -- ---- operators
+
+  -- one with an input asks nothing of the tables, takes it by this exchange, and its columns are the tree's
+  pub record UnaryFits (how : Unary) (o : Op) : Type 0 where
+    pub is_inner : IsInner plan o
+    pub ports : takes o 1 ≡ true
+    pub asks : (width : ℕ) → by_columns (asked width o 0) ≡ (unary_way how).asks
+    pub typed : (own : List ColTy) → types_by plan.sources o (Some own ∷ []) ≡ unary_columns how own
+
+  pub unary_fits : (how : Unary) (o : Op) → IsUnary how o → UnaryFits how o
+  unary_fits (filter_by condition) o is =
+      let f = filter_is condition o is in
+      subst (λ (p : Op). UnaryFits (filter_by condition) p) (sym f.1)
+      (record { is_inner = inner plan (op.Filter f.0) refl; ports = refl; asks = λ width. refl; typed = λ own. ap (λ c. columns_if (is_condition own c) own) f.2 })
+  unary_fits (project_on items) o is =
+      let f = project_is items o is in
+      subst (λ (p : Op). UnaryFits (project_on items) p) (sym f.1) (record { is_inner = inner plan (op.Project f.0) refl; ports = refl; asks = λ width. refl; typed = λ own. ap (item_columns own) f.2 })
+  unary_fits (group_by keys aggs) o is =
+      subst (λ (p : Op). UnaryFits (group_by keys aggs) p) (sym is)
+      (record { is_inner = inner plan (op.Group keys aggs) refl; ports = refl; asks = λ width. ap (λ cols. Hash cols) (same_first keys); typed = λ own. refl })
+  unary_fits (rank_in partition order bound ranked) o is =
+      subst (λ (p : Op). UnaryFits (rank_in partition order bound ranked) p) (sym is)
+      (record { is_inner = inner plan (op.TopN partition order bound ranked) refl; ports = refl; asks = λ width. refl; typed = λ own. refl })
+
+  -- the same of one with two
+  pub record BinaryFits (how : Binary) (o : Op) : Type 0 where
+    pub is_inner : IsInner plan o
+    pub ports : takes o 2 ≡ true
+    pub left_asks : (width : ℕ) → by_columns (asked width o 0) ≡ (binary_way how).left
+    pub right_asks : (width : ℕ) → by_columns (asked width o 1) ≡ (binary_way how).right
+    pub typed : (left right : List ColTy) → types_by plan.sources o (Some left ∷ (Some right ∷ [])) ≡ binary_columns how left right
+
+  pub binary_fits : (how : Binary) (o : Op) → IsBinary how o → BinaryFits how o
+  binary_fits (join_on kind pairs rest) o is =
+      let f = join_is kind pairs rest o is in
+      subst (λ (p : Op). BinaryFits (join_on kind pairs rest) p) (sym f.1) (record {
+        is_inner = inner plan (op.Join kind pairs f.0) refl;
+        ports = refl;
+        left_asks = λ width. refl;
+        right_asks = λ width. refl;
+        typed = λ left right. ap (λ c. columns_if (match_fits left right pairs c) (join_columns kind left right)) f.2;
+      })
+  binary_fits (semi_on anti pairs rest) o is =
+      let f = semi_is anti pairs rest o is in
+      subst (λ (p : Op). BinaryFits (semi_on anti pairs rest) p) (sym f.1) (record {
+        is_inner = inner plan (op.Semi anti pairs f.0) refl;
+        ports = refl;
+        left_asks = λ width. refl;
+        right_asks = λ width. refl;
+        typed = λ left right. ap (λ c. columns_if (match_fits left right pairs c) left) f.2;
+      })
 
   -- ---- tables
 
@@ -317,23 +349,29 @@ module _ (plan : Plan) (tables : (source : ℕ) (table : TableDef) → slice_get
     -- a tree, to its root
     pub tree : (rel : Rel) (n : ℕ) (x : Exchange) (root : ℕ) → IsLaid plan n x rel root → root < length plan.nodes → has_full_unions rel ≡ true
         → (columns : List ColTy) → columns_of (types_of plan.sources) rel ≡ Some columns → Told plan n x root columns
-    tree (r.Scan source) n x root laid high full columns t = source_tree plan tables n source root x high (slice_get plan.sources source) refl laid columns t
-    tree (r.Filter input condition) n x root laid high full columns t =
-        let p = then_parts (λ c. columns_if (is_condition c condition) c) (columns_of (types_of plan.sources) input) columns t in
+    tree (Scan source) n x root laid high full columns t = source_tree plan tables n source root x high (slice_get plan.sources source) refl laid columns t
+    tree (One how input) n x root laid high full columns t =
+        let p = then_parts (unary_columns how) (columns_of (types_of plan.sources) input) columns t in
         let next = laid.2 in
         let low : laid.0 < length plan.nodes = omega arith in
-        let f = filter_is condition laid.3.node.op laid.3.is_op in
-        on_one plan n laid.0 root Forward x (op.Filter f.0) p.0 columns (inner plan (op.Filter f.0) refl) (tree input n Forward laid.0 laid.1 low full p.0 p.1) (λ width. refl) refl
-        (ap (λ c. columns_if (is_condition p.0 c) p.0) f.2 ∙ p.2) next (renamed plan root (IsFilter condition) (laid.0 ∷ []) (op.Filter f.0) laid.3 f.1) laid.4 high
-    tree (r.Project input items) n x root laid high full columns t =
-        let p = then_parts (λ c. item_columns c items) (columns_of (types_of plan.sources) input) columns t in
-        let next = laid.2 in
-        let low : laid.0 < length plan.nodes = omega arith in
-        let f = project_is items laid.3.node.op laid.3.is_op in
-        on_one plan n laid.0 root Forward x (op.Project f.0) p.0 columns (inner plan (op.Project f.0) refl) (tree input n Forward laid.0 laid.1 low full p.0 p.1) (λ width. refl) refl
-        (ap (item_columns p.0) f.2 ∙ p.2) next (renamed plan root (IsProject items) (laid.0 ∷ []) (op.Project f.0) laid.3 f.1) laid.4 high
-    tree (r.Union no_rels) n x root laid high full columns t = absurd (cc)
-    tree (r.Union (rel_and input inputs)) n x root laid high full columns t =
+        let o = laid.3.node.op in
+        let f : UnaryFits plan how o = unary_fits plan how laid.3.node.op laid.3.is_op in
+        on_one plan n laid.0 root (unary_way how).asks x o p.0 columns f.is_inner (tree input n (unary_way how).asks laid.0 laid.1 low full p.0 p.1) f.asks f.ports (f.typed p.0 ∙ p.2) next
+        (renamed plan root (IsUnary how) (laid.0 ∷ []) o laid.3 refl) laid.4 high
+    tree (Two how left right) n x root laid high full columns t =
+        let p = both_parts (binary_columns how) (columns_of (types_of plan.sources) left) (columns_of (types_of plan.sources) right) columns t in
+        let next = laid.4 in
+        let low : laid.1 < length plan.nodes = omega arith in
+        let fulls = both (has_full_unions left) (has_full_unions right) full in
+        let b = tree right laid.0 (binary_way how).right laid.1 laid.3 low fulls.1 p.1 p.3 in
+        let before = b.part.segment.grows in
+        let lower : laid.0 < length plan.nodes = omega arith in
+        let o = laid.5.node.op in
+        let f : BinaryFits plan how o = binary_fits plan how laid.5.node.op laid.5.is_op in
+        on_two plan n laid.0 laid.1 root (binary_way how).left (binary_way how).right x o p.0 p.1 columns f.is_inner (tree left n (binary_way how).left laid.0 laid.2 lower fulls.0 p.0 p.2) b
+        f.left_asks f.right_asks f.ports (f.typed p.0 p.1 ∙ p.4) next (renamed plan root (IsBinary how) (laid.0 ∷ (laid.1 ∷ [])) o laid.5 refl) laid.6 high
+    tree (Many no_rels) n x root laid high full columns t = absurd (cc)
+    tree (Many (rel_and input inputs)) n x root laid high full columns t =
         let parts = laid.2 in
         let next = laid.3 in
         let low : laid.1 < length plan.nodes = omega arith in
@@ -346,43 +384,6 @@ module _ (plan : Plan) (tables : (source : ℕ) (table : TableDef) → slice_get
         let lower : parts.0 < length plan.nodes = omega arith in
         union_tree plan n parts.0 laid.1 root x parts.1 laid.0 own.0 columns (tree input n Forward parts.0 parts.2 lower fulls.0 own.0 own.1) s parts.4
         (two_roots plan (rel_and input inputs) n laid.0 laid.1 wide.0 parts) next laid.4 laid.5 high
-    tree (r.Group input keys aggs) n x root laid high full columns t =
-        let p = then_parts (λ c. group_columns keys c aggs) (columns_of (types_of plan.sources) input) columns t in
-        let next = laid.2 in
-        let low : laid.0 < length plan.nodes = omega arith in
-        let first : Exchange = Hash (g.first_columns keys) in
-        on_one plan n laid.0 root first x (op.Group keys aggs) p.0 columns (inner plan (op.Group keys aggs) refl) (tree input n first laid.0 laid.1 low full p.0 p.1)
-        (λ width. ap (λ cols. Hash cols) (same_first keys)) refl p.2 next laid.3 laid.4 high
-    tree (r.Join left right kind pairs rest) n x root laid high full columns t =
-        let p = both_parts (λ l c. columns_if (match_fits l c pairs rest) (join_columns kind l c)) (columns_of (types_of plan.sources) left) (columns_of (types_of plan.sources) right) columns t in
-        let next = laid.4 in
-        let low : laid.1 < length plan.nodes = omega arith in
-        let fulls = both (has_full_unions left) (has_full_unions right) full in
-        let b = tree right laid.0 (Hash (right_pairs pairs)) laid.1 laid.3 low fulls.1 p.1 p.3 in
-        let before = b.part.segment.grows in
-        let lower : laid.0 < length plan.nodes = omega arith in
-        let f = join_is kind pairs rest laid.5.node.op laid.5.is_op in
-        on_two plan n laid.0 laid.1 root x (joins kind) pairs f.0 p.0 p.1 columns (tree left n (Hash (left_pairs pairs)) laid.0 laid.2 lower fulls.0 p.0 p.2) b
-        (ap (λ c. columns_if (match_fits p.0 p.1 pairs c) (join_columns kind p.0 p.1)) f.2 ∙ p.4) next
-        (renamed plan root (IsJoin kind pairs rest) (laid.0 ∷ (laid.1 ∷ [])) (op_by (joins kind) pairs f.0) laid.5 f.1) laid.6 high
-    tree (r.Semi left right anti pairs rest) n x root laid high full columns t =
-        let p = both_parts (λ l c. columns_if (match_fits l c pairs rest) l) (columns_of (types_of plan.sources) left) (columns_of (types_of plan.sources) right) columns t in
-        let next = laid.4 in
-        let low : laid.1 < length plan.nodes = omega arith in
-        let fulls = both (has_full_unions left) (has_full_unions right) full in
-        let b = tree right laid.0 (Hash (right_pairs pairs)) laid.1 laid.3 low fulls.1 p.1 p.3 in
-        let before = b.part.segment.grows in
-        let lower : laid.0 < length plan.nodes = omega arith in
-        let f = semi_is anti pairs rest laid.5.node.op laid.5.is_op in
-        on_two plan n laid.0 laid.1 root x (matched anti) pairs f.0 p.0 p.1 columns (tree left n (Hash (left_pairs pairs)) laid.0 laid.2 lower fulls.0 p.0 p.2) b
-        (ap (λ c. columns_if (match_fits p.0 p.1 pairs c) p.0) f.2 ∙ p.4) next
-        (renamed plan root (IsSemi anti pairs rest) (laid.0 ∷ (laid.1 ∷ [])) (op_by (matched anti) pairs f.0) laid.5 f.1) laid.6 high
-    tree (r.Rank input partition order bound ranked) n x root laid high full columns t =
-        let p = then_parts (λ c. columns_if (rank_fits c partition order bound) (rank_columns ranked c)) (columns_of (types_of plan.sources) input) columns t in
-        let next = laid.2 in
-        let low : laid.0 < length plan.nodes = omega arith in
-        on_one plan n laid.0 root (Hash partition) x (op.TopN partition order bound ranked) p.0 columns (inner plan (op.TopN partition order bound ranked) refl) (tree input n (Hash partition) laid.0 laid.1 low full p.0 p.1)
-        (λ width. refl) refl p.2 next laid.3 laid.4 high
 
     -- several trees, each behind the one before it
     several : (inputs : Rels) (n : ℕ) (roots : List ℕ) (last : ℕ) → AreLaid plan n inputs roots last → last < length plan.nodes → all_have_full_unions inputs ≡ true

@@ -11,7 +11,7 @@ use Rattle.phys_plan.specs.Reading.{numbered}
 use Rattle.plan_rules.specs.Columns.{numbered_columns}
 use Rattle.sound_plans.proofs.laws.Numbers.{all-map}
 use Rattle.plan_check.specs.Types.{all_types, input_columns, next_types, types_after, types_at, types_by}
-use Rattle.sound_plans.specs.Sound.{has_rule}
+use Rattle.plan_rules.specs.Behaviours.{has_rule}
 use Rattle.sound_plans.proofs.laws.Lists.{the_same}
 
 -- one item more

@@ -25,7 +25,7 @@ use Rattle.plan_inferred.specs.Rules.{brings_old_rows, has_old_rows, needs_old_r
 use Rattle.plan_shape.specs.Shape.{is_read, normalizes_by, suits_consumer}
 use Rattle.plan_shape.specs.Shaped.{MeetsShape, ShapedPlansHaveShape}
 use Rattle.ct_change.specs.Kinds.{is_upsert}
-use Rattle.sound_plans.specs.Sound.{has_rule}
+use Rattle.plan_rules.specs.Behaviours.{has_rule}
 use Rattle.sound_plans.proofs.laws.Consumers.{by_test, only_behind, taken_is}
 use Rattle.sound_plans.proofs.laws.Lists.{drop_at, found}
 use Rattle.sound_plans.proofs.laws.Modes as m

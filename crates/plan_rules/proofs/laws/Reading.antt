@@ -10,7 +10,7 @@ use Rattle.op_rules.specs.Edges.{meaning_of}
 use Rattle.ct_change.specs.declared.update.Update.{Update}
 use Rattle.ct_change.specs.declared.update.Update.TheVariants.{Absent, After, Both}
 use Rattle.plan_rules.specs.Plans.{meaning_by}
-use Rattle.plan_rules.specs.Doings.{mode_read, mode_told}
+use Rattle.plan_rules.specs.Around.{mode_read, mode_told}
 
 -- they are written as the edge means them
 pub meaning_told : (update : Update) → meaning_by update ≡ meaning_of (mode_told update)

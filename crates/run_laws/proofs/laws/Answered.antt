@@ -18,7 +18,7 @@ use Rattle.stream_model.specs.Drain.{RunsDrain}
 use Rattle.plan_rules.specs.Doings.{network}
 use Rattle.plan_rules.specs.Plans.{table_of}
 use Rattle.sound_plans.specs.Sound.{IsRuled, SoundPlansAreWired, SoundPlansMeetFacts, SoundPlansPrint}
-use Rattle.laid_plans.specs.Answers.{Answers}
+use Rattle.plan_rules.specs.Answers.{Answers}
 use Rattle.source_lines.specs.Fitting.{LinesFitColumns}
 use Rattle.source_lines.specs.Taken.{nothing_taken, rows_of, take_records}
 use Rattle.source_lines.specs.Run.{Ran, ended, refused, stopped, printed_by, whole_run}

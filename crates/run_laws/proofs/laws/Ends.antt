@@ -30,7 +30,7 @@ use Rattle.plan_rules.specs.Plans.{table_of}
 use Rattle.ct_catalog.specs.Columns.{table_mode}
 use Rattle.plan_rules.specs.Doings.{network}
 use Rattle.sound_plans.specs.Sound.{SoundPlansAreWired, SoundPlansMeetFacts, SoundPlansPrint}
-use Rattle.laid_plans.specs.Answers.{Answers, tables_with}
+use Rattle.plan_rules.specs.Answers.{Answers, tables_with}
 use Rattle.source_lines.specs.Kept.{refusal_after}
 use Rattle.source_lines.specs.Taken.{Taken, RefusedLine, nothing_taken, with_line, line_refusal, take_line, take_records, unless_refused, rows_of}
 use Rattle.source_lines.specs.Taken as l

@@ -10,7 +10,8 @@ use Rattle.phys_plan.specs.declared.node.Op.TheVariants as op
 use Rattle.phys_plan.specs.declared.node.Node.{Node}
 use Rattle.phys_plan.specs.declared.plan.Plan.{Plan}
 use Rattle.phys_plan.specs.Reading.{numbered}
-use Rattle.plan_rules.specs.Doings.{Around, filter_of, project_of, union_of, normalize_of, grouping_of, joining_of, ranking_of, sink_of, around_of, doing_by, doing_in, network}
+use Rattle.plan_rules.specs.Around.{Around, filter_of, project_of, union_of, normalize_of, grouping_of, joining_of, ranking_of, sink_of}
+use Rattle.plan_rules.specs.Doings.{around_of, doing_by, doing_in, network}
 use Rattle.sound_plans.proofs.laws.Lists.{the_same}
 use Rattle.range_rules.specs.Ranges.{StaysInRange, FiltersStayInRange, ProjectsStayInRange, UnionsStayInRange, NormalizesStayInRange, SinksStayInRange, GroupsStayInRange, JoinsStayInRange, TopNsStayInRange}
 use Rattle.run_laws.specs.Runs.{is_tame_op, is_tame_plan}

@@ -35,7 +35,8 @@ use Rattle.plan_shape.specs.Shaped.{MeetsShape}
 use Rattle.plan_shape.specs.Tables.{is_declarable}
 use Rattle.sound_plans.specs.Agrees.{Agrees, AtPorts, Carries, IsAsked, NormalizeAgrees, ScanAgrees, SinkAgrees, Suits, first_width, taken_by}
 use Rattle.sound_plans.specs.Outputs.{AreWithin, IsProper, Output, seen}
-use Rattle.sound_plans.specs.Sound.{IsRuled, has_rule}
+use Rattle.plan_rules.specs.Behaviours.{has_rule}
+use Rattle.sound_plans.specs.Sound.{IsRuled}
 use Rattle.sound_plans.proofs.laws.Lists.{both, found, map_length, not_true, same_numbers, the_same}
 use Rattle.sound_plans.specs.Promises.{Laws}
 use Rattle.sound_plans.proofs.laws.Local as l

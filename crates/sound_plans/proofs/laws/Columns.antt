@@ -14,7 +14,7 @@ use Rattle.sound_plans.proofs.laws.Numbers.{columns_made}
 use Rattle.phys_plan.specs.Columns.{columns_in}
 use Rattle.plan_check.specs.Types.{all_types, input_columns, is_typed_by, keyed_columns, next_types, types_after, types_at, types_by}
 use Rattle.plan_check.specs.Sound.{columns_or_none, sent_columns}
-use Rattle.sound_plans.specs.Sound.{has_rule}
+use Rattle.plan_rules.specs.Behaviours.{has_rule}
 use Rattle.sound_plans.proofs.laws.Lists.{the_same, map_same, of_each}
 
 -- ---- the columns of a node are made of those of its inputs

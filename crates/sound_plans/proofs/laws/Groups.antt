@@ -35,7 +35,7 @@ use Rattle.mode_infer.specs.Modes.{edge_kinds}
 use Rattle.mode_infer.specs.UpdateKeys.{group_key}
 use Rattle.mode_infer.specs.Updates.{in_full, told}
 use Rattle.plan_rules.specs.Plans.{exchange_of, route_by}
-use Rattle.plan_rules.specs.Doings.{grouping_of, mode_read, mode_told}
+use Rattle.plan_rules.specs.Around.{grouping_of, mode_read, mode_told}
 use Rattle.plan_rules.proofs.laws.Reading.{meaning_read, meaning_told}
 use Rattle.sound_plans.specs.Outputs.{Output, AreWithin, IsProper, around_by, edge_of}
 use Rattle.sound_plans.specs.Agrees.{Agrees, taken_by}

@@ -1,6 +1,6 @@
 -- The facts of a node speak of the edges at its ports alone.
-use Rattle.std.specs.Prelude.{◌≡◌, ℕ, ◌<◌, true, List, take}
-use Rattle.std.proofs.Common.{sym, subst}
+use Rattle.std.specs.Prelude.{◌≡◌, ℕ, ◌<◌, true, List, take, Option}
+use Rattle.std.proofs.Common.{sym, subst, Some, None}
 use Rattle.std.specs.List.{AllByRecursion}
 use Rattle.ct_value.specs.Bag.{copies}
 use Rattle.ct_change.specs.declared.change.Change.{Change}
@@ -10,6 +10,7 @@ use Rattle.op_rules.specs.Rules.{Rule}
 use Rattle.op_rules.specs.Edges.{Edge, ReadsAs, IsRouted, IsUnique, IsSeen}
 use Rattle.op_rules.specs.Tasks.{Task, IsReady, IsSettled, IsSplit, ComeFixed, ComeApart, Emitted, Facts}
 use Rattle.op_rules.specs.Ports.{Takes, TakesAll}
+use Rattle.plan_rules.specs.Behaviours.{Behaviour, TakesBy}
 
 module _ (task : Task) (other : ℕ → Edge) (same : (p : ℕ) → p < task.ports → other p ≡ task.input p) where
   abbrev with_other : Task
@@ -55,3 +56,7 @@ module _ (task : Task) (other : ℕ → Edge) (same : (p : ℕ) → p < task.por
 
   pub takes_of_ports : (rule : Rule) → TakesAll rule task → TakesAll rule with_other
   takes_of_ports rule t = (t.0, λ p l. subst (λ (e : Edge). Takes rule p e) (sym (same p l)) (t.1 p l))
+
+  pub takes_by_ports : (b : Option Behaviour) → TakesBy b task → TakesBy b with_other
+  takes_by_ports None t = t
+  takes_by_ports (Some b) t = takes_of_ports b.rule t

@@ -20,7 +20,7 @@ use Rattle.mode_infer.specs.Modes.{edge_kinds}
 use Rattle.mode_infer.specs.Updates.{takes}
 use Rattle.plan_inferred.specs.Rules.{by_columns}
 use Rattle.plan_rules.specs.Plans.{exchange_of, meaning_by, route_by}
-use Rattle.plan_rules.specs.Doings.{mode_read}
+use Rattle.plan_rules.specs.Around.{mode_read}
 use Rattle.plan_rules.proofs.laws.Reading.{meaning_read, of_no_updates}
 use Rattle.sound_plans.specs.Agrees.{IsAsked}
 use Rattle.sound_plans.specs.Outputs.{Output, edge_of}

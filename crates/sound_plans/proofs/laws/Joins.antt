@@ -32,7 +32,7 @@ use Rattle.mode_infer.specs.Exchanges.{asked}
 use Rattle.mode_infer.specs.Modes.{edge_kinds}
 use Rattle.mode_infer.specs.Updates.{in_full, told}
 use Rattle.plan_rules.specs.Plans.{meaning_by}
-use Rattle.plan_rules.specs.Doings.{joining_of}
+use Rattle.plan_rules.specs.Around.{joining_of}
 use Rattle.sound_plans.specs.Agrees.{Agrees, Carries, IsAsked}
 use Rattle.sound_plans.specs.Outputs.{AreWithin, IsProper, Output, around_by, edge_of, edges_of, seen}
 use Rattle.sound_plans.proofs.laws.KeyFamilies.{each_family, of_family}

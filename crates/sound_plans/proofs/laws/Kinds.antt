@@ -13,7 +13,7 @@ use Rattle.emission_rules.specs.JoinFits.{kinds_by}
 use Rattle.ct_change.specs.declared.update.Update.{Update}
 use Rattle.ct_change.specs.declared.update.Update.TheVariants.{Absent, After, Both}
 use Rattle.phys_plan.specs.declared.node.Op.{Op}
-use Rattle.plan_rules.specs.Doings.{mode_read}
+use Rattle.plan_rules.specs.Around.{mode_read}
 use Rattle.plan_rules.proofs.laws.Reading.{kinds_read, retract_admits}
 use Rattle.mode_infer.specs.Kinds.{either, inserts, join_kinds, semi_kinds, with_old}
 use Rattle.ct_change.specs.Kinds.{has_more_than_inserts}

@@ -36,7 +36,8 @@ use Rattle.plan_check.specs.Sound.{inferred_of, meets}
 use Rattle.plan_check.specs.Types.{has_types, is_typed, is_typed_by, types_at, types_by}
 use Rattle.sound_plans.specs.Agrees.{taken_by, first_width}
 use Rattle.sound_plans.specs.Outputs.{Output, seen}
-use Rattle.sound_plans.specs.Sound.{IsRuled, has_rule}
+use Rattle.plan_rules.specs.Behaviours.{has_rule}
+use Rattle.sound_plans.specs.Sound.{IsRuled}
 use Rattle.sound_plans.proofs.laws.Lists.{both, drop_at, found, is_somewhere, map_length, map_map, map_same, of_each, same_numbers, within}
 use Rattle.sound_plans.proofs.laws.Consumers.{by_test, consumer_is, only_behind, port_is, taken_is}
 use Rattle.sound_plans.specs.Promises.{Laws}

@@ -17,7 +17,7 @@ use Rattle.mode_infer.specs.Kinds.{kind_set}
 use Rattle.mode_infer.specs.Modes.{edge_kinds}
 use Rattle.mode_infer.specs.Updates.{told}
 use Rattle.plan_rules.specs.Plans.{exchange_of, meaning_by}
-use Rattle.plan_rules.specs.Doings.{mode_told, normalize_of}
+use Rattle.plan_rules.specs.Around.{mode_told, normalize_of}
 use Rattle.plan_rules.proofs.laws.Reading.{meaning_told}
 use Rattle.sound_plans.specs.Outputs.{Output, AreWithin, IsProper, around_by, edge_of}
 use Rattle.sound_plans.specs.Agrees.{IsOrdered, NormalizeAgrees}

@@ -18,7 +18,8 @@ use Rattle.mode_infer.specs.UpdateKeys.{update_keys}
 use Rattle.plan_rules.specs.Plans.{exchange_in, kinds_in, keys_in, meaning_in, no_kinds, route_by}
 use Rattle.ct_catalog.specs.Columns.{table_mode}
 use Rattle.plan_rules.specs.Columns.{columns_at}
-use Rattle.plan_rules.specs.Doings.{Around, Side, around_of, network, other_inputs, side_of, update_in}
+use Rattle.plan_rules.specs.Around.{Around, Side}
+use Rattle.plan_rules.specs.Doings.{around_of, network, other_inputs, side_of, update_in}
 use Rattle.plan_check.specs.Sound.{sent_columns}
 use Rattle.plan_check.specs.Types.{all_types}
 use Rattle.sound_plans.specs.Outputs.{Output, around_by, edge_of, others_of, printed_edge, side_of as output_side}

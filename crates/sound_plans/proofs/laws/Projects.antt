@@ -30,7 +30,7 @@ use Rattle.upsert_keys.specs.Seen.{families, seen_over}
 use Rattle.mode_infer.specs.Modes.{edge_kinds}
 use Rattle.mode_infer.specs.Updates.{is_after, in_full, told}
 use Rattle.plan_rules.specs.Plans.{exchange_of, meaning_by}
-use Rattle.plan_rules.specs.Doings.{after_key, project_of}
+use Rattle.plan_rules.specs.Around.{after_key, project_of}
 use Rattle.sound_plans.specs.Outputs.{Output, AreWithin, IsProper, around_by, edge_of}
 use Rattle.sound_plans.specs.Agrees.{Agrees, taken_by}
 use Rattle.sound_plans.specs.RowFits.{ProjectsFit}

@@ -27,7 +27,7 @@ use Rattle.plan_inferred.specs.Ways.{holds_everywhere, holds_in_answers, tells_b
 use Rattle.plan_inferred.specs.Rules.{is_direct}
 use Rattle.plan_rules.specs.Plans.{exchange_of, meaning_by}
 use Rattle.ct_catalog.specs.Columns.{table_mode}
-use Rattle.plan_rules.specs.Doings.{after_key, sink_of}
+use Rattle.plan_rules.specs.Around.{after_key, sink_of}
 use Rattle.plan_rules.proofs.laws.Reading.{retract_admits}
 use Rattle.sound_plans.specs.Outputs.{Output, AreWithin, IsProper, around_by, edge_of, printed_edge}
 use Rattle.sound_plans.specs.Agrees.{taken_by, Suits, SinkAgrees}

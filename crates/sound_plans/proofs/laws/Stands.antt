@@ -11,7 +11,6 @@ use Rattle.rel_algebra.specs.declared.join.Pair.{Pair}
 use Rattle.rel_algebra.specs.declared.sort.SortCol.{SortCol}
 use Rattle.op_rules.specs.Edges.{Edge}
 use Rattle.op_rules.specs.Tasks.{Task, Facts}
-use Rattle.op_rules.specs.Ports.{TakesAll}
 use Rattle.emission_rules.proofs.laws.Filters.{filters_stand, filters_take}
 use Rattle.emission_rules.proofs.laws.Projects.{projects_stand, projects_take}
 use Rattle.emission_rules.proofs.laws.Unions.{unions_stand, unions_take}
@@ -31,13 +30,15 @@ use Rattle.phys_plan.specs.declared.plan.Plan.{Plan}
 use Rattle.stream_model.specs.Network.{task, ScanFacts}
 use Rattle.plan_rules.specs.Plans.{inputs_in, scan_of, table_of}
 use Rattle.phys_plan.specs.Reading.{numbered}
-use Rattle.plan_rules.specs.Doings.{Around, around_of, doing_by, doing_in, filter_of, grouping_of, joining_of, network, normalize_of, project_of, ranking_of, rule_by, sink_of, union_of}
+use Rattle.plan_rules.specs.Around.{Around, filter_of, grouping_of, joining_of, normalize_of, project_of, ranking_of, sink_of, union_of}
+use Rattle.plan_rules.specs.Behaviours.{behaviour, has_rule, TakesBy}
+use Rattle.plan_rules.specs.Doings.{around_of, doing_by, doing_in, network}
 use Rattle.plan_shape.specs.Shape.{is_sink, takes as ports_of}
 use Rattle.plan_shape.specs.Shaped.{MeetsShape}
 use Rattle.sound_plans.specs.Agrees.{Agrees, NormalizeAgrees, SinkAgrees}
 use Rattle.sound_plans.specs.Outputs.{IsProper, Output, around_by, edge_of, edges_of, no_output, printed_edge}
-use Rattle.sound_plans.specs.Sound.{IsRuled, has_rule}
-use Rattle.sound_plans.proofs.laws.Inputs.{facts_of_ports, takes_of_ports}
+use Rattle.sound_plans.specs.Sound.{IsRuled}
+use Rattle.sound_plans.proofs.laws.Inputs.{facts_of_ports, takes_by_ports, takes_of_ports}
 use Rattle.sound_plans.proofs.laws.Numbers.{index_at}
 use Rattle.sound_plans.proofs.laws.Lists.{map_length, same_number}
 use Rattle.sound_plans.proofs.laws.Consumers.{by_test}
@@ -62,7 +63,7 @@ module _ (laws : Laws) (many : ℕ) (some : 0 < many) (sources : List TableDef) 
   }
 
   abbrev pub StandsBy : Op → List Output → Output → Edge → Type 0
-  StandsBy o inputs own to = Facts (task_by o (around_by sink inputs own) inputs to) × TakesAll (rule_by o (around_by sink inputs own)) (task_by o (around_by sink inputs own) inputs to)
+  StandsBy o inputs own to = Facts (task_by o (around_by sink inputs own) inputs to) × TakesBy (behaviour o (around_by sink inputs own)) (task_by o (around_by sink inputs own) inputs to)
 
   abbrev pub Works : Op → List Output → Output → Type 0
   Works o inputs own = StandsBy o inputs own (edge_of many own) × IsProper own
@@ -156,7 +157,7 @@ module _ (laws : Laws) (plan : Plan) (ruled : IsRuled plan) where
   Fits o inputs own to = StandsBy laws plan.parallelism some plan.sources plan.sink o inputs own to
 
   abbrev pub Stands : ℕ → Node → Type 0
-  Stands v node = Facts (task (network plan) v) × TakesAll (rule_by node.op (around_of plan v node.inputs)) (task (network plan) v)
+  Stands v node = Facts (task (network plan) v) × TakesBy (behaviour node.op (around_of plan v node.inputs)) (task (network plan) v)
 
   -- ---- a node as the network has it
 
@@ -209,12 +210,12 @@ module _ (laws : Laws) (plan : Plan) (ruled : IsRuled plan) where
       let other = λ (p : ℕ). edge_at (slice_index_or node.inputs p 0) in
       let told : task_told v node.op node.inputs (length (outs node.inputs)) around ≡ task_told v node.op node.inputs (length (outs node.inputs)) around = refl in
       let facts : Facts (task_told v node.op node.inputs (length (outs node.inputs)) around) = facts_of_ports t other (ports_are v node e) h.0 in
-      let takes : TakesAll (rule_by node.op around) (task_told v node.op node.inputs (length (outs node.inputs)) around) = takes_of_ports t other (ports_are v node e) (rule_by node.op around) h.1 in
+      let takes : TakesBy (behaviour node.op around) (task_told v node.op node.inputs (length (outs node.inputs)) around) = takes_by_ports t other (ports_are v node e) (behaviour node.op around) h.1 in
       let seen : around_of plan v node.inputs ≡ around = subst (λ (xs : List ℕ). around_of plan v xs ≡ around_by plan.sink (outs xs) own) (sym are) (around_is plan v first rest) in
       let many = map_length (output_at plan) node.inputs in
-      let counted = subst (λ n. Facts (task_told v node.op node.inputs n around) × TakesAll (rule_by node.op around) (task_told v node.op node.inputs n around)) many (facts, takes) in
-      let around_told = subst (λ (x : Around). Facts (task_told v node.op node.inputs (length node.inputs) x) × TakesAll (rule_by node.op x) (task_told v node.op node.inputs (length node.inputs) x)) (sym seen) counted in
-      subst (λ (o : Option Node). Facts (task_in v o) × TakesAll (rule_by node.op (around_of plan v node.inputs)) (task_in v o)) (sym e) around_told
+      let counted = subst (λ n. Facts (task_told v node.op node.inputs n around) × TakesBy (behaviour node.op around) (task_told v node.op node.inputs n around)) many (facts, takes) in
+      let around_told = subst (λ (x : Around). Facts (task_told v node.op node.inputs (length node.inputs) x) × TakesBy (behaviour node.op x) (task_told v node.op node.inputs (length node.inputs) x)) (sym seen) counted in
+      subst (λ (o : Option Node). Facts (task_in v o) × TakesBy (behaviour node.op (around_of plan v node.inputs)) (task_in v o)) (sym e) around_told
 
   -- ---- all nodes
 

@@ -17,9 +17,9 @@ use Rattle.sound_plans.proofs.laws.Scans.{scans_fit}
 use Rattle.stream_model.proofs.laws.Theorems.{plans_compose, scans_stand, printed_folds_to_answer}
 use Rattle.sound_plans.proofs.laws.States.{plans_hold}
 use Rattle.sound_plans.proofs.laws.Wiring as wiring
-use Rattle.sound_plans.specs.Sound.{SoundNodesHaveColumns, SoundPlansMeetFacts, SoundPortsTake, SoundPlansAreWired, SoundPlansPrint}
+use Rattle.sound_plans.specs.Sound.{SoundNodesHaveColumns, SoundPlansAnswer, SoundPlansMeetFacts, SoundPortsTake, SoundPlansAreWired, SoundPlansPrint}
 use Rattle.sound_plans.specs.States.{SoundPlansHold}
-use Rattle.plan_rules.proofs.laws.Theorems.{plans_are_wired}
+use Rattle.plan_rules.proofs.laws.Theorems.{plans_answer_as_erased, plans_are_wired}
 
 -- The laws of lower crates on which these stand: a plan of this shape is fed as the composition theorem asks, what is inferred of a node
 -- goes by what its inputs have, and a node with what is inferred of it fits between its edges and meets its facts.
@@ -60,6 +60,10 @@ sound_plans_meet_facts_takes = wiring.sound_ports_take nodes_fit
 -- A sound plan is wired: each port is fed by one node that stands before it, and each node but the sink feeds one port.
 pub sound_plans_are_wired : SoundPlansAreWired
 sound_plans_are_wired = wiring.sound_plans_are_wired nodes_fit plans_are_wired
+
+-- Each of its nodes answers as its tree does.
+pub sound_plans_answer : SoundPlansAnswer
+sound_plans_answer = wiring.sound_plans_answer nodes_fit plans_answer_as_erased
 
 -- In every run over a sound plan each prefix of what was printed is a valid changelog of the sink's mode, and at every quiet moment it
 -- folds to the sink's batch answer over the rows that the changes taken leave of each table.

@@ -29,7 +29,7 @@ use Rattle.upsert_keys.specs.Seen.{everywhere, families}
 use Rattle.mode_infer.specs.Kinds.{kind_set, top_kinds}
 use Rattle.ct_change.specs.Kinds.{has_more_than_inserts}
 use Rattle.mode_infer.specs.Modes.{edge_kinds}
-use Rattle.plan_rules.specs.Doings.{mode_read, mode_told, ranking_of}
+use Rattle.plan_rules.specs.Around.{mode_read, mode_told, ranking_of}
 use Rattle.plan_rules.proofs.laws.Reading.{meaning_told}
 use Rattle.sound_plans.specs.Agrees.{Agrees, IsAsked}
 use Rattle.sound_plans.specs.Outputs.{AreWithin, IsProper, Output, around_by, edge_of}

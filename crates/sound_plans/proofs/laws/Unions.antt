@@ -18,7 +18,7 @@ use Rattle.mode_infer.specs.Kinds.{either, no_kinds, plain, sent_of}
 use Rattle.mode_infer.specs.Updates.{in_full, told}
 use Rattle.plan_rules.specs.Plans.{exchange_of}
 use Rattle.plan_rules.specs.Columns.{common_of}
-use Rattle.plan_rules.specs.Doings.{union_of}
+use Rattle.plan_rules.specs.Around.{union_of}
 use Rattle.sound_plans.specs.Outputs.{Output, AreWithin, IsProper, around_by, edge_of, edges_of, no_output}
 use Rattle.sound_plans.specs.Agrees.{Agrees, AtPorts, IsAsked, taken_by}
 use Rattle.sound_plans.specs.RowFits.{UnionsFit}

@@ -16,7 +16,7 @@ use Rattle.emission_rules.specs.Changes.{mode_after}
 use Rattle.mode_infer.specs.Modes.{edge_kinds}
 use Rattle.mode_infer.specs.Updates.{in_full, told}
 use Rattle.plan_rules.specs.Plans.{meaning_by}
-use Rattle.plan_rules.specs.Doings.{after_key, mode_read}
+use Rattle.plan_rules.specs.Around.{after_key, mode_read}
 use Rattle.plan_rules.proofs.laws.Reading.{kinds_read, of_no_updates, retract_admits}
 use Rattle.sound_plans.specs.Outputs.{AreWithin}
 

@@ -5,7 +5,6 @@ use Rattle.std.proofs.lemmas.Bool.{eqb-true}
 use Rattle.ct_value.specs.declared.ty.ColTy.{ColTy}
 use Rattle.ct_change.specs.Changelog.{Mode, append, retract, upsert, has}
 use Rattle.op_rules.specs.Edges.{Edge, forward, meaning_of, IsKeyedBy}
-use Rattle.op_rules.specs.Ports.{TakesAll}
 use Rattle.op_rules.specs.Tasks.{Facts}
 use Rattle.phys_plan.specs.declared.edge.Edge.{Edge as PlanEdge}
 use Rattle.phys_plan.specs.declared.edge.Exchange.TheVariants.{Forward}
@@ -24,10 +23,13 @@ use Rattle.plan_rules.specs.Plans.{inputs_in, scan_of, scan_in, meaning_by, mean
 use Rattle.phys_plan.specs.Reading.{numbered}
 use Rattle.ct_catalog.specs.Columns.{table_mode}
 use Rattle.plan_rules.specs.Columns.{columns_at}
-use Rattle.plan_rules.specs.Doings.{Around, around_of, rule_by, doing_by, doing_in, network}
+use Rattle.plan_rules.specs.Answers.{PlansAnswerAsErased}
+use Rattle.plan_rules.proofs.laws.Behaviours.{scans_open}
+use Rattle.plan_rules.specs.Behaviours.{behaviour, TakesBy}
+use Rattle.plan_rules.specs.Doings.{around_of, doing_by, doing_in, network}
 use Rattle.plan_shape.specs.Shape.{is_sink}
 use Rattle.plan_shape.specs.Shaped.{MeetsShape}
-use Rattle.sound_plans.specs.Sound.{IsRuled, SoundPlansAreWired, SoundPlansMeetFacts, SoundNodesHaveColumns, SoundPortsTake, SoundPlansPrint}
+use Rattle.sound_plans.specs.Sound.{IsRuled, SoundPlansAreWired, SoundPlansMeetFacts, SoundNodesHaveColumns, SoundPlansAnswer, SoundPortsTake, SoundPlansPrint}
 use Rattle.sound_plans.proofs.laws.Lists.{is_somewhere, same_number, the_same}
 use Rattle.sound_plans.proofs.laws.Consumers.{by_test}
 use Rattle.sound_plans.specs.Promises.{Laws}
@@ -36,10 +38,6 @@ use Rattle.sound_plans.proofs.laws.Local as l
 use Rattle.sound_plans.proofs.laws.Shapes as s
 use Rattle.sound_plans.proofs.laws.Outputs.{edge_or, output_at, printed_is}
 use Rattle.sound_plans.proofs.laws.Stands.{IsScanNode, IsWorker, NodeStands, edge_at, node_stands, proper_inputs, sink_is}
-
-scans_open : (o : Op) (around : Around) (source j : ℕ) → scan_of o ≡ Some source → (doing_by o around).opening j ≡ []
-scans_open (op.Scan s) around source j e = refl
-scans_open _ around source j e = absurd (cc)
 
 -- the consumer of an edge is a node that has it among its inputs
 consumer_there : (v : ℕ) (nodes : List Node) (node : Node) → consumer v nodes ≡ Some node → (n : ℕ) × (slice_get nodes n ≡ Some node) × (is_input v node.inputs ≡ true)
@@ -168,10 +166,10 @@ module _ (laws : Laws) (plan : Plan) (ruled : IsRuled plan) where
     scans = λ v source t h has. scan_facts v source t (numbered plan.nodes v) refl h has;
   }
 
-  takes : (v : ℕ) (node : Node) → numbered plan.nodes v ≡ Some node → scan_of node.op ≡ None → TakesAll (rule_by node.op (around_of plan v node.inputs)) (task (network plan) v)
+  takes : (v : ℕ) (node : Node) → numbered plan.nodes v ≡ Some node → scan_of node.op ≡ None → TakesBy (behaviour node.op (around_of plan v node.inputs)) (task (network plan) v)
   takes v node e h = go (node_stands laws plan ruled v node e).works
     where
-      go : IsScanNode laws plan ruled v node ⊎ IsWorker laws plan ruled v node → TakesAll (rule_by node.op (around_of plan v node.inputs)) (task (network plan) v)
+      go : IsScanNode laws plan ruled v node ⊎ IsWorker laws plan ruled v node → TakesBy (behaviour node.op (around_of plan v node.inputs)) (task (network plan) v)
       go (inl n) = absurd (let clash : None ≡ Some n.source = sym h ∙ n.scans in cc)
       go (inr w) = w.stands.1
 
@@ -183,6 +181,10 @@ sound_plans_meet_facts laws plan ruled = meets_facts laws plan ruled
 
 pub sound_ports_take : Laws → SoundPortsTake
 sound_ports_take laws plan ruled v node e h = takes laws plan ruled v node e h
+
+pub sound_plans_answer : Laws → PlansAnswerAsErased → SoundPlansAnswer
+sound_plans_answer laws answers plan ruled rows v result a =
+    answers plan (record { shape = shape laws plan ruled; takes = λ v node e. (s.told plan (meets laws plan ruled) laws.shaped v node e).ports; rules = ruled.rules }) rows v result a
 
 pub sound_nodes_have_columns : Laws → SoundNodesHaveColumns
 sound_nodes_have_columns laws plan ruled v some most =

@@ -10,7 +10,7 @@ use Rattle.job_run.proofs.requests.run.Goals as goal
 use Rattle.job_batch.proofs.laws.Theorems.{accepted_queries_keep_their_answers}
 use Rattle.job_judgement.proofs.laws.Theorems.{accepted_is_bound}
 use Rattle.job_plan.proofs.laws.Theorems.{runnable_scripts_are_planned}
-use Rattle.laid_plans.proofs.laws.Answers.{inferred_plans_answer}
+use Rattle.laid_plans.proofs.laws.Theorems.{inferred_plans_answer}
 use Rattle.source_lines.proofs.laws.Theorems.{taken_rows_fit}
 use Rattle.sql_grammar.proofs.laws.Theorems.{text_is_script}
 use Rattle.judge.proofs.laws.DeclaredTables.{tables_are_well_declared_types}

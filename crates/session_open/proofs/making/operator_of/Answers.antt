@@ -1,4 +1,4 @@
-use Rattle.std.proofs.Common.{refl, ◌∙◌}
+use Rattle.std.proofs.Common.{◌∙◌}
 use Rattle.std.specs.Prelude.{option_map}
 use Rattle.ct_expr.specs.View.{expr_view}
 use Rattle.emission_rules.specs.Joining.{matched, join_rule}
@@ -12,20 +12,17 @@ returns-in_ok-semi_by-in-Semi c =
     let modes = c.in_ok-sides-in-Semi.ensures.modes in
     let new = c.in_ok-semi_by-in-Semi.ensures in
     let inputs = c.args.node.now.inputs in
-    rw semi.is (
-      refl,
-      record {
-        rule_is_so = new.rule_is_so
-            ∙ (λ i. join_rule (record {
-              shape = matched semi.anti;
-              on = semi.on;
-              rest = option_map expr_view semi.rest;
-              left_columns = (types.0 ∙ c.requires.columns) i;
-              right_columns = (types.1 ∙ c.requires.others) i;
-              left = modes.0 i;
-              right = (modes.1 ∙ other_mode c.args.plan.now c.args.number inputs) i;
-            }));
-        whole = new.whole;
-        stands_so = new.stands_so;
-      },
-    )
+    rw semi.is (record {
+      rule_is_so = new.rule_is_so
+          ∙ (λ i. join_rule (record {
+            shape = matched semi.anti;
+            on = semi.on;
+            rest = option_map expr_view semi.rest;
+            left_columns = (types.0 ∙ c.requires.columns) i;
+            right_columns = (types.1 ∙ c.requires.others) i;
+            left = modes.0 i;
+            right = (modes.1 ∙ other_mode c.args.plan.now c.args.number inputs) i;
+          }));
+      whole = new.whole;
+      stands_so = new.stands_so;
+    })

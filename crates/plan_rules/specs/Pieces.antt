@@ -6,8 +6,7 @@ use Rattle.ct_change.specs.declared.kind.Declared.TheVariants.{Append, Retract, 
 use Rattle.ct_change.specs.declared.kind.KindSet.{KindSet}
 use Rattle.ct_catalog.specs.declared.table.TableDef.{TableDef}
 use Rattle.ct_expr.specs.Views.{expr_of}
-use Rattle.rel_algebra.specs.Rel.{Rel, Rels, no_rels, rel_and}
-use Rattle.rel_algebra.specs.Rel as r
+use Rattle.rel_algebra.specs.Rel.{Unary, filter_by, project_on, group_by, rank_in, Binary, join_on, semi_on, Rel, Rels, Scan, One, Two, Many, no_rels, rel_and}
 use Rattle.emission_rules.specs.GroupFits.{first_columns}
 use Rattle.emission_rules.specs.JoinFits.{left_pairs, right_pairs}
 use Rattle.phys_plan.specs.declared.edge.Edge.{Edge}
@@ -20,6 +19,35 @@ use Rattle.phys_plan.specs.declared.node.Op.TheVariants as op
 use Rattle.phys_plan.specs.declared.node.Node.{Node}
 use Rattle.phys_plan.specs.declared.plan.Plan.{Plan}
 use Rattle.phys_plan.specs.Reading.{no_keys}
+
+-- ---- by operator
+
+-- an operator with one input, and the exchange that it asks of it
+pub record UnaryWay : Type 0 where
+  pub op : Op
+  pub asks : Exchange
+
+abbrev pub way : Op → Exchange → UnaryWay
+way operator asks = record { op = operator; asks = asks }
+
+abbrev pub unary_way : Unary → UnaryWay
+unary_way (filter_by condition) = way (op.Filter (expr_of condition)) Forward
+unary_way (project_on items) = way (op.Project (map expr_of items)) Forward
+unary_way (group_by keys aggs) = way (op.Group keys aggs) (Hash (first_columns keys))
+unary_way (rank_in partition order bound ranked) = way (op.TopN partition order bound ranked) (Hash partition)
+
+-- one with two, and the exchanges that it asks of both
+pub record BinaryWay : Type 0 where
+  pub op : Op
+  pub left : Exchange
+  pub right : Exchange
+
+abbrev pub way_of_both : Op → Exchange → Exchange → BinaryWay
+way_of_both operator left right = record { op = operator; left = left; right = right }
+
+abbrev pub binary_way : Binary → BinaryWay
+binary_way (join_on kind pairs rest) = way_of_both (op.Join kind pairs (option_map expr_of rest)) (Hash (left_pairs pairs)) (Hash (right_pairs pairs))
+binary_way (semi_on anti pairs rest) = way_of_both (op.Semi anti pairs (option_map expr_of rest)) (Hash (left_pairs pairs)) (Hash (right_pairs pairs))
 
 -- ---- pieces
 
@@ -50,8 +78,9 @@ scan_pieces n exchange source Retract key = full_piece (op.Scan source) [] excha
 scan_pieces n exchange source Upsert key =
     piece (op.Scan source) [] (Hash key) (kinds_of (upsert key)) (After key) ∷ full_piece (op.Normalize key) ((n + 1) ∷ []) exchange ∷ []
 
+-- one that isn't there is scanned like another: whether it is there is asked elsewhere
 abbrev pub source_pieces : ℕ → Exchange → ℕ → Option TableDef → List Piece
-source_pieces n exchange source None = []
+source_pieces n exchange source None = full_piece (op.Scan source) [] exchange ∷ []
 source_pieces n exchange source (Some table) = scan_pieces n exchange source table.mode (unwrap_or table.key [])
 
 -- pieces behind n nodes, and a node more over the last of them
@@ -66,18 +95,11 @@ topped_both n left right operator exchange =
 module _ (sources : List TableDef) where
   abbrev mutual
     pub pieces_of : ℕ → Exchange → Rel → List Piece
-    pieces_of n exchange (r.Scan source) = source_pieces n exchange source (slice_get sources source)
-    pieces_of n exchange (r.Filter input condition) = topped n (pieces_of n Forward input) (op.Filter (expr_of condition)) exchange
-    pieces_of n exchange (r.Project input items) = topped n (pieces_of n Forward input) (op.Project (map expr_of items)) exchange
-    pieces_of n exchange (r.Union inputs) = pieces_of_all n inputs ++ full_piece op.Union (roots_of n inputs) exchange ∷ []
-    pieces_of n exchange (r.Group input keys aggs) = topped n (pieces_of n (Hash (first_columns keys)) input) (op.Group keys aggs) exchange
-    pieces_of n exchange (r.Join left right kind pairs rest) =
-        topped_both n (pieces_of n (Hash (left_pairs pairs)) left) (pieces_of (n + length (pieces_of n (Hash (left_pairs pairs)) left)) (Hash (right_pairs pairs)) right)
-        (op.Join kind pairs (option_map expr_of rest)) exchange
-    pieces_of n exchange (r.Semi left right anti pairs rest) =
-        topped_both n (pieces_of n (Hash (left_pairs pairs)) left) (pieces_of (n + length (pieces_of n (Hash (left_pairs pairs)) left)) (Hash (right_pairs pairs)) right)
-        (op.Semi anti pairs (option_map expr_of rest)) exchange
-    pieces_of n exchange (r.Rank input partition order bound ranked) = topped n (pieces_of n (Hash partition) input) (op.TopN partition order bound ranked) exchange
+    pieces_of n exchange (Scan source) = source_pieces n exchange source (slice_get sources source)
+    pieces_of n exchange (One how input) = topped n (pieces_of n (unary_way how).asks input) (unary_way how).op exchange
+    pieces_of n exchange (Two how left right) =
+        topped_both n (pieces_of n (binary_way how).left left) (pieces_of (n + length (pieces_of n (binary_way how).left left)) (binary_way how).right right) (binary_way how).op exchange
+    pieces_of n exchange (Many inputs) = pieces_of_all n inputs ++ full_piece op.Union (roots_of n inputs) exchange ∷ []
 
     -- several trees behind one another
     pub pieces_of_all : ℕ → Rels → List Piece

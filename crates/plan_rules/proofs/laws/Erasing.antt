@@ -1,0 +1,183 @@
+-- The tree of the plan of a tree is that tree.
+use Rattle.std.proofs.Common.{◌≡◌, ℕ, zero, suc, ◌+◌, List, [], ◌∷◌, ◌++◌, length, map, slice_get, Option, Some, None, option_map, refl, sym, ap, subst, ◌∙◌, arith, append_assoc, append-nil, length-append}
+use Rattle.std.specs.Option.{unwrap_or}
+use Rattle.std.proofs.lemmas.List.{length-map, map-append}
+use Rattle.ct_change.specs.Changelog.{retract, upsert, kinds_of}
+use Rattle.ct_change.specs.declared.kind.Declared.{Declared}
+use Rattle.ct_change.specs.declared.kind.Declared.TheVariants.{Append, Retract, Upsert}
+use Rattle.ct_change.specs.declared.kind.KindSet.{KindSet}
+use Rattle.ct_change.specs.declared.update.Update.{Update}
+use Rattle.ct_change.specs.declared.update.Update.TheVariants.{Absent, After, Both}
+use Rattle.ct_catalog.specs.declared.table.TableDef.{TableDef}
+use Rattle.ct_expr.specs.Expr.{Expr}
+use Rattle.ct_expr.specs.View.{expr_view}
+use Rattle.ct_expr.specs.Views.{expr_of}
+use Rattle.ct_expr.proofs.laws.Seen.{seen}
+use Rattle.rel_algebra.specs.Rel.{Unary, filter_by, project_on, group_by, rank_in, Binary, join_on, semi_on, Rel, Rels, Scan, One, Two, Many, no_rels, rel_and, rels}
+use Rattle.phys_plan.specs.Reading.{at, numbered, read_up, wire, wires}
+use Rattle.phys_plan.specs.declared.edge.Exchange.{Exchange}
+use Rattle.phys_plan.specs.declared.edge.Exchange.TheVariants.{Forward, Hash}
+use Rattle.phys_plan.specs.declared.node.Op.{Op}
+use Rattle.phys_plan.specs.declared.node.Op.TheVariants as op
+use Rattle.phys_plan.proofs.laws.Reading.{read_append}
+use Rattle.plan_rules.specs.Answers.{TreesAreErased}
+use Rattle.plan_rules.specs.Pieces.{unary_way, binary_way, Piece, piece, full_piece, scan_pieces, source_pieces, topped, topped_both, pieces_of, pieces_of_all, roots_of, nodes_in, with_sink}
+use Rattle.plan_rules.specs.Roles.{nothing, role, tree_of}
+use Rattle.plan_rules.proofs.laws.Numbers.{get_at, get_more}
+
+-- ---- expressions are seen
+
+pub each_seen : (items : List Expr) → map expr_view (map expr_of items) ≡ items
+each_seen [] = refl
+each_seen (x ∷ items) = λ i. seen x i ∷ each_seen items i
+
+pub rest_seen : (rest : Option Expr) → option_map expr_view (option_map expr_of rest) ≡ rest
+rest_seen None = refl
+rest_seen (Some x) = ap Some (seen x)
+
+-- ---- by operator
+
+unary_tree : (how : Unary) (input : Rel) → tree_of (role (unary_way how).op) (input ∷ []) ≡ One how input
+unary_tree (filter_by condition) input = ap (λ c. One (filter_by c) input) (seen condition)
+unary_tree (project_on items) input = ap (λ l. One (project_on l) input) (each_seen items)
+unary_tree (group_by keys aggs) input = refl
+unary_tree (rank_in partition order bound ranked) input = refl
+
+binary_tree : (how : Binary) (left right : Rel) → tree_of (role (binary_way how).op) (left ∷ (right ∷ [])) ≡ Two how left right
+binary_tree (join_on kind pairs rest) left right = ap (λ r. Two (join_on kind pairs r) left right) (rest_seen rest)
+binary_tree (semi_on anti pairs rest) left right = ap (λ r. Two (semi_on anti pairs r) left right) (rest_seen rest)
+
+-- ---- the trees of pieces behind these trees
+
+abbrev after : List Rel → List Piece → List Rel
+after done pieces = read_up (λ w below. tree_of (role w.op) below) nothing done (wires (nodes_in pieces))
+
+after_more : (done : List Rel) (ps qs : List Piece) → after done (ps ++ qs) ≡ after (after done ps) qs
+after_more done ps qs =
+    ap (λ ns. read_up (λ w below. tree_of (role w.op) below) nothing done (wires ns)) (map-append (λ (p : Piece). p.node) ps qs)
+    ∙ ap (read_up (λ w below. tree_of (role w.op) below) nothing done) (map-append wire (nodes_in ps) (nodes_in qs))
+    ∙ read_append (λ w below. tree_of (role w.op) below) nothing done (wires (nodes_in ps)) (wires (nodes_in qs))
+
+number_more : (xs ys : List Rel) (v : ℕ) (x : Rel) → numbered xs v ≡ Some x → numbered (xs ++ ys) v ≡ Some x
+number_more xs ys zero x e = absurd (cc)
+number_more xs ys (suc v) x e = get_more xs ys v x e
+
+-- behind n trees, those of pieces go on, one for each
+record GoOn (n : ℕ) (done : List Rel) (pieces : List Piece) : Type 0 where
+  pub more : List Rel
+  pub begins : after done pieces ≡ done ++ more
+  pub many : length (after done pieces) ≡ n + length pieces
+
+-- and the last is this
+record Ends (n : ℕ) (done : List Rel) (pieces : List Piece) (rel : Rel) : Type 0 where
+  pub goes : GoOn n done pieces
+  pub root : numbered (after done pieces) (n + length pieces) ≡ Some rel
+
+-- those of pieces and of others behind them
+both_go : (n : ℕ) (done : List Rel) (ps qs : List Piece) → GoOn n done ps → GoOn (n + length ps) (after done ps) qs → GoOn n done (ps ++ qs)
+both_go n done ps qs p q = record {
+  more = p.more ++ q.more;
+  begins = after_more done ps qs ∙ q.begins ∙ ap (λ l. l ++ q.more) p.begins ∙ append_assoc done p.more q.more;
+  many = let count = ap length (after_more done ps qs) ∙ q.many in omega (arith, count, length-append ps qs);
+}
+
+-- a tree that was there stays
+stays : (n : ℕ) (done : List Rel) (ps qs : List Piece) (v : ℕ) (rel : Rel) → GoOn (n + length ps) (after done ps) qs → numbered (after done ps) v ≡ Some rel → at nothing (after done (ps ++ qs)) v ≡ rel
+stays n done ps qs v rel q e =
+    ap (λ l. at nothing l v) (after_more done ps qs ∙ q.begins) ∙ ap (λ o. unwrap_or o nothing) (number_more (after done ps) q.more v rel e)
+
+-- a node more, whose tree is this
+ends_on : (n : ℕ) (done : List Rel) (ps : List Piece) (o : Op) (inputs : List ℕ) (x : Exchange) (kinds : KindSet) (update : Update) (rel : Rel) → GoOn n done ps
+    → tree_of (role o) (map (at nothing (after done ps)) inputs) ≡ rel → Ends n done (ps ++ piece o inputs x kinds update ∷ []) rel
+ends_on n done ps o inputs x kinds update rel p e =
+    let last = piece o inputs x kinds update in
+    let trees = after done ps in
+    let is : after done (ps ++ last ∷ []) ≡ trees ++ rel ∷ [] = after_more done ps (last ∷ []) ∙ ap (λ r. trees ++ r ∷ []) e in
+    let size = length-append ps (last ∷ []) in
+    let count : length (after done (ps ++ last ∷ [])) ≡ n + length (ps ++ last ∷ []) = ap length is ∙ (let own = length-append trees (rel ∷ []) in omega (arith, own, p.many, size)) in
+    let place : n + length (ps ++ last ∷ []) ≡ suc (length trees) = omega (arith, p.many, size) in
+    record {
+      goes = record { more = p.more ++ rel ∷ []; begins = is ∙ ap (λ l. l ++ rel ∷ []) p.begins ∙ append_assoc done p.more (rel ∷ []); many = count };
+      root = (λ i. numbered (is i) (place i)) ∙ get_at trees [] rel;
+    }
+
+-- the tree at the root of pieces
+root_is : (n : ℕ) (done : List Rel) (ps : List Piece) (rel : Rel) → Ends n done ps rel → at nothing (after done ps) (n + length ps) ≡ rel
+root_is n done ps rel e = ap (λ o. unwrap_or o nothing) e.root
+
+-- over one root
+topped_ends : (n : ℕ) (done : List Rel) (ps : List Piece) (o : Op) (x : Exchange) (input rel : Rel) → Ends n done ps input → tree_of (role o) (input ∷ []) ≡ rel → Ends n done (topped n ps o x) rel
+topped_ends n done ps o x input rel p e =
+    ends_on n done ps o ((n + length ps) ∷ []) x (kinds_of retract) Both rel p.goes (ap (λ t. tree_of (role o) (t ∷ [])) (root_is n done ps input p) ∙ e)
+
+-- and over two
+both_end : (n : ℕ) (done : List Rel) (ps qs : List Piece) (o : Op) (x : Exchange) (left right rel : Rel) → Ends n done ps left → Ends (n + length ps) (after done ps) qs right
+    → tree_of (role o) (left ∷ (right ∷ [])) ≡ rel → Ends n done (topped_both n ps qs o x) rel
+both_end n done ps qs o x left right rel p q e =
+    let first : at nothing (after done (ps ++ qs)) (n + length ps) ≡ left = stays n done ps qs (n + length ps) left q.goes p.root in
+    let second : at nothing (after done (ps ++ qs)) (n + length ps + length qs) ≡ right =
+    ap (λ l. at nothing l (n + length ps + length qs)) (after_more done ps qs) ∙ root_is (n + length ps) (after done ps) qs right q in
+    ends_on n done (ps ++ qs) o ((n + length ps) ∷ ((n + length ps + length qs) ∷ [])) x (kinds_of retract) Both rel (both_go n done ps qs p.goes q.goes)
+    ((λ i. tree_of (role o) (first i ∷ (second i ∷ []))) ∙ e)
+
+-- ---- tables
+
+-- nothing more
+none_more : (n : ℕ) (done : List Rel) → length done ≡ n → GoOn n done []
+none_more n done size = record { more = []; begins = sym (append-nil done); many = (let same : length done ≡ n + 0 = omega (arith, size) in same) }
+
+scan_ends : (n : ℕ) (done : List Rel) (size : length done ≡ n) (x : Exchange) (source : ℕ) (mode : Declared) (key : List ℕ) → Ends n done (scan_pieces n x source mode key) (Scan source)
+scan_ends n done size x source Append key = ends_on n done [] (op.Scan source) [] x (kinds_of retract) Both (Scan source) (none_more n done size) refl
+scan_ends n done size x source Retract key = ends_on n done [] (op.Scan source) [] x (kinds_of retract) Both (Scan source) (none_more n done size) refl
+scan_ends n done size x source Upsert key =
+    let scan = piece (op.Scan source) [] (Hash key) (kinds_of (upsert key)) (After key) in
+    let first : Ends n done (scan ∷ []) (Scan source) = ends_on n done [] (op.Scan source) [] (Hash key) (kinds_of (upsert key)) (After key) (Scan source) (none_more n done size) refl in
+    topped_ends n done (scan ∷ []) (op.Normalize key) x (Scan source) (Scan source) first refl
+
+source_ends : (n : ℕ) (done : List Rel) (size : length done ≡ n) (x : Exchange) (source : ℕ) (table : Option TableDef) → Ends n done (source_pieces n x source table) (Scan source)
+source_ends n done size x source None = ends_on n done [] (op.Scan source) [] x (kinds_of retract) Both (Scan source) (none_more n done size) refl
+source_ends n done size x source (Some table) = scan_ends n done size x source table.mode (unwrap_or table.key [])
+
+-- ---- the tree
+
+module _ (sources : List TableDef) where
+  -- several trees behind n trees
+  record AllEnd (n : ℕ) (done : List Rel) (inputs : Rels) : Type 0 where
+    pub goes : GoOn n done (pieces_of_all sources n inputs)
+    pub trees : rels (map (at nothing (after done (pieces_of_all sources n inputs))) (roots_of sources n inputs)) ≡ inputs
+
+  mutual
+    tree_ends : (rel : Rel) (n : ℕ) (done : List Rel) → length done ≡ n → (x : Exchange) → Ends n done (pieces_of sources n x rel) rel
+    tree_ends (Scan source) n done size x = source_ends n done size x source (slice_get sources source)
+    tree_ends (One how input) n done size x =
+        topped_ends n done (pieces_of sources n (unary_way how).asks input) (unary_way how).op x input (One how input) (tree_ends input n done size (unary_way how).asks) (unary_tree how input)
+    tree_ends (Two how left right) n done size x =
+        let ps = pieces_of sources n (binary_way how).left left in
+        let qs = pieces_of sources (n + length ps) (binary_way how).right right in
+        let first : Ends n done ps left = tree_ends left n done size (binary_way how).left in
+        both_end n done ps qs (binary_way how).op x left right (Two how left right) first (tree_ends right (n + length ps) (after done ps) first.goes.many (binary_way how).right) (binary_tree how left right)
+    tree_ends (Many inputs) n done size x =
+        let all = trees_end inputs n done size in
+        ends_on n done (pieces_of_all sources n inputs) op.Union (roots_of sources n inputs) x (kinds_of retract) Both (Many inputs) all.goes (ap Many all.trees)
+
+    trees_end : (inputs : Rels) (n : ℕ) (done : List Rel) → length done ≡ n → AllEnd n done inputs
+    trees_end no_rels n done size = record { goes = none_more n done size; trees = refl }
+    trees_end (rel_and input inputs) n done size =
+        let ps = pieces_of sources n Forward input in
+        let qs = pieces_of_all sources (n + length ps) inputs in
+        let first : Ends n done ps input = tree_ends input n done size Forward in
+        let others : AllEnd (n + length ps) (after done ps) inputs = trees_end inputs (n + length ps) (after done ps) first.goes.many in
+        let own : at nothing (after done (ps ++ qs)) (n + length ps) ≡ input = stays n done ps qs (n + length ps) input others.goes first.root in
+        let rest : rels (map (at nothing (after done (ps ++ qs))) (roots_of sources (n + length ps) inputs)) ≡ inputs =
+        ap (λ l. rels (map (at nothing l) (roots_of sources (n + length ps) inputs))) (after_more done ps qs) ∙ others.trees in
+        record { goes = both_go n done ps qs first.goes others.goes; trees = λ i. rel_and (own i) (rest i) }
+
+pub trees_are_erased : TreesAreErased
+trees_are_erased sources sink parallelism rel =
+    let ps = pieces_of sources 0 Forward rel in
+    let tree : Ends 0 [] ps rel = tree_ends sources rel 0 [] refl Forward in
+    let number : length ps ≡ 0 + length ps = omega arith in
+    let root : at nothing (after [] ps) (length ps) ≡ rel = ap (at nothing (after [] ps)) number ∙ root_is 0 [] ps rel tree in
+    let whole : Ends 0 [] (with_sink ps) rel = ends_on 0 [] ps op.Sink (length ps ∷ []) Forward (kinds_of retract) Absent rel tree.goes root in
+    let count : length (nodes_in (with_sink ps)) ≡ 0 + length (with_sink ps) = length-map (with_sink ps) (λ p. p.node) ∙ (let same : length (with_sink ps) ≡ 0 + length (with_sink ps) = omega arith in same) in
+    ap (at nothing (after [] (with_sink ps))) count ∙ root_is 0 [] (with_sink ps) rel whole
