@@ -374,25 +374,25 @@ module _ (laws : Laws) (h : Holdings) where
   none_carried names ending other written rest is = inl (nothing_left written rest is)
 
   answers_at : (o : Option Request) → OfParts (AreAnswersOf o h) (with_request h o)
-  answers_at None written rest is = nothing_left written rest is
+  answers_at None = λ written rest is. nothing_left written rest is
   answers_at (Some (run names)) =
       at_name h names.script (run_script h names.changes) (OfParts (AreAnswersOf (Some (run names)) h)) (no_answers names)
       (λ text held script is. over_script h names text held script is (OfParts (AreAnswersOf (Some (run names)) h)) (no_answers names)
       (λ plan runs changes there written rest cut. inr (stream_answers h names text held script is laws plan runs changes there written rest cut)))
-  answers_at (Some (batch names first)) written rest is = tt
-  answers_at (Some (explain name)) written rest is = tt
+  answers_at (Some (batch names first)) = λ written rest is. tt
+  answers_at (Some (explain name)) = λ written rest is. tt
 
   carried_at : (o : Option Request) → OfParts (AreCarriedOf o h) (with_request h o)
-  carried_at None written rest is = nothing_left written rest is
+  carried_at None = λ written rest is. nothing_left written rest is
   carried_at (Some (run names)) =
       at_name h names.script (run_script h names.changes) (OfParts (AreCarriedOf (Some (run names)) h)) (none_carried names)
       (λ text held script is. over_script h names text held script is (OfParts (AreCarriedOf (Some (run names)) h)) (none_carried names)
       (λ plan runs changes there. stream_carried h names text held script is laws plan runs changes there))
-  carried_at (Some (batch names first)) written rest is = tt
-  carried_at (Some (explain name)) written rest is = tt
+  carried_at (Some (batch names first)) = λ written rest is. tt
+  carried_at (Some (explain name)) = λ written rest is. tt
 
   well_at : (o : Option Request) → OfWell (IsHeadlineOf o h) (with_request h o)
-  well_at None done = absurd (cc (done))
+  well_at None = λ done. absurd (cc (done))
   well_at (Some (run names)) =
       at_name h names.script (run_script h names.changes) (OfWell (HasRun names h)) (not_well (HasRun names h))
       (λ text held script is. over_script h names text held script is (OfWell (HasRun names h)) (not_well (HasRun names h))

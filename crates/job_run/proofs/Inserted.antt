@@ -80,10 +80,10 @@ pub record Found (text : List ℕ) (script : Accepted) : Type 0 where
   pub of : IsInsertOf script insert
   pub types : AreTypes (sink_types insert.sink)
 
-abbrev Reads : Type 0
+abbrev pub Reads : Type 0
 Reads = (text : List ℕ) (x : t.Script) → (s.read_text text ≡ s.answered x.statements) ↔ IsScript text x
 
-abbrev TablesHaveTypes : Type 0
+abbrev pub TablesHaveTypes : Type 0
 TablesHaveTypes = (text : List ℕ) (asked : Asked) → asked_of text ≡ Ok asked → AllByRecursion HasTypes asked.catalogue.tables
 
 -- a property of all tables is one of that which is found

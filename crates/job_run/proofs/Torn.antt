@@ -22,7 +22,7 @@ splits [] ys us vs e = inl (us, refl, e)
 splits (x ∷ xs) ys [] vs e = inr (x ∷ xs, refl, omega arith)
 splits (x ∷ xs) ys (u ∷ us) vs e = let same : x ≡ u = cc (e) in one_more x u xs ys us vs same (splits xs ys us vs (cc (e)))
 
-nothing_left : (xs ys : List ℕ) → [] ≡ xs ++ ys → xs ≡ []
+pub nothing_left : (xs ys : List ℕ) → [] ≡ xs ++ ys → xs ≡ []
 nothing_left [] ys e = refl
 nothing_left (x ∷ xs) ys e = absurd (cc (e))
 
