@@ -13,4 +13,6 @@
 
 mod promises;
 
-pub use promises::{sound_plans_answer, sound_plans_hold, sound_plans_meet_facts, sound_plans_print};
+pub use promises::{
+    sound_plans_answer, sound_plans_hold, sound_plans_meet_facts, sound_plans_print,
+};
