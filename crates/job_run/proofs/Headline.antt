@@ -38,7 +38,7 @@ use Rattle.stream_model.specs.Machine.{State}
 use Rattle.stream_model.specs.Runs.{changes_in}
 use Rattle.ct_catalog.specs.Columns.{table_mode, column_types}
 use Rattle.plan_rules.specs.Doings.{network}
-use Rattle.run_laws.specs.Headline.{AreAnswered, Carries, EndsQuiet, IsAnswered, IsCarried, RunsCarryKinds, RunsEndQuiet, RunsPrintAnswers, with_rows as rows_in}
+use Rattle.run_laws.specs.Headline.{AreAnswered, EndsQuiet, IsAnswered, RunsCarryKinds, RunsEndQuiet, RunsPrintAnswers, with_rows as rows_in}
 use Rattle.run_laws.specs.Rows.{RunsPrintRows, SinksFit, sent_columns}
 use Rattle.job_judgement.specs.Judged.{IsJudged}
 use Rattle.job_judgement.specs.Judgement.{Accepted, judgement}
@@ -52,11 +52,12 @@ use Rattle.sound_plans.specs.Sound.{IsRuled}
 use Rattle.job_plan.specs.Promises.{IsScriptPlan, RunnableScriptsArePlanned}
 use Rattle.job_plan.specs.Planned.{laid, planned, runnable}
 use Rattle.job_run.specs.Answers.{AreAnswers, AreAnswersOf, HasAnswers, HasRun, Wrote}
-use Rattle.job_run.specs.Edges.{AreCarried, AreCarriedOf, HasCarried}
+use Rattle.job_run.specs.Edges.{AreCarried, AreCarriedOf}
 use Rattle.job_run.specs.Headline.{HasAnswered, HasExplained, IsHeadline, IsHeadlineOf}
 use Rattle.job_run.specs.Held.{AreHeld}
 use Rattle.job_run.specs.Insert.{Insert, answer_of, answer_over, sources_of}
 use Rattle.job_run.specs.Outcome.{after_judgement, after_load, batch_script, explain_script, over_changes, run_script, with_request, with_script, outcome}
+use Rattle.job_run.proofs.Carried.{run_carries}
 use Rattle.job_run.proofs.Inserted.{Found, IsInsertOf, Reads, TablesHaveTypes, found}
 use Rattle.job_run.proofs.Printed.{items_of_sink}
 use Rattle.job_run.proofs.Torn.{first_part, nothing_left}
@@ -244,27 +245,18 @@ module _ (h : Holdings) (names : FileNames) (text : List ℕ) (script_held : loa
     pub stream_well : (streamed plan changes).ending ≡ e.Done → HasRun names h (streamed plan changes).bytes
     stream_well done = run_well is_found ran refl done
 
-    has_carried : (printed : List PrintItem) → Carries (network plan) most_sent printed → (written rest : List ℕ) → item_lines (sink_types plan.sink) printed ≡ written ++ rest → HasCarried names h written
-    has_carried printed carries written rest is = record {
+    pub stream_carried : (written rest : List ℕ) → (streamed plan changes).bytes ≡ written ++ rest → AreCarriedOf (Some (run names)) h written
+    stream_carried written rest is = inr (record {
       script = script;
       changes = changes;
       held = held_with changes held;
       plan = plan;
       runs = runs;
       sound = of_plan.ruled;
-      printed = printed;
       rest = rest;
-      reads = is;
-      carries = carries;
-    }
-
-    run_carried : (r : Ran) → IsCarried (network plan) most_sent r → (written rest : List ℕ) → (outcome_of (sink_types plan.sink) r).bytes ≡ written ++ rest → AreCarriedOf (Some (run names)) h written
-    run_carried (ended s) carries written rest is = inr (has_carried s.printed carries written rest is)
-    run_carried (refused line code) carries written rest is = inl (nothing_left written rest is)
-    run_carried (stopped cause printed) carries written rest is = inr (has_carried printed carries written rest is)
-
-    pub stream_carried : (written rest : List ℕ) → (streamed plan changes).bytes ≡ written ++ rest → AreCarriedOf (Some (run names)) h written
-    stream_carried written rest is = run_carried ran (laws.carries plan of_plan.ruled most_sent changes) written rest is
+      reads = sym (bytes_are (sink_types plan.sink) ran) ∙ is;
+      carried = run_carries plan of_plan.ruled changes (laws.carries plan of_plan.ruled most_sent changes);
+    })
 
   -- what holds of a run holds where nothing is run
   module _ (Q : Outcome → Type 0) (none : (ending : Ending) → (ending ≡ e.Done → ⊥) → Q (ends ending))

@@ -1,5 +1,6 @@
 pub mod Alike
 pub mod Asked
+pub mod Carried
 pub mod Headline
 pub mod InRange
 pub mod Inserted

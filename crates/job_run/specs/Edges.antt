@@ -3,18 +3,26 @@ use Rattle.std.specs.Prelude.{◌≡◌, ◌⊎◌, ℕ, List, [], ◌++◌, Opt
 use Rattle.command_line.specs.Words.{FileNames, Request, run, batch, explain, request_of}
 use Rattle.ct_io.specs.Holdings.{Holdings}
 use Rattle.phys_plan.specs.declared.plan.Plan.{Plan}
-use Rattle.stream_model.specs.declared.events.PrintItem.{PrintItem}
+use Rattle.stream_model.specs.Network.{Network}
 use Rattle.plan_rules.specs.Doings.{network}
 use Rattle.sound_plans.specs.Sound.{IsRuled}
 use Rattle.job_text.specs.Printed.{item_lines}
-use Rattle.run_laws.specs.Headline.{Carries}
+use Rattle.run_laws.specs.Headline.{Carries, CarriesKinds}
+use Rattle.source_lines.specs.Run.{Ran, ended, printed_by, refused, stopped, whole_run}
 use Rattle.job_judgement.specs.Judgement.{Accepted}
 use Rattle.job_plan.specs.Planned.{runnable}
 use Rattle.job_stream.specs.Stream.{most_sent, sink_types}
 use Rattle.job_run.specs.Held.{AreHeld}
 
--- the script's plan is sound; the machine ran it, and every edge carried only the kinds of its mode; and what is written is a first part of
--- the lines of what it printed
+-- in the state to which the machine's run over the lines came, every edge had carried only the kinds of its mode; and so it was in a state
+-- with these printed items, where the run stopped
+abbrev pub IsCarriedIn : Network → Ran → Type 0
+IsCarriedIn g (ended s) = CarriesKinds g s s.printed
+IsCarriedIn g (refused number code) = Unit {0}
+IsCarriedIn g (stopped cause printed) = Carries g most_sent printed
+
+-- the script's plan is sound; the machine ran it over the lines of the change file, and every edge carried only the kinds of its mode; and what is
+-- written is a first part of the lines of what that run printed
 pub record HasCarried (names : FileNames) (holdings : Holdings) (written : List ℕ) : Type 0 where
   pub script : Accepted
   pub changes : List ℕ
@@ -22,10 +30,9 @@ pub record HasCarried (names : FileNames) (holdings : Holdings) (written : List 
   pub plan : Plan
   pub runs : runnable script ≡ Ok plan
   pub sound : IsRuled plan
-  pub printed : List PrintItem
   pub rest : List ℕ
-  pub reads : item_lines (sink_types plan.sink) printed ≡ written ++ rest
-  pub carries : Carries (network plan) most_sent printed
+  pub reads : item_lines (sink_types plan.sink) (printed_by (whole_run (network plan) most_sent plan.sources changes)) ≡ written ++ rest
+  pub carried : IsCarriedIn (network plan) (whole_run (network plan) most_sent plan.sources changes)
 
 abbrev pub AreCarriedOf : Option Request → Holdings → List ℕ → Type 0
 AreCarriedOf (Some (run names)) holdings written = (written ≡ []) ⊎ HasCarried names holdings written
