@@ -22,6 +22,13 @@ pub(crate) enum Found<'a> {
 // None where an expression is out of range.
 pub(crate) type Meaning<'a> = Option<Found<'a>>;
 
+// A meaning with the type that its expression says of itself.
+#[derive(Drop)]
+pub(crate) struct Typed<'a> {
+    pub(crate) ty: Ty,
+    pub(crate) value: Meaning<'a>,
+}
+
 // What a CASE comes to by its branches.
 #[derive(Drop)]
 pub(crate) enum Choice<'a> {

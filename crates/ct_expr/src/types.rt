@@ -167,7 +167,7 @@ fn wider(all: Option<Ty>, ty: Ty) -> Ty
 }
 
 #[cycle(ty_of)]
-fn common_of(exprs: &Exprs) -> Ty
+pub(crate) fn common_of(exprs: &Exprs) -> Ty
     ensures { result ≡ widest (tys_of (expr_list (exprs_view exprs.now))) }
 {
     let mut all = None;
@@ -179,7 +179,7 @@ fn common_of(exprs: &Exprs) -> Ty
 
 #[cycle(ty_of)]
 #[tactic(auto, using(crate::proofs::Lists::results_more))]
-fn result_ty(whens: &Whens) -> Ty
+pub(crate) fn result_ty(whens: &Whens) -> Ty
     ensures { result ≡ widest (result_tys (when_list (whens_view whens.now))) }
 {
     let mut all = None;
@@ -190,7 +190,7 @@ fn result_ty(whens: &Whens) -> Ty
 }
 
 #[cycle(ty_of)]
-fn otherwise_ty(otherwise: &Option<Box<Expr>>, all: Ty) -> Ty
+pub(crate) fn otherwise_ty(otherwise: &Option<Box<Expr>>, all: Ty) -> Ty
     ensures { result ≡ otherwise_ty (optional_expr (option_map (λ x. expr_view x.value) otherwise.now)) all }
 {
     match otherwise {
