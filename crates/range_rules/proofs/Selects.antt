@@ -378,7 +378,7 @@ with_rank_tame false xs x ys h k l = tame_append xs ys h l
 pub first_tame : (most : ℕ) (kept : Bool) (x : RankedList) → TameList x → TameRel (first_ranked most kept x)
 first_tame most kept x h =
     projected_tame (length (rank_columns kept (types x.input.scope))) (with_rank kept x.ahead (rank_bound x.input.scope) x.behind) (r.Rank x.input.rel x.partition x.order most kept)
-    (with_rank_tame kept x.ahead (rank_bound x.input.scope) x.behind h.0 refl h.1.0) h.1.1
+    (with_rank_tame kept x.ahead (rank_bound x.input.scope) x.behind h.0 refl h.1.0) (λ i. h.1.1 i && true)
 
 unbounded_tame : (free : Bool) (x : RankedList) → TameList x → IfOk (unbounded free x) TameRel
 unbounded_tame true x h = first_tame 0 true x h

@@ -8,8 +8,7 @@ use Rattle.ct_field.specs.Fields.{longest_field}
 use Rattle.ct_expr.specs.Expr as e
 use Rattle.rel_algebra.specs.declared.agg.AggCall.{AggCall}
 use Rattle.rel_algebra.specs.declared.agg.AggCall.TheVariants as call
-use Rattle.rel_algebra.specs.Rel.{Rel, Rels, no_rels, rel_and}
-use Rattle.rel_algebra.specs.Rel as r
+use Rattle.rel_algebra.specs.Rel.{Unary, filter_by, project_on, group_by, rank_in, Binary, join_on, semi_on, Rel, Rels, Scan, One, Two, Many, no_rels, rel_and}
 
 -- a text is as short as a field's
 abbrev pub is_short : Value → Bool
@@ -64,16 +63,23 @@ abbrev pub rest_is_tame : Option e.Expr → Bool
 rest_is_tame None = true
 rest_is_tame (Some rest) = is_tame rest
 
+-- what makes rows of those of one input, and of two, calculates nothing
+abbrev pub is_tame_unary : Unary → Bool
+is_tame_unary (filter_by condition) = is_tame condition
+is_tame_unary (project_on items) = list_all is_tame items
+is_tame_unary (group_by keys aggs) = list_all (λ agg. only_counts agg.call) aggs
+is_tame_unary (rank_in partition order bound ranked) = true
+
+abbrev pub is_tame_binary : Binary → Bool
+is_tame_binary (join_on kind pairs rest) = rest_is_tame rest
+is_tame_binary (semi_on anti pairs rest) = rest_is_tame rest
+
 abbrev mutual
   pub is_tame_rel : Rel → Bool
-  is_tame_rel (r.Scan source) = true
-  is_tame_rel (r.Filter input condition) = is_tame_rel input && is_tame condition
-  is_tame_rel (r.Project input items) = is_tame_rel input && list_all is_tame items
-  is_tame_rel (r.Union inputs) = are_tame_rels inputs
-  is_tame_rel (r.Group input keys aggs) = is_tame_rel input && list_all (λ agg. only_counts agg.call) aggs
-  is_tame_rel (r.Join left right kind pairs rest) = is_tame_rel left && (is_tame_rel right && rest_is_tame rest)
-  is_tame_rel (r.Semi left right anti pairs rest) = is_tame_rel left && (is_tame_rel right && rest_is_tame rest)
-  is_tame_rel (r.Rank input partition order bound ranked) = is_tame_rel input
+  is_tame_rel (Scan source) = true
+  is_tame_rel (One how input) = is_tame_rel input && is_tame_unary how
+  is_tame_rel (Two how left right) = is_tame_rel left && (is_tame_rel right && is_tame_binary how)
+  is_tame_rel (Many inputs) = are_tame_rels inputs
 
   pub are_tame_rels : Rels → Bool
   are_tame_rels no_rels = true
