@@ -3,14 +3,11 @@ use Rattle.std.proofs.Common.{◌≡◌, ℕ, zero, suc, ◌==◌, Bool, true, f
 use Rattle.ct_value.specs.Bag.{none}
 use Rattle.ct_value.specs.declared.ty.ColTy.{ColTy}
 use Rattle.ct_expr.specs.Types.{both_of}
-use Rattle.rel_algebra.specs.Groups.{group_columns}
-use Rattle.rel_algebra.specs.Joins.{join_columns}
-use Rattle.rel_algebra.specs.Ranks.{rank_rows, rank_columns}
 use Rattle.rel_algebra.specs.Sums.{plus}
 use Rattle.rel_algebra.specs.Answer.{Table, answer, answers, types_in}
-use Rattle.rel_algebra.specs.Batch.{filter_answer, project_answer, group_answer, join_answer, semi_answer}
-use Rattle.rel_algebra.specs.Rel.{Rel, Rels, Scan, Filter, Project, Union, Group, Join, Semi, Rank, no_rels, rel_and}
-use Rattle.rel_algebra.specs.Types.{columns_of, union_columns, common_from, common_columns, columns_if, is_condition, item_columns, match_fits, rank_fits}
+use Rattle.rel_algebra.specs.Batch.{unary_answer, binary_answer}
+use Rattle.rel_algebra.specs.Rel.{Rel, Rels, Scan, One, Two, Many, no_rels, rel_and}
+use Rattle.rel_algebra.specs.Types.{columns_of, union_columns, common_from, common_columns, unary_columns, binary_columns}
 use Rattle.binding.specs.Inserts.{scans, any_scans}
 use Rattle.query_laws.proofs.Options.{map_append}
 
@@ -50,17 +47,11 @@ module _ (tables : List Table) (table : Table) where
   mutual
     pub columns_without : (rel : Rel) → scans n rel ≡ false → columns_of (types_in all) rel ≡ columns_of (types_in tables) rel
     columns_without (Scan source) e = at_source (λ t. t.columns) source e
-    columns_without (Filter input condition) e = ap (option_and_then (λ columns. columns_if (is_condition columns condition) columns)) (columns_without input e)
-    columns_without (Project input items) e = ap (option_and_then (λ columns. item_columns columns items)) (columns_without input e)
-    columns_without (Union inputs) e = union_without inputs e
-    columns_without (Group input keys aggs) e = ap (option_and_then (λ columns. group_columns keys columns aggs)) (columns_without input e)
-    columns_without (Join left right kind pairs rest) e =
+    columns_without (One how input) e = ap (option_and_then (unary_columns how)) (columns_without input e)
+    columns_without (Two how left right) e =
         let p = none_of (scans n left) (scans n right) e in
-        λ i. both_of (λ l r. columns_if (match_fits l r pairs rest) (join_columns kind l r)) (columns_without left p.0 i) (columns_without right p.1 i)
-    columns_without (Semi left right anti pairs rest) e =
-        let p = none_of (scans n left) (scans n right) e in
-        λ i. both_of (λ l r. columns_if (match_fits l r pairs rest) l) (columns_without left p.0 i) (columns_without right p.1 i)
-    columns_without (Rank input partition order bound ranked) e = ap (option_and_then (λ columns. columns_if (rank_fits columns partition order bound) (rank_columns ranked columns))) (columns_without input e)
+        λ i. both_of (binary_columns how) (columns_without left p.0 i) (columns_without right p.1 i)
+    columns_without (Many inputs) e = union_without inputs e
 
     union_without : (inputs : Rels) → any_scans n inputs ≡ false → union_columns (types_in all) inputs ≡ union_columns (types_in tables) inputs
     union_without no_rels e = refl
@@ -80,17 +71,11 @@ module _ (tables : List Table) (table : Table) where
   mutual
     pub answer_without : (rel : Rel) → scans n rel ≡ false → answer all rel ≡ answer tables rel
     answer_without (Scan source) e = ap (λ o. Some (unwrap_or o none)) (at_source (λ t. t.rows) source e)
-    answer_without (Filter input condition) e = ap (option_and_then (filter_answer condition)) (answer_without input e)
-    answer_without (Project input items) e = ap (option_and_then (project_answer items)) (answer_without input e)
-    answer_without (Union inputs) e = answers_without inputs e
-    answer_without (Group input keys aggs) e = λ i. option_and_then (group_answer (in_without input e i) keys aggs) (answer_without input e i)
-    answer_without (Join left right kind pairs rest) e =
+    answer_without (One how input) e = λ i. option_and_then (unary_answer how (in_without input e i)) (answer_without input e i)
+    answer_without (Two how left right) e =
         let p = none_of (scans n left) (scans n right) e in
-        λ i. both_of (join_answer (in_without left p.0 i) (in_without right p.1 i) kind pairs rest) (answer_without left p.0 i) (answer_without right p.1 i)
-    answer_without (Semi left right anti pairs rest) e =
-        let p = none_of (scans n left) (scans n right) e in
-        λ i. both_of (semi_answer anti pairs rest) (answer_without left p.0 i) (answer_without right p.1 i)
-    answer_without (Rank input partition order bound ranked) e = ap (option_and_then (rank_rows partition order bound ranked)) (answer_without input e)
+        λ i. both_of (binary_answer how (in_without left p.0 i) (in_without right p.1 i)) (answer_without left p.0 i) (answer_without right p.1 i)
+    answer_without (Many inputs) e = answers_without inputs e
 
     answers_without : (inputs : Rels) → any_scans n inputs ≡ false → answers all inputs ≡ answers tables inputs
     answers_without no_rels e = refl

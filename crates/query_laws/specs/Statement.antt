@@ -1,11 +1,12 @@
 -- What the theorem speaks of: the tables of a query as the algebra sees them, and trees whose unions have two inputs or more.
-use Rattle.std.specs.Prelude.{◌≡◌, Bool, true, false, ◌&&◌, ◌||◌, List, [], ◌∷◌, ◌++◌, map, length}
+use Rattle.std.specs.Prelude.{◌≡◌, Bool, false, List, [], ◌∷◌, ◌++◌, map, length}
 use Rattle.std.specs.Option.{unwrap_or}
 use Rattle.ct_value.specs.declared.ty.ColTy.{ColTy}
 use Rattle.ct_expr.specs.Expr.{Expr}
 use Rattle.rel_algebra.specs.Answer.{Table, AreTyped, answer}
-use Rattle.rel_algebra.specs.Rel.{Rel, Rels, Scan, Filter, Project, Union, Group, Join, Semi, Rank, no_rels, rel_and}
+use Rattle.rel_algebra.specs.Rel.{Rel, Rels, Project}
 use Rattle.rel_algebra.specs.Types.{columns_of}
+use Rattle.rel_algebra.specs.Walks.{some_part, some_part_of_any}
 use Rattle.ct_catalog.specs.declared.table.TableDef.{TableDef}
 use Rattle.ct_change.specs.Changelog.{Rows}
 use Rattle.sql_syntax.specs.Tree.{Query}
@@ -24,21 +25,16 @@ tables_of tables = map table_of tables
 abbrev pub is_idle : List (List ColTy) → Rel → List Expr → Bool
 is_idle types input items = is_in_place 0 (length (unwrap_or (columns_of types input) [])) items
 
-abbrev mutual
-  -- some Project is such
-  pub has_idle_project : List (List ColTy) → Rel → Bool
-  has_idle_project types (Scan source) = false
-  has_idle_project types (Filter input condition) = has_idle_project types input
-  has_idle_project types (Project input items) = is_idle types input items || has_idle_project types input
-  has_idle_project types (Union inputs) = any_has_idle_project types inputs
-  has_idle_project types (Group input keys aggs) = has_idle_project types input
-  has_idle_project types (Join left right kind pairs rest) = has_idle_project types left || has_idle_project types right
-  has_idle_project types (Semi left right anti pairs rest) = has_idle_project types left || has_idle_project types right
-  has_idle_project types (Rank input partition order bound ranked) = has_idle_project types input
+abbrev pub is_idle_project : List (List ColTy) → Rel → Bool
+is_idle_project types (Project input items) = is_idle types input items
+is_idle_project types _ = false
 
-  pub any_has_idle_project : List (List ColTy) → Rels → Bool
-  any_has_idle_project types no_rels = false
-  any_has_idle_project types (rel_and input inputs) = has_idle_project types input || any_has_idle_project types inputs
+-- some Project is such
+abbrev pub has_idle_project : List (List ColTy) → Rel → Bool
+has_idle_project types = some_part (is_idle_project types)
+
+abbrev pub any_has_idle_project : List (List ColTy) → Rels → Bool
+any_has_idle_project types = some_part_of_any (is_idle_project types)
 
 -- the declarations alone
 abbrev pub declared : List TableRows → List TableDef
