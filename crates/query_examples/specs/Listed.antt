@@ -23,7 +23,7 @@ use Rattle.rel_algebra.specs.Aggregates.{count_value, in_type, sum_type, average
 use Rattle.rel_algebra.specs.Clauses.{collect, holds, row_of}
 use Rattle.rel_algebra.specs.Joins.{Matching, turned, apart_if, matching, nulls, keeps_left, keeps_right}
 use Rattle.rel_algebra.specs.Ranks.{rank_cmp, ranked_from, shown}
-use Rattle.rel_algebra.specs.Rel.{Rel, Rels, Scan, Filter, Project, Union, Group, Join, Semi, Rank, no_rels, rel_and}
+use Rattle.rel_algebra.specs.Rel.{Unary, filter_by, project_on, group_by, rank_in, Binary, join_on, semi_on, Rel, Rels, Scan, One, Two, Many, no_rels, rel_and}
 use Rattle.rel_algebra.specs.Answer.{Table}
 use Rattle.rel_algebra.specs.Types.{columns_of}
 
@@ -135,6 +135,17 @@ listed_rows [] source = []
 listed_rows (table ∷ tables) zero = table.rows
 listed_rows (table ∷ tables) (suc source) = listed_rows tables source
 
+-- those of a node with one input, and with two, over the columns of the inputs
+abbrev pub list_unary : Unary → List ColTy → List Row → Option (List Row)
+list_unary (filter_by condition) columns = list_where (holds (eval condition))
+list_unary (project_on items) columns = list_sum (λ row. option_map (λ made. made ∷ []) (row_of (map eval items) row))
+list_unary (group_by keys aggs) columns = list_group keys (list_results columns aggs)
+list_unary (rank_in partition order bound ranked) columns = list_rank partition order bound ranked
+
+abbrev pub list_binary : Binary → List ColTy → List ColTy → List Row → List Row → Option (List Row)
+list_binary (join_on kind pairs rest) l r = list_join kind (length l) (length r) (matching pairs (option_map eval rest))
+list_binary (semi_on anti pairs rest) l r = list_semi_join anti (matching pairs (option_map eval rest))
+
 module _ (tables : List ListedTable) where
   abbrev pub listed_columns : Rel → List ColTy
   listed_columns rel = unwrap_or (columns_of (map (λ table. table.columns) tables) rel) []
@@ -142,13 +153,9 @@ module _ (tables : List ListedTable) where
   abbrev mutual
     pub listed : Rel → Option (List Row)
     listed (Scan source) = Some (listed_rows tables source)
-    listed (Filter input condition) = option_and_then (list_where (holds (eval condition))) (listed input)
-    listed (Project input items) = option_and_then (list_sum (λ row. option_map (λ made. made ∷ []) (row_of (map eval items) row))) (listed input)
-    listed (Union inputs) = listed_all inputs
-    listed (Group input keys aggs) = option_and_then (list_group keys (list_results (listed_columns input) aggs)) (listed input)
-    listed (Join left right kind pairs rest) = both_of (list_join kind (length (listed_columns left)) (length (listed_columns right)) (matching pairs (option_map eval rest))) (listed left) (listed right)
-    listed (Semi left right anti pairs rest) = both_of (list_semi_join anti (matching pairs (option_map eval rest))) (listed left) (listed right)
-    listed (Rank input partition order bound ranked) = option_and_then (list_rank partition order bound ranked) (listed input)
+    listed (One how input) = option_and_then (list_unary how (listed_columns input)) (listed input)
+    listed (Two how left right) = both_of (list_binary how (listed_columns left) (listed_columns right)) (listed left) (listed right)
+    listed (Many inputs) = listed_all inputs
 
     pub listed_all : Rels → Option (List Row)
     listed_all no_rels = Some []

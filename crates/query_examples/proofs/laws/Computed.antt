@@ -25,7 +25,7 @@ use Rattle.rel_algebra.specs.declared.join.JoinKind.{JoinKind}
 use Rattle.rel_algebra.specs.declared.sort.SortCol.{SortCol}
 use Rattle.rel_algebra.specs.Sums.{gather, one, kept, together, plus, add_where, restrict, distinct, mapped, sum_over}
 use Rattle.rel_algebra.specs.Aggregates.{size, known, sum_of, agg_value, argument, passes, agg_result, agg_results, count_value, type_in, ty_or_bigint, in_type, sum_type, unless_none, average, first_value, last_value}
-use Rattle.rel_algebra.specs.Clauses.{collect, holds, row_of, rows_where, project_rows}
+use Rattle.rel_algebra.specs.Clauses.{collect, holds, row_of, rows_where}
 use Rattle.rel_algebra.specs.Groups.{group_rows}
 use Rattle.rel_algebra.specs.Joins.{Matching, turned, inner_join, has_match, apart_if, semi_join, padded_if, matching, nulls, keeps_left, keeps_right, join_rows}
 use Rattle.rel_algebra.specs.Keys.{by_key}
@@ -33,11 +33,12 @@ use Rattle.rel_algebra.specs.Ranks.{rank_cmp, first_rows, rank_rows, ranked_from
 use Rattle.rel_algebra.proofs.laws.Ranks.{rank_total, rank_exact}
 use Rattle.rel_algebra.proofs.laws.Aggregates.{sum_of-none, sum_of-add}
 use Rattle.rel_algebra.proofs.laws.Bags.{together-none, together-add, sum_over-none, sum_over-add, restrict-none, restrict-add, mapped-none, mapped-add, copies-distinct, distinct_from}
-use Rattle.rel_algebra.specs.Rel.{Rel, Rels, Scan, Filter, Project, Union, Group, Join, Semi, Rank, no_rels, rel_and}
+use Rattle.rel_algebra.specs.Rel.{Unary, filter_by, project_on, group_by, rank_in, Binary, join_on, semi_on, Rel, Rels, Scan, One, Two, Many, no_rels, rel_and}
+use Rattle.rel_algebra.specs.Batch.{unary_answer, binary_answer}
 use Rattle.rel_algebra.specs.Types.{columns_of}
 use Rattle.rel_algebra.specs.Answer.{types_in, rows_in, columns_in, answer, answers}
 use Rattle.query_examples.specs.Relations.{examples}
-use Rattle.query_examples.specs.Listed.{sorted, each_once, appended, list_sum, kept_list, list_where, list_inner_join, list_has_match, list_semi_join, list_padded_if, list_join, list_by_key, list_known, list_size, list_sum_of, list_unless_none, list_agg_value, list_result, list_results, list_group, list_first_rows, list_rank, ListedTable, table_of, listed_rows, listed_columns, listed, listed_all}
+use Rattle.query_examples.specs.Listed.{sorted, each_once, appended, list_sum, kept_list, list_where, list_inner_join, list_has_match, list_semi_join, list_padded_if, list_join, list_by_key, list_known, list_size, list_sum_of, list_unless_none, list_agg_value, list_result, list_results, list_group, list_first_rows, list_rank, list_unary, list_binary, ListedTable, table_of, listed_rows, listed_columns, listed, listed_all}
 
 -- ---- bags of lists
 
@@ -217,6 +218,16 @@ both-listed f g same None p = refl
 both-listed f g same (Some xs) None = refl
 both-listed f g same (Some xs) (Some ys) = same xs ys
 
+unary-listed : (how : Unary) (columns : List ColTy) (xs : List Row) → unary_answer how columns (bag_of xs) ≡ option_map bag_of (list_unary how columns xs)
+unary-listed (filter_by condition) columns xs = where-listed (holds (eval condition)) (holds (eval condition)) (λ row. refl) xs
+unary-listed (project_on items) columns xs = sum_over-bag_of row_total row_exact row_total row_exact _ _ (λ row. all-listed (row_of (map eval items) row)) xs
+unary-listed (group_by keys aggs) columns xs = group-listed keys columns aggs xs
+unary-listed (rank_in partition order bound ranked) columns xs = rank-listed partition order bound ranked xs
+
+binary-listed : (how : Binary) (l r : List ColTy) (xs ys : List Row) → binary_answer how l r (bag_of xs) (bag_of ys) ≡ option_map bag_of (list_binary how l r xs ys)
+binary-listed (join_on kind pairs rest) l r xs ys = join-listed kind (length l) (length r) (matching pairs (option_map eval rest)) xs ys
+binary-listed (semi_on anti pairs rest) l r xs ys = semi-listed anti (matching pairs (option_map eval rest)) xs ys
+
 module _ (tables : List ListedTable) where
   columns-listed : (rel : Rel) → columns_in (map table_of tables) rel ≡ listed_columns tables rel
   columns-listed rel = ap (λ ts. unwrap_or (columns_of ts rel) []) (types-listed tables)
@@ -224,27 +235,14 @@ module _ (tables : List ListedTable) where
   mutual
     pub answer-listed : (rel : Rel) → answer (map table_of tables) rel ≡ option_map bag_of (listed tables rel)
     answer-listed (Scan source) = ap Some (scan-listed tables source)
-    answer-listed (Filter input condition) =
-        ap (option_and_then (rows_where (holds (eval condition)))) (answer-listed input)
-        ∙ then-listed (rows_where (holds (eval condition))) (list_where (holds (eval condition))) (where-listed (holds (eval condition)) (holds (eval condition)) (λ row. refl)) (listed tables input)
-    answer-listed (Project input items) =
-        ap (option_and_then (project_rows (map eval items))) (answer-listed input)
-        ∙ then-listed (project_rows (map eval items)) (list_sum (λ row. option_map (λ made. made ∷ []) (row_of (map eval items) row)))
-        (sum_over-bag_of row_total row_exact row_total row_exact _ _ (λ row. all-listed (row_of (map eval items) row))) (listed tables input)
-    answer-listed (Union inputs) = answers-listed inputs
-    answer-listed (Group input keys aggs) =
-        (λ i. option_and_then (group_rows keys (agg_results (columns-listed input i) aggs)) (answer-listed input i))
-        ∙ then-listed (group_rows keys (agg_results (listed_columns tables input) aggs)) (list_group keys (list_results (listed_columns tables input) aggs)) (group-listed keys (listed_columns tables input) aggs) (listed tables input)
-    answer-listed (Join left right kind pairs rest) =
-        (λ i. both_of (join_rows kind (length (columns-listed left i)) (length (columns-listed right i)) (matching pairs (option_map eval rest))) (answer-listed left i) (answer-listed right i))
-        ∙ both-listed _ (list_join kind (length (listed_columns tables left)) (length (listed_columns tables right)) (matching pairs (option_map eval rest)))
-        (join-listed kind (length (listed_columns tables left)) (length (listed_columns tables right)) (matching pairs (option_map eval rest))) (listed tables left) (listed tables right)
-    answer-listed (Semi left right anti pairs rest) =
-        (λ i. both_of (semi_join anti (matching pairs (option_map eval rest))) (answer-listed left i) (answer-listed right i))
-        ∙ both-listed _ (list_semi_join anti (matching pairs (option_map eval rest))) (semi-listed anti (matching pairs (option_map eval rest))) (listed tables left) (listed tables right)
-    answer-listed (Rank input partition order bound ranked) =
-        ap (option_and_then (rank_rows partition order bound ranked)) (answer-listed input)
-        ∙ then-listed (rank_rows partition order bound ranked) (list_rank partition order bound ranked) (rank-listed partition order bound ranked) (listed tables input)
+    answer-listed (One how input) =
+        (λ i. option_and_then (unary_answer how (columns-listed input i)) (answer-listed input i))
+        ∙ then-listed (unary_answer how (listed_columns tables input)) (list_unary how (listed_columns tables input)) (unary-listed how (listed_columns tables input)) (listed tables input)
+    answer-listed (Two how left right) =
+        (λ i. both_of (binary_answer how (columns-listed left i) (columns-listed right i)) (answer-listed left i) (answer-listed right i))
+        ∙ both-listed (binary_answer how (listed_columns tables left) (listed_columns tables right)) (list_binary how (listed_columns tables left) (listed_columns tables right))
+        (binary-listed how (listed_columns tables left) (listed_columns tables right)) (listed tables left) (listed tables right)
+    answer-listed (Many inputs) = answers-listed inputs
 
     answers-listed : (inputs : Rels) → answers (map table_of tables) inputs ≡ option_map bag_of (listed_all tables inputs)
     answers-listed no_rels = refl
