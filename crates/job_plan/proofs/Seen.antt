@@ -27,7 +27,7 @@ use Rattle.plan_rules.specs.Around.{Around, filter_of, project_of, joining_of}
 use Rattle.plan_rules.specs.Behaviours.{behaviour_by, doing_of, rule_of}
 use Rattle.plan_rules.specs.Doings.{doing_by, update_in, other_inputs, around_of, doing_in, network}
 use Rattle.plan_rules.specs.Roles.{one_of, two_of, role}
-use Rattle.planner.specs.Seen.{op_as_seen, node_as_seen, plan_as_seen}
+use Rattle.laid_plans.specs.Seen.{op_as_seen, node_as_seen, plan_as_seen}
 
 exprs_seen : (items : List Expr) → map expr_view (map as_seen items) ≡ map expr_view items
 exprs_seen [] = refl

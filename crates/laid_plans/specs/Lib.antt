@@ -1,3 +1,4 @@
 pub mod Erased
 pub mod Inferred
+pub mod Seen
 pub mod Shapes

@@ -1,5 +1,5 @@
 -- The pieces of a tree, wherever they stand in a plan, are the tree laid.
-use Rattle.std.specs.Prelude.{◌≡◌, ℕ, ◌+◌, ◌||◌, List, ◌++◌, Bool, is_none, length, map, slice_get, Option, option_map, unwrap_or}
+use Rattle.std.specs.Prelude.{◌≡◌, ℕ, ◌+◌, ◌||◌, List, ◌++◌, Bool, is_none, length, slice_get, Option, unwrap_or}
 use Rattle.std.proofs.Common.{suc, true, false, [], ◌∷◌, refl, ap, subst, ◌∙◌, arith, Some, None, length-append}
 use Rattle.std.proofs.lemmas.List.{length-map}
 use Rattle.ct_change.specs.Changelog.{retract, upsert, kinds_of}
@@ -7,14 +7,7 @@ use Rattle.ct_change.specs.declared.kind.Declared.{Declared}
 use Rattle.ct_change.specs.declared.kind.Declared.TheVariants.{Append, Retract, Upsert}
 use Rattle.ct_change.specs.declared.kind.KindSet.{KindSet}
 use Rattle.ct_catalog.specs.declared.table.TableDef.{TableDef}
-use Rattle.ct_expr.specs.Expr.{Expr}
-use Rattle.ct_expr.specs.View.{expr_view}
-use Rattle.ct_expr.specs.Views.{expr_of}
-use Rattle.ct_expr.proofs.laws.Seen.{seen}
-use Rattle.rel_algebra.specs.Rel.{Rel, Rels, no_rels, rel_and}
-use Rattle.rel_algebra.specs.Rel as r
-use Rattle.emission_rules.specs.GroupFits.{first_columns}
-use Rattle.emission_rules.specs.JoinFits.{left_pairs, right_pairs}
+use Rattle.rel_algebra.specs.Rel.{Rel, Rels, Scan, One, Two, Many, no_rels, rel_and}
 use Rattle.phys_plan.specs.declared.edge.Exchange.{Exchange}
 use Rattle.phys_plan.specs.declared.edge.Exchange.TheVariants.{Forward, Hash}
 use Rattle.ct_change.specs.declared.update.Update.{Update}
@@ -23,10 +16,10 @@ use Rattle.phys_plan.specs.declared.node.Op.{Op}
 use Rattle.phys_plan.specs.declared.node.Op.TheVariants as op
 use Rattle.phys_plan.specs.declared.plan.Plan.{Plan}
 use Rattle.phys_plan.specs.Reading.{numbered}
-use Rattle.plan_rules.specs.Laid.{IsFilter, IsProject, IsJoin, IsSemi, HasNode, HasEdge, ScanLaid, SourceLaid, IsLaid, AreLaid, IsPlanOf}
+use Rattle.plan_rules.specs.Laid.{IsUnary, IsBinary, HasNode, HasEdge, ScanLaid, SourceLaid, IsLaid, AreLaid, IsPlanOf}
 use Rattle.planner.specs.Faults.{lacks_table, any_lacks}
-use Rattle.plan_rules.proofs.laws.Erasing.{each_seen, rest_seen}
-use Rattle.plan_rules.specs.Pieces.{Piece, node_of, edge_of, piece, full_piece, topped_both, scan_pieces, source_pieces, pieces_of, pieces_of_all, roots_of, with_sink, plan_of_tree}
+use Rattle.plan_rules.specs.Pieces.{unary_way, binary_way, Piece, node_of, edge_of, piece, full_piece, topped_both, scan_pieces, source_pieces, pieces_of, pieces_of_all, roots_of, with_sink, plan_of_tree}
+use Rattle.laid_plans.proofs.laws.Trees.{unary_is, binary_is}
 use Rattle.planner.proofs.Places.{one_longer, Stand, front_stands, back_stands, stand_alone}
 
 left_not : (a b : Bool) → (a || b) ≡ false → a ≡ false
@@ -110,26 +103,27 @@ module _ (plan : Plan) where
   mutual
     laid : (n : ℕ) (x : Exchange) (rel : Rel) → lacks_table plan.sources rel ≡ false → Placed n (pieces_of plan.sources n x rel)
         → IsLaid plan n x rel (n + length (pieces_of plan.sources n x rel))
-    laid n x (r.Scan source) tables s = source_laid n x source (slice_get plan.sources source) tables s
-    laid n x (r.Filter input condition) tables s =
-        let ps = pieces_of plan.sources n Forward input in
-        let o = op.Filter (expr_of condition) in (
+    laid n x (Scan source) tables s = source_laid n x source (slice_get plan.sources source) tables s
+    laid n x (One how input) tables s =
+        let ps = pieces_of plan.sources n (unary_way how).asks input in
+        let o = (unary_way how).op in (
           n + length ps,
-          laid n Forward input tables (front_stands plan.nodes plan.edges n ps (full_piece o ((n + length ps) ∷ []) x ∷ []) s),
+          laid n (unary_way how).asks input tables (front_stands plan.nodes plan.edges n ps (full_piece o ((n + length ps) ∷ []) x ∷ []) s),
           last_number n ps o ((n + length ps) ∷ []) x (kinds_of retract) Both s,
-          last_has n ps o ((n + length ps) ∷ []) x (kinds_of retract) Both s (IsFilter condition) (seen condition),
+          last_has n ps o ((n + length ps) ∷ []) x (kinds_of retract) Both s (IsUnary how) (unary_is how),
           last_told n ps o ((n + length ps) ∷ []) x (kinds_of retract) Both s,
         )
-    laid n x (r.Project input items) tables s =
-        let ps = pieces_of plan.sources n Forward input in
-        let o = op.Project (map expr_of items) in (
-          n + length ps,
-          laid n Forward input tables (front_stands plan.nodes plan.edges n ps (full_piece o ((n + length ps) ∷ []) x ∷ []) s),
-          last_number n ps o ((n + length ps) ∷ []) x (kinds_of retract) Both s,
-          last_has n ps o ((n + length ps) ∷ []) x (kinds_of retract) Both s (IsProject items) (each_seen items),
-          last_told n ps o ((n + length ps) ∷ []) x (kinds_of retract) Both s,
-        )
-    laid n x (r.Union inputs) tables s =
+    laid n x (Two how left right) tables s =
+        let y = (binary_way how).left in
+        let z = (binary_way how).right in
+        let mid : ℕ = n + length (pieces_of plan.sources n (binary_way how).left left) in
+        let ps = pieces_of plan.sources n (binary_way how).left left in
+        let qs = pieces_of plan.sources (n + length (pieces_of plan.sources n (binary_way how).left left)) (binary_way how).right right in
+        let o = (binary_way how).op in
+        both_laid n x y z left right ps qs o s (IsBinary how) (binary_is how)
+        (laid n (binary_way how).left left (left_not (lacks_table plan.sources left) (lacks_table plan.sources right) tables) (left_placed n x y z left right ps qs o s))
+        (laid mid (binary_way how).right right (right_not (lacks_table plan.sources left) (lacks_table plan.sources right) tables) (right_placed n x y z left right ps qs o s))
+    laid n x (Many inputs) tables s =
         let ps = pieces_of_all plan.sources n inputs in
         let roots = roots_of plan.sources n inputs in (
           roots,
@@ -138,44 +132,6 @@ module _ (plan : Plan) where
           last_number n ps op.Union roots x (kinds_of retract) Both s,
           last_has n ps op.Union roots x (kinds_of retract) Both s (λ o. o ≡ op.Union) refl,
           last_told n ps op.Union roots x (kinds_of retract) Both s,
-        )
-    laid n x (r.Group input keys aggs) tables s =
-        let ps = pieces_of plan.sources n (Hash (first_columns keys)) input in
-        let o = op.Group keys aggs in (
-          n + length ps,
-          laid n (Hash (first_columns keys)) input tables (front_stands plan.nodes plan.edges n ps (full_piece o ((n + length ps) ∷ []) x ∷ []) s),
-          last_number n ps o ((n + length ps) ∷ []) x (kinds_of retract) Both s,
-          last_has n ps o ((n + length ps) ∷ []) x (kinds_of retract) Both s (λ q. q ≡ op.Group keys aggs) refl,
-          last_told n ps o ((n + length ps) ∷ []) x (kinds_of retract) Both s,
-        )
-    laid n x (r.Join left right kind pairs rest) tables s =
-        let mid : ℕ = n + length (pieces_of plan.sources n (Hash (left_pairs pairs)) left) in
-        let ps = pieces_of plan.sources n (Hash (left_pairs pairs)) left in
-        let qs = pieces_of plan.sources (n + length (pieces_of plan.sources n (Hash (left_pairs pairs)) left)) (Hash (right_pairs pairs)) right in
-        let o = op.Join kind pairs (option_map expr_of rest) in
-        both_laid n x (Hash (left_pairs pairs)) (Hash (right_pairs pairs)) left right ps qs o s (IsJoin kind pairs rest) (refl, refl, rest_seen rest)
-        (laid n (Hash (left_pairs pairs)) left (left_not (lacks_table plan.sources left) (lacks_table plan.sources right) tables)
-        (left_placed n x (Hash (left_pairs pairs)) (Hash (right_pairs pairs)) left right ps qs o s))
-        (laid mid (Hash (right_pairs pairs)) right (right_not (lacks_table plan.sources left) (lacks_table plan.sources right) tables)
-        (right_placed n x (Hash (left_pairs pairs)) (Hash (right_pairs pairs)) left right ps qs o s))
-    laid n x (r.Semi left right anti pairs rest) tables s =
-        let mid : ℕ = n + length (pieces_of plan.sources n (Hash (left_pairs pairs)) left) in
-        let ps = pieces_of plan.sources n (Hash (left_pairs pairs)) left in
-        let qs = pieces_of plan.sources (n + length (pieces_of plan.sources n (Hash (left_pairs pairs)) left)) (Hash (right_pairs pairs)) right in
-        let o = op.Semi anti pairs (option_map expr_of rest) in
-        both_laid n x (Hash (left_pairs pairs)) (Hash (right_pairs pairs)) left right ps qs o s (IsSemi anti pairs rest) (refl, refl, rest_seen rest)
-        (laid n (Hash (left_pairs pairs)) left (left_not (lacks_table plan.sources left) (lacks_table plan.sources right) tables)
-        (left_placed n x (Hash (left_pairs pairs)) (Hash (right_pairs pairs)) left right ps qs o s))
-        (laid mid (Hash (right_pairs pairs)) right (right_not (lacks_table plan.sources left) (lacks_table plan.sources right) tables)
-        (right_placed n x (Hash (left_pairs pairs)) (Hash (right_pairs pairs)) left right ps qs o s))
-    laid n x (r.Rank input partition order bound ranked) tables s =
-        let ps = pieces_of plan.sources n (Hash partition) input in
-        let o = op.TopN partition order bound ranked in (
-          n + length ps,
-          laid n (Hash partition) input tables (front_stands plan.nodes plan.edges n ps (full_piece o ((n + length ps) ∷ []) x ∷ []) s),
-          last_number n ps o ((n + length ps) ∷ []) x (kinds_of retract) Both s,
-          last_has n ps o ((n + length ps) ∷ []) x (kinds_of retract) Both s (λ q. q ≡ op.TopN partition order bound ranked) refl,
-          last_told n ps o ((n + length ps) ∷ []) x (kinds_of retract) Both s,
         )
 
     all_laid : (n : ℕ) (inputs : Rels) → any_lacks plan.sources inputs ≡ false → Placed n (pieces_of_all plan.sources n inputs)

@@ -1,5 +1,5 @@
 -- Of a plan that is one of a tree: its nodes, as they are seen, and its edges are the tree's pieces.
-use Rattle.std.specs.Prelude.{◌≡◌, ℕ, ◌+◌, Bool, List, ◌++◌, length, map, slice_get, Option, option_map, unwrap_or}
+use Rattle.std.specs.Prelude.{◌≡◌, ℕ, ◌+◌, List, ◌++◌, length, map, slice_get, Option, option_map, unwrap_or}
 use Rattle.std.proofs.Common.{suc, [], ◌∷◌, refl, ap, subst, ◌∙◌, arith, Some, None, length-append}
 use Rattle.std.proofs.lemmas.List.{length-map}
 use Rattle.std.proofs.lemmas.Option.{slice_get-map}
@@ -8,16 +8,7 @@ use Rattle.ct_change.specs.declared.kind.Declared.{Declared}
 use Rattle.ct_change.specs.declared.kind.Declared.TheVariants.{Append, Retract, Upsert}
 use Rattle.ct_change.specs.declared.kind.KindSet.{KindSet}
 use Rattle.ct_catalog.specs.declared.table.TableDef.{TableDef}
-use Rattle.ct_expr.specs.declared.expr.Expr.{Expr as CodeExpr}
-use Rattle.ct_expr.specs.Expr.{Expr}
-use Rattle.ct_expr.specs.View.{expr_view}
-use Rattle.ct_expr.specs.Views.{expr_of, as_seen}
-use Rattle.rel_algebra.specs.declared.join.JoinKind.{JoinKind}
-use Rattle.rel_algebra.specs.declared.join.Pair.{Pair}
-use Rattle.rel_algebra.specs.Rel.{Rel, Rels, no_rels, rel_and}
-use Rattle.rel_algebra.specs.Rel as r
-use Rattle.emission_rules.specs.GroupFits.{first_columns}
-use Rattle.emission_rules.specs.JoinFits.{left_pairs, right_pairs}
+use Rattle.rel_algebra.specs.Rel.{Rel, Rels, Scan, One, Two, Many, no_rels, rel_and}
 use Rattle.phys_plan.specs.declared.edge.Exchange.{Exchange}
 use Rattle.phys_plan.specs.declared.edge.Exchange.TheVariants.{Forward, Hash}
 use Rattle.ct_change.specs.declared.update.Update.{Update}
@@ -26,40 +17,11 @@ use Rattle.phys_plan.specs.declared.node.Op.{Op}
 use Rattle.phys_plan.specs.declared.node.Op.TheVariants as op
 use Rattle.phys_plan.specs.declared.plan.Plan.{Plan}
 use Rattle.phys_plan.specs.Reading.{numbered}
-use Rattle.plan_rules.specs.Laid.{IsFilter, IsProject, IsJoin, IsSemi, HasNode, HasEdge, CarriesAll, ScanLaid, SourceLaid, IsLaid, AreLaid, IsPlanOf}
-use Rattle.plan_rules.specs.Pieces.{Piece, node_of, edge_of, piece, scan_pieces, source_pieces, topped, topped_both, pieces_of, pieces_of_all, roots_of, with_sink, plan_of_tree}
-use Rattle.planner.specs.Seen.{op_as_seen, node_as_seen, plan_as_seen}
+use Rattle.plan_rules.specs.Laid.{IsUnary, IsBinary, HasNode, HasEdge, CarriesAll, ScanLaid, SourceLaid, IsLaid, AreLaid, IsPlanOf}
+use Rattle.plan_rules.specs.Pieces.{unary_way, binary_way, Piece, node_of, edge_of, piece, scan_pieces, source_pieces, topped, topped_both, pieces_of, pieces_of_all, roots_of, with_sink, plan_of_tree}
+use Rattle.laid_plans.specs.Seen.{op_as_seen, node_as_seen, plan_as_seen}
+use Rattle.laid_plans.proofs.laws.Trees.{unary_fits, binary_fits}
 use Rattle.planner.proofs.Places.{one_longer, Stand, stand_behind, all_there_is}
-
--- ---- operators as they are seen
-
-filter_as_seen : (condition : Expr) (o : Op) → IsFilter condition o → op_as_seen o ≡ op.Filter (expr_of condition)
-filter_as_seen condition (op.Filter cond) is = ap (λ c. op.Filter (expr_of c)) is
-filter_as_seen condition _ is = absurd is
-
-each_as_seen : (own : List CodeExpr) → map as_seen own ≡ map expr_of (map expr_view own)
-each_as_seen [] = refl
-each_as_seen (x ∷ own) = ap (λ xs. as_seen x ∷ xs) (each_as_seen own)
-
-project_as_seen : (items : List Expr) (o : Op) → IsProject items o → op_as_seen o ≡ op.Project (map expr_of items)
-project_as_seen items (op.Project own) is = ap op.Project (each_as_seen own ∙ ap (map expr_of) is)
-project_as_seen items _ is = absurd is
-
-rest_as_seen : (own : Option CodeExpr) → option_map as_seen own ≡ option_map expr_of (option_map expr_view own)
-rest_as_seen None = refl
-rest_as_seen (Some x) = refl
-
-join_as_seen : (kind : JoinKind) (pairs : List Pair) (rest : Option Expr) (o : Op) → IsJoin kind pairs rest o → op_as_seen o ≡ op.Join kind pairs (option_map expr_of rest)
-join_as_seen kind pairs rest (op.Join own on test) is =
-    let sees = rest_as_seen test ∙ ap (option_map expr_of) is.2 in
-    λ i. op.Join (is.0 i) (is.1 i) (sees i)
-join_as_seen kind pairs rest _ is = absurd is
-
-semi_as_seen : (anti : Bool) (pairs : List Pair) (rest : Option Expr) (o : Op) → IsSemi anti pairs rest o → op_as_seen o ≡ op.Semi anti pairs (option_map expr_of rest)
-semi_as_seen anti pairs rest (op.Semi own on test) is =
-    let sees = rest_as_seen test ∙ ap (option_map expr_of) is.2 in
-    λ i. op.Semi (is.0 i) (is.1 i) (sees i)
-semi_as_seen anti pairs rest _ is = absurd is
 
 -- ---- a tree of the plan
 
@@ -126,37 +88,21 @@ module _ (plan : Plan) where
 
   mutual
     laid_placed : (n : ℕ) (x : Exchange) (rel : Rel) (root : ℕ) → IsLaid plan n x rel root → (root ≡ n + length (pieces_of plan.sources n x rel)) × Placed n (pieces_of plan.sources n x rel)
-    laid_placed n x (r.Scan source) root l = source_placed n x source (slice_get plan.sources source) root l
-    laid_placed n x (r.Filter input condition) root l =
-        let below = laid_placed n Forward input l.0 l.1 in
-        topped_placed n l.0 root (pieces_of plan.sources n Forward input) below.0 below.1 l.2 (IsFilter condition) (op.Filter (expr_of condition)) x (filter_as_seen condition) l.3 l.4
-    laid_placed n x (r.Project input items) root l =
-        let below = laid_placed n Forward input l.0 l.1 in
-        topped_placed n l.0 root (pieces_of plan.sources n Forward input) below.0 below.1 l.2 (IsProject items) (op.Project (map expr_of items)) x (project_as_seen items) l.3 l.4
-    laid_placed n x (r.Union inputs) root l =
+    laid_placed n x (Scan source) root l = source_placed n x source (slice_get plan.sources source) root l
+    laid_placed n x (One how input) root l =
+        let below = laid_placed n (unary_way how).asks input l.0 l.1 in
+        topped_placed n l.0 root (pieces_of plan.sources n (unary_way how).asks input) below.0 below.1 l.2 (IsUnary how) (unary_way how).op x (λ o is. (unary_fits plan how o is).seen) l.3 l.4
+    laid_placed n x (Two how left right) root l =
+        let first = laid_placed n (binary_way how).left left l.0 l.2 in
+        let ps = pieces_of plan.sources n (binary_way how).left left in
+        let mid : ℕ = n + length (pieces_of plan.sources n (binary_way how).left left) in
+        let second = laid_placed mid (binary_way how).right right l.1 (subst (λ k. IsLaid plan k (binary_way how).right right l.1) first.0 l.3) in
+        both_placed n x ps (pieces_of plan.sources (n + length (pieces_of plan.sources n (binary_way how).left left)) (binary_way how).right right) (IsBinary how) (binary_way how).op
+        l.0 l.1 root (λ o is. (binary_fits plan how o is).seen) first second l.4 l.5 l.6
+    laid_placed n x (Many inputs) root l =
         let below = all_placed n inputs l.0 l.1 l.2 in
         more_placed n l.1 root (pieces_of_all plan.sources n inputs) below.0 below.2 l.3 (λ o. o ≡ op.Union) (roots_of plan.sources n inputs) op.Union x (kinds_of retract) Both (λ q e. ap op_as_seen e)
         (subst (λ (roots : List ℕ). HasNode plan root (λ o. o ≡ op.Union) roots) below.1 l.4) l.5
-    laid_placed n x (r.Group input keys aggs) root l =
-        let below = laid_placed n (Hash (first_columns keys)) input l.0 l.1 in
-        topped_placed n l.0 root (pieces_of plan.sources n (Hash (first_columns keys)) input) below.0 below.1 l.2 (λ o. o ≡ op.Group keys aggs) (op.Group keys aggs) x (λ q e. ap op_as_seen e) l.3 l.4
-    laid_placed n x (r.Join left right kind pairs rest) root l =
-        let first = laid_placed n (Hash (left_pairs pairs)) left l.0 l.2 in
-        let ps = pieces_of plan.sources n (Hash (left_pairs pairs)) left in
-        let mid : ℕ = n + length (pieces_of plan.sources n (Hash (left_pairs pairs)) left) in
-        let second = laid_placed mid (Hash (right_pairs pairs)) right l.1 (subst (λ k. IsLaid plan k (Hash (right_pairs pairs)) right l.1) first.0 l.3) in
-        both_placed n x ps (pieces_of plan.sources (n + length (pieces_of plan.sources n (Hash (left_pairs pairs)) left)) (Hash (right_pairs pairs)) right) (IsJoin kind pairs rest) (op.Join kind pairs (option_map expr_of rest))
-        l.0 l.1 root (join_as_seen kind pairs rest) first second l.4 l.5 l.6
-    laid_placed n x (r.Semi left right anti pairs rest) root l =
-        let first = laid_placed n (Hash (left_pairs pairs)) left l.0 l.2 in
-        let ps = pieces_of plan.sources n (Hash (left_pairs pairs)) left in
-        let mid : ℕ = n + length (pieces_of plan.sources n (Hash (left_pairs pairs)) left) in
-        let second = laid_placed mid (Hash (right_pairs pairs)) right l.1 (subst (λ k. IsLaid plan k (Hash (right_pairs pairs)) right l.1) first.0 l.3) in
-        both_placed n x ps (pieces_of plan.sources (n + length (pieces_of plan.sources n (Hash (left_pairs pairs)) left)) (Hash (right_pairs pairs)) right) (IsSemi anti pairs rest) (op.Semi anti pairs (option_map expr_of rest))
-        l.0 l.1 root (semi_as_seen anti pairs rest) first second l.4 l.5 l.6
-    laid_placed n x (r.Rank input partition order bound ranked) root l =
-        let below = laid_placed n (Hash partition) input l.0 l.1 in
-        topped_placed n l.0 root (pieces_of plan.sources n (Hash partition) input) below.0 below.1 l.2 (λ o. o ≡ op.TopN partition order bound ranked) (op.TopN partition order bound ranked) x (λ q e. ap op_as_seen e) l.3 l.4
 
     all_placed : (n : ℕ) (inputs : Rels) (roots : List ℕ) (last : ℕ) → AreLaid plan n inputs roots last
         → (last ≡ n + length (pieces_of_all plan.sources n inputs)) × (roots ≡ roots_of plan.sources n inputs) × Placed n (pieces_of_all plan.sources n inputs)

@@ -4,8 +4,7 @@ use Rattle.std.proofs.Common.{zero, suc, false, [], ◌∷◌, refl, ap, ◌∙�
 use Rattle.ct_value.specs.declared.ty.ColTy.{ColTy}
 use Rattle.ct_catalog.specs.declared.table.TableDef.{TableDef}
 use Rattle.ct_expr.specs.Types.{both_of}
-use Rattle.rel_algebra.specs.Rel.{Rel, Rels, no_rels, rel_and}
-use Rattle.rel_algebra.specs.Rel as r
+use Rattle.rel_algebra.specs.Rel.{Rel, Rels, Scan, One, Two, Many, no_rels, rel_and}
 use Rattle.rel_algebra.specs.Types.{columns_of, union_columns, common_from, common_columns}
 use Rattle.ct_catalog.specs.Columns.{column_types}
 use Rattle.planner.specs.Faults.{lacks_table, any_lacks}
@@ -31,18 +30,12 @@ scanned (table ∷ sources) (suc source) columns e = scanned sources source colu
 module _ (sources : List TableDef) where
   mutual
     pub have : (rel : Rel) (columns : List ColTy) → columns_of (map column_types sources) rel ≡ Some columns → lacks_table sources rel ≡ false
-    have (r.Scan source) columns e = scanned sources source columns e
-    have (r.Filter input condition) columns e = let below = input_of (columns_of (map column_types sources) input) _ columns e in have input below.0 below.1
-    have (r.Project input items) columns e = let below = input_of (columns_of (map column_types sources) input) _ columns e in have input below.0 below.1
-    have (r.Union inputs) columns e = have_all inputs columns e
-    have (r.Group input keys aggs) columns e = let below = input_of (columns_of (map column_types sources) input) _ columns e in have input below.0 below.1
-    have (r.Join left right kind pairs rest) columns e =
+    have (Scan source) columns e = scanned sources source columns e
+    have (One how input) columns e = let below = input_of (columns_of (map column_types sources) input) _ columns e in have input below.0 below.1
+    have (Two how left right) columns e =
         let sides = both_in (columns_of (map column_types sources) left) (columns_of (map column_types sources) right) _ columns e in
         or_not (lacks_table sources left) (lacks_table sources right) (have left sides.0.0 sides.0.1) (have right sides.1.0 sides.1.1)
-    have (r.Semi left right anti pairs rest) columns e =
-        let sides = both_in (columns_of (map column_types sources) left) (columns_of (map column_types sources) right) _ columns e in
-        or_not (lacks_table sources left) (lacks_table sources right) (have left sides.0.0 sides.0.1) (have right sides.1.0 sides.1.1)
-    have (r.Rank input partition order bound ranked) columns e = let below = input_of (columns_of (map column_types sources) input) _ columns e in have input below.0 below.1
+    have (Many inputs) columns e = have_all inputs columns e
 
     have_all : (inputs : Rels) (columns : List ColTy) → union_columns (map column_types sources) inputs ≡ Some columns → any_lacks sources inputs ≡ false
     have_all no_rels columns e = absurd (cc)

@@ -3,4 +3,3 @@ pub mod Laying
 pub mod Planned
 pub mod Promises
 pub mod Refusals
-pub mod Seen

@@ -3,8 +3,8 @@ use Rattle.std.specs.Prelude.{◌≡◌, ℕ, ◌<◌, Bool, true, false, List}
 use Rattle.std.specs.List.{list_all}
 use Rattle.ct_value.specs.declared.row.Row.{Row}
 use Rattle.ct_value.specs.declared.ty.ColTy.{ColTy}
-use Rattle.rel_algebra.specs.Rel.{Unary, filter_by, project_on, group_by, rank_in, Binary, join_on, semi_on, Rel}
-use Rattle.range_rules.specs.Tame.{is_tame, is_tame_rel, only_counts, rest_is_tame}
+use Rattle.rel_algebra.specs.Rel.{Rel}
+use Rattle.range_rules.specs.Tame.{is_tame_unary, is_tame_binary, is_tame_rel}
 use Rattle.phys_plan.specs.declared.node.Op.{Op}
 use Rattle.phys_plan.specs.declared.plan.Plan.{Plan}
 use Rattle.stream_model.specs.declared.events.StepFault.TheVariants.{Range}
@@ -17,16 +17,6 @@ use Rattle.laid_plans.specs.Shapes.{IsLaidOut}
 use Rattle.source_lines.specs.Run.{stopped, whole_run}
 
 -- an operator that calculates nothing, by its role
-abbrev pub is_tame_unary : Unary → Bool
-is_tame_unary (filter_by condition) = is_tame condition
-is_tame_unary (project_on items) = list_all is_tame items
-is_tame_unary (group_by keys aggs) = list_all (λ agg. only_counts agg.call) aggs
-is_tame_unary (rank_in partition order bound ranked) = true
-
-abbrev pub is_tame_binary : Binary → Bool
-is_tame_binary (join_on kind pairs rest) = rest_is_tame rest
-is_tame_binary (semi_on anti pairs rest) = rest_is_tame rest
-
 abbrev pub is_tame_role : Role → Bool
 is_tame_role (reads_table source) = true
 is_tame_role (one_of how) = is_tame_unary how

@@ -9,7 +9,7 @@ use Rattle.ct_expr.proofs.laws.Seen.{seen}
 use Rattle.phys_plan.specs.declared.node.Node.{Node}
 use Rattle.phys_plan.specs.Reading.{numbered as item, numbered}
 use Rattle.phys_plan.specs.Columns.{plain_column, plain_columns}
-use Rattle.planner.specs.Seen.{node_as_seen}
+use Rattle.laid_plans.specs.Seen.{node_as_seen}
 
 -- ---- expressions
 

@@ -13,7 +13,7 @@ use Rattle.phys_plan.specs.declared.node.Op.TheVariants as op
 use Rattle.phys_plan.specs.Reading.{numbered}
 use Rattle.plan_rules.specs.Columns.{matched_columns, only}
 use Rattle.plan_check.specs.Types.{all_types, input_columns, next_types, summed_columns, summed_in, types_after, types_by, under_parts}
-use Rattle.planner.specs.Seen.{node_as_seen, op_as_seen}
+use Rattle.laid_plans.specs.Seen.{node_as_seen, op_as_seen}
 use Rattle.job_plan.proofs.laws.Nodes.{exprs_seen, node_seen, rest_seen}
 
 -- ---- one operator

@@ -5,7 +5,7 @@ use Rattle.ct_change.specs.declared.kind.Declared.{Declared}
 use Rattle.ct_change.specs.declared.kind.Declared.TheVariants.{Append, Retract, Upsert}
 use Rattle.ct_catalog.specs.declared.table.TableDef.{TableDef}
 use Rattle.rel_algebra.specs.Answer.{answer}
-use Rattle.rel_algebra.specs.Rel.{Unary, filter_by, project_on, group_by, rank_in, Binary, join_on, semi_on, Rel, Rels, Scan, One, Two, Many, no_rels, rel_and, rels}
+use Rattle.rel_algebra.specs.Rel.{Rel, Rels, Scan, One, Two, Many, no_rels, rel_and, rels}
 use Rattle.phys_plan.specs.Reading.{at, read_up}
 use Rattle.phys_plan.specs.declared.edge.Exchange.{Exchange}
 use Rattle.phys_plan.specs.declared.edge.Exchange.TheVariants.{Forward}
@@ -16,7 +16,7 @@ use Rattle.upsert_keys.proofs.laws.Keys.{wires_keyed}
 use Rattle.plan_check.specs.Sound.{inferred_of}
 use Rattle.plan_rules.specs.Answers.{tables_with}
 use Rattle.plan_rules.specs.Erased.{erased, erased_at}
-use Rattle.plan_rules.specs.Laid.{HasNode, IsUnary, IsBinary, ScanLaid, SourceLaid, IsLaid, AreLaid}
+use Rattle.plan_rules.specs.Laid.{HasNode, ScanLaid, SourceLaid, IsLaid, AreLaid}
 use Rattle.plan_rules.specs.Pieces.{unary_way, binary_way}
 use Rattle.plan_rules.specs.Roles.{nothing, role, tree_of}
 use Rattle.plan_rules.proofs.laws.Answering.{tree_is}
@@ -24,21 +24,7 @@ use Rattle.sound_plans.specs.Sound.{SoundPlansAnswer}
 use Rattle.laid_plans.specs.Erased.{InferredPlansAnswer, LaidPlansAreErased}
 use Rattle.laid_plans.specs.Inferred.{with_inferred}
 use Rattle.laid_plans.proofs.laws.Given.{nodes_many}
-use Rattle.laid_plans.proofs.laws.Laid.{filter_is, project_is, join_is, semi_is}
-
--- ---- operators
-
-unary_tree : (how : Unary) (o : Op) → IsUnary how o → (input : Rel) → tree_of (role o) (input ∷ []) ≡ One how input
-unary_tree (filter_by condition) o is input = let f = filter_is condition o is in ap (λ p. tree_of (role p) (input ∷ [])) f.1 ∙ ap (λ c. One (filter_by c) input) f.2
-unary_tree (project_on items) o is input = let f = project_is items o is in ap (λ p. tree_of (role p) (input ∷ [])) f.1 ∙ ap (λ l. One (project_on l) input) f.2
-unary_tree (group_by keys aggs) o is input = ap (λ p. tree_of (role p) (input ∷ [])) is
-unary_tree (rank_in partition order bound ranked) o is input = ap (λ p. tree_of (role p) (input ∷ [])) is
-
-binary_tree : (how : Binary) (o : Op) → IsBinary how o → (left right : Rel) → tree_of (role o) (left ∷ (right ∷ [])) ≡ Two how left right
-binary_tree (join_on kind pairs rest) o is left right =
-    let f = join_is kind pairs rest o is in ap (λ p. tree_of (role p) (left ∷ (right ∷ []))) f.1 ∙ ap (λ r. Two (join_on kind pairs r) left right) f.2
-binary_tree (semi_on anti pairs rest) o is left right =
-    let f = semi_is anti pairs rest o is in ap (λ p. tree_of (role p) (left ∷ (right ∷ []))) f.1 ∙ ap (λ r. Two (semi_on anti pairs r) left right) f.2
+use Rattle.laid_plans.proofs.laws.Trees.{unary_fits, binary_fits}
 
 -- ---- inputs with smaller numbers
 
@@ -118,10 +104,10 @@ module _ (plan : Plan) where
     tree_root : (rel : Rel) (n : ℕ) (x : Exchange) (root : ℕ) → IsLaid plan n x rel root → IsRoot n root rel
     tree_root (Scan source) n x root laid = source_root n x source root (slice_get plan.sources source) laid
     tree_root (One how input) n x root laid =
-        over_one n laid.0 root laid.3.node.op input (One how input) laid.3 refl laid.2 (tree_root input n (unary_way how).asks laid.0 laid.1) (unary_tree how laid.3.node.op laid.3.is_op input)
+        over_one n laid.0 root laid.3.node.op input (One how input) laid.3 refl laid.2 (tree_root input n (unary_way how).asks laid.0 laid.1) (ap (λ r. tree_of r (input ∷ [])) (unary_fits plan how laid.3.node.op laid.3.is_op).told)
     tree_root (Two how left right) n x root laid =
         over_two n laid.0 laid.1 root laid.5.node.op left right (Two how left right) laid.5 refl laid.4 (tree_root left n (binary_way how).left laid.0 laid.2)
-        (tree_root right laid.0 (binary_way how).right laid.1 laid.3) (binary_tree how laid.5.node.op laid.5.is_op left right)
+        (tree_root right laid.0 (binary_way how).right laid.1 laid.3) (ap (λ r. tree_of r (left ∷ (right ∷ []))) (binary_fits plan how laid.5.node.op laid.5.is_op).told)
     tree_root (Many inputs) n x root laid =
         let all = trees_root inputs n laid.0 laid.1 laid.2 in
         let before = all.behind in

@@ -1,13 +1,13 @@
 -- What is laid of the parts of trees.
 use Rattle.std.specs.Prelude.{◌≡◌, ℕ, Bool, List, map, Option, option_map}
-use Rattle.std.proofs.Common.{refl, Some, None}
+use Rattle.std.proofs.Common.{[], ◌∷◌, refl, ap, Some, None}
 use Rattle.ct_expr.specs.Expr.{Expr}
 use Rattle.ct_expr.specs.Types.{both_of}
 use Rattle.ct_expr.specs.View.{expr_view}
+use Rattle.ct_expr.specs.Views.{expr_of, as_seen}
 use Rattle.ct_expr.specs.declared.expr.Expr.{Expr as CodeExpr}
 use Rattle.rel_algebra.specs.declared.join.JoinKind.{JoinKind}
 use Rattle.rel_algebra.specs.declared.join.Pair.{Pair}
-use Rattle.emission_rules.specs.Joining.{Shape, joins, matched}
 use Rattle.phys_plan.specs.declared.node.Op.{Op}
 use Rattle.phys_plan.specs.declared.node.Op.TheVariants as op
 use Rattle.phys_plan.specs.declared.plan.Plan.{Plan}
@@ -26,18 +26,23 @@ pub project_is : (items : List Expr) (o : Op) → IsProject items o → (own : L
 project_is items (op.Project own) h = (own, refl, h)
 project_is items _ h = absurd h
 
--- a join's operator by its shape
-abbrev pub op_by : Shape → List Pair → Option CodeExpr → Op
-op_by (joins kind) on rest = op.Join kind on rest
-op_by (matched anti) on rest = op.Semi anti on rest
-
-pub join_is : (kind : JoinKind) (on : List Pair) (rest : Option Expr) (o : Op) → IsJoin kind on rest o → (own : Option CodeExpr) × (o ≡ op_by (joins kind) on own) × (option_map expr_view own ≡ rest)
+pub join_is : (kind : JoinKind) (on : List Pair) (rest : Option Expr) (o : Op) → IsJoin kind on rest o → (own : Option CodeExpr) × (o ≡ op.Join kind on own) × (option_map expr_view own ≡ rest)
 join_is kind on rest (op.Join k p own) h = (own, (λ i. op.Join (h.0 i) (h.1 i) own), h.2)
 join_is kind on rest _ h = absurd h
 
-pub semi_is : (anti : Bool) (on : List Pair) (rest : Option Expr) (o : Op) → IsSemi anti on rest o → (own : Option CodeExpr) × (o ≡ op_by (matched anti) on own) × (option_map expr_view own ≡ rest)
+pub semi_is : (anti : Bool) (on : List Pair) (rest : Option Expr) (o : Op) → IsSemi anti on rest o → (own : Option CodeExpr) × (o ≡ op.Semi anti on own) × (option_map expr_view own ≡ rest)
 semi_is anti on rest (op.Semi a p own) h = (own, (λ i. op.Semi (h.0 i) (h.1 i) own), h.2)
 semi_is anti on rest _ h = absurd h
+
+-- ---- expressions as they are seen
+
+pub each_as_seen : (own : List CodeExpr) → map as_seen own ≡ map expr_of (map expr_view own)
+each_as_seen [] = refl
+each_as_seen (x ∷ own) = ap (λ xs. as_seen x ∷ xs) (each_as_seen own)
+
+pub rest_as_seen : (own : Option CodeExpr) → option_map as_seen own ≡ option_map expr_of (option_map expr_view own)
+rest_as_seen None = refl
+rest_as_seen (Some x) = refl
 
 pub renamed : (plan : Plan) (v : ℕ) (IsOp : Op → Type 0) (inputs : List ℕ) (o : Op) → (has : HasNode plan v IsOp inputs) → has.node.op ≡ o → HasNode plan v (λ p. p ≡ o) inputs
 renamed plan v IsOp inputs o has e = record { node = has.node; is_there = has.is_there; is_op = e; inputs_are = has.inputs_are; keyless = has.keyless }

@@ -1,7 +1,8 @@
 -- What a node of a laid tree asks of its inputs, by its operator.
-use Rattle.std.specs.Prelude.{◌≡◌, ℕ, ◌+◌, ◌<◌, ◌==◌, Bool, List, ◌++◌, length, map, slice_get, Option}
+use Rattle.std.specs.Prelude.{◌≡◌, ℕ, ◌+◌, ◌<◌, ◌==◌, ◌&&◌, Bool, List, ◌++◌, length, map, slice_get, Option}
 use Rattle.std.proofs.Common.{zero, suc, true, false, [], ◌∷◌, refl, sym, ap, subst, ◌∙◌, arith, Some}
 use Rattle.std.specs.List.{AllByRecursion, range_with_len}
+use Rattle.std.proofs.lemmas.Bool.{and_parts}
 use Rattle.ct_value.specs.declared.ty.ColTy.{ColTy}
 use Rattle.ct_change.specs.declared.kind.KindSet.{KindSet}
 use Rattle.emission_rules.specs.GroupFits as g
@@ -19,6 +20,7 @@ use Rattle.plan_rules.specs.Laid.{HasNode}
 use Rattle.plan_shape.specs.Shape.{is_sink, op_in, suits_consumer, suits_input, suits_plan, takes}
 use Rattle.plan_check.specs.Types.{is_typed_by, types_at, types_by}
 use Rattle.plan_rules.specs.Behaviours.{has_rule}
+use Rattle.plan_rules.specs.Roles.{Role, reads_table, one_of, two_of, all_of, same_as, not_told, role}
 use Rattle.laid_plans.proofs.laws.Types.{types_made}
 
 -- ---- the first columns, made from the last and from the first
@@ -91,25 +93,26 @@ module _ (plan : Plan) where
     pub feeds : (above : Option Op) → suits_consumer plan.sources o above ≡ true
 
   -- all operators that are laid but scans, normalizers and the sink
+  abbrev pub is_made : Role → Bool
+  is_made (reads_table source) = false
+  is_made (one_of how) = true
+  is_made (two_of how) = true
+  is_made all_of = true
+  is_made same_as = false
+  is_made (not_told so_many) = false
+
   abbrev pub is_inner : Op → Bool
-  is_inner (op.Scan source) = false
-  is_inner (op.Normalize key) = false
-  is_inner (op.BatchGroup keys aggs) = false
-  is_inner (op.Materialize key) = false
-  is_inner (op.LocalGroup keys aggs) = false
-  is_inner (op.MultiJoin on) = false
-  is_inner (op.SetOp except all) = false
-  is_inner op.Sink = false
-  is_inner _ = true
+  is_inner o = has_rule o && is_made (role o)
+
+  asks_nothing : (o : Op) → is_inner o ≡ true → has_rule o ≡ true → IsInner o
+  asks_nothing (op.Scan source) e r = absurd (cc)
+  asks_nothing (op.Normalize key) e r = absurd (cc)
+  asks_nothing (op.BatchGroup keys aggs) e r = absurd (cc)
+  asks_nothing (op.Materialize key) e r = absurd (cc)
+  asks_nothing (op.LocalGroup keys aggs) e r = absurd (cc)
+  asks_nothing op.Sink e r = absurd (cc)
+  asks_nothing _ e r = record { ruled = r; suits = refl; below = λ input kinds. refl; no_sink = refl; typed = λ columns. refl; feeds = λ above. refl }
 
   -- these ask nothing
   pub inner : (o : Op) → is_inner o ≡ true → IsInner o
-  inner (op.Scan source) e = absurd (cc)
-  inner (op.Normalize key) e = absurd (cc)
-  inner (op.BatchGroup keys aggs) e = absurd (cc)
-  inner (op.Materialize key) e = absurd (cc)
-  inner (op.LocalGroup keys aggs) e = absurd (cc)
-  inner (op.MultiJoin on) e = absurd (cc)
-  inner (op.SetOp except all) e = absurd (cc)
-  inner op.Sink e = absurd (cc)
-  inner _ e = record { ruled = refl; suits = refl; below = λ input kinds. refl; no_sink = refl; typed = λ columns. refl; feeds = λ above. refl }
+  inner o e = asks_nothing o e (and_parts (has_rule o) (is_made (role o)) e).0

@@ -10,9 +10,10 @@ use Rattle.ct_change.specs.declared.kind.Declared.{Declared}
 use Rattle.ct_change.specs.declared.kind.Declared.TheVariants.{Append, Retract, Upsert}
 use Rattle.ct_catalog.specs.declared.table.TableDef.{TableDef}
 use Rattle.ct_expr.specs.Types.{both_of}
-use Rattle.rel_algebra.specs.Joins.{join_columns}
+use Rattle.ct_expr.specs.Views.{expr_of}
+use Rattle.ct_expr.proofs.laws.Seen.{seen}
 use Rattle.rel_algebra.specs.Rel.{Unary, filter_by, project_on, group_by, rank_in, Binary, join_on, semi_on, Rel, Rels, Scan, One, Two, Many, no_rels, rel_and}
-use Rattle.rel_algebra.specs.Types.{columns_if, is_column, is_condition, match_fits, item_columns, common_columns, columns_of, common_from, unary_columns, binary_columns}
+use Rattle.rel_algebra.specs.Types.{columns_if, is_column, common_columns, columns_of, common_from, unary_columns, binary_columns}
 use Rattle.phys_plan.specs.declared.edge.Edge.{Edge}
 use Rattle.phys_plan.specs.declared.edge.Exchange.{Exchange}
 use Rattle.phys_plan.specs.declared.edge.Exchange.TheVariants.{Forward, Hash}
@@ -24,9 +25,10 @@ use Rattle.mode_infer.specs.Exchanges.{asked}
 use Rattle.plan_inferred.specs.Rules.{by_columns}
 use Rattle.phys_plan.specs.Reading.{numbered}
 use Rattle.ct_catalog.specs.Columns.{column_types}
-use Rattle.plan_rules.specs.Columns.{common_with}
+use Rattle.plan_rules.specs.Columns.{columns_as, common_with}
 use Rattle.plan_rules.specs.Laid.{IsUnary, IsBinary, HasNode, CarriesAll, ScanLaid, SourceLaid, IsLaid, AreLaid}
 use Rattle.plan_rules.specs.Pieces.{unary_way, binary_way}
+use Rattle.plan_rules.specs.Roles.{one_of, two_of, role, takes as takes_as}
 use Rattle.plan_shape.specs.Shape.{is_keyed_by, is_read, is_upsert_by, normalizes_by, scans_by, suits_consumer, takes, op_in}
 use Rattle.plan_shape.specs.Tables.{is_declarable}
 use Rattle.ct_change.specs.Kinds.{is_upsert}
@@ -35,8 +37,10 @@ use Rattle.plan_check.specs.Types.{is_typed_by, types_at, types_by}
 use Rattle.sound_plans.proofs.laws.Numbers.{below_is_not, then_parts}
 use Rattle.sound_plans.proofs.laws.Lists.{both, map_at, map_length, of_each, the_same, within}
 use Rattle.sound_plans.proofs.laws.Tables.{key_within, upsert_has_key}
+use Rattle.plan_rules.proofs.laws.Erasing.{each_seen, rest_seen}
+use Rattle.laid_plans.specs.Seen.{op_as_seen}
 use Rattle.laid_plans.specs.Shapes.{types_of}
-use Rattle.laid_plans.proofs.laws.Laid.{both_parts, filter_is, project_is, join_is, semi_is, renamed}
+use Rattle.laid_plans.proofs.laws.Laid.{both_parts, each_as_seen, rest_as_seen, filter_is, project_is, join_is, semi_is, renamed}
 use Rattle.laid_plans.proofs.laws.LaidNodes.{IsFed, IsInner, OpMeets, inner, same_first, types_from}
 use Rattle.laid_plans.proofs.laws.Parts.{Part, next_part, no_part, two_parts}
 
@@ -52,6 +56,19 @@ common_some types start (rel_and input inputs) columns t =
 are_columns : (columns : List ColTy) (key : List ℕ) → AllByRecursion (λ column. column < length columns) key → list_all (is_column columns) key ≡ true
 are_columns columns [] h = refl
 are_columns columns (c ∷ key) h = (λ i. lt-ltb c (length columns) h.0 i && list_all (is_column columns) key) ∙ are_columns columns key h.1
+
+-- ---- the ways of trees
+
+-- by the way of a tree its operator is laid
+pub unary_is : (how : Unary) → IsUnary how (unary_way how).op
+unary_is (filter_by condition) = seen condition
+unary_is (project_on items) = each_seen items
+unary_is (group_by keys aggs) = refl
+unary_is (rank_in partition order bound ranked) = refl
+
+pub binary_is : (how : Binary) → IsBinary how (binary_way how).op
+binary_is (join_on kind pairs rest) = (refl, refl, rest_seen rest)
+binary_is (semi_on anti pairs rest) = (refl, refl, rest_seen rest)
 
 module _ (plan : Plan) where
   -- the columns that a node sends
@@ -144,55 +161,67 @@ module _ (plan : Plan) where
 
   -- ---- operators
 
-  -- one with an input asks nothing of the tables, takes it by this exchange, and its columns are the tree's
+  -- one with an input is told as the tree's, is seen as its way says, has the columns of its role, asks nothing of the tables, and takes its
+  -- input by this exchange
   pub record UnaryFits (how : Unary) (o : Op) : Type 0 where
+    pub told : role o ≡ one_of how
+    pub seen : op_as_seen o ≡ (unary_way how).op
+    pub made : (inputs : List (Option (List ColTy))) → types_by plan.sources o inputs ≡ columns_as plan.sources (role o) inputs
     pub is_inner : IsInner plan o
-    pub ports : takes o 1 ≡ true
     pub asks : (width : ℕ) → by_columns (asked width o 0) ≡ (unary_way how).asks
-    pub typed : (own : List ColTy) → types_by plan.sources o (Some own ∷ []) ≡ unary_columns how own
 
   pub unary_fits : (how : Unary) (o : Op) → IsUnary how o → UnaryFits how o
   unary_fits (filter_by condition) o is =
       let f = filter_is condition o is in
       subst (λ (p : Op). UnaryFits (filter_by condition) p) (sym f.1)
-      (record { is_inner = inner plan (op.Filter f.0) refl; ports = refl; asks = λ width. refl; typed = λ own. ap (λ c. columns_if (is_condition own c) own) f.2 })
+      (record { told = ap (λ c. one_of (filter_by c)) f.2; seen = ap (λ c. op.Filter (expr_of c)) f.2; made = λ inputs. refl; is_inner = inner plan (op.Filter f.0) refl; asks = λ width. refl })
   unary_fits (project_on items) o is =
       let f = project_is items o is in
-      subst (λ (p : Op). UnaryFits (project_on items) p) (sym f.1) (record { is_inner = inner plan (op.Project f.0) refl; ports = refl; asks = λ width. refl; typed = λ own. ap (item_columns own) f.2 })
+      subst (λ (p : Op). UnaryFits (project_on items) p) (sym f.1)
+      (record { told = ap (λ es. one_of (project_on es)) f.2; seen = ap op.Project (each_as_seen f.0 ∙ ap (map expr_of) f.2); made = λ inputs. refl; is_inner = inner plan (op.Project f.0) refl; asks = λ width. refl })
   unary_fits (group_by keys aggs) o is =
       subst (λ (p : Op). UnaryFits (group_by keys aggs) p) (sym is)
-      (record { is_inner = inner plan (op.Group keys aggs) refl; ports = refl; asks = λ width. ap (λ cols. Hash cols) (same_first keys); typed = λ own. refl })
+      (record { told = refl; seen = refl; made = λ inputs. refl; is_inner = inner plan (op.Group keys aggs) refl; asks = λ width. ap (λ cols. Hash cols) (same_first keys) })
   unary_fits (rank_in partition order bound ranked) o is =
       subst (λ (p : Op). UnaryFits (rank_in partition order bound ranked) p) (sym is)
-      (record { is_inner = inner plan (op.TopN partition order bound ranked) refl; ports = refl; asks = λ width. refl; typed = λ own. refl })
+      (record { told = refl; seen = refl; made = λ inputs. refl; is_inner = inner plan (op.TopN partition order bound ranked) refl; asks = λ width. refl })
+
+  unary_typed : (how : Unary) (o : Op) → UnaryFits how o → (own : List ColTy) → types_by plan.sources o (Some own ∷ []) ≡ unary_columns how own
+  unary_typed how o f own = f.made (Some own ∷ []) ∙ ap (λ r. columns_as plan.sources r (Some own ∷ [])) f.told
 
   -- the same of one with two
   pub record BinaryFits (how : Binary) (o : Op) : Type 0 where
+    pub told : role o ≡ two_of how
+    pub seen : op_as_seen o ≡ (binary_way how).op
+    pub made : (inputs : List (Option (List ColTy))) → types_by plan.sources o inputs ≡ columns_as plan.sources (role o) inputs
     pub is_inner : IsInner plan o
-    pub ports : takes o 2 ≡ true
     pub left_asks : (width : ℕ) → by_columns (asked width o 0) ≡ (binary_way how).left
     pub right_asks : (width : ℕ) → by_columns (asked width o 1) ≡ (binary_way how).right
-    pub typed : (left right : List ColTy) → types_by plan.sources o (Some left ∷ (Some right ∷ [])) ≡ binary_columns how left right
 
   pub binary_fits : (how : Binary) (o : Op) → IsBinary how o → BinaryFits how o
   binary_fits (join_on kind pairs rest) o is =
       let f = join_is kind pairs rest o is in
       subst (λ (p : Op). BinaryFits (join_on kind pairs rest) p) (sym f.1) (record {
+        told = ap (λ r. two_of (join_on kind pairs r)) f.2;
+        seen = ap (op.Join kind pairs) (rest_as_seen f.0 ∙ ap (option_map expr_of) f.2);
+        made = λ inputs. refl;
         is_inner = inner plan (op.Join kind pairs f.0) refl;
-        ports = refl;
         left_asks = λ width. refl;
         right_asks = λ width. refl;
-        typed = λ left right. ap (λ c. columns_if (match_fits left right pairs c) (join_columns kind left right)) f.2;
       })
   binary_fits (semi_on anti pairs rest) o is =
       let f = semi_is anti pairs rest o is in
       subst (λ (p : Op). BinaryFits (semi_on anti pairs rest) p) (sym f.1) (record {
+        told = ap (λ r. two_of (semi_on anti pairs r)) f.2;
+        seen = ap (op.Semi anti pairs) (rest_as_seen f.0 ∙ ap (option_map expr_of) f.2);
+        made = λ inputs. refl;
         is_inner = inner plan (op.Semi anti pairs f.0) refl;
-        ports = refl;
         left_asks = λ width. refl;
         right_asks = λ width. refl;
-        typed = λ left right. ap (λ c. columns_if (match_fits left right pairs c) left) f.2;
       })
+
+  binary_typed : (how : Binary) (o : Op) → BinaryFits how o → (left right : List ColTy) → types_by plan.sources o (Some left ∷ (Some right ∷ [])) ≡ binary_columns how left right
+  binary_typed how o f left right = f.made (Some left ∷ (Some right ∷ [])) ∙ ap (λ r. columns_as plan.sources r (Some left ∷ (Some right ∷ []))) f.told
 
   -- ---- tables
 
@@ -356,7 +385,7 @@ module _ (plan : Plan) (tables : (source : ℕ) (table : TableDef) → slice_get
         let low : laid.0 < length plan.nodes = omega arith in
         let o = laid.3.node.op in
         let f : UnaryFits plan how o = unary_fits plan how laid.3.node.op laid.3.is_op in
-        on_one plan n laid.0 root (unary_way how).asks x o p.0 columns f.is_inner (tree input n (unary_way how).asks laid.0 laid.1 low full p.0 p.1) f.asks f.ports (f.typed p.0 ∙ p.2) next
+        on_one plan n laid.0 root (unary_way how).asks x o p.0 columns f.is_inner (tree input n (unary_way how).asks laid.0 laid.1 low full p.0 p.1) f.asks (ap (λ r. takes_as r 1) f.told) (unary_typed plan how o f p.0 ∙ p.2) next
         (renamed plan root (IsUnary how) (laid.0 ∷ []) o laid.3 refl) laid.4 high
     tree (Two how left right) n x root laid high full columns t =
         let p = both_parts (binary_columns how) (columns_of (types_of plan.sources) left) (columns_of (types_of plan.sources) right) columns t in
@@ -369,7 +398,7 @@ module _ (plan : Plan) (tables : (source : ℕ) (table : TableDef) → slice_get
         let o = laid.5.node.op in
         let f : BinaryFits plan how o = binary_fits plan how laid.5.node.op laid.5.is_op in
         on_two plan n laid.0 laid.1 root (binary_way how).left (binary_way how).right x o p.0 p.1 columns f.is_inner (tree left n (binary_way how).left laid.0 laid.2 lower fulls.0 p.0 p.2) b
-        f.left_asks f.right_asks f.ports (f.typed p.0 p.1 ∙ p.4) next (renamed plan root (IsBinary how) (laid.0 ∷ (laid.1 ∷ [])) o laid.5 refl) laid.6 high
+        f.left_asks f.right_asks (ap (λ r. takes_as r 2) f.told) (binary_typed plan how o f p.0 p.1 ∙ p.4) next (renamed plan root (IsBinary how) (laid.0 ∷ (laid.1 ∷ [])) o laid.5 refl) laid.6 high
     tree (Many no_rels) n x root laid high full columns t = absurd (cc)
     tree (Many (rel_and input inputs)) n x root laid high full columns t =
         let parts = laid.2 in

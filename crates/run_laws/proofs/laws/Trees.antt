@@ -1,21 +1,15 @@
 -- The plan of a tree that calculates nothing calculates nothing, whatever is inferred of it.
-use Rattle.std.specs.Prelude.{◌≡◌, ℕ, ◌+◌, ◌≤◌, Bool, ◌&&◌, List, slice_get, Option, unwrap_or}
+use Rattle.std.specs.Prelude.{◌≡◌, ℕ, ◌+◌, ◌≤◌, ◌&&◌, List, slice_get, Option, unwrap_or}
 use Rattle.std.proofs.Common.{zero, suc, true, [], ◌∷◌, refl, sym, ap, subst, ◌∙◌, arith, Some, None, inl, inr}
 use Rattle.std.specs.List.{list_all}
 use Rattle.std.proofs.lemmas.Bool.{and_parts, and_from}
 use Rattle.ct_change.specs.declared.kind.Declared.{Declared}
 use Rattle.ct_change.specs.declared.kind.Declared.TheVariants.{Append, Retract, Upsert}
 use Rattle.ct_catalog.specs.declared.table.TableDef.{TableDef}
-use Rattle.ct_expr.specs.Expr.{Expr}
-use Rattle.range_rules.specs.Tame.{is_tame, rest_is_tame, is_tame_rel, are_tame_rels}
-use Rattle.rel_algebra.specs.declared.join.JoinKind.{JoinKind}
-use Rattle.rel_algebra.specs.declared.join.Pair.{Pair}
-use Rattle.rel_algebra.specs.Rel.{Rel, Rels, no_rels, rel_and}
-use Rattle.rel_algebra.specs.Rel as r
-use Rattle.emission_rules.specs.GroupFits.{first_columns}
-use Rattle.emission_rules.specs.JoinFits.{left_pairs, right_pairs}
+use Rattle.range_rules.specs.Tame.{is_tame_rel, are_tame_rels}
+use Rattle.rel_algebra.specs.Rel.{Rel, Rels, Scan, One, Two, Many, no_rels, rel_and}
 use Rattle.phys_plan.specs.declared.edge.Exchange.{Exchange}
-use Rattle.phys_plan.specs.declared.edge.Exchange.TheVariants.{Forward, Hash}
+use Rattle.phys_plan.specs.declared.edge.Exchange.TheVariants.{Forward}
 use Rattle.phys_plan.specs.declared.node.KeyInfo.{KeyInfo}
 use Rattle.phys_plan.specs.declared.node.Op.{Op}
 use Rattle.phys_plan.specs.declared.node.Op.TheVariants as op
@@ -23,32 +17,18 @@ use Rattle.phys_plan.specs.declared.node.Node.{Node}
 use Rattle.phys_plan.specs.declared.plan.Plan.{Plan}
 use Rattle.upsert_keys.specs.Keys.{keyed_from}
 use Rattle.phys_plan.specs.Reading.{numbered}
-use Rattle.plan_rules.specs.Laid.{IsFilter, IsProject, IsJoin, IsSemi, HasNode, ScanLaid, SourceLaid, IsLaid, AreLaid}
+use Rattle.plan_rules.specs.Laid.{IsUnary, IsBinary, HasNode, ScanLaid, SourceLaid, IsLaid, AreLaid}
+use Rattle.plan_rules.specs.Pieces.{unary_way, binary_way}
 use Rattle.plan_check.specs.Sound.{inferred_of}
+use Rattle.laid_plans.proofs.laws.Trees.{unary_fits, binary_fits}
 use Rattle.sound_plans.proofs.laws.Lists.{the_same, within}
 use Rattle.sound_plans.proofs.laws.Numbers.{side}
-use Rattle.run_laws.specs.Runs.{is_tame_op, TreesHaveTamePlans}
+use Rattle.run_laws.specs.Runs.{is_tame_op, is_tame_role, TreesHaveTamePlans}
 
 -- ---- operators
 
 is_op : (own : Op) → is_tame_op own ≡ true → (o : Op) → o ≡ own → is_tame_op o ≡ true
 is_op own tame o e = ap is_tame_op e ∙ tame
-
-filter_tame : (condition : Expr) → is_tame condition ≡ true → (o : Op) → IsFilter condition o → is_tame_op o ≡ true
-filter_tame condition tame (op.Filter cond) h = ap is_tame h ∙ tame
-filter_tame condition tame _ h = absurd h
-
-project_tame : (items : List Expr) → list_all is_tame items ≡ true → (o : Op) → IsProject items o → is_tame_op o ≡ true
-project_tame items tame (op.Project own) h = ap (list_all is_tame) h ∙ tame
-project_tame items tame _ h = absurd h
-
-join_tame : (kind : JoinKind) (on : List Pair) (rest : Option Expr) → rest_is_tame rest ≡ true → (o : Op) → IsJoin kind on rest o → is_tame_op o ≡ true
-join_tame kind on rest tame (op.Join own pairs test) h = ap rest_is_tame h.2 ∙ tame
-join_tame kind on rest tame _ h = absurd h
-
-semi_tame : (anti : Bool) (on : List Pair) (rest : Option Expr) → rest_is_tame rest ≡ true → (o : Op) → IsSemi anti on rest o → is_tame_op o ≡ true
-semi_tame anti on rest tame (op.Semi own pairs test) h = ap rest_is_tame h.2 ∙ tame
-semi_tame anti on rest tame _ h = absurd h
 
 -- ---- nodes
 
@@ -85,34 +65,19 @@ module _ (plan : Plan) where
 
   mutual
     tree_tame : (rel : Rel) → is_tame_rel rel ≡ true → (n : ℕ) (x : Exchange) (root : ℕ) → TameUpTo n → IsLaid plan n x rel root → TameUpTo root
-    tree_tame (r.Scan source) tame n x root before laid = source_tame n x source (slice_get plan.sources source) root before laid
-    tree_tame (r.Filter input condition) tame n x root before laid =
+    tree_tame (Scan source) tame n x root before laid = source_tame n x source (slice_get plan.sources source) root before laid
+    tree_tame (One how input) tame n x root before laid =
         let p = and_parts _ _ tame in
-        more laid.0 root (tree_tame input p.0 n Forward laid.0 before laid.1) laid.2 (at_node root (IsFilter condition) (laid.0 ∷ []) laid.3 (filter_tame condition p.1))
-    tree_tame (r.Project input items) tame n x root before laid =
+        more laid.0 root (tree_tame input p.0 n (unary_way how).asks laid.0 before laid.1) laid.2
+        (at_node root (IsUnary how) (laid.0 ∷ []) laid.3 (λ o is. ap is_tame_role (unary_fits plan how o is).told ∙ p.1))
+    tree_tame (Two how left right) tame n x root before laid =
         let p = and_parts _ _ tame in
-        more laid.0 root (tree_tame input p.0 n Forward laid.0 before laid.1) laid.2 (at_node root (IsProject items) (laid.0 ∷ []) laid.3 (project_tame items p.1))
-    tree_tame (r.Union inputs) tame n x root before laid =
+        let q = and_parts _ _ p.1 in
+        let first = tree_tame left p.0 n (binary_way how).left laid.0 before laid.2 in
+        more laid.1 root (tree_tame right q.0 laid.0 (binary_way how).right laid.1 first laid.3) laid.4
+        (at_node root (IsBinary how) (laid.0 ∷ (laid.1 ∷ [])) laid.5 (λ o is. ap is_tame_role (binary_fits plan how o is).told ∙ q.1))
+    tree_tame (Many inputs) tame n x root before laid =
         more laid.1 root (trees_tame inputs tame n laid.0 laid.1 before laid.2) laid.3 (at_node root (λ o. o ≡ op.Union) laid.0 laid.4 (is_op op.Union refl))
-    tree_tame (r.Group input keys aggs) tame n x root before laid =
-        let p = and_parts _ _ tame in
-        more laid.0 root (tree_tame input p.0 n (Hash (first_columns keys)) laid.0 before laid.1) laid.2
-        (at_node root (λ o. o ≡ op.Group keys aggs) (laid.0 ∷ []) laid.3 (is_op (op.Group keys aggs) p.1))
-    tree_tame (r.Join left right kind pairs rest) tame n x root before laid =
-        let p = and_parts _ _ tame in
-        let q = and_parts _ _ p.1 in
-        let first = tree_tame left p.0 n (Hash (left_pairs pairs)) laid.0 before laid.2 in
-        more laid.1 root (tree_tame right q.0 laid.0 (Hash (right_pairs pairs)) laid.1 first laid.3) laid.4
-        (at_node root (IsJoin kind pairs rest) (laid.0 ∷ (laid.1 ∷ [])) laid.5 (join_tame kind pairs rest q.1))
-    tree_tame (r.Semi left right anti pairs rest) tame n x root before laid =
-        let p = and_parts _ _ tame in
-        let q = and_parts _ _ p.1 in
-        let first = tree_tame left p.0 n (Hash (left_pairs pairs)) laid.0 before laid.2 in
-        more laid.1 root (tree_tame right q.0 laid.0 (Hash (right_pairs pairs)) laid.1 first laid.3) laid.4
-        (at_node root (IsSemi anti pairs rest) (laid.0 ∷ (laid.1 ∷ [])) laid.5 (semi_tame anti pairs rest q.1))
-    tree_tame (r.Rank input partition order bound ranked) tame n x root before laid =
-        more laid.0 root (tree_tame input tame n (Hash partition) laid.0 before laid.1) laid.2
-        (at_node root (λ o. o ≡ op.TopN partition order bound ranked) (laid.0 ∷ []) laid.3 (is_op (op.TopN partition order bound ranked) refl))
 
     trees_tame : (inputs : Rels) → are_tame_rels inputs ≡ true → (n : ℕ) (roots : List ℕ) (last : ℕ) → TameUpTo n → AreLaid plan n inputs roots last → TameUpTo last
     trees_tame no_rels tame n roots last before laid = subst TameUpTo (sym laid.1) before
