@@ -16,7 +16,7 @@ use Rattle.judge.specs.Judgement.{Judged, then}
 use Rattle.phys_plan.specs.declared.plan.Plan.{Plan}
 use Rattle.planner.specs.Faults.{lacks_table}
 use Rattle.planner.specs.Promises.{TreesHaveOnePlan, TreesHavePlans}
-use Rattle.laid_plans.specs.Seen.{plan_as_seen}
+use Rattle.plan_rules.specs.Seen.{plan_as_seen}
 use Rattle.plan_rules.specs.Pieces.{plan_of_tree}
 use Rattle.plan_inferred.specs.declared.inferred.Inferred.{Inferred}
 use Rattle.plan_check.specs.declared.checked.CheckedPlan.{CheckedPlan}

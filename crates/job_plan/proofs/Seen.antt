@@ -6,11 +6,8 @@ use Rattle.std.proofs.lemmas.Option.{slice_get-map}
 use Rattle.ct_value.specs.declared.ty.ColTy.{ColTy}
 use Rattle.ct_field.specs.Typed.{row_fits}
 use Rattle.ct_catalog.specs.declared.table.TableDef.{TableDef}
-use Rattle.ct_expr.specs.declared.expr.Expr.{Expr}
 use Rattle.ct_expr.specs.View.{expr_view}
-use Rattle.ct_expr.specs.Views.{as_seen}
 use Rattle.ct_expr.proofs.laws.Seen.{seen}
-use Rattle.rel_algebra.specs.Rel.{filter_by, project_on, join_on, semi_on}
 use Rattle.op_rules.specs.Edges.{meaning_of}
 use Rattle.emission_rules.specs.Filter.{filter_rule}
 use Rattle.emission_rules.specs.Project.{project_rule}
@@ -26,25 +23,10 @@ use Rattle.plan_rules.specs.Columns.{columns_as, columns_by, numbered_columns, n
 use Rattle.plan_rules.specs.Around.{Around, filter_of, project_of, joining_of}
 use Rattle.plan_rules.specs.Behaviours.{behaviour_by, doing_of, rule_of}
 use Rattle.plan_rules.specs.Doings.{doing_by, update_in, other_inputs, around_of, doing_in, network}
-use Rattle.plan_rules.specs.Roles.{one_of, two_of, role}
-use Rattle.laid_plans.specs.Seen.{op_as_seen, node_as_seen, plan_as_seen}
-
-exprs_seen : (items : List Expr) → map expr_view (map as_seen items) ≡ map expr_view items
-exprs_seen [] = refl
-exprs_seen (x ∷ items) = λ i. seen (expr_view x) i ∷ exprs_seen items i
-
-rest_seen : (rest : Option Expr) → option_map expr_view (option_map as_seen rest) ≡ option_map expr_view rest
-rest_seen None = refl
-rest_seen (Some x) = ap Some (seen (expr_view x))
+use Rattle.plan_rules.specs.Seen.{op_as_seen, node_as_seen, plan_as_seen}
+use Rattle.plan_rules.proofs.laws.Seen.{exprs_seen, rest_seen, role_seen}
 
 -- ---- operators
-
-role_seen : (o : Op) → role (op_as_seen o) ≡ role o
-role_seen (op.Filter cond) = ap (λ c. one_of (filter_by c)) (seen (expr_view cond))
-role_seen (op.Project items) = ap (λ es. one_of (project_on es)) (exprs_seen items)
-role_seen (op.Join kind on rest) = ap (λ r. two_of (join_on kind on r)) (rest_seen rest)
-role_seen (op.Semi anti on rest) = ap (λ r. two_of (semi_on anti on r)) (rest_seen rest)
-role_seen _ = refl
 
 rule_seen : (o : Op) → rule_of (op_as_seen o) ≡ rule_of o
 rule_seen (op.Filter cond) = ap (λ c. Some (λ (around : Around). filter_rule (filter_of c))) (seen (expr_view cond))

@@ -9,7 +9,7 @@ use Rattle.phys_plan.specs.declared.node.Op.{Op}
 use Rattle.phys_plan.specs.declared.node.Op.TheVariants as op
 use Rattle.phys_plan.specs.declared.plan.Plan.{Plan}
 use Rattle.phys_plan.specs.Reading.{numbered}
-use Rattle.laid_plans.specs.Seen.{node_as_seen, op_as_seen, plan_as_seen}
+use Rattle.plan_rules.specs.Seen.{node_as_seen, op_as_seen, plan_as_seen}
 use Rattle.phys_plan.specs.Explained.{called, edge_text, lines_from, node_line, operator_text}
 use Rattle.std.specs.Prelude.{codes, Option}
 use Rattle.std.specs.Fmt.{decimal}

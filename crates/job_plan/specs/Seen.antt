@@ -5,7 +5,7 @@ use Rattle.phys_plan.specs.declared.plan.Plan.{Plan}
 use Rattle.plan_inferred.specs.declared.inferred.Inferred.{Inferred}
 use Rattle.plan_check.specs.Sound.{inferred_of}
 use Rattle.planner.specs.Refusals.{refusal, sink_way}
-use Rattle.laid_plans.specs.Seen.{plan_as_seen}
+use Rattle.plan_rules.specs.Seen.{plan_as_seen}
 use Rattle.laid_plans.specs.Inferred.{with_inferred}
 
 -- the same is inferred

@@ -2,7 +2,7 @@
 use Rattle.std.specs.Prelude.{◌≡◌}
 use Rattle.phys_plan.specs.declared.plan.Plan.{Plan}
 use Rattle.phys_plan.specs.Explained.{explained}
-use Rattle.laid_plans.specs.Seen.{plan_as_seen}
+use Rattle.plan_rules.specs.Seen.{plan_as_seen}
 use Rattle.job_ending.specs.declared.ending.Ending.TheVariants.{Done}
 use Rattle.job_ending.specs.Outcome.{Outcome}
 

@@ -3,7 +3,7 @@ use Rattle.std.specs.Prelude.{Option, option_map}
 use Rattle.phys_plan.specs.declared.plan.Plan.{Plan}
 use Rattle.plan_check.specs.declared.checked.CheckedPlan.{CheckedPlan}
 use Rattle.plan_check.specs.Checked.{plan_in}
-use Rattle.laid_plans.specs.Seen.{plan_as_seen}
+use Rattle.plan_rules.specs.Seen.{plan_as_seen}
 
 -- the plan, as plans are seen
 abbrev pub plan_view : CheckedPlan → Plan

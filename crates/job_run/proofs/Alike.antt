@@ -1,7 +1,7 @@
 -- A plan has the outcome of the plan as it is seen.
 use Rattle.std.proofs.Common.{◌≡◌}
 use Rattle.phys_plan.specs.declared.plan.Plan.{Plan}
-use Rattle.laid_plans.specs.Seen.{plan_as_seen}
+use Rattle.plan_rules.specs.Seen.{plan_as_seen}
 use Rattle.source_lines.specs.Run.{whole_run}
 use Rattle.job_plan.specs.Networks.{PlansRunAsSeen}
 use Rattle.job_stream.specs.Stream.{most_sent, outcome_of, sink_types, streamed}

@@ -1,4 +1,3 @@
 pub mod Erased
 pub mod Inferred
-pub mod Seen
 pub mod Shapes

@@ -3,4 +3,5 @@ pub mod Behaviours
 pub mod Erasing
 pub mod Numbers
 pub mod Reading
+pub mod Seen
 pub mod Theorems

@@ -1,55 +1,31 @@
 -- Which plan is that of a tree of the algebra: its nodes are laid one behind the other, each behind its inputs.
-use Rattle.std.specs.Prelude.{◌≡◌, ℕ, ◌+◌, Bool, List, [], ◌∷◌, length, map, slice_get, Option, Some, None, option_map, unwrap_or}
+use Rattle.std.specs.Prelude.{◌≡◌, ℕ, ◌+◌, List, [], ◌∷◌, length, slice_get, Option, Some, None, unwrap_or}
 use Rattle.ct_change.specs.declared.kind.Declared.{Declared}
 use Rattle.ct_change.specs.declared.kind.Declared.TheVariants.{Append, Retract, Upsert}
 use Rattle.ct_change.specs.declared.kind.KindSet.{KindSet}
 use Rattle.ct_change.specs.Changelog.{retract, upsert, kinds_of}
 use Rattle.ct_catalog.specs.declared.table.TableDef.{TableDef}
-use Rattle.ct_expr.specs.Expr.{Expr}
-use Rattle.ct_expr.specs.View.{expr_view}
-use Rattle.rel_algebra.specs.declared.join.JoinKind.{JoinKind}
-use Rattle.rel_algebra.specs.declared.join.Pair.{Pair}
-use Rattle.rel_algebra.specs.Rel.{Unary, filter_by, project_on, group_by, rank_in, Binary, join_on, semi_on, Rel, Rels, Scan, One, Two, Many, no_rels, rel_and}
+use Rattle.rel_algebra.specs.Rel.{Unary, Binary, Rel, Rels, Scan, One, Two, Many, no_rels, rel_and}
 use Rattle.phys_plan.specs.declared.edge.Exchange.{Exchange}
 use Rattle.phys_plan.specs.declared.edge.Exchange.TheVariants.{Forward, Hash}
 use Rattle.ct_change.specs.declared.update.Update.{Update}
 use Rattle.ct_change.specs.declared.update.Update.TheVariants.{Absent, After, Both}
-use Rattle.phys_plan.specs.declared.node.KeyInfo.{KeyInfo}
 use Rattle.phys_plan.specs.declared.node.Op.{Op}
 use Rattle.phys_plan.specs.declared.node.Op.TheVariants as op
 use Rattle.phys_plan.specs.declared.node.Node.{Node}
 use Rattle.phys_plan.specs.declared.plan.Plan.{Plan}
 use Rattle.phys_plan.specs.Reading.{numbered, no_keys}
 use Rattle.plan_rules.specs.Pieces.{unary_way, binary_way}
+use Rattle.plan_rules.specs.Seen.{op_as_seen}
 
 -- ---- operators
 
-abbrev pub IsFilter : Expr → Op → Type 0
-IsFilter condition (op.Filter cond) = expr_view cond ≡ condition
-IsFilter condition _ = ⊥
-
-abbrev pub IsProject : List Expr → Op → Type 0
-IsProject items (op.Project own) = map expr_view own ≡ items
-IsProject items _ = ⊥
-
-abbrev pub IsJoin : JoinKind → List Pair → Option Expr → Op → Type 0
-IsJoin kind pairs rest (op.Join own on test) = (own ≡ kind) × (on ≡ pairs) × (option_map expr_view test ≡ rest)
-IsJoin kind pairs rest _ = ⊥
-
-abbrev pub IsSemi : Bool → List Pair → Option Expr → Op → Type 0
-IsSemi anti pairs rest (op.Semi own on test) = (own ≡ anti) × (on ≡ pairs) × (option_map expr_view test ≡ rest)
-IsSemi anti pairs rest _ = ⊥
-
--- that of a tree with one input, and with two
+-- one is, as it is seen, that of the way of a tree with one input, and with two
 abbrev pub IsUnary : Unary → Op → Type 0
-IsUnary (filter_by condition) = IsFilter condition
-IsUnary (project_on items) = IsProject items
-IsUnary (group_by keys aggs) = λ o. o ≡ op.Group keys aggs
-IsUnary (rank_in partition order bound ranked) = λ o. o ≡ op.TopN partition order bound ranked
+IsUnary how o = op_as_seen o ≡ (unary_way how).op
 
 abbrev pub IsBinary : Binary → Op → Type 0
-IsBinary (join_on kind pairs rest) = IsJoin kind pairs rest
-IsBinary (semi_on anti pairs rest) = IsSemi anti pairs rest
+IsBinary how o = op_as_seen o ≡ (binary_way how).op
 
 -- ---- nodes and edges
 

@@ -8,3 +8,4 @@ pub mod Laid
 pub mod Pieces
 pub mod Plans
 pub mod Roles
+pub mod Seen

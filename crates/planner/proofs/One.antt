@@ -19,8 +19,7 @@ use Rattle.phys_plan.specs.declared.plan.Plan.{Plan}
 use Rattle.phys_plan.specs.Reading.{numbered}
 use Rattle.plan_rules.specs.Laid.{IsUnary, IsBinary, HasNode, HasEdge, CarriesAll, ScanLaid, SourceLaid, IsLaid, AreLaid, IsPlanOf}
 use Rattle.plan_rules.specs.Pieces.{unary_way, binary_way, Piece, node_of, edge_of, piece, scan_pieces, source_pieces, topped, topped_both, pieces_of, pieces_of_all, roots_of, with_sink, plan_of_tree}
-use Rattle.laid_plans.specs.Seen.{op_as_seen, node_as_seen, plan_as_seen}
-use Rattle.laid_plans.proofs.laws.Trees.{unary_fits, binary_fits}
+use Rattle.plan_rules.specs.Seen.{op_as_seen, node_as_seen, plan_as_seen}
 use Rattle.planner.proofs.Places.{one_longer, Stand, stand_behind, all_there_is}
 
 -- ---- a tree of the plan
@@ -91,14 +90,14 @@ module _ (plan : Plan) where
     laid_placed n x (Scan source) root l = source_placed n x source (slice_get plan.sources source) root l
     laid_placed n x (One how input) root l =
         let below = laid_placed n (unary_way how).asks input l.0 l.1 in
-        topped_placed n l.0 root (pieces_of plan.sources n (unary_way how).asks input) below.0 below.1 l.2 (IsUnary how) (unary_way how).op x (λ o is. (unary_fits plan how o is).seen) l.3 l.4
+        topped_placed n l.0 root (pieces_of plan.sources n (unary_way how).asks input) below.0 below.1 l.2 (IsUnary how) (unary_way how).op x (λ o is. is) l.3 l.4
     laid_placed n x (Two how left right) root l =
         let first = laid_placed n (binary_way how).left left l.0 l.2 in
         let ps = pieces_of plan.sources n (binary_way how).left left in
         let mid : ℕ = n + length (pieces_of plan.sources n (binary_way how).left left) in
         let second = laid_placed mid (binary_way how).right right l.1 (subst (λ k. IsLaid plan k (binary_way how).right right l.1) first.0 l.3) in
         both_placed n x ps (pieces_of plan.sources (n + length (pieces_of plan.sources n (binary_way how).left left)) (binary_way how).right right) (IsBinary how) (binary_way how).op
-        l.0 l.1 root (λ o is. (binary_fits plan how o is).seen) first second l.4 l.5 l.6
+        l.0 l.1 root (λ o is. is) first second l.4 l.5 l.6
     laid_placed n x (Many inputs) root l =
         let below = all_placed n inputs l.0 l.1 l.2 in
         more_placed n l.1 root (pieces_of_all plan.sources n inputs) below.0 below.2 l.3 (λ o. o ≡ op.Union) (roots_of plan.sources n inputs) op.Union x (kinds_of retract) Both (λ q e. ap op_as_seen e)

@@ -1,13 +1,18 @@
 -- What is laid of a plan, and what a tree adds to it.
-use Rattle.std.specs.Prelude.{◌≡◌, ℕ, ◌+◌, false, true, List, [], ◌∷◌, ◌++◌, length, ⊤}
+use Rattle.std.specs.Prelude.{◌≡◌, ℕ, ◌+◌, Bool, false, true, List, [], ◌∷◌, ◌++◌, length, Option, option_map, ⊤}
 use Rattle.ct_change.specs.Changelog.{retract, kinds_of}
 use Rattle.ct_change.specs.declared.kind.KindSet.{KindSet}
+use Rattle.ct_expr.specs.Expr.{Expr}
+use Rattle.ct_expr.specs.View.{expr_view}
+use Rattle.rel_algebra.specs.declared.join.JoinKind.{JoinKind}
+use Rattle.rel_algebra.specs.declared.join.Pair.{Pair}
 use Rattle.rel_algebra.specs.Rel.{Rel, Rels}
 use Rattle.phys_plan.specs.declared.edge.Edge.{Edge}
 use Rattle.phys_plan.specs.declared.edge.Exchange.{Exchange}
 use Rattle.ct_change.specs.declared.update.Update.{Update}
 use Rattle.ct_change.specs.declared.update.Update.TheVariants.{Both}
 use Rattle.phys_plan.specs.declared.node.Op.{Op}
+use Rattle.phys_plan.specs.declared.node.Op.TheVariants as op
 use Rattle.phys_plan.specs.declared.node.Node.{Node}
 use Rattle.phys_plan.specs.declared.plan.Plan.{Plan}
 use Rattle.plan_rules.specs.Laid.{IsLaid, AreLaid}
@@ -35,6 +40,15 @@ pub record Pushed (old new : Laying) (op : Op) (inputs : List ℕ) (exchange : E
   pub sources : new.sources ≡ old.sources
   pub nodes : new.nodes ≡ old.nodes ++ record { op = op; inputs = inputs; keys = no_keys } ∷ []
   pub edges : new.edges ≡ old.edges ++ record { exchange = exchange; kinds = kinds; update = update } ∷ []
+
+-- a join, and a semi join, on such expressions
+abbrev pub IsJoin : JoinKind → List Pair → Option Expr → Op → Type 0
+IsJoin kind pairs rest (op.Join own on test) = (own ≡ kind) × (on ≡ pairs) × (option_map expr_view test ≡ rest)
+IsJoin kind pairs rest _ = ⊥
+
+abbrev pub IsSemi : Bool → List Pair → Option Expr → Op → Type 0
+IsSemi anti pairs rest (op.Semi own on test) = (own ≡ anti) × (on ≡ pairs) × (option_map expr_view test ≡ rest)
+IsSemi anti pairs rest _ = ⊥
 
 -- one with such an operator, whose edge carries all kinds, and both rows of an update
 abbrev pub PushedAs : Laying → Laying → (Op → Type 0) → List ℕ → Exchange → ℕ → Type 0

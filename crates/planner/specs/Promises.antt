@@ -6,7 +6,7 @@ use Rattle.phys_plan.specs.declared.plan.Plan.{Plan}
 use Rattle.plan_rules.specs.Laid.{IsPlanOf}
 use Rattle.planner.specs.Faults.{lacks_table}
 use Rattle.plan_rules.specs.Pieces.{plan_of_tree}
-use Rattle.laid_plans.specs.Seen.{plan_as_seen}
+use Rattle.plan_rules.specs.Seen.{plan_as_seen}
 
 -- a tree has one plan, as plans are seen, over these tables and in so many subtasks
 abbrev pub TreesHaveOnePlan : Type 0

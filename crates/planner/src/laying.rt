@@ -5,8 +5,7 @@ ghost use Rattle.ct_change.specs.Changelog.{retract, upsert, kinds_of};
 ghost use Rattle.phys_plan.specs.declared.edge.Exchange.TheVariants.{Forward as ToSame, Hash as ByHash};
 ghost use Rattle.ct_change.specs.declared.update.Update.TheVariants.{Absent as NoUpdate, After as AfterKey, Both as BothRows};
 ghost use Rattle.phys_plan.specs.declared.node.Op.TheVariants as op;
-ghost use Rattle.plan_rules.specs.Laid.{IsJoin, IsSemi};
-ghost use Rattle.planner.specs.Laying.{Pushed, PushedAs};
+ghost use Rattle.planner.specs.Laying.{IsJoin, IsSemi, Pushed, PushedAs};
 
 use crate::laying_fault::LayingFault;
 use crate::parts::{all_kinds, dup_rest, no_keys, two_numbers, upsert_kinds};

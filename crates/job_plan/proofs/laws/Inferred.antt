@@ -28,7 +28,7 @@ use Rattle.plan_inferred.specs.declared.inferred.Inferred.{Inferred}
 use Rattle.plan_inferred.specs.Inferred.{inferred}
 use Rattle.plan_check.specs.Sound.{inferred_of, sent_columns}
 use Rattle.plan_check.specs.Types.{all_types}
-use Rattle.laid_plans.specs.Seen.{node_as_seen, op_as_seen, plan_as_seen}
+use Rattle.plan_rules.specs.Seen.{node_as_seen, op_as_seen, plan_as_seen}
 use Rattle.laid_plans.specs.Inferred.{with_inferred}
 use Rattle.job_plan.proofs.laws.Nodes.{plain_seen}
 use Rattle.job_plan.proofs.laws.Types.{types_seen}

@@ -14,7 +14,7 @@ use Rattle.ct_catalog.specs.Columns.{column_types}
 use Rattle.plan_inferred.specs.declared.inferred.Inferred.{Inferred}
 use Rattle.plan_check.specs.Types.{keep_nulls}
 use Rattle.planner.specs.Refusals.{below_sink, changes_rows, has_materializer, has_ties, inputs_in, is_forced, is_large_with, is_needed, is_off, is_refused, or_else, refusal, sink_way, ties_by, way_into}
-use Rattle.laid_plans.specs.Seen.{node_as_seen, op_as_seen, plan_as_seen}
+use Rattle.plan_rules.specs.Seen.{node_as_seen, op_as_seen, plan_as_seen}
 use Rattle.job_plan.proofs.laws.Nodes.{item_seen}
 
 -- ---- the node below the sink

@@ -13,8 +13,9 @@ use Rattle.phys_plan.specs.declared.node.Op.TheVariants as op
 use Rattle.phys_plan.specs.Reading.{numbered}
 use Rattle.plan_rules.specs.Columns.{matched_columns, only}
 use Rattle.plan_check.specs.Types.{all_types, input_columns, next_types, summed_columns, summed_in, types_after, types_by, under_parts}
-use Rattle.laid_plans.specs.Seen.{node_as_seen, op_as_seen}
-use Rattle.job_plan.proofs.laws.Nodes.{exprs_seen, node_seen, rest_seen}
+use Rattle.plan_rules.specs.Seen.{node_as_seen, op_as_seen}
+use Rattle.plan_rules.proofs.laws.Seen.{exprs_seen, rest_seen}
+use Rattle.job_plan.proofs.laws.Nodes.{node_seen}
 
 -- ---- one operator
 

@@ -1,38 +1,18 @@
 -- What is laid of the parts of trees.
-use Rattle.std.specs.Prelude.{◌≡◌, ℕ, Bool, List, map, Option, option_map}
+use Rattle.std.specs.Prelude.{◌≡◌, ℕ, List, map, Option, option_map}
 use Rattle.std.proofs.Common.{[], ◌∷◌, refl, ap, Some, None}
-use Rattle.ct_expr.specs.Expr.{Expr}
 use Rattle.ct_expr.specs.Types.{both_of}
 use Rattle.ct_expr.specs.View.{expr_view}
 use Rattle.ct_expr.specs.Views.{expr_of, as_seen}
 use Rattle.ct_expr.specs.declared.expr.Expr.{Expr as CodeExpr}
-use Rattle.rel_algebra.specs.declared.join.JoinKind.{JoinKind}
-use Rattle.rel_algebra.specs.declared.join.Pair.{Pair}
 use Rattle.phys_plan.specs.declared.node.Op.{Op}
-use Rattle.phys_plan.specs.declared.node.Op.TheVariants as op
 use Rattle.phys_plan.specs.declared.plan.Plan.{Plan}
-use Rattle.plan_rules.specs.Laid.{IsFilter, IsProject, IsJoin, IsSemi, HasNode}
+use Rattle.plan_rules.specs.Laid.{HasNode}
 
 pub both_parts : {A B C : Type 0} (f : A → B → Option C) (o : Option A) (p : Option B) (c : C) → both_of f o p ≡ Some c → (a : A) × (b : B) × (o ≡ Some a) × (p ≡ Some b) × (f a b ≡ Some c)
 both_parts f None p c e = absurd (cc)
 both_parts f (Some a) None c e = absurd (cc)
 both_parts f (Some a) (Some b) c e = (a, b, refl, refl, e)
-
-pub filter_is : (condition : Expr) (o : Op) → IsFilter condition o → (cond : CodeExpr) × (o ≡ op.Filter cond) × (expr_view cond ≡ condition)
-filter_is condition (op.Filter cond) h = (cond, refl, h)
-filter_is condition _ h = absurd h
-
-pub project_is : (items : List Expr) (o : Op) → IsProject items o → (own : List CodeExpr) × (o ≡ op.Project own) × (map expr_view own ≡ items)
-project_is items (op.Project own) h = (own, refl, h)
-project_is items _ h = absurd h
-
-pub join_is : (kind : JoinKind) (on : List Pair) (rest : Option Expr) (o : Op) → IsJoin kind on rest o → (own : Option CodeExpr) × (o ≡ op.Join kind on own) × (option_map expr_view own ≡ rest)
-join_is kind on rest (op.Join k p own) h = (own, (λ i. op.Join (h.0 i) (h.1 i) own), h.2)
-join_is kind on rest _ h = absurd h
-
-pub semi_is : (anti : Bool) (on : List Pair) (rest : Option Expr) (o : Op) → IsSemi anti on rest o → (own : Option CodeExpr) × (o ≡ op.Semi anti on own) × (option_map expr_view own ≡ rest)
-semi_is anti on rest (op.Semi a p own) h = (own, (λ i. op.Semi (h.0 i) (h.1 i) own), h.2)
-semi_is anti on rest _ h = absurd h
 
 -- ---- expressions as they are seen
 

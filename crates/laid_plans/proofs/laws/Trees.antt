@@ -28,7 +28,7 @@ use Rattle.ct_catalog.specs.Columns.{column_types}
 use Rattle.plan_rules.specs.Columns.{columns_as, common_with}
 use Rattle.plan_rules.specs.Laid.{IsUnary, IsBinary, HasNode, CarriesAll, ScanLaid, SourceLaid, IsLaid, AreLaid}
 use Rattle.plan_rules.specs.Pieces.{unary_way, binary_way}
-use Rattle.plan_rules.specs.Roles.{one_of, two_of, role, takes as takes_as}
+use Rattle.plan_rules.specs.Roles.{Role, one_of, two_of, role, takes as takes_as}
 use Rattle.plan_shape.specs.Shape.{is_keyed_by, is_read, is_upsert_by, normalizes_by, scans_by, suits_consumer, takes, op_in}
 use Rattle.plan_shape.specs.Tables.{is_declarable}
 use Rattle.ct_change.specs.Kinds.{is_upsert}
@@ -37,10 +37,11 @@ use Rattle.plan_check.specs.Types.{is_typed_by, types_at, types_by}
 use Rattle.sound_plans.proofs.laws.Numbers.{below_is_not, then_parts}
 use Rattle.sound_plans.proofs.laws.Lists.{both, map_at, map_length, of_each, the_same, within}
 use Rattle.sound_plans.proofs.laws.Tables.{key_within, upsert_has_key}
-use Rattle.plan_rules.proofs.laws.Erasing.{each_seen, rest_seen}
-use Rattle.laid_plans.specs.Seen.{op_as_seen}
+use Rattle.plan_rules.proofs.laws.Erasing.{each_seen, rest_seen, unary_told, binary_told}
+use Rattle.plan_rules.specs.Seen.{op_as_seen}
 use Rattle.laid_plans.specs.Shapes.{types_of}
-use Rattle.laid_plans.proofs.laws.Laid.{both_parts, each_as_seen, rest_as_seen, filter_is, project_is, join_is, semi_is, renamed}
+use Rattle.plan_rules.proofs.laws.Seen.{role_seen}
+use Rattle.laid_plans.proofs.laws.Laid.{both_parts, each_as_seen, rest_as_seen, renamed}
 use Rattle.laid_plans.proofs.laws.LaidNodes.{IsFed, IsInner, OpMeets, inner, same_first, types_from}
 use Rattle.laid_plans.proofs.laws.Parts.{Part, next_part, no_part, two_parts}
 
@@ -59,16 +60,16 @@ are_columns columns (c ∷ key) h = (λ i. lt-ltb c (length columns) h.0 i && li
 
 -- ---- the ways of trees
 
--- by the way of a tree its operator is laid
+-- the operator of a way is seen as it is
 pub unary_is : (how : Unary) → IsUnary how (unary_way how).op
-unary_is (filter_by condition) = seen condition
-unary_is (project_on items) = each_seen items
+unary_is (filter_by condition) = ap (λ c. op.Filter (expr_of c)) (seen condition)
+unary_is (project_on items) = ap op.Project (each_as_seen (map expr_of items) ∙ ap (map expr_of) (each_seen items))
 unary_is (group_by keys aggs) = refl
 unary_is (rank_in partition order bound ranked) = refl
 
 pub binary_is : (how : Binary) → IsBinary how (binary_way how).op
-binary_is (join_on kind pairs rest) = (refl, refl, rest_seen rest)
-binary_is (semi_on anti pairs rest) = (refl, refl, rest_seen rest)
+binary_is (join_on kind pairs rest) = ap (op.Join kind pairs) (rest_as_seen (option_map expr_of rest) ∙ ap (option_map expr_of) (rest_seen rest))
+binary_is (semi_on anti pairs rest) = ap (op.Semi anti pairs) (rest_as_seen (option_map expr_of rest) ∙ ap (option_map expr_of) (rest_seen rest))
 
 module _ (plan : Plan) where
   -- the columns that a node sends
@@ -161,64 +162,87 @@ module _ (plan : Plan) where
 
   -- ---- operators
 
-  -- one with an input is told as the tree's, is seen as its way says, has the columns of its role, asks nothing of the tables, and takes its
-  -- input by this exchange
-  pub record UnaryFits (how : Unary) (o : Op) : Type 0 where
-    pub told : role o ≡ one_of how
-    pub seen : op_as_seen o ≡ (unary_way how).op
+  -- one is told by this role, has the role's columns, asks nothing of the tables, and takes its inputs by these exchanges
+  pub record OpFits (r : Role) (x y : Exchange) (o : Op) : Type 0 where
+    pub told : role o ≡ r
     pub made : (inputs : List (Option (List ColTy))) → types_by plan.sources o inputs ≡ columns_as plan.sources (role o) inputs
     pub is_inner : IsInner plan o
-    pub asks : (width : ℕ) → by_columns (asked width o 0) ≡ (unary_way how).asks
+    pub asks : (width : ℕ) → by_columns (asked width o 0) ≡ x
+    pub other_asks : (width : ℕ) → by_columns (asked width o 1) ≡ y
+
+  abbrev pub UnaryFits : Unary → Op → Type 0
+  UnaryFits how o = OpFits (one_of how) (unary_way how).asks (unary_way how).asks o
+
+  abbrev pub BinaryFits : Binary → Op → Type 0
+  BinaryFits how o = OpFits (two_of how) (binary_way how).left (binary_way how).right o
+
+  -- the operator of a way
+  unary_way_fits : (how : Unary) → UnaryFits how (unary_way how).op
+  unary_way_fits (filter_by condition) = record {
+    told = unary_told (filter_by condition);
+    made = λ inputs. refl;
+    is_inner = inner plan (op.Filter (expr_of condition)) refl;
+    asks = λ width. refl;
+    other_asks = λ width. refl;
+  }
+  unary_way_fits (project_on items) = record {
+    told = unary_told (project_on items);
+    made = λ inputs. refl;
+    is_inner = inner plan (op.Project (map expr_of items)) refl;
+    asks = λ width. refl;
+    other_asks = λ width. refl;
+  }
+  unary_way_fits (group_by keys aggs) = record {
+    told = refl;
+    made = λ inputs. refl;
+    is_inner = inner plan (op.Group keys aggs) refl;
+    asks = λ width. ap (λ cols. Hash cols) (same_first keys);
+    other_asks = λ width. ap (λ cols. Hash cols) (same_first keys);
+  }
+  unary_way_fits (rank_in partition order bound ranked) = record {
+    told = refl;
+    made = λ inputs. refl;
+    is_inner = inner plan (op.TopN partition order bound ranked) refl;
+    asks = λ width. refl;
+    other_asks = λ width. refl;
+  }
+
+  binary_way_fits : (how : Binary) → BinaryFits how (binary_way how).op
+  binary_way_fits (join_on kind pairs rest) = record {
+    told = binary_told (join_on kind pairs rest);
+    made = λ inputs. refl;
+    is_inner = inner plan (op.Join kind pairs (option_map expr_of rest)) refl;
+    asks = λ width. refl;
+    other_asks = λ width. refl;
+  }
+  binary_way_fits (semi_on anti pairs rest) = record {
+    told = binary_told (semi_on anti pairs rest);
+    made = λ inputs. refl;
+    is_inner = inner plan (op.Semi anti pairs (option_map expr_of rest)) refl;
+    asks = λ width. refl;
+    other_asks = λ width. refl;
+  }
+
+  -- one fits as it does as it is seen
+  seen_fits : (r : Role) (x y : Exchange) (o : Op) → OpFits r x y (op_as_seen o) → OpFits r x y o
+  seen_fits r x y (op.Filter cond) f =
+      record { told = sym (role_seen (op.Filter cond)) ∙ f.told; made = λ inputs. refl; is_inner = inner plan (op.Filter cond) refl; asks = f.asks; other_asks = f.other_asks }
+  seen_fits r x y (op.Project items) f =
+      record { told = sym (role_seen (op.Project items)) ∙ f.told; made = λ inputs. refl; is_inner = inner plan (op.Project items) refl; asks = f.asks; other_asks = f.other_asks }
+  seen_fits r x y (op.Join kind on rest) f =
+      record { told = sym (role_seen (op.Join kind on rest)) ∙ f.told; made = λ inputs. refl; is_inner = inner plan (op.Join kind on rest) refl; asks = f.asks; other_asks = f.other_asks }
+  seen_fits r x y (op.Semi anti on rest) f =
+      record { told = sym (role_seen (op.Semi anti on rest)) ∙ f.told; made = λ inputs. refl; is_inner = inner plan (op.Semi anti on rest) refl; asks = f.asks; other_asks = f.other_asks }
+  seen_fits r x y _ f = f
 
   pub unary_fits : (how : Unary) (o : Op) → IsUnary how o → UnaryFits how o
-  unary_fits (filter_by condition) o is =
-      let f = filter_is condition o is in
-      subst (λ (p : Op). UnaryFits (filter_by condition) p) (sym f.1)
-      (record { told = ap (λ c. one_of (filter_by c)) f.2; seen = ap (λ c. op.Filter (expr_of c)) f.2; made = λ inputs. refl; is_inner = inner plan (op.Filter f.0) refl; asks = λ width. refl })
-  unary_fits (project_on items) o is =
-      let f = project_is items o is in
-      subst (λ (p : Op). UnaryFits (project_on items) p) (sym f.1)
-      (record { told = ap (λ es. one_of (project_on es)) f.2; seen = ap op.Project (each_as_seen f.0 ∙ ap (map expr_of) f.2); made = λ inputs. refl; is_inner = inner plan (op.Project f.0) refl; asks = λ width. refl })
-  unary_fits (group_by keys aggs) o is =
-      subst (λ (p : Op). UnaryFits (group_by keys aggs) p) (sym is)
-      (record { told = refl; seen = refl; made = λ inputs. refl; is_inner = inner plan (op.Group keys aggs) refl; asks = λ width. ap (λ cols. Hash cols) (same_first keys) })
-  unary_fits (rank_in partition order bound ranked) o is =
-      subst (λ (p : Op). UnaryFits (rank_in partition order bound ranked) p) (sym is)
-      (record { told = refl; seen = refl; made = λ inputs. refl; is_inner = inner plan (op.TopN partition order bound ranked) refl; asks = λ width. refl })
+  unary_fits how o is = seen_fits (one_of how) (unary_way how).asks (unary_way how).asks o (subst (λ (p : Op). UnaryFits how p) (sym is) (unary_way_fits how))
+
+  pub binary_fits : (how : Binary) (o : Op) → IsBinary how o → BinaryFits how o
+  binary_fits how o is = seen_fits (two_of how) (binary_way how).left (binary_way how).right o (subst (λ (p : Op). BinaryFits how p) (sym is) (binary_way_fits how))
 
   unary_typed : (how : Unary) (o : Op) → UnaryFits how o → (own : List ColTy) → types_by plan.sources o (Some own ∷ []) ≡ unary_columns how own
   unary_typed how o f own = f.made (Some own ∷ []) ∙ ap (λ r. columns_as plan.sources r (Some own ∷ [])) f.told
-
-  -- the same of one with two
-  pub record BinaryFits (how : Binary) (o : Op) : Type 0 where
-    pub told : role o ≡ two_of how
-    pub seen : op_as_seen o ≡ (binary_way how).op
-    pub made : (inputs : List (Option (List ColTy))) → types_by plan.sources o inputs ≡ columns_as plan.sources (role o) inputs
-    pub is_inner : IsInner plan o
-    pub left_asks : (width : ℕ) → by_columns (asked width o 0) ≡ (binary_way how).left
-    pub right_asks : (width : ℕ) → by_columns (asked width o 1) ≡ (binary_way how).right
-
-  pub binary_fits : (how : Binary) (o : Op) → IsBinary how o → BinaryFits how o
-  binary_fits (join_on kind pairs rest) o is =
-      let f = join_is kind pairs rest o is in
-      subst (λ (p : Op). BinaryFits (join_on kind pairs rest) p) (sym f.1) (record {
-        told = ap (λ r. two_of (join_on kind pairs r)) f.2;
-        seen = ap (op.Join kind pairs) (rest_as_seen f.0 ∙ ap (option_map expr_of) f.2);
-        made = λ inputs. refl;
-        is_inner = inner plan (op.Join kind pairs f.0) refl;
-        left_asks = λ width. refl;
-        right_asks = λ width. refl;
-      })
-  binary_fits (semi_on anti pairs rest) o is =
-      let f = semi_is anti pairs rest o is in
-      subst (λ (p : Op). BinaryFits (semi_on anti pairs rest) p) (sym f.1) (record {
-        told = ap (λ r. two_of (semi_on anti pairs r)) f.2;
-        seen = ap (op.Semi anti pairs) (rest_as_seen f.0 ∙ ap (option_map expr_of) f.2);
-        made = λ inputs. refl;
-        is_inner = inner plan (op.Semi anti pairs f.0) refl;
-        left_asks = λ width. refl;
-        right_asks = λ width. refl;
-      })
 
   binary_typed : (how : Binary) (o : Op) → BinaryFits how o → (left right : List ColTy) → types_by plan.sources o (Some left ∷ (Some right ∷ [])) ≡ binary_columns how left right
   binary_typed how o f left right = f.made (Some left ∷ (Some right ∷ [])) ∙ ap (λ r. columns_as plan.sources r (Some left ∷ (Some right ∷ []))) f.told
@@ -398,7 +422,7 @@ module _ (plan : Plan) (tables : (source : ℕ) (table : TableDef) → slice_get
         let o = laid.5.node.op in
         let f : BinaryFits plan how o = binary_fits plan how laid.5.node.op laid.5.is_op in
         on_two plan n laid.0 laid.1 root (binary_way how).left (binary_way how).right x o p.0 p.1 columns f.is_inner (tree left n (binary_way how).left laid.0 laid.2 lower fulls.0 p.0 p.2) b
-        f.left_asks f.right_asks (ap (λ r. takes_as r 2) f.told) (binary_typed plan how o f p.0 p.1 ∙ p.4) next (renamed plan root (IsBinary how) (laid.0 ∷ (laid.1 ∷ [])) o laid.5 refl) laid.6 high
+        f.asks f.other_asks (ap (λ r. takes_as r 2) f.told) (binary_typed plan how o f p.0 p.1 ∙ p.4) next (renamed plan root (IsBinary how) (laid.0 ∷ (laid.1 ∷ [])) o laid.5 refl) laid.6 high
     tree (Many no_rels) n x root laid high full columns t = absurd (cc)
     tree (Many (rel_and input inputs)) n x root laid high full columns t =
         let parts = laid.2 in

@@ -22,7 +22,7 @@ use Rattle.phys_plan.specs.declared.node.Op.TheVariants as op
 use Rattle.phys_plan.proofs.laws.Reading.{read_append}
 use Rattle.plan_rules.specs.Answers.{TreesAreErased}
 use Rattle.plan_rules.specs.Pieces.{unary_way, binary_way, Piece, piece, full_piece, scan_pieces, source_pieces, topped, topped_both, pieces_of, pieces_of_all, roots_of, nodes_in, with_sink}
-use Rattle.plan_rules.specs.Roles.{nothing, role, tree_of}
+use Rattle.plan_rules.specs.Roles.{nothing, one_of, two_of, role, tree_of}
 use Rattle.plan_rules.proofs.laws.Numbers.{get_at, get_more}
 
 -- ---- expressions are seen
@@ -37,15 +37,16 @@ rest_seen (Some x) = ap Some (seen x)
 
 -- ---- by operator
 
-unary_tree : (how : Unary) (input : Rel) → tree_of (role (unary_way how).op) (input ∷ []) ≡ One how input
-unary_tree (filter_by condition) input = ap (λ c. One (filter_by c) input) (seen condition)
-unary_tree (project_on items) input = ap (λ l. One (project_on l) input) (each_seen items)
-unary_tree (group_by keys aggs) input = refl
-unary_tree (rank_in partition order bound ranked) input = refl
+-- the operator of a tree's way is the tree's
+pub unary_told : (how : Unary) → role (unary_way how).op ≡ one_of how
+unary_told (filter_by condition) = ap (λ c. one_of (filter_by c)) (seen condition)
+unary_told (project_on items) = ap (λ l. one_of (project_on l)) (each_seen items)
+unary_told (group_by keys aggs) = refl
+unary_told (rank_in partition order bound ranked) = refl
 
-binary_tree : (how : Binary) (left right : Rel) → tree_of (role (binary_way how).op) (left ∷ (right ∷ [])) ≡ Two how left right
-binary_tree (join_on kind pairs rest) left right = ap (λ r. Two (join_on kind pairs r) left right) (rest_seen rest)
-binary_tree (semi_on anti pairs rest) left right = ap (λ r. Two (semi_on anti pairs r) left right) (rest_seen rest)
+pub binary_told : (how : Binary) → role (binary_way how).op ≡ two_of how
+binary_told (join_on kind pairs rest) = ap (λ r. two_of (join_on kind pairs r)) (rest_seen rest)
+binary_told (semi_on anti pairs rest) = ap (λ r. two_of (semi_on anti pairs r)) (rest_seen rest)
 
 -- ---- the trees of pieces behind these trees
 
@@ -150,12 +151,12 @@ module _ (sources : List TableDef) where
     tree_ends : (rel : Rel) (n : ℕ) (done : List Rel) → length done ≡ n → (x : Exchange) → Ends n done (pieces_of sources n x rel) rel
     tree_ends (Scan source) n done size x = source_ends n done size x source (slice_get sources source)
     tree_ends (One how input) n done size x =
-        topped_ends n done (pieces_of sources n (unary_way how).asks input) (unary_way how).op x input (One how input) (tree_ends input n done size (unary_way how).asks) (unary_tree how input)
+        topped_ends n done (pieces_of sources n (unary_way how).asks input) (unary_way how).op x input (One how input) (tree_ends input n done size (unary_way how).asks) (ap (λ r. tree_of r (input ∷ [])) (unary_told how))
     tree_ends (Two how left right) n done size x =
         let ps = pieces_of sources n (binary_way how).left left in
         let qs = pieces_of sources (n + length ps) (binary_way how).right right in
         let first : Ends n done ps left = tree_ends left n done size (binary_way how).left in
-        both_end n done ps qs (binary_way how).op x left right (Two how left right) first (tree_ends right (n + length ps) (after done ps) first.goes.many (binary_way how).right) (binary_tree how left right)
+        both_end n done ps qs (binary_way how).op x left right (Two how left right) first (tree_ends right (n + length ps) (after done ps) first.goes.many (binary_way how).right) (ap (λ r. tree_of r (left ∷ (right ∷ []))) (binary_told how))
     tree_ends (Many inputs) n done size x =
         let all = trees_end inputs n done size in
         ends_on n done (pieces_of_all sources n inputs) op.Union (roots_of sources n inputs) x (kinds_of retract) Both (Many inputs) all.goes (ap Many all.trees)

@@ -9,9 +9,10 @@ use Rattle.ct_catalog.specs.declared.table.TableDef.{TableDef}
 use Rattle.ct_expr.specs.declared.expr.Expr.{Expr as CodeExpr}
 use Rattle.ct_expr.specs.Expr.{Expr}
 use Rattle.ct_expr.specs.View.{expr_view}
+use Rattle.ct_expr.specs.Views.{expr_of}
 use Rattle.rel_algebra.specs.declared.agg.Agg.{Agg}
 use Rattle.rel_algebra.specs.declared.sort.SortCol.{SortCol}
-use Rattle.rel_algebra.specs.Rel.{Rel, Rels, no_rels}
+use Rattle.rel_algebra.specs.Rel.{filter_by, project_on, group_by, rank_in, Rel, Rels, no_rels}
 use Rattle.rel_algebra.specs.Rel as r
 use Rattle.emission_rules.specs.GroupFits.{first_columns}
 use Rattle.phys_plan.specs.declared.edge.Edge.{Edge}
@@ -24,7 +25,8 @@ use Rattle.phys_plan.specs.declared.node.Op.TheVariants as op
 use Rattle.phys_plan.specs.declared.node.Node.{Node}
 use Rattle.phys_plan.specs.declared.plan.Plan.{Plan}
 use Rattle.phys_plan.specs.Reading.{numbered, no_keys}
-use Rattle.plan_rules.specs.Laid.{IsFilter, IsProject, HasNode, HasEdge, ScanLaid, SourceLaid, IsLaid, IsPlanOf}
+use Rattle.plan_rules.specs.Laid.{IsUnary, HasNode, HasEdge, ScanLaid, SourceLaid, IsLaid, IsPlanOf}
+use Rattle.laid_plans.proofs.laws.Laid.{each_as_seen}
 use Rattle.planner.specs.declared.laying_fault.LayingFault.{LayingFault}
 use Rattle.planner.specs.declared.laying_fault.LayingFault.TheVariants.{NoTable, Memory}
 use Rattle.planner.specs.declared.laying.Laying.{Laying}
@@ -137,27 +139,27 @@ pub filter_lays : (old mid new : Laying) (x : Exchange) (input : Rel) (condition
     → Pushed mid new (op.Filter cond) (below ∷ []) x (kinds_of retract) Both root → expr_view cond ≡ condition → Lays old new x (r.Filter input condition) root
 filter_lays old mid new x input condition cond below root l p is =
     over old mid new Forward x input below root (op.Filter cond) l p (r.Filter input condition) refl
-    (λ plan laid next has told. (below, laid, next, as_op plan root (IsFilter condition) (below ∷ []) (op.Filter cond) is has, told))
+    (λ plan laid next has told. (below, laid, next, as_op plan root (IsUnary (filter_by condition)) (below ∷ []) (op.Filter cond) (ap (λ c. op.Filter (expr_of c)) is) has, told))
 
 pub project_lays : (old mid new : Laying) (x : Exchange) (input : Rel) (items : List Expr) (own : List CodeExpr) (below root : ℕ) → Lays old mid Forward input below
     → Pushed mid new (op.Project own) (below ∷ []) x (kinds_of retract) Both root → map expr_view own ≡ items → Lays old new x (r.Project input items) root
 project_lays old mid new x input items own below root l p is =
     over old mid new Forward x input below root (op.Project own) l p (r.Project input items) refl
-    (λ plan laid next has told. (below, laid, next, as_op plan root (IsProject items) (below ∷ []) (op.Project own) is has, told))
+    (λ plan laid next has told. (below, laid, next, as_op plan root (IsUnary (project_on items)) (below ∷ []) (op.Project own) (ap op.Project (each_as_seen own ∙ ap (map expr_of) is)) has, told))
 
 pub group_lays : (old mid new : Laying) (x : Exchange) (input : Rel) (keys : ℕ) (aggs own : List Agg) (columns : List ℕ) (below root : ℕ) → columns ≡ first_columns keys → own ≡ aggs
     → Lays old mid (Hash columns) input below → Pushed mid new (op.Group keys own) (below ∷ []) x (kinds_of retract) Both root → Lays old new x (r.Group input keys aggs) root
 group_lays old mid new x input keys aggs own columns below root c a l p =
     subst (λ g. Lays old new x (r.Group input keys g) root) a
     (over old mid new (Hash columns) x input below root (op.Group keys own) l p (r.Group input keys own) refl
-    (λ plan laid next has told. (below, subst (λ k. IsLaid plan (length old.nodes) (Hash k) input below) c laid, next, has, told)))
+    (λ plan laid next has told. (below, subst (λ k. IsLaid plan (length old.nodes) (Hash k) input below) c laid, next, as_op plan root (IsUnary (group_by keys own)) (below ∷ []) (op.Group keys own) refl has, told)))
 
 pub rank_lays : (old mid new : Laying) (x : Exchange) (input : Rel) (partition columns own : List ℕ) (order sorts : List SortCol) (bound : ℕ) (ranked : Bool) (below root : ℕ) → columns ≡ partition → own ≡ partition → sorts ≡ order
     → Lays old mid (Hash columns) input below → Pushed mid new (op.TopN own sorts bound ranked) (below ∷ []) x (kinds_of retract) Both root → Lays old new x (r.Rank input partition order bound ranked) root
 rank_lays old mid new x input partition columns own order sorts bound ranked below root c a s l p =
     let same : op.TopN own sorts bound ranked ≡ op.TopN partition order bound ranked = λ i. op.TopN (a i) (s i) bound ranked in
     over old mid new (Hash columns) x input below root (op.TopN own sorts bound ranked) l p (r.Rank input partition order bound ranked) refl
-    (λ plan laid next has told. (below, subst (λ k. IsLaid plan (length old.nodes) (Hash k) input below) c laid, next, subst (λ (o : Op). HasNode plan root (λ q. q ≡ o) (below ∷ [])) same has, told))
+    (λ plan laid next has told. (below, subst (λ k. IsLaid plan (length old.nodes) (Hash k) input below) c laid, next, as_op plan root (IsUnary (rank_in partition order bound ranked)) (below ∷ []) (op.TopN own sorts bound ranked) same has, told))
 
 -- ---- unions
 

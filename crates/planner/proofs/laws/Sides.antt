@@ -1,18 +1,24 @@
 -- Both inputs of an operator, laid one behind the other, and the operator behind them.
-use Rattle.std.specs.Prelude.{◌≡◌, ℕ, ◌||◌, List, length}
+use Rattle.std.specs.Prelude.{◌≡◌, ℕ, ◌||◌, List, length, Option, option_map}
 use Rattle.std.proofs.Common.{false, [], ◌∷◌, sym, ap, subst, ◌∙◌, Bool}
 use Rattle.ct_change.specs.Changelog.{retract, kinds_of}
 use Rattle.ct_catalog.specs.declared.table.TableDef.{TableDef}
-use Rattle.rel_algebra.specs.Rel.{Binary, Rel, Two}
+use Rattle.ct_expr.specs.Expr.{Expr}
+use Rattle.ct_expr.specs.Views.{expr_of}
+use Rattle.rel_algebra.specs.declared.join.JoinKind.{JoinKind}
+use Rattle.rel_algebra.specs.declared.join.Pair.{Pair}
+use Rattle.rel_algebra.specs.Rel.{Binary, join_on, semi_on, Rel, Two}
 use Rattle.phys_plan.specs.declared.edge.Exchange.{Exchange}
 use Rattle.ct_change.specs.declared.update.Update.TheVariants.{Both}
 use Rattle.phys_plan.specs.declared.node.Op.{Op}
+use Rattle.phys_plan.specs.declared.node.Op.TheVariants as op
 use Rattle.phys_plan.specs.declared.plan.Plan.{Plan}
 use Rattle.plan_rules.specs.Laid.{IsBinary, HasNode, IsLaid}
 use Rattle.plan_rules.specs.Pieces.{binary_way}
+use Rattle.laid_plans.proofs.laws.Laid.{rest_as_seen}
 use Rattle.planner.specs.declared.laying.Laying.{Laying}
 use Rattle.planner.specs.Faults.{lacks_table}
-use Rattle.planner.specs.Laying.{IsEven, Extends, Pushed, PushedAs, Lays}
+use Rattle.planner.specs.Laying.{IsEven, Extends, IsJoin, IsSemi, Pushed, PushedAs, Lays}
 use Rattle.planner.proofs.laws.Laid.{pushed_even, pushed_number, pushed_extends, pushed_node, pushed_edge, as_op}
 
 or_not : (a b : Bool) → a ≡ false → b ≡ false → (a || b) ≡ false
@@ -64,3 +70,13 @@ module _ (how : Binary) (left right : Rel) where
   pub two_lay : (old mid new last : Laying) (x : Exchange) (first second root : ℕ) → Lays old mid (binary_way how).left left first → Lays mid new (binary_way how).right right second
       → PushedAs new last (IsBinary how) (first ∷ (second ∷ [])) x root → Lays old last x (Two how left right) root
   two_lay old mid new last x first second root l m p = over_both old new last x (first ∷ (second ∷ [])) root p.0 p.1 (both_lay old mid new first second l m) p.2
+
+-- ---- by operator
+
+pub is_join : (kind : JoinKind) (pairs : List Pair) (rest : Option Expr) (o : Op) → IsJoin kind pairs rest o → IsBinary (join_on kind pairs rest) o
+is_join kind pairs rest (op.Join own on test) is = λ i. op.Join (is.0 i) (is.1 i) ((rest_as_seen test ∙ ap (option_map expr_of) is.2) i)
+is_join kind pairs rest _ is = absurd is
+
+pub is_semi : (anti : Bool) (pairs : List Pair) (rest : Option Expr) (o : Op) → IsSemi anti pairs rest o → IsBinary (semi_on anti pairs rest) o
+is_semi anti pairs rest (op.Semi own on test) is = λ i. op.Semi (is.0 i) (is.1 i) ((rest_as_seen test ∙ ap (option_map expr_of) is.2) i)
+is_semi anti pairs rest _ is = absurd is

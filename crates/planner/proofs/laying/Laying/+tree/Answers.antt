@@ -7,7 +7,7 @@ use Rattle.rel_algebra.proofs.laws.Views.{view_join, view_semi}
 use Rattle.planner.specs.Laying.{Lays, Fails}
 use Rattle.planner.proofs.laws.Laid.{filter_lays, project_lays, group_lays, rank_lays, union_lays}
 use Rattle.planner.proofs.laws.Several.{turn_lays, turn_fails}
-use Rattle.planner.proofs.laws.Sides.{two_lay}
+use Rattle.planner.proofs.laws.Sides.{two_lay, is_join, is_semi}
 use Rattle.planner.proofs.Answered.{if_ok, if_err}
 use Rattle.planner.proofs.laying.Laying.+tree.Goals as goal
 
@@ -43,7 +43,7 @@ lay-returns-in_ok-second-in-Join-clause-laid t c =
     let sees : rel_view c.args.rel.now ≡ r.Join (rel_view c.deref-in-Join.result.now) (rel_view c.deref-in-Join-2.result.now) c.in-Join.kind c.in-Join.on (option_map expr_view c.in-Join.rest) =
     viewed ∙ (λ i. r.Join (rel_view (sym left i)) (rel_view (sym right i)) c.in-Join.kind c.in-Join.on (option_map expr_view c.in-Join.rest)) in
     subst (λ (rel : Rel). IfOk c.push_join.result (λ root. Lays c.args.self.now c.push_join.new.self c.args.exchange rel root)) (sym sees)
-    (if_ok _ _ _ (λ root p. two_lay (r.join_on c.in-Join.kind c.in-Join.on (option_map expr_view c.in-Join.rest)) _ _ _ _ _ _ _ _ _ root c.in_ok-first-in-Join.ensures.laid c.in_ok-second-in-Join.ensures.laid p) c.push_join.ensures.pushed)
+    (if_ok _ _ _ (λ root p. two_lay (r.join_on c.in-Join.kind c.in-Join.on (option_map expr_view c.in-Join.rest)) _ _ _ _ _ _ _ _ _ root c.in_ok-first-in-Join.ensures.laid c.in_ok-second-in-Join.ensures.laid (p.0, is_join _ _ _ p.0 p.1, p.2)) c.push_join.ensures.pushed)
 
 pub lay-returns-in_ok-second-in-Semi-clause-laid : goal.lay-returns-in_ok-second-in-Semi-clause-laid
 lay-returns-in_ok-second-in-Semi-clause-laid t c =
@@ -53,4 +53,4 @@ lay-returns-in_ok-second-in-Semi-clause-laid t c =
     let sees : rel_view c.args.rel.now ≡ r.Semi (rel_view c.deref-in-Semi.result.now) (rel_view c.deref-in-Semi-2.result.now) c.in-Semi.anti c.in-Semi.on (option_map expr_view c.in-Semi.rest) =
     viewed ∙ (λ i. r.Semi (rel_view (sym left i)) (rel_view (sym right i)) c.in-Semi.anti c.in-Semi.on (option_map expr_view c.in-Semi.rest)) in
     subst (λ (rel : Rel). IfOk c.push_semi.result (λ root. Lays c.args.self.now c.push_semi.new.self c.args.exchange rel root)) (sym sees)
-    (if_ok _ _ _ (λ root p. two_lay (r.semi_on c.in-Semi.anti c.in-Semi.on (option_map expr_view c.in-Semi.rest)) _ _ _ _ _ _ _ _ _ root c.in_ok-first-in-Semi.ensures.laid c.in_ok-second-in-Semi.ensures.laid p) c.push_semi.ensures.pushed)
+    (if_ok _ _ _ (λ root p. two_lay (r.semi_on c.in-Semi.anti c.in-Semi.on (option_map expr_view c.in-Semi.rest)) _ _ _ _ _ _ _ _ _ root c.in_ok-first-in-Semi.ensures.laid c.in_ok-second-in-Semi.ensures.laid (p.0, is_semi _ _ _ p.0 p.1, p.2)) c.push_semi.ensures.pushed)
