@@ -1,5 +1,4 @@
 pub mod Aggregates
-pub mod AnswerTypes
 pub mod Averages
 pub mod Bags
 pub mod ClauseTypes
@@ -9,7 +8,6 @@ pub mod Fits
 pub mod Groups
 pub mod Joins
 pub mod Keys
-pub mod PlainColumns
 pub mod Ranks
 pub mod ResultTypes
 pub mod Results

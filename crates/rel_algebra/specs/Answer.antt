@@ -1,23 +1,17 @@
 -- The batch answer of a tree of the algebra: one case for each variant, each a function of the inputs' whole bags.
-use Rattle.std.specs.Prelude.{◌≡◌, ℕ, ◌^◌, nat_le, Bool, true, false, ◌||◌, List, [], map, slice_get, Option, Some, None, option_and_then}
+use Rattle.std.specs.Prelude.{ℕ, ◌^◌, nat_le, Bool, false, List, [], map, slice_get, Option, Some, None, option_and_then}
 use Rattle.std.specs.List.{list_any, AllByRecursion}
 use Rattle.std.specs.Option.{unwrap_or}
 use Rattle.ct_value.specs.Bag.{items, copies, none}
-use Rattle.ct_value.specs.declared.row.Row.{Row}
 use Rattle.ct_value.specs.declared.ty.ColTy.{ColTy}
-use Rattle.ct_value.specs.declared.value.Value.{Value}
 use Rattle.ct_change.specs.Changelog.{Rows}
-use Rattle.ct_field.specs.Typed.{col_fits}
-use Rattle.ct_expr.specs.Expr.{Expr}
-use Rattle.ct_expr.specs.Eval.{eval}
 use Rattle.ct_expr.specs.Types.{both_of}
-use Rattle.rel_algebra.specs.Clauses.{Fits, MeanTypes}
+use Rattle.rel_algebra.specs.Clauses.{Fits}
 use Rattle.rel_algebra.specs.Sums.{Each, plus}
-use Rattle.rel_algebra.specs.Ranks.{rank_rows}
-use Rattle.rel_algebra.specs.Rel.{Rel, Rels, Scan, Filter, Project, Union, Group, Join, Semi, Rank, One, Two, Many, no_rels, rel_and}
+use Rattle.rel_algebra.specs.Rel.{Rel, Rels, Scan, One, Two, Many, no_rels, rel_and}
 use Rattle.rel_algebra.specs.Batch.{unary_answer, binary_answer}
 use Rattle.rel_algebra.specs.Walks.{some_part, some_part_of_any}
-use Rattle.rel_algebra.specs.Types.{columns_of, item_columns}
+use Rattle.rel_algebra.specs.Types.{columns_of}
 
 -- the types of a table's columns, and its rows
 pub record Table : Type 0 where
@@ -68,24 +62,3 @@ module _ (tables : List Table) where
 -- each row of a table has its columns
 abbrev pub AreTyped : List Table → Type 0
 AreTyped tables = AllByRecursion (λ table. Each (Fits table.columns) table.rows) tables
-
--- where a row has the input's columns, the values of the items are of their columns
-abbrev pub ItemsMean : Option (List ColTy) → List Expr → Type 0
-ItemsMean None items = Unit {0}
-ItemsMean (Some columns) items = (made : List ColTy) → item_columns columns items ≡ Some made → MeanTypes columns (map eval items) made
-
-abbrev mutual
-  -- the same of the items of each Project of a tree, over the columns of the tables
-  pub ItemsFit : List (List ColTy) → Rel → Type 0
-  ItemsFit types (Scan source) = Unit {0}
-  ItemsFit types (Filter input condition) = ItemsFit types input
-  ItemsFit types (Project input items) = ItemsFit types input × ItemsMean (columns_of types input) items
-  ItemsFit types (Union inputs) = AllItemsFit types inputs
-  ItemsFit types (Group input keys aggs) = ItemsFit types input
-  ItemsFit types (Join left right kind pairs rest) = ItemsFit types left × ItemsFit types right
-  ItemsFit types (Semi left right anti pairs rest) = ItemsFit types left × ItemsFit types right
-  ItemsFit types (Rank input partition order bound ranked) = ItemsFit types input
-
-  pub AllItemsFit : List (List ColTy) → Rels → Type 0
-  AllItemsFit types no_rels = Unit {0}
-  AllItemsFit types (rel_and input inputs) = ItemsFit types input × AllItemsFit types inputs

@@ -1,9 +1,12 @@
+pub mod AnswerTypes
 pub mod Choices
 pub mod Columns
+pub mod Exists
 pub mod Forms
 pub mod Items
 pub mod Kinds
 pub mod Lifted
 pub mod Named
+pub mod Operators
 pub mod Reach
 pub mod Typed

@@ -14,7 +14,7 @@ use Rattle.rel_algebra.proofs.laws.Bags.{each-none, each-add, each-copies, copie
 use Rattle.rel_algebra.specs.Rel.{Scan, Union, no_rels, rel_and}
 use Rattle.rel_algebra.specs.Types.{common_columns}
 use Rattle.rel_algebra.specs.Answer.{Table}
-use Rattle.typing_laws.proofs.laws.Items.{answers_fit}
+use Rattle.typing_laws.proofs.laws.AnswerTypes.{answers_fit}
 use Rattle.plan_rules.specs.Columns.{common_with}
 
 -- the tables of a union of two: one row, and none

@@ -7,7 +7,7 @@ use Rattle.job_batch.proofs.Tables.{same_length, same_tables}
 use Rattle.job_batch.proofs.answers.evaluated.Goals as goal
 use Rattle.job_judgement.proofs.laws.Theorems.{accepted_is_bound}
 use Rattle.query_laws.proofs.laws.Theorems.{inserts_keep_the_answer, bound_inserts_are_well_typed_columns, bound_inserts_are_well_typed_sink}
-use Rattle.typing_laws.proofs.laws.Items.{answers_fit}
+use Rattle.typing_laws.proofs.laws.AnswerTypes.{answers_fit}
 
 pub answer_of-requires-clause-tables : goal.answer_of-requires-clause-tables
 answer_of-requires-clause-tables c = ap length (c.in_ok-types.ensures ∙ ap (map column_types) c.as_slice.ensures) ∙ same_length c.args.script.now.inserted.sources c.args.tables.now c.requires.fit

@@ -1,4 +1,4 @@
-use Rattle.typing_laws.proofs.laws.Items.{answers_fit}
+use Rattle.typing_laws.proofs.laws.AnswerTypes.{answers_fit}
 use Rattle.typing_laws.proofs.of_answers.answers_fit.Goals as goal
 
 pub returns : goal.returns

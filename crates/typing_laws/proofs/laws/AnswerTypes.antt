@@ -1,9 +1,9 @@
 -- The rows of an answer have the columns that its tree's types tell.
-use Rattle.std.proofs.Common.{◌≡◌, ℕ, zero, suc, ◌<◌, ◌≤◌, ◌^◌, ◌==◌, Bool, true, false, cond, not, ◌&&◌, ◌||◌, List, [], ◌∷◌, map, Option, Some, None, refl, sym, ap, ◌∙◌, subst, arith}
-use Rattle.std.specs.Prelude.{ℤ, max, nat_le, slice_get, option_map, option_and_then, unsigned_abs}
-use Rattle.std.specs.List.{AllByRecursion, list_all}
+use Rattle.std.proofs.Common.{◌≡◌, ℕ, zero, suc, ◌≤◌, ◌^◌, ◌==◌, Bool, true, false, cond, not, ◌&&◌, ◌||◌, List, [], ◌∷◌, Option, Some, None, refl, sym, ap, ◌∙◌, subst, arith}
+use Rattle.std.specs.Prelude.{ℤ, max, slice_get, option_map, option_and_then, unsigned_abs}
+use Rattle.std.specs.List.{AllByRecursion}
 use Rattle.std.specs.Option.{unwrap_or}
-use Rattle.std.proofs.lemmas.Bool.{ltb-true, lt-ltb, leb-true, eqb-true}
+use Rattle.std.proofs.lemmas.Bool.{ltb-true, lt-ltb, eqb-true}
 use Rattle.std.proofs.Math.Nat.{pow-le-pow_right}
 use Rattle.ct_value.specs.Bag.{items, none}
 use Rattle.ct_value.specs.Order.{row_total, row_exact}
@@ -16,29 +16,19 @@ use Rattle.ct_value.specs.declared.value.Value.TheVariants.{Null, Bool as Truth,
 use Rattle.ct_change.specs.Changelog.{Rows}
 use Rattle.ct_field.specs.Numbers.{in_range}
 use Rattle.ct_field.specs.Typed.{value_fits, is_null, col_fits}
-use Rattle.ct_expr.specs.Expr.{Expr}
-use Rattle.ct_expr.specs.Eval.{eval}
-use Rattle.ct_expr.specs.Types.{type_of, common_ty, both_of}
-use Rattle.rel_algebra.specs.declared.sort.SortCol.{SortCol}
+use Rattle.ct_expr.specs.Types.{common_ty, both_of}
 use Rattle.rel_algebra.specs.Sums.{Each, plus, together}
-use Rattle.rel_algebra.specs.Clauses.{Fits, MeanTypes}
-use Rattle.rel_algebra.specs.Groups.{group_columns}
-use Rattle.rel_algebra.specs.Joins.{matching, join_columns}
-use Rattle.rel_algebra.specs.Ranks.{rank_columns, rank_rows}
+use Rattle.rel_algebra.specs.Clauses.{Fits}
 use Rattle.rel_algebra.proofs.laws.Averages.{within_widens}
 use Rattle.rel_algebra.proofs.laws.Bags.{each-none, each-together, plus_parts}
-use Rattle.rel_algebra.proofs.laws.ClauseTypes.{filter_fits, project_fits, join_fits, semi_fits, group_fits, rank_fits}
 use Rattle.rel_algebra.proofs.laws.Fits.{first, second, both}
-use Rattle.rel_algebra.specs.Rel.{Rel, Rels, Scan, Filter, Project, Union, Group, Join, Semi, Rank, no_rels, rel_and}
-use Rattle.rel_algebra.specs.Batch.{filter_answer, project_answer, group_answer, join_answer, semi_answer}
-use Rattle.rel_algebra.specs.Types.{columns_if, is_condition, item_columns, common_column, common_columns, match_fits, rank_fits as rank_is_typed, largest_bound, is_column, columns_of, common_from}
-use Rattle.rel_algebra.specs.Answer.{Table, types_in, rows_in, columns_in, answer, answers, AreTyped, ItemsMean, ItemsFit, AllItemsFit}
+use Rattle.typing_laws.proofs.laws.Operators.{if_some, unary_types, binary_types}
+use Rattle.rel_algebra.specs.Rel.{Rel, Rels, Scan, One, Two, Many, no_rels, rel_and}
+use Rattle.rel_algebra.specs.Batch.{unary_answer, binary_answer}
+use Rattle.rel_algebra.specs.Types.{common_column, common_columns, unary_columns, binary_columns, columns_of, common_from}
+use Rattle.rel_algebra.specs.Answer.{Table, types_in, rows_in, columns_in, answer, answers, AreTyped}
 
 -- ---- parts of what is there
-
-if_some : {A : Type 0} (test : Bool) (a b : A) → cond test (Some a) None ≡ Some b → (test ≡ true) × (a ≡ b)
-if_some true a b e = (refl, cc)
-if_some false a b e = absurd (cc)
 
 then_parts : {A B : Type 0} (f : A → Option B) (o : Option A) (b : B) → option_and_then f o ≡ Some b → (a : A) × (o ≡ Some a) × (f a ≡ Some b)
 then_parts f None b e = absurd (cc)
@@ -173,66 +163,42 @@ scan_fits (table ∷ tables) (suc source) columns h e = scan_fits tables source 
 plus_both : (a b : Option Rows) (c : Rows) → plus a b ≡ Some c → (d e : Rows) × ((a ≡ Some d) × (b ≡ Some e) × (c ≡ together d e))
 plus_both a b c e = plus_parts row_total row_exact a b c e
 
-few : (bound : ℕ) → nat_le bound largest_bound ≡ true → bound < 2 ^ 63
-few bound e = let h = leb-true bound largest_bound e in omega arith
-
-rank_bound : (columns : List ColTy) (partition : List ℕ) (order : List SortCol) (bound : ℕ) → rank_is_typed columns partition order bound ≡ true → bound < 2 ^ 63
-rank_bound columns partition order bound e =
-    few bound (second (nat_le 1 bound) _ (second (list_all (λ sort. is_column columns sort.col) order) _ (second (list_all (is_column columns) partition) _ e)))
-
 module _ (tables : List Table) (typed : AreTyped tables) where
   in_columns : (rel : Rel) (columns : List ColTy) → columns_of (types_in tables) rel ≡ Some columns → columns_in tables rel ≡ columns
   in_columns rel columns e = ap (λ o. unwrap_or o []) e
 
   mutual
-    pub answer_fits : (rel : Rel) (columns : List ColTy) (rows : Rows) → ItemsFit (types_in tables) rel → columns_of (types_in tables) rel ≡ Some columns → answer tables rel ≡ Some rows → Each (Fits columns) rows
-    answer_fits (Scan source) columns rows f t e = let i : rows_in tables source ≡ rows = cc in subst (λ (r : Rows). Each (Fits columns) r) i (scan_fits tables source columns typed t)
-    answer_fits (Filter input condition) columns rows f t e =
-        let p = then_parts (λ c. columns_if (is_condition c condition) c) (columns_of (types_in tables) input) columns t in
-        let q = then_parts (filter_answer condition) (answer tables input) rows e in
-        let i : p.0 ≡ columns = (if_some (is_condition p.0 condition) p.0 columns p.2).1 in
-        filter_fits columns (eval condition) q.0 rows (subst (λ c. Each (Fits c) q.0) i (answer_fits input p.0 q.0 f p.1 q.1)) q.2
-    answer_fits (Project input items) columns rows f t e =
-        let p = then_parts (λ c. item_columns c items) (columns_of (types_in tables) input) columns t in
-        let q = then_parts (project_answer items) (answer tables input) rows e in
-        project_fits p.0 (map eval items) columns q.0 rows (subst (λ o. ItemsMean o items) p.1 f.1 columns p.2) (answer_fits input p.0 q.0 f.0 p.1 q.1) q.2
-    answer_fits (Union no_rels) columns rows f t e = absurd (cc)
-    answer_fits (Union (rel_and input inputs)) columns rows f t e =
+    tree_fits : (rel : Rel) (columns : List ColTy) (rows : Rows) → columns_of (types_in tables) rel ≡ Some columns → answer tables rel ≡ Some rows → Each (Fits columns) rows
+    tree_fits (Scan source) columns rows t e = let i : rows_in tables source ≡ rows = cc in subst (λ (r : Rows). Each (Fits columns) r) i (scan_fits tables source columns typed t)
+    tree_fits (One how input) columns rows t e =
+        let p = then_parts (unary_columns how) (columns_of (types_in tables) input) columns t in
+        let q = then_parts (unary_answer how (columns_in tables input)) (answer tables input) rows e in
+        (unary_types how).fits p.0 columns q.0 rows p.2 (tree_fits input p.0 q.0 p.1 q.1) (ap (λ c. unary_answer how c q.0) (sym (in_columns input p.0 p.1)) ∙ q.2)
+    tree_fits (Two how left right) columns rows t e =
+        let p = both_parts (binary_columns how) (columns_of (types_in tables) left) (columns_of (types_in tables) right) columns t in
+        let q = both_parts (binary_answer how (columns_in tables left) (columns_in tables right)) (answer tables left) (answer tables right) rows e in
+        (binary_types how).fits p.0 p.1 columns q.0 q.1 rows p.4 (tree_fits left p.0 q.0 p.2 q.2) (tree_fits right p.1 q.1 p.3 q.3)
+        (sym (λ i. binary_answer how (in_columns left p.0 p.2 i) (in_columns right p.1 p.3 i) q.0 q.1) ∙ q.4)
+    tree_fits (Many no_rels) columns rows t e = absurd (cc)
+    tree_fits (Many (rel_and input inputs)) columns rows t e =
         let p = plus_both (answer tables input) (answers tables inputs) rows e in
-        let q = answers_fit inputs (columns_of (types_in tables) input) columns p.1 f.1 t p.2.1 in
+        let q = trees_fit inputs (columns_of (types_in tables) input) columns p.1 t p.2.1 in
         subst (λ (r : Rows). Each (Fits columns) r) (sym p.2.2) (each-together row_total row_exact (Fits columns) p.0 p.1
-        (all_rows q.0 columns q.2 p.0 (answer_fits input q.0 p.0 f.0 q.1 p.2.0)) q.3)
-    answer_fits (Group input keys aggs) columns rows f t e =
-        let p = then_parts (λ c. group_columns keys c aggs) (columns_of (types_in tables) input) columns t in
-        let q = then_parts (group_answer (columns_in tables input) keys aggs) (answer tables input) rows e in
-        group_fits keys p.0 columns aggs q.0 rows p.2 (answer_fits input p.0 q.0 f p.1 q.1) (ap (λ c. group_answer c keys aggs q.0) (sym (in_columns input p.0 p.1)) ∙ q.2)
-    answer_fits (Join left right kind pairs rest) columns rows f t e =
-        let p = both_parts (λ l r. columns_if (match_fits l r pairs rest) (join_columns kind l r)) (columns_of (types_in tables) left) (columns_of (types_in tables) right) columns t in
-        let q = both_parts (join_answer (columns_in tables left) (columns_in tables right) kind pairs rest) (answer tables left) (answer tables right) rows e in
-        let i : join_columns kind p.0 p.1 ≡ columns = (if_some (match_fits p.0 p.1 pairs rest) (join_columns kind p.0 p.1) columns p.4).1 in
-        subst (λ c. Each (Fits c) rows) i (join_fits kind p.0 p.1 (matching pairs (option_map eval rest)) q.0 q.1 rows (answer_fits left p.0 q.0 f.0 p.2 q.2) (answer_fits right p.1 q.1 f.1 p.3 q.3)
-        (sym (λ i. join_answer (in_columns left p.0 p.2 i) (in_columns right p.1 p.3 i) kind pairs rest q.0 q.1) ∙ q.4))
-    answer_fits (Semi left right anti pairs rest) columns rows f t e =
-        let p = both_parts (λ l r. columns_if (match_fits l r pairs rest) l) (columns_of (types_in tables) left) (columns_of (types_in tables) right) columns t in
-        let q = both_parts (semi_answer anti pairs rest) (answer tables left) (answer tables right) rows e in
-        let i : p.0 ≡ columns = (if_some (match_fits p.0 p.1 pairs rest) p.0 columns p.4).1 in
-        semi_fits anti columns (matching pairs (option_map eval rest)) q.0 q.1 rows (subst (λ c. Each (Fits c) q.0) i (answer_fits left p.0 q.0 f.0 p.2 q.2)) q.4
-    answer_fits (Rank input partition order bound ranked) columns rows f t e =
-        let p = then_parts (λ c. columns_if (rank_is_typed c partition order bound) (rank_columns ranked c)) (columns_of (types_in tables) input) columns t in
-        let q = then_parts (rank_rows partition order bound ranked) (answer tables input) rows e in
-        let k = if_some (rank_is_typed p.0 partition order bound) (rank_columns ranked p.0) columns p.2 in
-        subst (λ c. Each (Fits c) rows) k.1 (rank_fits p.0 partition order bound ranked q.0 rows (rank_bound p.0 partition order bound k.0) (answer_fits input p.0 q.0 f p.1 q.1) q.2)
+        (all_rows q.0 columns q.2 p.0 (tree_fits input q.0 p.0 q.1 p.2.0)) q.3)
 
-    answers_fit : (inputs : Rels) (start : Option (List ColTy)) (columns : List ColTy) (rows : Rows) → AllItemsFit (types_in tables) inputs → common_from (types_in tables) start inputs ≡ Some columns → answers tables inputs ≡ Some rows
+    trees_fit : (inputs : Rels) (start : Option (List ColTy)) (columns : List ColTy) (rows : Rows) → common_from (types_in tables) start inputs ≡ Some columns → answers tables inputs ≡ Some rows
         → (first_columns : List ColTy) × (start ≡ Some first_columns) × ((row : Row) → Fits first_columns row → Fits columns row) × Each (Fits columns) rows
-    answers_fit no_rels start columns rows f t e = (columns, t, (λ row h. h), let i : none ≡ rows = cc in subst (λ (r : Rows). Each (Fits columns) r) i (each-none row_total row_exact (Fits columns)))
-    answers_fit (rel_and input inputs) start columns rows f t e =
+    trees_fit no_rels start columns rows t e = (columns, t, (λ row h. h), let i : none ≡ rows = cc in subst (λ (r : Rows). Each (Fits columns) r) i (each-none row_total row_exact (Fits columns)))
+    trees_fit (rel_and input inputs) start columns rows t e =
         let p = plus_both (answer tables input) (answers tables inputs) rows e in
-        let q = answers_fit inputs (both_of common_columns start (columns_of (types_in tables) input)) columns p.1 f.1 t p.2.1 in
+        let q = trees_fit inputs (both_of common_columns start (columns_of (types_in tables) input)) columns p.1 t p.2.1 in
         let r = both_parts common_columns start (columns_of (types_in tables) input) q.0 q.1 in (
           r.0,
           r.2,
           (λ row h. q.2 row (left_row r.0 r.1 q.0 row r.4 h)),
           subst (λ (c : Rows). Each (Fits columns) c) (sym p.2.2) (each-together row_total row_exact (Fits columns) p.0 p.1
-              (all_rows r.1 columns (λ row h. q.2 row (right_row r.0 r.1 q.0 row r.4 h)) p.0 (answer_fits input r.1 p.0 f.0 r.3 p.2.0)) q.3),
+              (all_rows r.1 columns (λ row h. q.2 row (right_row r.0 r.1 q.0 row r.4 h)) p.0 (tree_fits input r.1 p.0 r.3 p.2.0)) q.3),
         )
+
+pub answers_fit : (tables : List Table) → AreTyped tables → (rel : Rel) (columns : List ColTy) (rows : Rows) → columns_of (types_in tables) rel ≡ Some columns → answer tables rel ≡ Some rows → Each (Fits columns) rows
+answers_fit tables typed rel columns rows t e = tree_fits tables typed rel columns rows t e
