@@ -1,1 +1,3 @@
 mod Ranges
+pub mod Halving
+pub mod Stays

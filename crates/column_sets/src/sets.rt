@@ -1,5 +1,7 @@
 //! Sets of columns.
-ghost use Rattle.std.specs.Prelude.{◌≡◌, ◌++◌, OnOk, IfOk, fold};
+ghost use Rattle.std.specs.Prelude.{◌≡◌, ◌++◌, ◌==◌, ℕ, ◌≤◌, ◌<◌, true, length, get_or, OnOk, IfOk, fold};
+ghost use Rattle.std.specs.List.{list_any};
+ghost use Rattle.std.specs.List.Sorted.{IsNonDecreasing};
 ghost use Rattle.std.specs.Ordering.{nat_cmp};
 ghost use Rattle.std.specs.BTreeSet.{insert_key};
 ghost use Rattle.column_sets.specs.Sets as s;
@@ -31,9 +33,10 @@ pub fn union(alloc: Global, one: &Cols, other: &Cols) -> Result<Cols, Memory>
 pub fn is_within(one: &Cols, other: &Cols) -> bool
     ensures { result ≡ s.is_within one.now other.now }
 {
+    let ascending = is_ascending(other.as_slice());
     one.as_slice()
         .iter()
-        .all(|col| other.as_slice().contains(col))
+        .all(|col| has(other.as_slice(), ascending, *col))
 }
 
 /// Whether two lists have the same columns.
@@ -41,6 +44,30 @@ pub fn same_set(one: &Cols, other: &Cols) -> bool
     ensures { result ≡ s.same_set one.now other.now }
 {
     is_within(one, other) && is_within(other, one)
+}
+
+// Whether a column is in a list; in one whose columns ascend, as those of a set do, it is found by halving.
+fn has(cols: &[u32], ascending: bool, col: u32) -> bool
+    requires { ascending ≡ true → IsNonDecreasing cols.now }
+    ensures { result ≡ list_any (λ other. other == col) cols.now }
+{
+    if ascending {
+        cols.binary_search(&col).is_ok()
+    } else {
+        cols.contains(&col)
+    }
+}
+
+// Whether no column of a list is below the one before it.
+fn is_ascending(cols: &[u32]) -> bool
+    ensures { result ≡ true → IsNonDecreasing cols.now }
+{
+    for place in 1..cols.len() {
+        if cols[place] < cols[place - 1] {
+            return false;
+        }
+    }
+    true
 }
 
 // Puts columns into a set.
