@@ -6,6 +6,7 @@
 //! (`specs/Told`). It stands on fields, changes, declared tables and the machine's printed items.
 #![tactic(auto)]
 
+mod fields;
 mod line;
 mod lines;
 mod promises;

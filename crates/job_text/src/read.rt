@@ -5,6 +5,7 @@ ghost use Rattle.csv.specs.Records.{fields_of};
 ghost use Rattle.job_text.specs.Lines.{Record, answer_of, line_of, records_of};
 ghost use Rattle.job_text.specs.Reading.{IsReading, Takes, left_in};
 
+use crate::fields::test_fields;
 use crate::line::{Line, LineFault, line_of};
 use csv::{ByteRecord, Reader, ReaderBuilder};
 use ct_catalog::Sources;
@@ -95,6 +96,7 @@ impl ChangeLines {
         requires { length bytes ≤ 67108864 }
         ensures { IfOk result (λ lines. lines ≡ records_of bytes) }
     {
+        test_fields(bytes.as_slice())?;
         let left = count_records(alloc, bytes.as_slice())?;
         Ok(ChangeLines {
             alloc,
