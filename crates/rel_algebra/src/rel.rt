@@ -7,7 +7,6 @@ use ct_value::{Cols, List};
 /// A query as a tree of the relational algebra. Columns are counted from 0, and those of two inputs stand side by side, the left's
 /// first.
 #[cycle(rel)]
-#[derive(Drop)]
 pub enum Rel {
     /// The rows of a table, counted from 0.
     Scan {
@@ -57,6 +56,73 @@ pub enum Rel {
         bound: u32,
         ranked: bool,
     },
+}
+
+impl Drop for Rel {
+    // Goes down the first input in a loop: a chain of joins takes no stack, whatever its length.
+    #[cycle(drops)]
+    fn drop(mut self) {
+        loop {
+            match self {
+                Rel::Scan { source: _source } => return,
+                Rel::Filter { input, cond } => {
+                    drop(cond);
+                    self = Box::into_inner(input);
+                }
+                Rel::Project { input, items } => {
+                    drop(items);
+                    self = Box::into_inner(input);
+                }
+                Rel::Union { inputs } => {
+                    drop(inputs);
+                    return;
+                }
+                Rel::Group {
+                    input,
+                    keys: _keys,
+                    aggs,
+                } => {
+                    drop(aggs);
+                    self = Box::into_inner(input);
+                }
+                Rel::Join {
+                    left,
+                    right,
+                    kind: _kind,
+                    on,
+                    rest,
+                } => {
+                    drop(right);
+                    drop(on);
+                    drop(rest);
+                    self = Box::into_inner(left);
+                }
+                Rel::Semi {
+                    left,
+                    right,
+                    anti: _anti,
+                    on,
+                    rest,
+                } => {
+                    drop(right);
+                    drop(on);
+                    drop(rest);
+                    self = Box::into_inner(left);
+                }
+                Rel::Rank {
+                    input,
+                    partition,
+                    order,
+                    bound: _bound,
+                    ranked: _ranked,
+                } => {
+                    drop(partition);
+                    drop(order);
+                    self = Box::into_inner(input);
+                }
+            }
+        }
+    }
 }
 
 /// Trees of the algebra in order.
