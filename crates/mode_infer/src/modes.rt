@@ -6,7 +6,7 @@ ghost use Rattle.mode_infer.specs.Modes as m;
 
 use crate::kinds::{Flow, flows, kind_set};
 use crate::row_keys::update_keys;
-use crate::updates::updates_behind;
+use crate::updates::updates_of;
 use ct_catalog::TableDef;
 use ct_change::{Declared, KindSet, Update};
 use ct_value::{ColTys, List, Memory};
@@ -33,13 +33,12 @@ pub fn infer_modes(
 {
     let flows = flows(alloc, sources, nodes)?;
     let keys = update_keys(alloc, columns, nodes)?;
-    let updates = updates_behind(
+    let updates = updates_of(
         alloc,
         sources,
         sink,
         flows.as_slice(),
         keys.as_slice(),
-        0,
         nodes,
     )?;
     let modes = modes_of(alloc, flows.as_slice(), &updates)?;

@@ -1,6 +1,7 @@
 //! How each edge tells updates.
-ghost use Rattle.std.specs.Prelude.{◌≡◌, Some, option_copied, IfOk};
-ghost use Rattle.phys_plan.specs.Reading.{wires};
+ghost use Rattle.std.specs.Prelude.{◌≡◌, None, Some, length, option_copied, IfOk};
+ghost use Rattle.phys_plan.specs.Reading.{at, wires};
+ghost use Rattle.mode_infer.specs.Kinds.{no_flow};
 ghost use Rattle.mode_infer.specs.Updates as u;
 
 use crate::consumers::is_taken;
@@ -12,32 +13,68 @@ use ct_value::{Cols, Memory};
 use phys_plan::{Node, Op};
 use std::alloc::Global;
 
-/// The updates of the edges of nodes behind so many others.
-pub(crate) fn updates_behind(
+/// The updates of the edges of nodes, each found from those behind it.
+pub(crate) fn updates_of(
     alloc: Global,
     sources: &[TableDef],
     sink: &TableDef,
     flows: &[Flow],
     keys: &[Option<Cols>],
-    before: u32,
     nodes: &[Node],
 ) -> Result<Vec<Update>, Memory>
-    ensures { IfOk result (λ updates. updates.items ≡ u.updates_behind sources.now sink.now flows.now keys.now before (wires nodes.now)) }
+    ensures { IfOk result (λ updates. updates.items ≡ u.updates_behind sources.now sink.now flows.now keys.now 0 (wires nodes.now)) }
 {
-    match nodes {
-        [] => Ok(Vec::new(alloc)),
-        [node, later @ ..] => {
-            let Some(number) = before.checked_add(1) else {
-                return Err(Memory);
-            };
-            let mut updates = updates_behind(alloc, sources, sink, flows, keys, number, later)?;
-            let key = key_at(keys, number);
-            let taken = is_taken(alloc, sink, key, number, later, &updates)?;
-            let kinds = flow_at(flows, number).sent;
-            updates.insert(0, update_of(sources, &node.op, kinds, key, taken)?)?;
-            Ok(updates)
-        }
+    let mut updates = absent(alloc, nodes.len())?;
+    let mut rest = nodes.len();
+    'node: while rest > 0 {
+        let update = update_at(
+            alloc,
+            sources,
+            sink,
+            flows,
+            keys,
+            rest,
+            &nodes[rest - 1],
+            &nodes[rest..],
+            &updates[rest..],
+        )?;
+        rest -= 1;
+        updates[rest] = update;
     }
+    Ok(updates)
+}
+
+// So many edges that tell no updates.
+fn absent(alloc: Global, count: usize) -> Result<Vec<Update>, Memory>
+    ensures { IfOk result (λ updates. length updates.items ≡ count) }
+{
+    let mut updates = Vec::with_capacity(alloc, count)?;
+    while updates.len() < count {
+        updates.push(Update::Absent)?;
+    }
+    Ok(updates)
+}
+
+// The update of the edge of a node, from the nodes behind it and their edges.
+fn update_at(
+    alloc: Global,
+    sources: &[TableDef],
+    sink: &TableDef,
+    flows: &[Flow],
+    keys: &[Option<Cols>],
+    number: usize,
+    node: &Node,
+    later: &[Node],
+    behind: &[Update],
+) -> Result<Update, Memory>
+    ensures { IfOk result (λ update. update ≡ u.update_of sources.now node.now.op (at no_flow flows.now number).sent (at None keys.now number) (u.is_taken sink.now (at None keys.now number) number (wires later.now) behind.now)) }
+{
+    let Ok(number) = u32::try_from(number) else {
+        return Err(Memory);
+    };
+    let key = key_at(keys, number);
+    let taken = is_taken(alloc, sink, key, number, later, behind)?;
+    update_of(sources, &node.op, flow_at(flows, number).sent, key, taken)
 }
 
 fn update_of(
