@@ -2,3 +2,4 @@ pub mod Histories
 pub mod LastRows
 pub mod Ready
 pub mod Totals
+pub mod Values

@@ -5,3 +5,4 @@ pub mod Partials
 pub mod Ports
 pub mod Rules
 pub mod Tasks
+pub mod Values

@@ -219,6 +219,18 @@ kinds_taken : (t : Table) (before changes : List Change) → AllTaken t before c
 kinds_taken t before [] h = tt
 kinds_taken t before (change ∷ changes) h = ((is_taken t (fold t.mode before) change h.0).kind, kinds_taken t (before ++ change ∷ []) changes h.1)
 
+-- NULL stands nowhere that the table refuses it
+no_null : (t : Table) (rows : Rows) (change : Change) → refusal t rows change ≡ None → null_refusal t.required change.row ≡ None
+no_null t rows change e = (or_none (null_refusal t.required change.row) _ (or_none (kind_refusal t.mode change) _ e).1).0
+
+-- a change fits the table, and has no NULL where it is refused
+abbrev IsWhole : Table → Change → Type 0
+IsWhole t change = (t.fits change ≡ true) × (null_refusal t.required change.row ≡ None)
+
+whole_taken : (t : Table) (before changes : List Change) → AllTaken t before changes → AllByRecursion (λ c. t.fits c ≡ true) changes → AllByRecursion (IsWhole t) changes
+whole_taken t before [] h typed = tt
+whole_taken t before (change ∷ changes) h typed = ((typed.0, no_null t (fold t.mode before) change h.0), whole_taken t (before ++ change ∷ []) changes h.1 typed.1)
+
 no_partial : (mode : Mode) → IsPartial (meaning_of mode) → ⊥
 no_partial append z = z
 no_partial retract z = z
@@ -231,6 +243,9 @@ stands_row retract Q changes rows means h row p = added_row Q row changes h (ome
 stands_row (upsert key) Q changes rows means h row p = shown_row key Q row 0 changes h (omega (arith, means row)) (λ z. absurd (omega arith))
 
 module _ (many : ℕ) (table : Table) (edge : Edge) (carries : CarriesTable many table edge) (taken : List Change) (all : AllTaken table [] taken) (typed : AllByRecursion (λ c. table.fits c ≡ true) taken) where
+  wholes : AllByRecursion (IsWhole table) taken
+  wholes = whole_taken table [] taken all typed
+
   abbrev goes_to : ℕ → Row → Bool
   goes_to i row = table.route (project table.spread row) == i
 
@@ -264,7 +279,7 @@ module _ (many : ℕ) (table : Table) (edge : Edge) (carries : CarriesTable many
     valid = λ i il n. (restricted (goes_to i) (fold table.mode (take (so_far i n) taken)), part_front i n);
     apart = subst (λ m. AreApartBy m many (scanned_by table taken)) (sym carries.meaning) (apart_by table.mode carries.spread);
     kinds = λ i il. all-filter _ _ taken (all-weaker _ _ (λ c e. carries.kinds c.kind e) taken (kinds_taken table [] taken all));
-    types = λ i il. all-filter _ _ taken (all-weaker _ _ (λ c e. carries.fits c e) taken typed);
+    types = λ i il. all-filter _ _ taken (all-weaker (IsWhole table) _ (λ c e. carries.fits c e.0 e.1) taken wholes);
     keys = λ key c i il n rows reads.
         ⊎_elim
         (λ same. IsUnique-below key (copies rows) (copies (fold table.mode (take (so_far i n) taken)))
@@ -284,7 +299,7 @@ module _ (many : ℕ) (table : Table) (edge : Edge) (carries : CarriesTable many
       keys = λ key. ⊎_elim
           (λ c. key_whole table taken all key (carries.unique key c))
           (λ o. λ a b e. key_whole table taken all o.local (carries.local o.local o.is_local) a b (o.has_local a b e));
-      types = stands_row table.mode (λ row. edge.holds row ≡ true) taken (fold table.mode taken) (means_whole table taken all) (all-weaker _ _ (λ c e. carries.holds c e) taken typed);
+      types = stands_row table.mode (λ row. edge.holds row ≡ true) taken (fold table.mode taken) (means_whole table taken all) (all-weaker (IsWhole table) _ (λ c e. carries.holds c e.0 e.1) taken wholes);
     };
   }
 

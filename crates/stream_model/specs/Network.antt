@@ -93,7 +93,7 @@ pub record IsAnswered (many : ℕ) (edge : Edge) (sent : ℕ → List Change) (w
 abbrev pub scanned_by : Table → List Change → ℕ → List Change
 scanned_by table taken i = filter (λ change. scanned_at table change == i) taken
 
--- what is known of a scan: for all changes that the table takes and that have its columns
+-- what is known of a scan: for all changes that the table takes and that have values of its columns
 pub record ScanFacts (many : ℕ) (table : Table) (edge : Edge) : Type 0 where
   pub fine : (taken : List Change) → AllTaken table [] taken → AllByRecursion (λ change. table.fits change ≡ true) taken → IsFine many edge (scanned_by table taken)
   pub answers : (taken : List Change) → AllTaken table [] taken → AllByRecursion (λ change. table.fits change ≡ true) taken → IsAnswered many edge (scanned_by table taken) (fold table.mode taken)

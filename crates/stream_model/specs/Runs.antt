@@ -38,7 +38,7 @@ abbrev pub after : Network → ℕ → State → List Item → State
 after g limit s [] = s
 after g limit s (item ∷ items) = after g limit (state_in s (step_item g limit s item)) items
 
--- each change that is taken has its table's columns
+-- each change that is taken has values of its table's columns
 abbrev pub IsTyped : Network → Item → Type 0
 IsTyped g quiet = Unit {0}
 IsTyped g (happens (Take table change)) = (t : Table) → g.tables table ≡ Some t → t.fits change ≡ true

@@ -19,7 +19,7 @@ pub record Table : Type 0 where
   -- their values
   pub spread : List ℕ
   pub route : Row → ℕ
-  -- whether a change has the table's columns
+  -- whether a change has as many values as the table has columns, each NULL or of its column's type
   pub fits : Change → Bool
 
 -- the subtask of a scan that sends a change

@@ -1,27 +1,34 @@
-use Rattle.std.proofs.Common.{refl}
-use Rattle.std.proofs.lemmas.Result.{err_from_is_err_and}
+use Rattle.std.proofs.Common.{◌≡◌, [], ◌∷◌, ◌++◌, refl, sym, subst, ◌∙◌}
 use Rattle.plan_rules.specs.Doings.{network}
+use Rattle.stream_model.specs.declared.events.Event.TheVariants.{Take}
+use Rattle.stream_model.specs.Machine.{take}
+use Rattle.stream_model.specs.Runs.{happens}
+use Rattle.source_lines.specs.Run.{took}
+use Rattle.exec_core.specs.Faults.{IsLineRan}
 use Rattle.exec_core.specs.Stands.{reached}
-use Rattle.exec_core.proofs.laws.Taking.{ok_weaker, err_weaker}
-use Rattle.exec_core.proofs.taking.take_line.Goals as goal
+use Rattle.exec_core.proofs.laws.Taking.{line_stopped, line_typed, take_place, took_more}
+use Rattle.exec_core.proofs.taking.take_checked.Goals as goal
 
-pub returns-in_err-check_line-clause-refused : goal.returns-in_err-check_line-clause-refused
-returns-in_err-check_line-clause-refused g c = let p = err_from_is_err_and c.from_residual.result c.from_residual.ensures.1 in rw (p.1, p.2) (λ limit items stands.
-    let plan = c.args.plan.now in
-    let read = c.requires.read in
-    c.in_err-check_line.ensures.refused (network plan) limit plan.parallelism (reached plan limit items) read.0 (λ table. refl) read.1)
+pub step-requires : goal.step-requires
+step-requires g c =
+    let r = c.requires in
+    let plan = r.0 in
+    record { ready = (plan, r.1, [], r.2, r.3, line_typed (network plan) plan.parallelism plan.sources c.args.line (λ table. refl) r.4) }
 
-pub take_checked-requires : goal.take_checked-requires
-take_checked-requires g c =
-    let r = c.requires.ready in
-    let read = c.requires.read in
-    (c.args.plan.now, r.0, r.1, r.2, c.in_ok-check_line.ensures.ok read.0 read.1)
+pub returns-in-Ok-clause-ok : goal.returns-in-Ok-clause-ok
+returns-in-Ok-clause-ok g c = λ plan fields has is limit items stands.
+    let m = c.in-Ok.ensures.ok plan limit [] items stands (line_typed (network plan) plan.parallelism plan.sources c.args.line (λ table. refl) has) in
+    record {
+      more = items ++ happens (Take c.args.line.table c.args.line.change) ∷ [];
+      stands_more = m.2;
+      took = took_more (network plan) limit plan.sources c.args.number items fields c.args.line m.0 is m.1;
+    }
 
-pub returns-clause-ok : goal.returns-clause-ok
-returns-clause-ok g c = ok_weaker c.take_checked.result c.take_checked.ensures.ok (λ next told fields is.
-    told c.args.plan.now fields (c.in_ok-check_line.ensures.ok fields is) is)
-
-pub returns-clause-refused : goal.returns-clause-refused
-returns-clause-refused g c = err_weaker c.take_checked.result c.take_checked.ensures.refused (λ fault told.
-    let read = c.requires.read in
-    told c.args.plan.now (c.in_ok-check_line.ensures.ok read.0 read.1))
+pub returns-in-Err-clause-refused : goal.returns-in-Err-clause-refused
+returns-in-Err-clause-refused g c = λ plan has limit items stands.
+    let n = network plan in
+    let s = reached plan limit items in
+    let r = take n limit s c.args.line.table c.args.line.change in
+    let stops = c.in-Err.ensures.err plan limit [] items stands (line_typed n plan.parallelism plan.sources c.args.line (λ table. refl) has) in
+    subst (λ fault. IsLineRan fault (took c.args.number s r)) (sym c.at_line.ensures)
+    (line_stopped c.args.number s r c.in-Err.stopped (take_place n limit plan.parallelism plan.sources s c.args.line (λ table. refl) has) stops (c.in-Err.ensures.printed plan limit [] items stands))
