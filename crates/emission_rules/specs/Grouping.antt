@@ -9,7 +9,7 @@ use Rattle.ct_value.specs.declared.ty.ColTy.{ColTy}
 use Rattle.ct_change.specs.declared.change.Change.{Change}
 use Rattle.ct_change.specs.Changelog.{Mode, append, retract, upsert, Rows, apply, fold, fold_from}
 use Rattle.ct_change.specs.Emission.{emission}
-use Rattle.ct_field.specs.Typed.{row_fits}
+use Rattle.op_rules.specs.Values.{types_fit}
 use Rattle.rel_algebra.specs.declared.agg.Agg.{Agg}
 use Rattle.rel_algebra.specs.Aggregates.{values_of, type_in, ty_or_bigint, agg_results, sum_fits}
 use Rattle.rel_algebra.specs.Groups.{group_columns}
@@ -100,7 +100,7 @@ abbrev pub group_rule : Grouping → Rule
 group_rule g = record {
   ports = 1;
   mode = λ port. g.input;
-  fits = λ port change. row_fits g.columns change.row;
+  fits = λ port change. types_fit g.columns change.row;
   opening = opening g;
   emits = emits g;
   work = λ before a. 2 + 3 * length g.aggs;

@@ -10,7 +10,7 @@ use Rattle.ct_change.specs.declared.kind.Kind.TheVariants.{I, D}
 use Rattle.ct_change.specs.declared.change.Change.{Change}
 use Rattle.ct_change.specs.Changelog.{Mode, append, retract, upsert, Rows, apply, fold}
 use Rattle.ct_change.specs.Emission.{emission}
-use Rattle.ct_field.specs.Typed.{row_fits}
+use Rattle.op_rules.specs.Values.{types_fit}
 use Rattle.rel_algebra.specs.declared.sort.SortCol.{SortCol}
 use Rattle.rel_algebra.specs.Keys.{rows_of_key}
 use Rattle.rel_algebra.specs.Ranks.{in_rank_order, shown}
@@ -99,7 +99,7 @@ abbrev pub topn_rule : Ranking → Rule
 topn_rule r = record {
   ports = 1;
   mode = λ port. r.input;
-  fits = λ port change. row_fits r.columns change.row;
+  fits = λ port change. types_fit r.columns change.row;
   opening = λ subtask. [];
   emits = λ before piece. Ok (tells_all r (fold r.input (at_port 0 before)) (at_port 0 piece));
   work = work r;

@@ -17,6 +17,7 @@ use Rattle.op_rules.specs.Edges.{Meaning, meaning_of, ReadsAs, Edge, IsUnique, I
 use Rattle.op_rules.specs.Ports.{IsReadIn, Takes}
 use Rattle.op_rules.specs.Tasks.{Facts, LocalKeysHold, UniqueKeysHold}
 use Rattle.op_rules.proofs.laws.Histories.{at_port-append, all-front, all-each}
+use Rattle.op_rules.proofs.laws.Values.{types_of_row}
 use Rattle.emission_rules.proofs.laws.Weights.{means_weighs}
 use Rattle.emission_rules.specs.Joining.{Joining, left_rows, right_rows, join_rule}
 use Rattle.emission_rules.specs.JoinFits.{SideFits, JoinFits, JoinsStand, JoinsTake, left_pairs, right_pairs}
@@ -128,6 +129,6 @@ pub joins_take : JoinsTake
 joins_take many j from to fits = (refl, λ p l. side p l)
   where
     side : (p : ℕ) → p < 2 → Takes (join_rule j) p (from p)
-    side zero l = record { reads = takes_side (from 0).meaning j.left fits.left.reads; kinds = fits.left.kinds; fits = fits.left.fits; keyed = fits.left.keyed }
-    side (suc zero) l = record { reads = takes_side (from 1).meaning j.right fits.right.reads; kinds = fits.right.kinds; fits = fits.right.fits; keyed = fits.right.keyed }
+    side zero l = record { reads = takes_side (from 0).meaning j.left fits.left.reads; kinds = fits.left.kinds; fits = λ change h. types_of_row j.left_columns change.row (fits.left.fits change h); keyed = fits.left.keyed }
+    side (suc zero) l = record { reads = takes_side (from 1).meaning j.right fits.right.reads; kinds = fits.right.kinds; fits = λ change h. types_of_row j.right_columns change.row (fits.right.fits change h); keyed = fits.right.keyed }
     side (suc (suc p)) l = absurd (omega arith)

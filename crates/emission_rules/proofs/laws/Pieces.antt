@@ -312,8 +312,11 @@ module _ (g : Grouping) (sound : IsSound g) (Here : Row → Type 0) (kinds : Kin
       go true t e = leb-true g.keys (length g.columns) t
       go false t e = absurd (cc)
 
+  pub long_wide : (row : Row) → length row ≡ length g.columns → g.keys ≤ length row
+  long_wide row long = let k = keys_fit in omega (arith, long)
+
   pub fits_wide : (row : Row) → Fits g.columns row → g.keys ≤ length row
-  fits_wide row fits = let e = fits-length g.columns row fits in let k = keys_fit in omega arith
+  fits_wide row fits = long_wide row (fits-length g.columns row fits)
 
   pub rows_wide : (rows : Rows) → Each (Fits g.columns) rows → AreWide g.keys rows
   rows_wide rows fits row there = fits_wide row (each-copies row_total row_exact (Fits g.columns) rows fits row there)

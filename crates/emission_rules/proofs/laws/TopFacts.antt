@@ -24,6 +24,7 @@ use Rattle.op_rules.specs.Ports.{IsReadIn}
 use Rattle.op_rules.specs.Tasks.{Task, total, IsSettled, IsSplitBy, Emitted, AllEmitted, Facts, PartsAddUp, LocalKeysHold, AnswersFit, UniqueKeysHold}
 use Rattle.op_rules.proofs.laws.Histories.{prefix_at, all-each, ok-same}
 use Rattle.op_rules.proofs.laws.Totals.{total-same, total_one}
+use Rattle.op_rules.proofs.laws.Values.{types_of_row}
 use Rattle.emission_rules.specs.TopFits.{topn_task, IsLocalKeyBy, TopNFits, TopNStands, TopNTakes}
 use Rattle.emission_rules.specs.Ranking.{Ranking, key_of, names, tells_all, TellsRanks, IsSound}
 use Rattle.emission_rules.proofs.laws.TopAnswers.{standing, answer_shown}
@@ -283,7 +284,7 @@ topn_stands many r from to fits = topn_facts many r from to fits
 
 -- ---- what comes
 
-takes_edge : (meaning : Meaning) (mode : Mode) → meaning ≡ meaning_of mode → IsReadIn meaning mode
+pub takes_edge : (meaning : Meaning) (mode : Mode) → meaning ≡ meaning_of mode → IsReadIn meaning mode
 takes_edge meaning mode is = subst (λ m. IsReadIn m mode) (sym is) (go mode)
   where
     go : (mode : Mode) → IsReadIn (meaning_of mode) mode
@@ -292,4 +293,4 @@ takes_edge meaning mode is = subst (λ m. IsReadIn m mode) (sym is) (go mode)
     go (upsert key) = refl
 
 pub topn_takes : TopNTakes
-topn_takes many r from to fits = (refl, λ p l. record { reads = takes_edge from.meaning r.input fits.reads; kinds = fits.kinds; fits = fits.fits; keyed = fits.keyed })
+topn_takes many r from to fits = (refl, λ p l. record { reads = takes_edge from.meaning r.input fits.reads; kinds = fits.kinds; fits = λ change h. types_of_row r.columns change.row (fits.fits change h); keyed = fits.keyed })
