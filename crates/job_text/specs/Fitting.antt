@@ -1,26 +1,17 @@
 -- That the change of a line is one of its table.
-use Rattle.std.specs.Prelude.{◌≡◌, Bool, true, false, ◌&&◌, List, [], ◌∷◌, slice_get, Some, Ok}
-use Rattle.ct_field.specs.Typed.{value_fits}
-use Rattle.ct_value.specs.declared.value.Value.{Value}
+use Rattle.std.specs.Prelude.{◌≡◌, true, List, slice_get, Some, Ok}
 use Rattle.ct_change.specs.declared.change.Change.{Change}
 use Rattle.ct_change.specs.Changelog.{admits}
-use Rattle.ct_catalog.specs.declared.table.ColDef.{ColDef}
 use Rattle.ct_catalog.specs.declared.table.TableDef.{TableDef}
 use Rattle.job_text.specs.declared.line.Line.{Line}
 use Rattle.job_text.specs.Lines.{Record, line_of}
-use Rattle.ct_catalog.specs.Columns.{table_mode}
-
--- as many values as columns, each NULL or of its column's type
-abbrev pub values_fit : List ColDef → List Value → Bool
-values_fit [] [] = true
-values_fit [] (value ∷ values) = false
-values_fit (col ∷ cols) [] = false
-values_fit (col ∷ cols) (value ∷ values) = value_fits col.ty.ty value && values_fit cols values
+use Rattle.ct_catalog.specs.Columns.{table_mode, column_types}
+use Rattle.op_rules.specs.Values.{types_fit}
 
 -- the table takes changes of its kind, and its row has values of the table's columns
 pub record IsOfTable (table : TableDef) (change : Change) : Type 0 where
   pub admitted : admits (table_mode table) change.kind ≡ true
-  pub fits : values_fit table.cols change.row ≡ true
+  pub fits : types_fit (column_types table) change.row ≡ true
 
 -- a line's table is one of the sources, and its change is one of the table
 abbrev pub LinesFit : Type 0

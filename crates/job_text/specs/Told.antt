@@ -1,10 +1,9 @@
 -- That what is printed tells its items: each item has one line, no item's line is another's, and none begins another's.
-use Rattle.std.specs.Prelude.{◌≡◌, ◌<◌, ◌^◌, ℕ, Bool, true, false, ◌&&◌, List, [], ◌∷◌, ◌++◌}
+use Rattle.std.specs.Prelude.{◌≡◌, ◌<◌, ◌^◌, ℕ, true, List, ◌++◌}
 use Rattle.std.specs.List.{AllByRecursion}
 use Rattle.ct_value.specs.declared.ty.Ty.{Ty}
-use Rattle.ct_value.specs.declared.value.Value.{Value}
 use Rattle.ct_field.specs.Numbers.{is_type}
-use Rattle.ct_field.specs.Typed.{value_fits}
+use Rattle.op_rules.specs.Values.{values_fit}
 use Rattle.stream_model.specs.declared.events.PrintItem.{PrintItem}
 use Rattle.stream_model.specs.declared.events.PrintItem.TheVariants.{Change, Quiet}
 use Rattle.job_text.specs.Printed.{item_line, item_lines}
@@ -13,16 +12,9 @@ use Rattle.job_text.specs.Printed.{item_line, item_lines}
 abbrev pub AreTypes : List Ty → Type 0
 AreTypes tys = AllByRecursion (λ ty. is_type ty ≡ true) tys
 
--- as many values as types, each NULL or of its type
-abbrev pub are_of : List Ty → List Value → Bool
-are_of [] [] = true
-are_of [] (value ∷ values) = false
-are_of (ty ∷ tys) [] = false
-are_of (ty ∷ tys) (value ∷ values) = value_fits ty value && are_of tys values
-
 -- an item as it is printed of a sink whose columns have these types
 abbrev pub IsItemOf : List Ty → PrintItem → Type 0
-IsItemOf tys (Change change) = are_of tys change.row ≡ true
+IsItemOf tys (Change change) = values_fit tys change.row ≡ true
 IsItemOf tys (Quiet taken) = taken < 2 ^ 64
 
 abbrev pub AreItemsOf : List Ty → List PrintItem → Type 0

@@ -19,6 +19,7 @@ use Rattle.phys_plan.specs.declared.node.Node.{Node}
 use Rattle.phys_plan.specs.declared.plan.Plan.{Plan}
 use Rattle.op_rules.specs.History.{Arrival}
 use Rattle.op_rules.specs.Rules.{Answer}
+use Rattle.op_rules.specs.Values.{types_fit}
 use Rattle.op_rules.specs.Edges.{Meaning, bag, last_rows, meaning_of, Exchange, forward, hash, Edge, IsKeyedBy}
 use Rattle.route.specs.Routing.{route_of, types_at}
 use Rattle.stream_model.specs.Tables.{Table}
@@ -121,7 +122,7 @@ table_of parallelism table = record {
   required = required_from 0 (column_types table);
   spread = spread_of table;
   route = route_of parallelism (types_at (spread_of table) (column_types table));
-  fits = λ change. row_fits (column_types table) change.row;
+  fits = λ change. types_fit (column_types table) change.row;
 }
 
 -- ---- the network

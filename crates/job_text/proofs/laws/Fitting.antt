@@ -1,8 +1,9 @@
 -- That the change of a line is one of its table.
-use Rattle.std.proofs.Common.{◌≡◌, ◌+◌, ◌∙◌, ℕ, Bool, true, false, ◌&&◌, ◌==◌, List, [], ◌∷◌, length, Option, Some, None, refl, ap, arith}
+use Rattle.std.proofs.Common.{◌≡◌, ◌+◌, ◌∙◌, ℕ, Bool, true, false, ◌&&◌, ◌==◌, List, [], ◌∷◌, length, map, Option, Some, None, refl, ap, arith}
 use Rattle.std.proofs.lemmas.Bool.{eqb-true}
 use Rattle.std.specs.Prelude.{ℤ, cond, slice_get, Result, Ok, Err, option_map, option_and_then, if◌then◌else◌}
 use Rattle.ct_value.specs.declared.ty.Ty.{Ty}
+use Rattle.ct_value.specs.declared.ty.ColTy.{ColTy}
 use Rattle.ct_value.specs.declared.ty.Ty.TheVariants.{Bool as Truths, Int, BigInt, Decimal, Text as Texts}
 use Rattle.ct_value.specs.declared.value.Value.{Value}
 use Rattle.ct_value.specs.declared.value.Value.TheVariants.{Null, Bool as Truth, Num, Text}
@@ -17,7 +18,8 @@ use Rattle.ct_change.specs.Changelog.{admits}
 use Rattle.ct_catalog.specs.declared.table.ColDef.{ColDef}
 use Rattle.ct_catalog.specs.declared.table.TableDef.{TableDef}
 use Rattle.job_text.specs.declared.line.Line.{Line}
-use Rattle.job_text.specs.Fitting.{IsOfTable, LinesFit, values_fit}
+use Rattle.op_rules.specs.Values.{types_fit}
+use Rattle.job_text.specs.Fitting.{IsOfTable, LinesFit}
 use Rattle.job_text.specs.Lines.{Field, change_at, change_of, change_of_kind, change_of_row, kind_of, line_at, line_of_change, source_named, spelled, value_before, values_from}
 use Rattle.ct_catalog.specs.Columns.{table_mode}
 
@@ -76,9 +78,12 @@ short-fits false o v e = e
 spelled-fits : (ty : Ty) (bs : Field) (v : Value) → spelled ty bs ≡ Some v → value_fits ty v ≡ true
 spelled-fits ty bs v e = null_or-fits _ ty bs v (short-fits _ _ v (held (is_type ty) (field_value ty bs) v e))
 
+abbrev types : List ColDef → List ColTy
+types cols = map (λ column. column.ty) cols
+
 -- the values of a record fit its table's columns
 values-fit : (column : ℕ) (cols : List ColDef) (fields : List Field) (values : List Value) → length fields ≡ length cols
-    → values_from column cols fields ≡ Ok values → values_fit cols values ≡ true
+    → values_from column cols fields ≡ Ok values → types_fit (types cols) values ≡ true
 values-fit column [] fields [] n e = refl
 values-fit column [] fields (v ∷ vs) n e = cc e
 values-fit column (col ∷ cols) [] values n e = absurd (omega (arith, n))
@@ -86,15 +91,15 @@ values-fit column (col ∷ cols) (f ∷ fs) values n e =
     by (spelled col.ty.ty f) refl (values_from (column + 1) cols fs) refl values (λ ws. values-fit (column + 1) cols fs ws (omega (arith, n))) e
   where
     by : (o : Option Value) → spelled col.ty.ty f ≡ o → (r : Result (List Value) ChangeCode) → values_from (column + 1) cols fs ≡ r
-        → (vs : List Value) → ((ws : List Value) → values_from (column + 1) cols fs ≡ Ok ws → values_fit cols ws ≡ true)
-        → value_before column o r ≡ Ok vs → values_fit (col ∷ cols) vs ≡ true
+        → (vs : List Value) → ((ws : List Value) → values_from (column + 1) cols fs ≡ Ok ws → types_fit (types cols) ws ≡ true)
+        → value_before column o r ≡ Ok vs → types_fit (types (col ∷ cols)) vs ≡ true
     by None s r q vs others_fit h = cc h
     by (Some v) s (Err code) q vs others_fit h = cc h
     by (Some v) s (Ok others) q [] others_fit h = cc h
     by (Some v) s (Ok others) q (w ∷ ws) others_fit h =
         let first : w ≡ v = cc h in
         let rest : others ≡ ws = cc h in
-        ap (λ (b : Bool). b && values_fit cols ws) (ap (value_fits col.ty.ty) first ∙ spelled-fits col.ty.ty f v s) ∙ others_fit ws (q ∙ ap Ok rest)
+        ap (λ (b : Bool). b && types_fit (types cols) ws) (ap (value_fits col.ty.ty) first ∙ spelled-fits col.ty.ty f v s) ∙ others_fit ws (q ∙ ap Ok rest)
 
 row-fits : (table : TableDef) (kind : Kind) (fields : List Field) (change : Change) → length fields ≡ length table.cols → admits (table_mode table) kind ≡ true
     → change_of_row kind (values_from 1 table.cols fields) ≡ Ok change → IsOfTable table change
@@ -107,7 +112,7 @@ row-fits table kind fields change n a e = by (values_from 1 table.cols fields) r
         let same_row : change.row ≡ values = cc h in
         record {
           admitted = ap (admits (table_mode table)) same_kind ∙ a;
-          fits = ap (values_fit table.cols) same_row ∙ values-fit 1 table.cols fields values n q;
+          fits = ap (types_fit (types table.cols)) same_row ∙ values-fit 1 table.cols fields values n q;
         }
 
 kind-fits : (table : TableDef) (fields : List Field) (change : Change) → length fields ≡ length table.cols → (kind : Option Kind)

@@ -21,6 +21,7 @@ use Rattle.ct_field.specs.Numbers.{is_type}
 use Rattle.ct_field.specs.Spells.{IsText, Spells}
 use Rattle.ct_field.specs.Typed.{value_fits}
 use Rattle.ct_field.proofs.laws.Numbers.{first_true, second_true}
+use Rattle.op_rules.specs.Values.{values_fit}
 use Rattle.ct_field.proofs.laws.Reading.{one_value}
 use Rattle.ct_field.proofs.laws.Writing.{written}
 use Rattle.ct_change.specs.declared.kind.Kind.{Kind}
@@ -30,7 +31,7 @@ use Rattle.stream_model.specs.declared.events.PrintItem.{PrintItem}
 use Rattle.stream_model.specs.declared.events.PrintItem.TheVariants.{Change as Printed, Quiet}
 use Rattle.job_text.specs.Lines.{kind_of}
 use Rattle.job_text.specs.Printed.{field_texts, item_line, item_lines, kind_text, quiet_line}
-use Rattle.job_text.specs.Told.{AreItemsOf, AreTypes, BytesTellItems, IsItemOf, LinesTellItems, are_of}
+use Rattle.job_text.specs.Told.{AreItemsOf, AreTypes, BytesTellItems, IsItemOf, LinesTellItems}
 
 -- ---- the line of a quiet moment is that of a record of two fields
 
@@ -123,7 +124,7 @@ value_told BigInt exists v w h k e = other_told BigInt exists (λ t is. absurd (
 value_told (Decimal p s) exists v w h k e = other_told (Decimal p s) exists (λ t is. absurd (cc (is))) v w h k e
 value_told Texts exists v w h k e = text_told v w h k e
 
-row_told : (tys : List Ty) → AreTypes tys → (row other : List Value) → are_of tys row ≡ true → are_of tys other ≡ true → field_texts tys row ≡ field_texts tys other → row ≡ other
+row_told : (tys : List Ty) → AreTypes tys → (row other : List Value) → values_fit tys row ≡ true → values_fit tys other ≡ true → field_texts tys row ≡ field_texts tys other → row ≡ other
 row_told [] exist [] [] h k e = refl
 row_told [] exist [] (w ∷ ws) h k e = absurd (cc (k))
 row_told [] exist (v ∷ vs) other h k e = absurd (cc (h))
@@ -132,8 +133,8 @@ row_told (ty ∷ tys) exist (v ∷ vs) [] h k e = absurd (cc (k))
 row_told (ty ∷ tys) exist (v ∷ vs) (w ∷ ws) h k e =
     let first : field_text ty v ≡ field_text ty w = cc (e) in
     let others : field_texts tys vs ≡ field_texts tys ws = cc (e) in
-    let value = value_told ty exist.0 v w (first_true (value_fits ty v) (are_of tys vs) h) (first_true (value_fits ty w) (are_of tys ws) k) first in
-    let values = row_told tys exist.1 vs ws (second_true (value_fits ty v) (are_of tys vs) h) (second_true (value_fits ty w) (are_of tys ws) k) others in
+    let value = value_told ty exist.0 v w (first_true (value_fits ty v) (values_fit tys vs) h) (first_true (value_fits ty w) (values_fit tys ws) k) first in
+    let values = row_told tys exist.1 vs ws (second_true (value_fits ty v) (values_fit tys vs) h) (second_true (value_fits ty w) (values_fit tys ws) k) others in
     rw (value, values) refl
 
 change_same : (change other : Change) → change.kind ≡ other.kind → change.row ≡ other.row → change ≡ other
