@@ -14,12 +14,12 @@ use Rattle.ct_change.specs.declared.change.Change.{Change}
 use Rattle.ct_change.specs.Changelog.{Mode, append, retract, upsert, Rows, same_row, apply, fold, MayCome}
 use Rattle.ct_change.specs.Emission.{difference, row_of, replaced, CanTell}
 use Rattle.ct_change.proofs.laws.Folds.{fold-push, total-apply, weight-come}
-use Rattle.rel_algebra.specs.Clauses.{Fits}
 use Rattle.rel_algebra.specs.Ranks.{in_rank_order}
 use Rattle.rel_algebra.proofs.laws.Bags.{restrict-none, total-restrict}
-use Rattle.rel_algebra.proofs.laws.Fits.{fits-length}
 use Rattle.op_rules.specs.History.{Arrival, arrival, at_port}
 use Rattle.op_rules.specs.Rules.{Answer, MayArrive}
+use Rattle.op_rules.specs.Values.{types_fit}
+use Rattle.op_rules.proofs.laws.Values.{types-length}
 use Rattle.op_rules.proofs.laws.Histories.{at_port-push, at_port-one}
 use Rattle.emission_rules.specs.Ranking.{Ranking, key_of, members, first, told, tells, tells_all, topn_rule, names, TellsRanks, IsSound}
 use Rattle.emission_rules.proofs.laws.TopAnswers.{IsWide}
@@ -88,7 +88,7 @@ module _ (r : Ranking) (rows : Rows) (partitions : BTreeMap Row RankedRows) (hel
   come_row = row_of (difference r.input rows change).come
 
   pub columns_there : AllByRecursion (λ column. column < length change.row) r.partition
-  columns_there = subst (λ n. AllByRecursion (λ column. column < n) r.partition) (sym (fits-length r.columns change.row m.fits)) m.sound.within
+  columns_there = subst (λ n. AllByRecursion (λ column. column < n) r.partition) (sym (types-length r.columns change.row m.fits)) m.sound.within
 
   few_members : total (λ _. 1) (members r key rows) ≤ total (λ _. 1) rows
   few_members = le_by (total-restrict row_total row_exact (λ _. 1) (λ other. same_row key (key_of r other)) rows) (fewer (items rows))
@@ -100,8 +100,8 @@ module _ (r : Ranking) (rows : Rows) (partitions : BTreeMap Row RankedRows) (hel
       le_by : {a b c : ℕ} → a ≡ b → b ≤ c → a ≤ c
       le_by e l = omega (arith, e, l)
 
-  fits_after : (row : Row) → 0 < copies after row → Fits r.columns row
-  fits_after = all_after r rows change m.sound.keeps m.may (Fits r.columns) m.is_held.fits m.fits
+  fits_after : (row : Row) → 0 < copies after row → types_fit r.columns row ≡ true
+  fits_after = all_after r rows change m.sound.keeps m.may (λ row. types_fit r.columns row ≡ true) m.is_held.fits m.fits
 
   turned : IsTurned key (λ k. members r k rows) (λ k. members r k after) gone_row come_row
   turned = record {
@@ -116,8 +116,8 @@ module _ (r : Ranking) (rows : Rows) (partitions : BTreeMap Row RankedRows) (hel
     few = let e = total-apply (λ _. 1) r.input rows change m.may in let b = weight-come (λ _. 1) r.input rows change in let c = cond-le (is_some (difference r.input rows change).come) 1 in omega (arith, m.is_held.few);
   }
 
-  are_in : (all : Rows) → ((row : Row) → 0 < copies all row → Fits r.columns row) → AllByRecursion (IsIn r m.sound key) (first r key all)
-  are_in all fits = all-first r (IsWide r) key all (λ row there. fits-length r.columns row (fits row there))
+  are_in : (all : Rows) → ((row : Row) → 0 < copies all row → types_fit r.columns row ≡ true) → AllByRecursion (IsIn r m.sound key) (first r key all)
+  are_in all fits = all-first r (IsWide r) key all (λ row there. types-length r.columns row (fits row there))
 
   can_tell : CanTellFrom r.output r.ranked 1 (first r key rows) (first r key after)
   can_tell = can_from r m.sound key r.output m.sound.tells 1 (first r key rows) (first r key after) (are_in rows m.is_held.fits) (are_in after fits_after)
