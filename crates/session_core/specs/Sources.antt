@@ -23,7 +23,7 @@ module _ {S : Type 0} (stands : S → Table → List Change → Type 0) where
   pub record AllCheck (g : Network) (sources : List S) (taken : ℕ → List Change) : Type 0 where
     pub at : (table : ℕ) → ChecksIn (slice_get sources table) (g.tables table) (taken table)
 
-  -- a change that has its table's columns may be tested
+  -- a change that fits its table may be tested
   pub record MayCheck (g : Network) (s : State) (sources : List S) (number : ℕ) (change : Change) : Type 0 where
     pub checks : AllCheck g sources s.taken
     pub typed : IsTyped g (happens (Take number change))

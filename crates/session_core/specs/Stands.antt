@@ -79,7 +79,7 @@ module _ {O S : Type 0} (rule_is : O → Rule) (is_broken : O → Bool) (stands 
   abbrev pub ForKept : Session O S → (Network → ℕ → List PrintItem → State → Type 0) → Type 0
   ForKept session P = (g : Network) (limit : ℕ) (handed : List PrintItem) (s : State) → Keeps g limit session handed s → P g limit handed s
 
-  -- the same where an event comes whose change has its table's columns
+  -- the same where an event comes whose change fits its table
   abbrev pub MayApply : Session O S → Event → Type 0
   MayApply session event = (g : Network) × (limit : ℕ) × (handed : List PrintItem) × (s : State) × Keeps g limit session handed s × IsTyped g (happens event)
 
@@ -102,7 +102,7 @@ module _ {O S : Type 0} (rule_is : O → Rule) (is_broken : O → Bool) (stands 
   abbrev pub ForRuns : Session O S → (Network → ℕ → List PrintItem → List Item → Type 0) → Type 0
   ForRuns session P = (g : Network) (limit : ℕ) (handed : List PrintItem) (items : List Item) → StandsFor g limit session handed items → P g limit handed items
 
-  -- the same where an event comes whose change has its table's columns
+  -- the same where an event comes whose change fits its table
   abbrev pub MayStep : Session O S → Event → Type 0
   MayStep session event = (g : Network) × (limit : ℕ) × (handed : List PrintItem) × (items : List Item) × StandsFor g limit session handed items × IsTyped g (happens event)
 
