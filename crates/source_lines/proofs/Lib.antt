@@ -1,4 +1,3 @@
-pub mod Columns
 pub mod Counts
 pub mod Going
 pub mod Keyed

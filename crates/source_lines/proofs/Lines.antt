@@ -14,10 +14,10 @@ use Rattle.ct_catalog.specs.Columns.{table_mode, column_types}
 use Rattle.rel_algebra.specs.Clauses.{Fits}
 use Rattle.rel_algebra.specs.Sums.{Each}
 use Rattle.rel_algebra.proofs.laws.Bags.{each-none}
+use Rattle.plan_rules.proofs.laws.Columns.{row_of_types}
 use Rattle.source_lines.specs.Kept.{refusal_after, taker_of}
 use Rattle.source_lines.specs.Taken.{RefusedLine, Taken, and_then, first_of, line_refusal, nothing_taken, refusal_in, rows_of, take_line, take_records, taken_of, unless_refused, with_line}
-use Rattle.source_lines.specs.Fitting.{LinesFitColumns, LinesWithoutNullsFit, RowsFit}
-use Rattle.source_lines.proofs.Columns.{fits_from}
+use Rattle.source_lines.specs.Fitting.{LinesFitColumns, RowsFit}
 use Rattle.source_lines.proofs.LineFolds.{each_after, unrefused}
 
 -- the rows of each source have its columns
@@ -29,7 +29,7 @@ fit_with : (table : TableDef) (changes : List Change) (change : Change) → IsOf
     → Each (Fits (column_types table)) (fold (table_mode table) (changes ++ change ∷ []))
 fit_with table changes change of free h =
     subst (Each (Fits (column_types table))) (sym (fold-push (table_mode table) changes change))
-    (each_after (Fits (column_types table)) (taker_of table) (fold (table_mode table) changes) change (fits_from 0 [] table.cols change.row refl of.fits (unrefused (taker_of table) (fold (table_mode table) changes) change free).0) free h)
+    (each_after (Fits (column_types table)) (taker_of table) (fold (table_mode table) changes) change (row_of_types (column_types table) change.row of.fits (unrefused (taker_of table) (fold (table_mode table) changes) change free).0) free h)
 
 some_same : {A : Type 0} (o : Option A) (a b : A) → o ≡ Some a → o ≡ Some b → a ≡ b
 some_same o a b p q = cc (p, q)
@@ -81,9 +81,4 @@ pub lines_have_columns : LinesFit → LinesFitColumns
 lines_have_columns lines_fit sources fields line taken is free =
     let one = lines_fit sources fields line is in
     let refused : refusal_after one.0 (taken line.table) line.change ≡ None = sym (ap (λ (o : Option TableDef). refusal_in o (taken line.table) line.change) one.1) ∙ free in
-    (one.0, one.1, fits_from 0 [] one.0.cols line.change.row refl one.2.fits (unrefused (taker_of one.0) (fold (table_mode one.0) (taken line.table)) line.change refused).0)
-
-pub lines_without_nulls : LinesFit → LinesWithoutNullsFit
-lines_without_nulls lines_fit sources fields line is =
-    let one = lines_fit sources fields line is in
-    (one.0, one.1, λ free. fits_from 0 [] one.0.cols line.change.row refl one.2.fits free)
+    (one.0, one.1, row_of_types (column_types one.0) line.change.row one.2.fits (unrefused (taker_of one.0) (fold (table_mode one.0) (taken line.table)) line.change refused).0)

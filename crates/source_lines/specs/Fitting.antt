@@ -5,9 +5,7 @@ use Rattle.ct_catalog.specs.declared.table.TableDef.{TableDef}
 use Rattle.ct_field.specs.Typed.{row_fits}
 use Rattle.job_text.specs.declared.line.Line.{Line}
 use Rattle.job_text.specs.Lines.{Record, line_of}
-use Rattle.plan_rules.specs.Plans.{required_from}
 use Rattle.ct_catalog.specs.Columns.{column_types}
-use Rattle.stream_model.specs.Tables.{null_refusal}
 use Rattle.rel_algebra.specs.Clauses.{Fits}
 use Rattle.rel_algebra.specs.Sums.{Each}
 use Rattle.source_lines.specs.Taken.{Taken, line_refusal}
@@ -23,8 +21,3 @@ RowsFit (table ∷ tables) (rows ∷ others) = Each (Fits (column_types table)) 
 abbrev pub LinesFitColumns : Type 0
 LinesFitColumns = (sources : List TableDef) (fields : Record) (line : Line) (taken : Taken) → line_of sources fields ≡ Ok line → line_refusal sources taken line ≡ None
     → (table : TableDef) × (slice_get sources line.table ≡ Some table) × (row_fits (column_types table) line.change.row ≡ true)
-
--- a line is one of a source, and with no NULL where none may stand its row has the source's columns
-abbrev pub LinesWithoutNullsFit : Type 0
-LinesWithoutNullsFit = (sources : List TableDef) (fields : Record) (line : Line) → line_of sources fields ≡ Ok line
-    → (table : TableDef) × (slice_get sources line.table ≡ Some table) × (null_refusal (required_from 0 (column_types table)) line.change.row ≡ None → row_fits (column_types table) line.change.row ≡ true)

@@ -21,4 +21,4 @@ pub use bags::{Bags, bags_of};
 pub use checks::SourceChecks;
 pub use fault::TakeFault;
 pub use folds::SourceFold;
-pub use refusals::{SourceFault, check_nulls};
+pub use refusals::SourceFault;

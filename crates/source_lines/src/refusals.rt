@@ -28,9 +28,9 @@ impl From<Memory> for SourceFault {
     }
 }
 
-/// Refuses a row that has NULL in a column that may not hold it, by the first such column, from 1.
+// Refuses a row that has NULL in a column that may not hold it, by the first such column, from 1.
 #[tactic(auto, using(crate::proofs::Nulls::null_allowed, crate::proofs::Nulls::null_absent, crate::proofs::Nulls::null_found, crate::proofs::Nulls::null_none))]
-pub fn check_nulls(cols: &[ColDef], row: &Row) -> Result<(), SourceFault>
+pub(crate) fn check_nulls(cols: &[ColDef], row: &Row) -> Result<(), SourceFault>
     ensures ok { OnOk result (null_refusal (required_from 0 (map (λ c. c.ty) cols.now)) row.now ≡ None) }
     ensures refused { (code : ChangeCode) → IsErrOf result (Refused code) → null_refusal (required_from 0 (map (λ c. c.ty) cols.now)) row.now ≡ Some code }
 {

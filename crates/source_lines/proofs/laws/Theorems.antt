@@ -1,9 +1,9 @@
 -- The theorems of this crate, put together of its lemmas.
-use Rattle.source_lines.proofs.Lines.{taken_fit, lines_have_columns, lines_without_nulls}
+use Rattle.source_lines.proofs.Lines.{taken_fit, lines_have_columns}
 use Rattle.std.specs.Prelude.{◌≡◌, ℕ, List, Ok, Option}
 use Rattle.ct_catalog.specs.declared.table.TableDef.{TableDef}
 use Rattle.source_lines.specs.Taken.{Taken, rows_of, taken_of}
-use Rattle.source_lines.specs.Fitting.{RowsFit, LinesFitColumns, LinesWithoutNullsFit}
+use Rattle.source_lines.specs.Fitting.{RowsFit, LinesFitColumns}
 use Rattle.job_text.proofs.laws.Fitting.{lines_fit as lines_fit_their_tables}
 
 -- The rows that the first lines of a change file, or all, leave in each source have the source's columns: their types, and NULL only
@@ -14,7 +14,3 @@ taken_rows_fit = taken_fit lines_fit_their_tables
 -- A line that isn't refused is one of a source, and its row has the source's columns.
 pub taken_lines_fit : LinesFitColumns
 taken_lines_fit = lines_have_columns lines_fit_their_tables
-
--- A line is one of a source, and with no NULL where none may stand its row has the source's columns.
-pub lines_without_nulls_fit : LinesWithoutNullsFit
-lines_without_nulls_fit = lines_without_nulls lines_fit_their_tables
