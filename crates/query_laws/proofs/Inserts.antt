@@ -5,9 +5,8 @@ use Rattle.ct_value.specs.Order.{row_total, row_exact}
 use Rattle.ct_value.specs.declared.codes.ScriptCode.TheVariants.{UnknownTable, SinkShape}
 use Rattle.ct_catalog.specs.declared.table.TableDef.{TableDef}
 use Rattle.ct_change.specs.Changelog.{Rows}
-use Rattle.rel_algebra.specs.Clauses.{Fits}
 use Rattle.rel_algebra.proofs.laws.Bags.{each-none}
-use Rattle.rel_algebra.specs.Answer.{AreTyped, answer, types_in}
+use Rattle.rel_algebra.specs.Answer.{answer, types_in}
 use Rattle.rel_algebra.specs.Types.{columns_of}
 use Rattle.sql_syntax.specs.Tree.{Query, Text}
 use Rattle.query_answer.specs.Answer.{TableRows, types}
@@ -17,7 +16,7 @@ use Rattle.binding.specs.Inserts.{Inserted, insert_bound, into_sink, sunk, is_ta
 use Rattle.rel_algebra.specs.GoesInto.{go_into}
 use Rattle.ct_catalog.specs.Columns.{column_types}
 use Rattle.binding.specs.Queries.{Relation, query_bound}
-use Rattle.query_laws.specs.Statement.{declared, filled, table_of, tables_of}
+use Rattle.query_laws.specs.Statement.{HaveWidths, declared, filled, table_of, tables_of}
 use Rattle.query_laws.proofs.Clauses.{Fine}
 use Rattle.query_laws.proofs.Lists.{map_length}
 use Rattle.query_laws.proofs.Options.{then, weaker, map_append}
@@ -33,9 +32,9 @@ pub empty_declared : (sources : List TableDef) → declared (empty sources) ≡ 
 empty_declared [] = refl
 empty_declared (d ∷ sources) = ap (λ ds. d ∷ ds) (empty_declared sources)
 
-pub empty_typed : (sources : List TableDef) → AreTyped (tables_of (empty sources))
-empty_typed [] = tt
-empty_typed (d ∷ sources) = (each-none row_total row_exact (Fits (map (λ c. c.ty) d.cols)), empty_typed sources)
+pub empty_wide : (sources : List TableDef) → HaveWidths (tables_of (empty sources))
+empty_wide [] = tt
+empty_wide (d ∷ sources) = (each-none row_total row_exact (λ row. length row ≡ length (map (λ c. c.ty) d.cols)), empty_wide sources)
 
 pub empty_types : (sources : List TableDef) → types_in (tables_of (empty sources)) ≡ map column_types sources
 empty_types [] = refl
@@ -45,7 +44,7 @@ empty_types (d ∷ sources) = ap (λ ts. column_types d ∷ ts) (empty_types sou
 pub bound_fine : (sources : List TableDef) (query : Query) → IfOk (query_bound false sources query) (λ x. Fine (tables_of (empty sources)) x.rel (types x.scope))
 bound_fine sources query =
     subst (λ ds. IfOk (query_bound false ds query) (λ x. Fine (tables_of (empty sources)) x.rel (types x.scope))) (empty_declared sources)
-    (weaker (query_bound false (declared (empty sources)) query) _ _ (query_right (empty sources) (empty_typed sources) query) (λ x h. h.1))
+    (weaker (query_bound false (declared (empty sources)) query) _ _ (query_right (empty sources) (empty_wide sources) query) (λ x h. h.1))
 
 -- ---- into a sink
 
@@ -89,7 +88,7 @@ of_ok : {A : Type 0} (r : Checked A) (x : A) (P : A → Type 0) → IfOk r P →
 of_ok (Ok y) x P h e = let i : y ≡ x = cc in subst P i h
 of_ok (Err code) x P h e = absurd (cc)
 
-pub insert_rows : (query : Query) (x : Inserted) → Accepted query x → (sources : List TableRows) (rows : Rows) → declared sources ≡ x.sources → AreTyped (tables_of (sources ++ filled x.sink rows ∷ []))
+pub insert_rows : (query : Query) (x : Inserted) → Accepted query x → (sources : List TableRows) (rows : Rows) → declared sources ≡ x.sources → HaveWidths (tables_of (sources ++ filled x.sink rows ∷ []))
     → answer (tables_of sources) x.query.rel ≡ (a.answer (sources ++ filled x.sink rows ∷ []) query).rows
 insert_rows query x h sources rows e fit =
     let all = sources ++ filled x.sink rows ∷ [] in

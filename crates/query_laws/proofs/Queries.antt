@@ -9,11 +9,9 @@ use Rattle.ct_value.specs.declared.ty.ColTy.{ColTy}
 use Rattle.ct_change.specs.Changelog.{Rows}
 use Rattle.ct_expr.specs.Types.{both_of}
 use Rattle.ct_catalog.specs.declared.table.TableDef.{TableDef}
-use Rattle.rel_algebra.specs.Clauses.{Fits}
 use Rattle.rel_algebra.specs.Sums.{plus, together, Each}
 use Rattle.rel_algebra.proofs.laws.Bags.{plus-assoc, plus-none-right, plus_parts, each-together, each-none}
-use Rattle.rel_algebra.proofs.laws.Fits.{fits-length}
-use Rattle.rel_algebra.specs.Answer.{Table, answer, answers, types_in, AreTyped}
+use Rattle.rel_algebra.specs.Answer.{Table, answer, answers, types_in}
 use Rattle.rel_algebra.specs.Rel.{Rel, Rels, no_rels, rel_and}
 use Rattle.rel_algebra.specs.Rel as r
 use Rattle.rel_algebra.specs.Types.{columns_of, common_from, common_columns, common_column}
@@ -28,7 +26,7 @@ use Rattle.query_answer.specs.Ranks.{Ranked, Top, ranked_select, without}
 use Rattle.binding.specs.Checked.{Checked, ◌>>=◌, or_code}
 use Rattle.binding.specs.Queries.{Relation, Outside, RankedList, query_bound, selects_bound, source_bound, find_source, union_of, united, is_plain, is_test, tests, plain_part, own_value, member_part, alone, ranked_list}
 use Rattle.binding.specs.Queries as b
-use Rattle.query_laws.specs.Statement.{tables_of, table_of, any_has_idle_project}
+use Rattle.query_laws.specs.Statement.{HaveWidths, tables_of, table_of, any_has_idle_project}
 use Rattle.rel_algebra.specs.Unions.{all_have_full_unions}
 use Rattle.query_laws.proofs.Bags.{each_map}
 use Rattle.query_laws.proofs.Clauses.{Fine}
@@ -63,7 +61,7 @@ found_at n (x ∷ xs) name = which n x xs (bytes_eq name x.table.name) (find_sou
     which n x xs true o p h = (0, (let e : n ≡ n + 0 = omega arith in e), refl, refl)
     which n x xs false o p h = later x xs n o p h
 
-module _ (tables : List TableRows) (fit : AreTyped (tables_of tables)) where
+module _ (tables : List TableRows) (fit : HaveWidths (tables_of tables)) where
   abbrev T : List Table
   T = tables_of tables
 
@@ -80,10 +78,10 @@ module _ (tables : List TableRows) (fit : AreTyped (tables_of tables)) where
   columns_there : (m : ℕ) (y : TableRows) → slice_get tables m ≡ Some y → columns_of (types_in T) (r.Scan m) ≡ Some (map (λ c. c.ty) y.table.cols)
   columns_there m y e = slice_map (λ z. z.columns) T m ∙ ap (option_map (λ z. z.columns)) (slice_map table_of tables m ∙ ap (option_map table_of) e)
 
-  typed_there : (xs : List TableRows) (m : ℕ) (y : TableRows) → AreTyped (tables_of xs) → slice_get xs m ≡ Some y → Each (Fits (map (λ c. c.ty) y.table.cols)) y.rows
-  typed_there [] m y h e = absurd (cc)
-  typed_there (x ∷ xs) zero y h e = let i : x ≡ y = cc in subst (λ z. Each (Fits (map (λ c. c.ty) z.table.cols)) z.rows) i h.0
-  typed_there (x ∷ xs) (suc m) y h e = typed_there xs m y h.1 e
+  width_there : (xs : List TableRows) (m : ℕ) (y : TableRows) → HaveWidths (tables_of xs) → slice_get xs m ≡ Some y → Each (λ row. length row ≡ length (map (λ c. c.ty) y.table.cols)) y.rows
+  width_there [] m y h e = absurd (cc)
+  width_there (x ∷ xs) zero y h e = let i : x ≡ y = cc in subst (λ z. Each (λ row. length row ≡ length (map (λ c. c.ty) z.table.cols)) z.rows) i h.0
+  width_there (x ∷ xs) (suc m) y h e = width_there xs m y h.1 e
 
   scope_types : (alias : Option Text) (table : TableDef) → types (table_scope alias table) ≡ map (λ c. c.ty) table.cols
   scope_types alias table = map_map (λ c. c.ty) (λ c. a.under (Some (unwrap_or alias table.name)) (Some c.name) c.ty) table.cols
@@ -99,8 +97,7 @@ module _ (tables : List TableRows) (fit : AreTyped (tables_of tables)) where
         subst (λ cs. Fine T (r.Scan f.0) cs) (sym cols) (record {
           typed = columns_there f.0 y there;
           wide = λ rows q. let e : y.rows ≡ rows = some_is y.rows rows (sym (rows_there f.0 y there) ∙ q) in
-              subst (λ (c : Rows). Each (λ row. length row ≡ length (map (λ c. c.ty) y.table.cols)) c) e
-              (each_map (Fits (map (λ c. c.ty) y.table.cols)) (λ row. length row ≡ length (map (λ c. c.ty) y.table.cols)) (λ row p. fits-length (map (λ c. c.ty) y.table.cols) row p) y.rows (typed_there tables f.0 y fit there));
+              subst (λ (c : Rows). Each (λ row. length row ≡ length (map (λ c. c.ty) y.table.cols)) c) e (width_there tables f.0 y fit there);
           unions = refl;
           projects = refl;
         }),

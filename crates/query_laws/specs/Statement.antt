@@ -1,10 +1,12 @@
 -- What the theorem speaks of: the tables of a query as the algebra sees them, and trees whose unions have two inputs or more.
 use Rattle.std.specs.Prelude.{◌≡◌, Bool, false, List, [], ◌∷◌, ◌++◌, map, length}
 use Rattle.std.specs.Option.{unwrap_or}
+use Rattle.std.specs.List.{AllByRecursion}
 use Rattle.ct_value.specs.declared.ty.ColTy.{ColTy}
 use Rattle.ct_expr.specs.Expr.{Expr}
-use Rattle.rel_algebra.specs.Answer.{Table, AreTyped, answer}
-use Rattle.rel_algebra.specs.Rel.{Rel, Rels, Project}
+use Rattle.rel_algebra.specs.Answer.{Table, answer}
+use Rattle.rel_algebra.specs.Sums.{Each}
+use Rattle.rel_algebra.specs.Rel.{Rel, Rels, Scan, Filter, Project, Union, Group, Join, Semi, Rank, no_rels, rel_and}
 use Rattle.rel_algebra.specs.Types.{columns_of}
 use Rattle.rel_algebra.specs.Walks.{some_part, some_part_of_any}
 use Rattle.ct_catalog.specs.declared.table.TableDef.{TableDef}
@@ -20,6 +22,10 @@ table_of x = record { columns = map (λ c. c.ty) x.table.cols; rows = x.rows }
 
 abbrev pub tables_of : List TableRows → List Table
 tables_of tables = map table_of tables
+
+-- each row of a table has as many values as the table has columns
+abbrev pub HaveWidths : List Table → Type 0
+HaveWidths tables = AllByRecursion (λ table. Each (λ row. length row ≡ length table.columns) table.rows) tables
 
 -- a Project whose items are its input's columns in place
 abbrev pub is_idle : List (List ColTy) → Rel → List Expr → Bool
@@ -50,4 +56,4 @@ with_sink sources sink rows = sources ++ filled sink rows ∷ []
 
 -- what a statement is bound to has, over its sources, the answer that the query has over them and the sink
 abbrev pub KeepsAnswer : Query → List TableRows → Rows → Inserted → Type 0
-KeepsAnswer query sources rows bound = declared sources ≡ bound.sources → AreTyped (tables_of (with_sink sources bound.sink rows)) → answer (tables_of sources) bound.query.rel ≡ (query_answer (with_sink sources bound.sink rows) query).rows
+KeepsAnswer query sources rows bound = declared sources ≡ bound.sources → HaveWidths (tables_of (with_sink sources bound.sink rows)) → answer (tables_of sources) bound.query.rel ≡ (query_answer (with_sink sources bound.sink rows) query).rows
