@@ -18,10 +18,10 @@ use Rattle.ct_change.proofs.laws.Folds.{fold-push, append_only, total-apply, wei
 use Rattle.ct_change.proofs.laws.Meanings.{same_row-itself, same_row-true}
 use Rattle.rel_algebra.specs.declared.agg.Agg.{Agg}
 use Rattle.rel_algebra.specs.Aggregates.{agg_results}
-use Rattle.rel_algebra.specs.Clauses.{Fits}
 use Rattle.rel_algebra.specs.GroupedCounts.{in_group, in_it, group_size, AreWide}
 use Rattle.op_rules.specs.History.{Arrival, arrival, at_port}
 use Rattle.op_rules.specs.Rules.{Answer, appended, MayArrive}
+use Rattle.op_rules.proofs.laws.Values.{types-length}
 use Rattle.op_rules.specs.declared.operator.OpFault.{OpFault}
 use Rattle.op_rules.specs.declared.operator.OpFault.TheVariants.{Range, Memory}
 use Rattle.op_rules.specs.Faults.{IfRange}
@@ -29,7 +29,7 @@ use Rattle.op_rules.proofs.laws.Histories.{at_port-push, at_port-one}
 use Rattle.emission_rules.specs.Grouping.{Grouping, members, row_count, is_shown, results as calls_over, row_of as row_with, group_row, sums_fit, is_counted, groups_of, answers, group_emits, emits, group_rule, TellsGroups, IsSound}
 use Rattle.emission_rules.proofs.laws.GroupAnswers.{row_of_group}
 use Rattle.emission_rules.proofs.laws.Members.{copies-members, row_count-members, other_members, wide_after, grows}
-use Rattle.emission_rules.proofs.laws.Pieces.{fits_wide}
+use Rattle.emission_rules.proofs.laws.Pieces.{long_wide}
 use Rattle.op_group.specs.declared.kept.Kept.{Kept}
 use Rattle.op_group.specs.declared.groups.GroupBy.{GroupBy}
 use Rattle.op_group.specs.declared.groups.Results.{Results}
@@ -98,7 +98,7 @@ module _ (by : GroupBy) (input output : Mode) (rows : Rows) (groups : BTreeMap R
   sound = m.set.0
 
   wide_row : by.keys ≤ length change.row
-  wide_row = fits_wide (grouping by input output) sound (λ _. Unit {0}) (kinds_of input) change.row m.fits
+  wide_row = long_wide (grouping by input output) sound (λ _. Unit {0}) (kinds_of input) change.row (types-length by.tys change.row m.fits)
 
   named : length (take by.keys change.row) ≡ by.keys
   named = length-take-le by.keys change.row wide_row

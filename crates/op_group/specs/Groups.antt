@@ -9,7 +9,7 @@ use Rattle.ct_change.specs.declared.change.Change.{Change}
 use Rattle.ct_change.specs.Changelog.{Mode, Rows, same_row, admits, MayCome, HasKey}
 use Rattle.ct_change.specs.Emission.{replaced}
 use Rattle.rel_algebra.specs.declared.agg.Agg.{Agg}
-use Rattle.rel_algebra.specs.Clauses.{Fits}
+use Rattle.op_rules.specs.Values.{types_fit}
 use Rattle.rel_algebra.specs.GroupedCounts.{AreWide}
 use Rattle.emission_rules.specs.Grouping.{Grouping, members, row_count, sums_fit, is_counted, IsSound}
 use Rattle.op_group.specs.declared.kept.Kept.{Kept}
@@ -68,11 +68,11 @@ pub record IsGrouped (by : GroupBy) (g : Grouping) (rows : Rows) (groups : BTree
 abbrev pub IsSet : GroupBy → Grouping → Type 0
 IsSet by g = IsSound g × (by.retracting ≡ admits g.input D)
 
--- a change may be taken: it may come, its row has the columns, and there is room for it
+-- a change may be taken: it may come, its row has values of the columns, and there is room for it
 pub record MayTake (by : GroupBy) (g : Grouping) (rows : Rows) (groups : BTreeMap Row Kept) (held : ℕ) (change : Change) : Type 0 where
   pub set : IsSet by g
   pub grouped : IsGrouped by g rows groups held
   pub may : MayCome g.input rows change
-  pub fits : Fits g.columns change.row
+  pub fits : types_fit g.columns change.row ≡ true
   pub key : HasKey g.input change.row
   pub few : held + 1 < 2 ^ 32

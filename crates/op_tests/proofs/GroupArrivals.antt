@@ -7,6 +7,8 @@ use Rattle.ct_change.proofs.laws.Folds.{fold-push}
 use Rattle.ct_field.specs.Typed.{row_fits}
 use Rattle.op_rules.specs.History.{Arrival, arrival, at_port}
 use Rattle.op_rules.specs.Rules.{Rule, MayArrive}
+use Rattle.op_rules.specs.Values.{types_fit}
+use Rattle.op_rules.proofs.laws.Values.{types_of_row}
 use Rattle.op_rules.proofs.laws.Histories.{at_port-push}
 use Rattle.emission_rules.specs.Grouping.{Grouping, group_rule}
 use Rattle.op_tests.specs.GroupFed.{IsFed, IsOfRows}
@@ -19,7 +21,7 @@ module _ (rule : Rule) (stands_for : List Arrival → Type 0) (standing : Rows) 
       subst (λ r. MayArrive r fed.before (arrival 0 0 change)) (sym fed.of_rows.is) record {
         port = omega arith;
         change = subst (λ mode. MayCome mode (fold mode (at_port 0 fed.before)) change) (sym fed.of_rows.input) (subst (λ rows. MayCome retract rows change) fed.rows may);
-        fits = ap (λ c. row_fits c change.row) fed.of_rows.columns_are ∙ fits;
+        fits = ap (λ c. types_fit c change.row) fed.of_rows.columns_are ∙ types_of_row columns change.row fits;
         key = subst (λ mode. HasKey mode change.row) (sym fed.of_rows.input) tt;
       }
 

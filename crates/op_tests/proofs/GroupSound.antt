@@ -14,6 +14,8 @@ use Rattle.rel_algebra.specs.declared.agg.Agg.{Agg}
 use Rattle.rel_algebra.proofs.laws.Fits.{fits-length}
 use Rattle.op_rules.specs.History.{arrival}
 use Rattle.op_rules.specs.Rules.{Rule, MayArrive}
+use Rattle.op_rules.specs.Values.{types_fit}
+use Rattle.op_rules.proofs.laws.Values.{types_of_row}
 use Rattle.emission_rules.specs.Grouping.{Grouping, group_rule, IsSound}
 use Rattle.emission_rules.proofs.laws.Columns.{project-first}
 use Rattle.op_tests.specs.GroupFed.{IsOfRows}
@@ -82,7 +84,7 @@ pub first_may : (rule : Rule) (keys : ℕ) (aggs : List Agg) (tys : List ColTy) 
 first_may rule keys aggs tys input output change is e kind fits key = subst (λ r. MayArrive r [] (arrival 0 0 change)) (sym is) record {
   port = omega arith;
   change = may input change kind;
-  fits = ap (λ t. row_fits t change.row) e ∙ fits;
+  fits = ap (λ t. types_fit t change.row) e ∙ types_of_row columns change.row fits;
   key = key;
 }
 

@@ -8,6 +8,8 @@ use Rattle.ct_value.specs.Bag.{none}
 use Rattle.rel_algebra.proofs.laws.Fits.{fits-length}
 use Rattle.op_rules.specs.History.{Arrival, arrival, at_port}
 use Rattle.op_rules.specs.Rules.{Rule, MayArrive}
+use Rattle.op_rules.specs.Values.{types_fit}
+use Rattle.op_rules.proofs.laws.Values.{types_of_row}
 use Rattle.emission_rules.proofs.laws.Walks.{rows-push}
 use Rattle.op_tests.specs.declared.join_feed.Feed.{Feed}
 use Rattle.op_tests.specs.declared.join_feed.Reads.{Reads}
@@ -49,7 +51,7 @@ module _ (rule : Rule) (stands_for : List Arrival → Type 0) (feed : Feed) (fed
       subst (λ r. MayArrive r fed.before (arrival 0 0 change)) (sym fed.of_rows.is) record {
         port = omega arith;
         change = subst (λ mode. MayCome mode (fold mode (at_port 0 fed.before)) change) (sym fed.of_rows.left_mode) may;
-        fits = ap (λ c. row_fits c change.row) fed.of_rows.left_columns_are ∙ fits;
+        fits = ap (λ c. types_fit c change.row) fed.of_rows.left_columns_are ∙ types_of_row columns change.row fits;
         key = subst (λ mode. HasKey mode change.row) (sym fed.of_rows.left_mode) (has_key feed.left_reads change fits);
       }
 
@@ -59,7 +61,7 @@ module _ (rule : Rule) (stands_for : List Arrival → Type 0) (feed : Feed) (fed
       subst (λ r. MayArrive r fed.before (arrival 1 0 change)) (sym fed.of_rows.is) record {
         port = omega arith;
         change = subst (λ mode. MayCome mode (fold mode (at_port 1 fed.before)) change) (sym fed.of_rows.right_mode) may;
-        fits = ap (λ c. row_fits c change.row) fed.of_rows.right_columns_are ∙ fits;
+        fits = ap (λ c. types_fit c change.row) fed.of_rows.right_columns_are ∙ types_of_row columns change.row fits;
         key = subst (λ mode. HasKey mode change.row) (sym fed.of_rows.right_mode) (has_key feed.right_reads change fits);
       }
 

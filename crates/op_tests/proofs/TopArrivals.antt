@@ -9,6 +9,8 @@ use Rattle.ct_change.proofs.laws.Folds.{fold-push}
 use Rattle.rel_algebra.proofs.laws.Fits.{fits-length}
 use Rattle.op_rules.specs.History.{Arrival, arrival, at_port}
 use Rattle.op_rules.specs.Rules.{Rule, MayArrive}
+use Rattle.op_rules.specs.Values.{types_fit}
+use Rattle.op_rules.proofs.laws.Values.{types_of_row}
 use Rattle.op_rules.proofs.laws.Histories.{at_port-push}
 use Rattle.op_tests.specs.declared.top_reads.Reads.{Reads}
 use Rattle.op_tests.specs.declared.top_reads.Reads.TheVariants.{Retract, LastRows}
@@ -29,7 +31,7 @@ module _ (reads : Reads) (rule : Rule) (stands_for : List Arrival → Type 0) (s
       subst (λ r. MayArrive r fed.before (arrival 0 0 change)) (sym fed.of_rows.is) record {
         port = omega arith;
         change = subst (λ mode. MayCome mode (fold mode (at_port 0 fed.before)) change) (sym fed.of_rows.input) may;
-        fits = ap (λ c. row_fits c change.row) fed.of_rows.columns_are ∙ fits;
+        fits = ap (λ c. types_fit c change.row) fed.of_rows.columns_are ∙ types_of_row columns change.row fits;
         key = subst (λ mode. HasKey mode change.row) (sym fed.of_rows.input) (has_key reads change.row fits);
       }
 
