@@ -1,10 +1,10 @@
 -- The run of the machine that a session over a plan goes along.
 use Rattle.std.specs.Prelude.{◌≡◌, ℕ, true, List, [], slice_get, Some, option_map}
-use Rattle.ct_field.specs.Typed.{row_fits}
 use Rattle.ct_catalog.specs.declared.table.TableDef.{TableDef}
 use Rattle.ct_catalog.specs.Columns.{column_types}
 use Rattle.job_text.specs.declared.line.Line.{Line}
 use Rattle.job_text.specs.Lines.{Record, line_of}
+use Rattle.op_rules.specs.Values.{types_fit}
 use Rattle.phys_plan.specs.declared.plan.Plan.{Plan}
 use Rattle.plan_rules.specs.Doings.{network}
 use Rattle.plan_rules.specs.Plans.{table_of}
@@ -30,11 +30,11 @@ pub record HasPrinted (ran : Ran) (items : List PrintItem) : Type 0 where
   pub ends : ran ≡ ended state
   pub printed : items ≡ state.printed
 
--- a line is one of a source, and its row has the source's columns
-pub record HasColumns (sources : List TableDef) (line : Line) : Type 0 where
+-- a line is one of a source, and its change fits it
+pub record IsOfSource (sources : List TableDef) (line : Line) : Type 0 where
   pub table : TableDef
   pub is : slice_get sources line.table ≡ Some table
-  pub fits : row_fits (column_types table) line.change.row ≡ true
+  pub fits : types_fit (column_types table) line.change.row ≡ true
 
 -- ---- a session that handed out nothing, along a run over a plan
 

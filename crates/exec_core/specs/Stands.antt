@@ -31,7 +31,7 @@ StandsForSome session = (plan : Plan) × (limit : ℕ) × (handed : List PrintIt
 abbrev pub ForRuns : Session → (Plan → ℕ → List PrintItem → List Item → Type 0) → Type 0
 ForRuns session P = (plan : Plan) (limit : ℕ) (handed : List PrintItem) (items : List Item) → Stands session plan limit handed items → P plan limit handed items
 
--- the same where an event comes whose change has its table's columns
+-- the same where an event comes whose change fits its table
 abbrev pub MayStep : Session → Event → Type 0
 MayStep session event = (plan : Plan) × (limit : ℕ) × (handed : List PrintItem) × (items : List Item) × Stands session plan limit handed items × IsTyped (network plan) (happens event)
 

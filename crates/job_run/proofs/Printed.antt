@@ -16,11 +16,12 @@ use Rattle.ct_field.specs.Typed.{col_fits, row_fits, value_fits}
 use Rattle.ct_field.proofs.laws.Numbers.{both_true, first_true, second_true}
 use Rattle.ct_expr.specs.Types.{same_ty}
 use Rattle.ct_catalog.specs.declared.table.ColDef.{ColDef}
+use Rattle.op_rules.specs.Values.{values_fit}
 use Rattle.rel_algebra.specs.GoesInto.{go_into, goes_into, widens}
 use Rattle.stream_model.specs.declared.events.PrintItem.{PrintItem}
 use Rattle.stream_model.specs.declared.events.PrintItem.TheVariants.{Change as Printed, Quiet}
 use Rattle.stream_model.specs.Runs.{changes_in}
-use Rattle.job_text.specs.Told.{AreItemsOf, are_of}
+use Rattle.job_text.specs.Told.{AreItemsOf}
 use Rattle.typing_laws.proofs.laws.Named.{same_types}
 
 -- ---- wider types
@@ -65,7 +66,7 @@ goes_value from into v true wider is may e h = subst (λ ty. value_fits ty v ≡
 goes_value from into v false true is may e h = wider_value from into v may h
 goes_value from into v false false is may e h = absurd (cc (e))
 
-pub goes_row : (columns : List ColTy) (cols : List ColDef) (row : List Value) → go_into columns (map (λ c. c.ty) cols) ≡ true → row_fits columns row ≡ true → are_of (map (λ c. c.ty.ty) cols) row ≡ true
+pub goes_row : (columns : List ColTy) (cols : List ColDef) (row : List Value) → go_into columns (map (λ c. c.ty) cols) ≡ true → row_fits columns row ≡ true → values_fit (map (λ c. c.ty.ty) cols) row ≡ true
 goes_row [] [] [] e h = refl
 goes_row [] [] (v ∷ vs) e h = absurd (cc (h))
 goes_row [] (col ∷ cols) row e h = absurd (cc (e))
@@ -74,7 +75,7 @@ goes_row (column ∷ columns) (col ∷ cols) [] e h = absurd (cc (h))
 goes_row (column ∷ columns) (col ∷ cols) (v ∷ vs) e h =
     let one = first_true (goes_into column col.ty) (go_into columns (map (λ c. c.ty) cols)) e in
     let fits = first_true (value_fits column.ty v) _ (first_true (col_fits column v) (row_fits columns vs) h) in
-    both_true (value_fits col.ty.ty v) (are_of (map (λ c. c.ty.ty) cols) vs)
+    both_true (value_fits col.ty.ty v) (values_fit (map (λ c. c.ty.ty) cols) vs)
     (goes_value column.ty col.ty.ty v (same_ty column.ty col.ty.ty) (widens column.ty col.ty.ty) refl refl one fits)
     (goes_row columns cols vs (second_true (goes_into column col.ty) (go_into columns (map (λ c. c.ty) cols)) e) (second_true (col_fits column v) (row_fits columns vs) h))
 

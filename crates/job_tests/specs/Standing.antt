@@ -1,11 +1,11 @@
 -- What a session over a table of words has to keep to, so that a test can go on with it.
-use Rattle.std.specs.Prelude.{◌≡◌, ℕ, Bool, false, List, [], ◌∷◌}
+use Rattle.std.specs.Prelude.{◌≡◌, ℕ, Bool, true, false, List, [], ◌∷◌}
 use Rattle.ct_value.specs.declared.ty.Ty.TheVariants.{Text as Texts}
-use Rattle.ct_value.specs.declared.value.Value.TheVariants.{Text as IsText}
 use Rattle.ct_change.specs.declared.change.Change.{Change}
 use Rattle.ct_catalog.specs.declared.table.TableDef.{TableDef}
 use Rattle.op_rules.specs.History.{Arrival}
 use Rattle.op_rules.specs.Rules.{Rule}
+use Rattle.op_rules.specs.Values.{values_fit}
 use Rattle.phys_plan.specs.declared.plan.Plan.{Plan}
 use Rattle.ct_catalog.specs.Columns.{column_types}
 use Rattle.plan_rules.specs.Doings.{network}
@@ -18,11 +18,11 @@ use Rattle.stream_model.specs.Runs.{Item, IsTyped, happens}
 use Rattle.session_core.specs.declared.session.Session.{Session}
 use Rattle.session_core.specs.Stands.{StandsFor}
 
--- a row of one word
+-- a row of one word, or of NULL
 abbrev pub IsWord : Change → Type 0
-IsWord change = (word : List ℕ) × (change.row ≡ IsText word ∷ [])
+IsWord change = values_fit (Texts ∷ []) change.row ≡ true
 
--- words may be taken of the first table
+-- words, and NULL, may come to the first table
 abbrev pub TakesWords : Network → Type 0
 TakesWords g = (change : Change) → IsWord change → IsTyped g (happens (Take 0 change))
 

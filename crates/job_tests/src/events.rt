@@ -1,8 +1,8 @@
 //! A session over a table of words, driven event by event, with a log of what it prints at each.
 ghost use Rattle.std.specs.Prelude.{◌≡◌, ◌<◌, IfOk};
-ghost use Rattle.job_tests.specs.Standing.{CountsWords, StandsForWords};
+ghost use Rattle.job_tests.specs.Standing.{CountsWords, IsWord, StandsForWords};
 
-use crate::rows::comes;
+use crate::rows::{comes, comes_null};
 use ct_change::{Change, Kind, Steps};
 use ct_field::number_text;
 use ct_value::{Bytes, Memory, Value};
@@ -16,11 +16,12 @@ use std::alloc::Global;
 use std::sync::ledger::{Blank, Ledger};
 use stream_model::{Event, PrintItem, PrintList, StepFault, Stopped};
 
-/// What a session is told to do: to take the word `a`, to move the front of an edge's only channel, to flush a node's bundle, or to
-/// be drained.
+/// What a session is told to do: to take the word `a`, or NULL, to move the front of an edge's only channel, to flush a node's
+/// bundle, or to be drained.
 #[derive(Clone, Copy, Debug)]
 pub(crate) enum Order {
     Take,
+    TakeNull,
     Move(u32),
     Flush(u32),
     Drain,
@@ -93,14 +94,16 @@ fn done<O: Operator + Drop, S: SourceCheck, L: Ledger>(
     ensures { IfOk result (λ next. StandsForWords O.rule O.broken O.stands_for S.stands_for next) }
 {
     match order {
-        Order::Take => take(alloc, session, steps),
+        Order::Take => take_word(alloc, session, steps),
+        Order::TakeNull => take_null(alloc, session, steps),
         Order::Move(edge) => move_front(session, edge, steps),
         Order::Flush(node) => flush(session, node, steps),
         Order::Drain => drain(session, steps),
     }
 }
 
-fn take<O: Operator + Drop, S: SourceCheck, L: Ledger>(
+#[tactic(auto, using(crate::proofs::Opening::word_fits))]
+fn take_word<O: Operator + Drop, S: SourceCheck, L: Ledger>(
     alloc: Global,
     session: Session<O, S>,
     steps: &mut Steps<L>,
@@ -109,6 +112,31 @@ fn take<O: Operator + Drop, S: SourceCheck, L: Ledger>(
     ensures { IfOk result (λ next. StandsForWords O.rule O.broken O.stands_for S.stands_for next) }
 {
     let change = comes(alloc, "a")?;
+    take(session, change, steps)
+}
+
+#[tactic(auto, using(crate::proofs::Opening::null_fits))]
+fn take_null<O: Operator + Drop, S: SourceCheck, L: Ledger>(
+    alloc: Global,
+    session: Session<O, S>,
+    steps: &mut Steps<L>,
+) -> Result<Session<O, S>, StepFault>
+    requires ready { StandsForWords O.rule O.broken O.stands_for S.stands_for session }
+    ensures { IfOk result (λ next. StandsForWords O.rule O.broken O.stands_for S.stands_for next) }
+{
+    let change = comes_null(alloc)?;
+    take(session, change, steps)
+}
+
+fn take<O: Operator + Drop, S: SourceCheck, L: Ledger>(
+    session: Session<O, S>,
+    change: Change,
+    steps: &mut Steps<L>,
+) -> Result<Session<O, S>, StepFault>
+    requires ready { StandsForWords O.rule O.broken O.stands_for S.stands_for session }
+    requires word { IsWord change }
+    ensures { IfOk result (λ next. StandsForWords O.rule O.broken O.stands_for S.stands_for next) }
+{
     match session.step(Event::Take { table: 0, change }, steps) {
         Ok(next) => Ok(next),
         Err(stopped) => Err(cause_of(stopped)),

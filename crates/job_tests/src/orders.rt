@@ -1,7 +1,7 @@
 // Worked runs of a grouped count, each order by itself.
 use crate::counts::counting_plan;
 use crate::events::{Order, driven};
-use ct_value::{Bytes, OrderCode};
+use ct_value::{Bytes, ChangeCode, OrderCode};
 use std::alloc::Global;
 use std::marker::Brand;
 use std::sync::ledger::Blank;
@@ -89,4 +89,11 @@ fn orders_that_can_not_be_stop(rt: HostRuntime) {
     assert!(rt; matches!(place, Some(StepFault::Order(OrderCode::NoSuchPlace))));
     let bundle = stop_of(alloc, MOST_SENT, &[Order::Take, Order::Flush(2)], "|");
     assert!(rt; matches!(bundle, Some(StepFault::Order(OrderCode::NoBuffer))));
+}
+
+// NULL may not stand in the table's only column, which is the first.
+#[test]
+fn a_null_that_may_not_stand_stops_the_session(rt: HostRuntime) {
+    let stop = stop_of(rt.alloc(), MOST_SENT, &[Order::Take, Order::TakeNull], "|");
+    assert!(rt; matches!(stop, Some(StepFault::Change(ChangeCode::NullNotAllowed(1)))));
 }

@@ -1,5 +1,5 @@
 ghost use Rattle.std.specs.Prelude.{◌≡◌, [], ◌∷◌, List as Seq, ℕ, IfOk};
-ghost use Rattle.ct_value.specs.declared.value.Value.TheVariants.{Text as IsText};
+ghost use Rattle.ct_value.specs.declared.value.Value.TheVariants.{Null, Text as IsText};
 
 use ct_change::{Change, Kind};
 use ct_value::{Memory, Row, Text, Value, Values};
@@ -11,5 +11,14 @@ pub fn comes(alloc: Global, word: &str) -> Result<Change, Memory>
 {
     let mut values = Values::new(alloc);
     values.push(Value::Text(Text::from_str(alloc, word)?))?;
+    Ok(Change::new(Kind::I, Row::from_values(values)))
+}
+
+/// A row of NULL that comes.
+pub fn comes_null(alloc: Global) -> Result<Change, Memory>
+    ensures { IfOk result (λ change. change.row ≡ Null ∷ []) }
+{
+    let mut values = Values::new(alloc);
+    values.push(Value::Null)?;
     Ok(Change::new(Kind::I, Row::from_values(values)))
 }

@@ -12,6 +12,7 @@ use Rattle.session_core.specs.declared.wiring.Feed as kept
 use Rattle.session_core.specs.declared.wiring.TableWiring.{TableWiring}
 use Rattle.session_core.specs.LaidOut.{IsTableIn, feed_of, scans_below}
 use Rattle.op_rules.specs.Edges.{hash}
+use Rattle.op_rules.proofs.laws.Values.{types-length}
 use Rattle.ct_value.specs.declared.ty.ColTy.{ColTy}
 use Rattle.ct_value.specs.declared.value.Value.{Value}
 use Rattle.ct_field.specs.Typed.{row_fits, col_fits}
@@ -121,7 +122,7 @@ tables_laid of doing plan tables many each number = cases (slice_get tables numb
                 ap (λ (c : List ℕ). route_of plan.parallelism (types_at c (column_types table)) row) (sym key.columns_are)
                 ∙ ap (λ (t : List ColTy). route_of plan.parallelism (types_at kept.spread.columns t) row) (sym key.types_are);
           };
-          wide = λ change fits. fits_length (column_types table) change.row fits ∙ ap length (sym key.types_are);
+          wide = λ change fits. types-length (column_types table) change.row fits ∙ ap length (sym key.types_are);
           scans = r.1 of doing;
         }
 

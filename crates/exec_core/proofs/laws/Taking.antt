@@ -1,30 +1,27 @@
 -- A session that takes lines goes along the machine's run over them.
 use Rattle.std.specs.Prelude.{◌≡◌, ◌⊎◌, ◌&&◌, nat_lt, nat_le, ℕ, ◌+◌, ◌<◌, cond, Bool, Option, Result, List, ◌++◌, length, slice_get, option_map, IfOk, IfErr}
 use Rattle.std.proofs.Common.{[], ◌∷◌, refl, sym, ap, subst, ◌∙◌, Some, None, Ok, Err, true, false, inl, inr, arith}
-use Rattle.ct_field.specs.Typed.{row_fits}
 use Rattle.ct_value.specs.declared.codes.ChangeCode.{ChangeCode}
-use Rattle.ct_value.specs.declared.codes.ChangeCode.TheVariants.{KindNotDeclared}
 use Rattle.ct_value.specs.declared.codes.OrderCode.{OrderCode}
 use Rattle.ct_change.specs.declared.change.Change.{Change}
-use Rattle.ct_change.specs.Changelog.{Rows, fold, admits}
+use Rattle.ct_change.specs.Changelog.{fold}
 use Rattle.ct_catalog.specs.declared.table.TableDef.{TableDef}
 use Rattle.job_text.specs.declared.line.Line.{Line}
 use Rattle.job_text.specs.declared.line.LineFault.{LineFault}
 use Rattle.job_text.specs.declared.line.LineFault.TheVariants.{Change as NotRead, Memory as NoMemory}
 use Rattle.job_text.specs.Lines.{Record, line_of, answer_of}
-use Rattle.job_text.specs.Fitting.{LinesFit}
+use Rattle.job_text.proofs.laws.Fitting.{lines_fit}
 use Rattle.stream_model.specs.declared.events.Event.TheVariants.{Take}
 use Rattle.stream_model.specs.declared.events.StepFault.{StepFault}
 use Rattle.stream_model.specs.declared.events.StepFault.TheVariants.{Change as Refused, Order, Range, Limit, Memory}
 use Rattle.stream_model.specs.declared.events.Stopped.{Stopped}
 use Rattle.stream_model.specs.declared.events.PrintItem.{PrintItem}
-use Rattle.stream_model.specs.Tables.{Table, scanned_at, refusal, null_refusal, kind_refusal, row_refusal, key_refusal_by, or_else}
+use Rattle.stream_model.specs.Tables.{Table, scanned_at, refusal}
 use Rattle.stream_model.specs.Network.{Network}
 use Rattle.stream_model.specs.Machine.{State, opened, scan_count, scanned, take, take_of, take_unless}
 use Rattle.stream_model.specs.Runs.{Item, happens, after, state_in, step_item, IsTyped}
 use Rattle.stream_model.specs.Drain.{StopsBy, StopsAlong, Leads, IsDrainFault, drain}
-use Rattle.plan_rules.specs.Plans.{required_from, table_of}
-use Rattle.ct_catalog.specs.Columns.{table_mode, column_types}
+use Rattle.plan_rules.specs.Plans.{table_of}
 use Rattle.source_lines.specs.Run as run
 use Rattle.source_lines.specs.Run.{Ran, ended, refused, stopped, and_then, took, take_line, take_lines, drained}
 use Rattle.source_lines.specs.Run.{IsStop}
@@ -32,34 +29,20 @@ use Rattle.source_lines.proofs.laws.Along.{leads_after, leads_along, stops_along
 use Rattle.exec_core.specs.declared.fault.RunFault.{RunFault}
 use Rattle.exec_core.specs.declared.fault.RunFault.TheVariants.{Refused as RefusedAt, Stopped as Stops, Memory as Wanting}
 use Rattle.exec_core.specs.Faults.{fault_at, at_line, IsStopAt, IsLineRan, IsRan}
-use Rattle.exec_core.specs.Goes.{HasTables, HasColumns, run_of}
+use Rattle.exec_core.specs.Goes.{HasTables, IsOfSource, run_of}
 
--- a line whose row has its source's columns may come to the machine
 some_same : {A : Type 0} (o : Option A) (a b : A) → o ≡ Some a → o ≡ Some b → a ≡ b
 some_same o a b p q = cc (p, q)
 
-pub line_typed : (g : Network) (parallelism : ℕ) (sources : List TableDef) (line : Line) → HasTables g parallelism sources → HasColumns sources line → IsTyped g (happens (Take line.table line.change))
+-- a line that is read may come to the machine
+pub of_source : (sources : List TableDef) (fields : Record) (line : Line) → line_of sources fields ≡ Ok line → IsOfSource sources line
+of_source sources fields line is = let one = lines_fit sources fields line is in record { table = one.0; is = one.1; fits = one.2.fits }
+
+pub line_typed : (g : Network) (parallelism : ℕ) (sources : List TableDef) (line : Line) → HasTables g parallelism sources → IsOfSource sources line → IsTyped g (happens (Take line.table line.change))
 line_typed g parallelism sources line tables has table is =
     let own : g.tables line.table ≡ Some (table_of parallelism has.table) = tables line.table ∙ ap (option_map (table_of parallelism)) has.is in
     let same : table_of parallelism has.table ≡ table = some_same (g.tables line.table) (table_of parallelism has.table) table own is in
     subst (λ (t : Table). t.fits line.change ≡ true) same has.fits
-
--- a change that is refused by its values, of a kind that the table takes
-null_first : (table : Table) (change : Change) (code : ChangeCode) (rows : Rows) → admits table.mode change.kind ≡ true → null_refusal table.required change.row ≡ Some code → refusal table rows change ≡ Some code
-null_first table change code rows kind null =
-    ap (λ (b : Bool). or_else (cond b None (Some KindNotDeclared)) (or_else (null_refusal table.required change.row) (or_else (row_refusal table.mode rows change) (key_refusal_by table.mode table.key rows change)))) kind
-    ∙ ap (λ (o : Option ChangeCode). or_else o (or_else (row_refusal table.mode rows change) (key_refusal_by table.mode table.key rows change))) null
-
-pub null_ran : LinesFit → (g : Network) (limit parallelism : ℕ) (sources : List TableDef) (number : ℕ) (s : State) (fields : Record) (line : Line) (table : TableDef) (code : ChangeCode) → HasTables g parallelism sources → line_of sources fields ≡ Ok line
-    → slice_get sources line.table ≡ Some table → null_refusal (required_from 0 (column_types table)) line.change.row ≡ Some code → take_line g limit sources number s (Ok line) ≡ refused number code
-null_ran fit g limit parallelism sources number s fields line table code tables is there null =
-    let one = fit sources fields line is in
-    let same : one.0 ≡ table = some_same (slice_get sources line.table) one.0 table one.1 there in
-    let own : g.tables line.table ≡ Some (table_of parallelism table) = tables line.table ∙ ap (option_map (table_of parallelism)) there in
-    let admitted : admits (table_mode table) line.change.kind ≡ true = subst (λ t. admits (table_mode t) line.change.kind ≡ true) same one.2.admitted in
-    let out = null_first (table_of parallelism table) line.change code (fold (table_mode table) (s.taken line.table)) admitted null in
-    ap (λ (o : Option Table). took number s (take_of g limit s line.table line.change o)) own
-    ∙ ap (λ (o : Option ChangeCode). took number s (take_unless g limit s line.table line.change (scanned_at (table_of parallelism table) line.change) o)) out
 
 -- a change of a table that is there is put at a place that is there
 within_place : (b : Bool) (s : State) (code : OrderCode) → (let r : Result State StepFault = cond b (Ok s) (Err Limit) in r ≡ Err (Order code)) → ⊥
@@ -70,7 +53,7 @@ unless_place : (g : Network) (limit : ℕ) (s : State) (table : ℕ) (change : C
 unless_place g limit s table change i (Some refusal) code e = cc (e)
 unless_place g limit s table change i None code e = within_place (nat_lt s.took limit && nat_le (s.sends + scan_count g table) limit) (scanned g table i change s) code e
 
-pub take_place : (g : Network) (limit parallelism : ℕ) (sources : List TableDef) (s : State) (line : Line) → HasTables g parallelism sources → HasColumns sources line → (code : OrderCode) → take g limit s line.table line.change ≡ Err (Order code) → ⊥
+pub take_place : (g : Network) (limit parallelism : ℕ) (sources : List TableDef) (s : State) (line : Line) → HasTables g parallelism sources → IsOfSource sources line → (code : OrderCode) → take g limit s line.table line.change ≡ Err (Order code) → ⊥
 take_place g limit parallelism sources s line tables has code e =
     let t = table_of parallelism has.table in
     let own : g.tables line.table ≡ Some t = tables line.table ∙ ap (option_map (table_of parallelism)) has.is in

@@ -27,7 +27,8 @@ use Rattle.stream_model.specs.Runs.{Item, happens, quiet, told_quiet, step_item,
 use Rattle.stream_model.specs.Theorem.{table_rows, rows_left, Composes, Holds, PrintsAnswer}
 use Rattle.stream_model.specs.Drain.{Leads, StopsBy, StopsAlong, Stage, delivers, flushes, moves, stage_items, drain_stages, stages, drain, RunsDrain}
 use Rattle.plan_rules.specs.Plans.{table_of}
-use Rattle.ct_catalog.specs.Columns.{table_mode}
+use Rattle.ct_catalog.specs.Columns.{table_mode, column_types}
+use Rattle.op_rules.proofs.laws.Values.{types_of_row}
 use Rattle.plan_rules.specs.Doings.{network}
 use Rattle.sound_plans.specs.Sound.{SoundPlansAreWired, SoundPlansMeetFacts, SoundPlansPrint}
 use Rattle.plan_rules.specs.Answers.{Answers, tables_with}
@@ -121,7 +122,7 @@ module _ (fit : LinesFitColumns) (plan : Plan) (limit : ℕ) where
   one_typed s fields line t is one = λ table e.
       let found = fit plan.sources fields line s.taken is one.free in
       let same : table_of plan.parallelism found.0 ≡ table = some_same (option_map (table_of plan.parallelism) (slice_get plan.sources line.table)) (table_of plan.parallelism found.0) table (ap (option_map (table_of plan.parallelism)) found.1) e in
-      subst (λ (x : Source). x.fits line.change ≡ true) same found.2
+      subst (λ (x : Source). x.fits line.change ≡ true) same (types_of_row (column_types found.0) line.change.row found.2)
 
   -- lines were taken, all of them
   pub record TookAll (number : ℕ) (s : State) (lines : List Record) (t : State) : Type 0 where

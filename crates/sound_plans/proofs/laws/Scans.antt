@@ -22,6 +22,7 @@ use Rattle.upsert_keys.specs.Keys.{table_keys}
 use Rattle.mode_infer.specs.Modes.{edge_kinds}
 use Rattle.mode_infer.specs.Updates.{table_update}
 use Rattle.plan_rules.specs.Plans.{meaning_by, columns_from, spread_of, table_of}
+use Rattle.plan_rules.proofs.laws.Columns.{row_of_types}
 use Rattle.ct_catalog.specs.Columns.{column_types}
 use Rattle.sound_plans.specs.Outputs.{Output, AreWithin, IsProper, edge_of}
 use Rattle.sound_plans.specs.Agrees.{IsOrdered, ScanAgrees}
@@ -149,8 +150,8 @@ module _ (many : ℕ) (some : 0 < many) (table : TableDef) (own : Output) (agree
     spread = spread_keeps (length table.cols) table.mode table.key agrees.has_key;
     meaning = ap meaning_by agrees.tells ∙ scan_means table.mode table.key own.sent agrees.has_key;
     kinds = λ kind h. subst (λ (k : KindSet). has k kind ≡ true) (sym own_kinds) (scan_carries table.mode table.key own.sent kind agrees.has_key h);
-    fits = λ change h. row_comes change.row h;
-    holds = λ change h adds. row_comes change.row h;
+    fits = λ change h free. row_comes change.row (row_of_types (column_types table) change.row h free);
+    holds = λ change h free adds. row_comes change.row (row_of_types (column_types table) change.row h free);
     unique = λ key h. is_key (length table.cols) table.mode table.key agrees.ordered own.keys.unique key_sets key h;
     local = λ key h. is_key (length table.cols) table.mode table.key agrees.ordered own.keys.local local_sets key h;
     fixing = λ columns h. spread_lies (length table.cols) table.key agrees.ordered own.keys.fixing (ap (λ (k : KeyInfo). k.fixing) agrees.keyed) columns h;

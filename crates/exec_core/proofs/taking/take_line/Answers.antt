@@ -7,7 +7,7 @@ use Rattle.source_lines.specs.Run.{took}
 use Rattle.exec_core.specs.Faults.{IsLineRan}
 use Rattle.exec_core.specs.Stands.{reached}
 use Rattle.exec_core.proofs.laws.Taking.{line_stopped, line_typed, take_place, took_more}
-use Rattle.exec_core.proofs.taking.take_checked.Goals as goal
+use Rattle.exec_core.proofs.taking.take_line.Goals as goal
 
 pub step-requires : goal.step-requires
 step-requires g c =

@@ -4,25 +4,26 @@ use Rattle.plan_rules.specs.Doings.{network}
 use Rattle.source_lines.specs.Run.{take_line}
 use Rattle.exec_core.specs.Faults.{IsLineRan}
 use Rattle.exec_core.specs.Stands.{reached}
-use Rattle.exec_core.proofs.laws.Taking.{ok_weaker, err_weaker, read_line, read_none, read_refused}
+use Rattle.exec_core.proofs.laws.Taking.{of_source, ok_weaker, err_weaker, read_line, read_none, read_refused}
 use Rattle.exec_core.proofs.taking.take_next.Goals as goal
 
-pub take_line-requires-clause-read : goal.take_line-requires-clause-read
-take_line-requires-clause-read g c =
+pub take_line-requires : goal.take_line-requires
+take_line-requires g c =
+    let r = c.requires.ready in
     let more = c.requires.more in
     let read = read_line c.next_line.result (line_of c.args.plan.now.sources more.0) c.in-Ok-Some.line (c.next_line.ensures.line more.0 more.1 more.2) (c.in-Ok-Some.is ∙ ap Ok c.in-Ok-Some.field-0-is) in
-    (more.0, read.0)
+    (c.args.plan.now, r.0, r.1, r.2, of_source c.args.plan.now.sources more.0 c.in-Ok-Some.line read.0)
 
 pub returns-in-Ok-Some-clause-ok : goal.returns-in-Ok-Some-clause-ok
 returns-in-Ok-Some-clause-ok g c = ok_weaker c.take_line.result c.take_line.ensures.ok (λ next told first rest is.
     let read = read_line c.next_line.result (line_of c.args.plan.now.sources first) c.in-Ok-Some.line (c.next_line.ensures.line first rest is) (c.in-Ok-Some.is ∙ ap Ok c.in-Ok-Some.field-0-is) in
-    (read.1, told first read.0))
+    (read.1, told c.args.plan.now first (of_source c.args.plan.now.sources first c.in-Ok-Some.line read.0) read.0))
 
 pub returns-in-Ok-Some-clause-refused : goal.returns-in-Ok-Some-clause-refused
 returns-in-Ok-Some-clause-refused g c = err_weaker c.take_line.result c.take_line.ensures.refused (λ fault told first rest is limit items stands.
     let plan = c.args.plan.now in
     let read = read_line c.next_line.result (line_of plan.sources first) c.in-Ok-Some.line (c.next_line.ensures.line first rest is) (c.in-Ok-Some.is ∙ ap Ok c.in-Ok-Some.field-0-is) in
-    subst (λ r. IsLineRan fault (take_line (network plan) limit plan.sources c.args.number (reached plan limit items) r)) (sym read.0) (told limit items stands))
+    subst (λ r. IsLineRan fault (take_line (network plan) limit plan.sources c.args.number (reached plan limit items) r)) (sym read.0) (told plan (of_source plan.sources first c.in-Ok-Some.line read.0) limit items stands))
 
 pub unreachable-requires : goal.unreachable-requires
 unreachable-requires g c =
