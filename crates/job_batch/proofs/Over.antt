@@ -15,7 +15,8 @@ use Rattle.rel_algebra.specs.Types.{columns_of}
 use Rattle.sql_syntax.specs.Tree.{Query, Text}
 use Rattle.query_answer.specs.Answer.{TableRows, types}
 use Rattle.query_answer.specs.Answer as query
-use Rattle.query_laws.specs.Statement.{declared, filled, tables_of}
+use Rattle.query_laws.specs.Statement.{HaveWidths, declared, filled, tables_of}
+use Rattle.query_laws.proofs.laws.Widths.{typed_are_wide}
 use Rattle.binding.specs.Inserts.{Inserted, insert_bound}
 use Rattle.rel_algebra.specs.GoesInto.{go_into}
 use Rattle.ct_catalog.specs.Columns.{column_types}
@@ -49,12 +50,12 @@ module _ (script : Accepted) (bound : IsBound script) (bags : List Rows) (fit : 
   abbrev tables : List Table
   tables = tables_of given
 
-  module _ (keeps : (all : List TableDef) (name : Text) (q : Query) (sources : List TableRows) (rows : Rows) → IfOk (insert_bound all name q) (λ b. declared sources ≡ b.sources → AreTyped (tables_of (sources ++ filled b.sink rows ∷ [])) → algebra.answer (tables_of sources) b.query.rel ≡ (query.answer (sources ++ filled b.sink rows ∷ []) q).rows)) where
+  module _ (keeps : (all : List TableDef) (name : Text) (q : Query) (sources : List TableRows) (rows : Rows) → IfOk (insert_bound all name q) (λ b. declared sources ≡ b.sources → HaveWidths (tables_of (sources ++ filled b.sink rows ∷ [])) → algebra.answer (tables_of sources) b.query.rel ≡ (query.answer (sources ++ filled b.sink rows ∷ []) q).rows)) where
     pub same_answer : algebra.answer tables rel ≡ (query.answer (given ++ filled script.inserted.sink none ∷ []) script.query).rows
     same_answer =
-        if_ok (λ b. declared given ≡ b.sources → AreTyped (tables_of (given ++ filled b.sink none ∷ [])) → algebra.answer (tables_of given) b.query.rel ≡ (query.answer (given ++ filled b.sink none ∷ []) script.query).rows)
+        if_ok (λ b. declared given ≡ b.sources → HaveWidths (tables_of (given ++ filled b.sink none ∷ [])) → algebra.answer (tables_of given) b.query.rel ≡ (query.answer (given ++ filled b.sink none ∷ []) script.query).rows)
         (insert_bound script.catalogue.tables bound.table script.query) script.inserted bound.bound (keeps script.catalogue.tables bound.table script.query given none)
-        (declared_rows script.inserted.sources bags fit) (typed_with script.inserted.sources bags script.inserted.sink fit)
+        (declared_rows script.inserted.sources bags fit) (typed_are_wide (tables_of (given ++ filled script.inserted.sink none ∷ [])) (typed_with script.inserted.sources bags script.inserted.sink fit))
 
     over_is : (o : Option Rows) (b : Bool) → algebra.answer tables rel ≡ o → wide tables rel ≡ b → over_tables script given ≡ answered (sink_types script) b o
     over_is o b is wide_is =

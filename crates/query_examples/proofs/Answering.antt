@@ -10,14 +10,15 @@ use Rattle.rel_algebra.specs.Clauses.{Fits}
 use Rattle.rel_algebra.specs.Sums.{Each}
 use Rattle.rel_algebra.proofs.laws.Bags.{each-bag_of}
 use Rattle.rel_algebra.proofs.laws.Fits.{first, second}
-use Rattle.rel_algebra.specs.Answer.{AreTyped, answer}
+use Rattle.rel_algebra.specs.Answer.{answer}
 use Rattle.rel_algebra.specs.Rel.{Rel}
 use Rattle.sql_syntax.specs.Tree.{Query}
 use Rattle.query_answer.specs.Answer.{TableRows, answer as query_answer}
 use Rattle.binding.specs.Checked.{Checked, ◌>>=◌}
 use Rattle.ct_catalog.specs.Columns.{column_types}
 use Rattle.binding.specs.Queries.{Relation, query_bound}
-use Rattle.query_laws.specs.Statement.{declared, tables_of}
+use Rattle.query_laws.specs.Statement.{HaveWidths, declared, tables_of}
+use Rattle.query_laws.proofs.laws.Widths.{typed_are_wide}
 use Rattle.query_examples.specs.Listed.{ListedTable, listed, sorted}
 use Rattle.query_examples.specs.Listed as l
 use Rattle.query_examples.proofs.laws.Computed.{items-bag_of}
@@ -47,7 +48,7 @@ each_fits cols rows h = each-bag_of row_total row_exact (Fits cols) rows (go row
     go [] h = tt
     go (row ∷ rows) h = (first (row_fits cols row) _ h, go rows (second (row_fits cols row) _ h))
 
-module _ (thm : (tables : List TableRows) (query : Query) → AreTyped (tables_of tables) → IfOk (query_bound false (declared tables) query) (λ bound. answer (tables_of tables) bound.rel ≡ (query_answer tables query).rows))
+module _ (thm : (tables : List TableRows) (query : Query) → HaveWidths (tables_of tables) → IfOk (query_bound false (declared tables) query) (λ bound. answer (tables_of tables) bound.rel ≡ (query_answer tables query).rows))
     (lists : (tables : List ListedTable) (rel : Rel) → answer (map l.table_of tables) rel ≡ option_map bag_of (listed tables rel)) where
   in_order : (r : Option (List Row)) → option_map items (option_map (bag_of {R = row_cmp}) r) ≡ option_map (sorted row_cmp) r
   in_order None = refl
@@ -62,7 +63,7 @@ module _ (thm : (tables : List TableRows) (query : Query) → AreTyped (tables_o
   one e (Ok query) h =
       let p = first (rows_fit (column_types t) e.of_t && rows_fit (column_types u) e.of_u) _ h in
       accepted e query (query_bound false all query)
-      (thm (tables_for e) query (each_fits (column_types t) e.of_t (first (rows_fit (column_types t) e.of_t) _ p), (each_fits (column_types u) e.of_u (second (rows_fit (column_types t) e.of_t) _ p), (each_fits (column_types o) [] refl, tt))))
+      (thm (tables_for e) query (typed_are_wide (tables_of (tables_for e)) (each_fits (column_types t) e.of_t (first (rows_fit (column_types t) e.of_t) _ p), (each_fits (column_types u) e.of_u (second (rows_fit (column_types t) e.of_t) _ p), (each_fits (column_types o) [] refl, tt)))))
       (second (rows_fit (column_types t) e.of_t && rows_fit (column_types u) e.of_u) _ h)
 
   pub all_computed : (table : List Answered) → list_all is_sound table ≡ true → map (λ e. rows_told e (query_text e.text)) table ≡ map (λ e. computed e (bound_text e.text)) table
