@@ -1,4 +1,5 @@
 pub mod Laid
+pub mod Large
 pub mod Several
 pub mod Sides
 pub mod Theorems

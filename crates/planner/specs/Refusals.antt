@@ -31,6 +31,11 @@ use Rattle.plan_check.specs.Types.{keep_nulls}
 abbrev pub order_columns : List SortCol → List ℕ
 order_columns order = map (λ sort. sort.col) order
 
+-- whether it ranks rows
+abbrev pub ranks_rows : Op → Bool
+ranks_rows (op.TopN partition order bound ranked) = true
+ranks_rows _ = false
+
 abbrev pub names_rows : Option KeyInfo → List ℕ → Bool
 names_rows None columns = false
 names_rows (Some keys) columns = has_within keys.unique columns

@@ -81,6 +81,7 @@ impl Laying {
     }
 
     // A join of two nodes.
+    #[inline(never)]
     pub(crate) fn push_join(
         &mut self,
         left: u32,
@@ -100,6 +101,7 @@ impl Laying {
     }
 
     // A semi join of two nodes, or with `anti` an anti join.
+    #[inline(never)]
     pub(crate) fn push_semi(
         &mut self,
         left: u32,

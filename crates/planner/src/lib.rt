@@ -20,6 +20,7 @@ mod promises;
 mod refusals;
 mod scan;
 mod sinks;
+mod sizes;
 mod ties;
 mod tree;
 

@@ -1,5 +1,6 @@
 //! A plan made and checked.
 ghost use Rattle.std.specs.Prelude.{◌≡◌, false, None, IfOk, IfErr, OnOk};
+ghost use Rattle.ct_catalog.specs.declared.settings.Materialize.{Materialize as Setting};
 ghost use Rattle.rel_algebra.specs.Rel.{Rel};
 ghost use Rattle.laid_plans.specs.Inferred.{with_inferred};
 ghost use Rattle.plan_check.specs.Checked.{plan_in};
@@ -8,15 +9,19 @@ ghost use Rattle.plan_rules.specs.Erased.{erased};
 ghost use Rattle.planner.specs.Refusals as r;
 ghost use Rattle.planner.specs.Planned.{IsLaidPlan, Planned, Says, made};
 
+use crate::sizes::is_plainly_large;
 use crate::{PlannerFault, has_materializer, refusal, sink_way};
 use ct_catalog::Materialize;
-use ct_value::Memory;
+use ct_value::{Memory, ScriptCode};
 use mode_infer::set_modes;
 use phys_plan::Plan;
 use plan_check::{CheckedPlan, PlanFault, check_plan, infer_plan};
 use plan_inferred::Inferred;
 use std::alloc::Global;
 use upsert_keys::set_keys;
+
+// The most nodes of a plan of which anything is inferred.
+const MOST_INFERRED: usize = 1_024;
 
 /// The plan of a tree, from the nodes and exchanges that are laid of it, by the script's setting for materializers: with the keys that are inferred
 /// of each node, and the kinds and updates of each edge. Its algebra is the tree. `Refused` comes with the first refusal (ties, the sink's mode, its key, NULL, a
@@ -27,10 +32,24 @@ pub fn plan(alloc: Global, laid: Plan, setting: Materialize) -> Result<CheckedPl
     ensures erased { IfOk result (λ checked. (rel : Rel) → IsLaidPlan laid rel → erased (plan_in checked) ≡ rel) }
     ensures refused { IfErr result (λ fault. Says (made laid setting) fault) }
 {
+    test_size(alloc, &laid)?;
     let inferred = infer_plan(alloc, &laid)?;
     test_refusals(alloc, &inferred, &laid, setting)?;
     let plan = with_inferred(laid, &inferred)?;
     Ok(checked(alloc, plan)?)
+}
+
+// A plan that is refused for its size alone is refused before anything is inferred of it, and a larger one is want of memory.
+fn test_size(alloc: Global, laid: &Plan) -> Result<(), PlannerFault>
+    ensures { IfErr result (λ fault. (setting : Setting) → Says (made laid.now setting) fault) }
+{
+    if is_plainly_large(alloc, laid)? {
+        return Err(PlannerFault::Refused(ScriptCode::TooManyNodes));
+    }
+    if laid.nodes.len() > MOST_INFERRED {
+        return Err(PlannerFault::Memory);
+    }
+    Ok(())
 }
 
 // Whether the plan is refused, or waits for a materializer.

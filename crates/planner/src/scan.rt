@@ -14,6 +14,7 @@ use phys_plan::{Exchange, Op};
 
 impl Laying {
     // The nodes of a table.
+    #[inline(never)]
     #[tactic(auto, using(crate::proofs::laws::Laid::no_table))]
     pub(crate) fn lay_scan(&mut self, source: u32, exchange: Exchange) -> Result<u32, LayingFault>
         requires even { IsEven self.old }

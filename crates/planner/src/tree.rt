@@ -16,6 +16,7 @@ use ct_value::{Cols, Numbers};
 use phys_plan::{Exchange, Op};
 use rel_algebra::{Aggs, Pairs, Rel, Sorts};
 
+// Each level of a tree takes a frame of `lay`, so what it calls is kept out of that.
 impl Laying {
     /// Lays the nodes of a tree whose consumer asks for this exchange, and answers the number of its root.
     #[cycle(tree)]
@@ -64,6 +65,7 @@ impl Laying {
     }
 
     #[cycle(tree)]
+    #[inline(never)]
     fn lay_filter(
         &mut self,
         input: &Rel,
@@ -80,6 +82,7 @@ impl Laying {
     }
 
     #[cycle(tree)]
+    #[inline(never)]
     fn lay_project(
         &mut self,
         input: &Rel,
@@ -96,6 +99,7 @@ impl Laying {
     }
 
     #[cycle(tree)]
+    #[inline(never)]
     fn lay_group(
         &mut self,
         input: &Rel,
@@ -114,6 +118,7 @@ impl Laying {
     }
 
     #[cycle(tree)]
+    #[inline(never)]
     fn lay_rank(
         &mut self,
         input: &Rel,
@@ -163,6 +168,7 @@ impl Laying {
     }
 
     #[cycle(tree)]
+    #[inline(never)]
     fn lay_union(&mut self, inputs: &[Rel], exchange: Exchange) -> Result<u32, LayingFault>
         requires even { IsEven self.old }
         ensures laid { IfOk result (λ root. Lays self.old self.new exchange (r.Union (rels (rels_view inputs.now))) root) }
