@@ -15,6 +15,7 @@ mod matches;
 mod nodes;
 mod ranks;
 mod rows;
+mod sizes;
 mod tables;
 mod tally;
 mod walk;

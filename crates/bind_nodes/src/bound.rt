@@ -7,6 +7,7 @@ ghost use Rattle.binding.specs.Nodes as n;
 ghost use Rattle.binding.specs.Nodes.{columns, expr_list};
 ghost use Rattle.bind_nodes.specs.Views.{bound_view, bounds_view};
 
+use crate::size::Size;
 use bind_names::BindFault;
 use ct_expr::{Expr, Exprs, logic_col};
 use ct_value::{ColTy, List, Memory, ScriptCode, Ty};
@@ -17,19 +18,26 @@ use std::alloc::Global;
 pub struct Bound {
     pub expr: Box<Expr>,
     pub column: ColTy,
+    pub(crate) size: Size,
 }
 
 /// Expressions with their types, in order.
 pub type Bounds = List<Bound>;
 
-// An expression of this type, where there is one.
-pub(crate) fn typed(alloc: Global, column: Option<ColTy>, expr: Expr) -> Result<Bound, BindFault>
+// An expression of this type, where there is one, over operands of this size.
+pub(crate) fn typed(
+    alloc: Global,
+    column: Option<ColTy>,
+    operands: Size,
+    expr: Expr,
+) -> Result<Bound, BindFault>
     ensures ok { IfOk result (λ x. n.typed column (expr_view expr) ≡ Ok (bound_view x)) }
     ensures refused { (code : ScriptCode) → IsErrOf result (f.Refused code) → n.typed column (expr_view expr) ≡ Err code }
 {
     let expr = Box::new(alloc, expr)?;
+    let size = operands.above()?;
     match column {
-        Some(column) => Ok(Bound { expr, column }),
+        Some(column) => Ok(Bound { expr, column, size }),
         None => Err(BindFault::Refused(ScriptCode::TypeMismatch)),
     }
 }

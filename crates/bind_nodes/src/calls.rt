@@ -9,6 +9,7 @@ ghost use Rattle.binding.specs.Nodes.{columns};
 ghost use Rattle.bind_nodes.specs.Views.{bound_view, bounds_view, form_view};
 
 use crate::bound::{Bound, Bounds, operands, typed};
+use crate::size::together;
 use bind_names::BindFault;
 use ct_expr::{Expr, char_length_col, coalesce_col, null_if_col};
 use ct_value::{ColTy, ScriptCode};
@@ -58,8 +59,9 @@ fn coalesce(alloc: Global, bounds: Bounds) -> Result<Bound, BindFault>
     ensures refused { (code : ScriptCode) → IsErrOf result (f.Refused code) → n.applied v.Coalesce (bounds_view bounds) ≡ Err code }
 {
     let column = coalesced(&bounds);
+    let size = together(&bounds);
     let exprs = operands(alloc, bounds)?;
-    typed(alloc, column, Expr::Coalesce(exprs))
+    typed(alloc, column, size, Expr::Coalesce(exprs))
 }
 
 // The only operand of a call.
@@ -100,6 +102,7 @@ fn char_length(alloc: Global, bounds: Bounds) -> Result<Bound, BindFault>
         Some(bound) => typed(
             alloc,
             char_length_col(bound.column),
+            bound.size,
             Expr::CharLength(bound.expr),
         ),
     }
@@ -114,11 +117,12 @@ fn null_if(alloc: Global, bounds: Bounds) -> Result<Bound, BindFault>
         None => Err(BindFault::Refused(ScriptCode::TypeMismatch)),
         Some((left, right)) => {
             let column = null_if_col(left.column, right.column);
+            let size = left.size.with(right.size);
             let expr = Expr::NullIf {
                 left: left.expr,
                 right: right.expr,
             };
-            typed(alloc, column, expr)
+            typed(alloc, column, size, expr)
         }
     }
 }

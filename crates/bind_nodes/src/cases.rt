@@ -12,6 +12,7 @@ ghost use Rattle.bind_nodes.specs.Views.{bound_view, branches_view, choices_view
 
 use crate::bound::{Bound, typed};
 use crate::nodes::literal;
+use crate::size::Size;
 use bind_names::BindFault;
 use ct_expr::{Expr, When, Whens, case_col, cast_col, logic_col};
 use ct_value::{ColTy, List, ScriptCode, Ty, Value};
@@ -42,7 +43,7 @@ pub fn cast_to(alloc: Global, ty: Option<Ty>, value: Option<Bound>) -> Result<Bo
                 value: value.expr,
                 ty,
             };
-            typed(alloc, column, expr)
+            typed(alloc, column, value.size, expr)
         }
     }
 }
@@ -147,9 +148,22 @@ fn whole_case(alloc: Global, choices: Choices, otherwise: Option<Bound>) -> Resu
     ensures refused { (code : ScriptCode) → IsErrOf result (f.Refused code) → n.choice (choices_view choices) (option_map bound_view otherwise) ≡ Err code }
 {
     let column = choice_column(&choices, &otherwise);
+    let size = size_of(&choices, &otherwise);
     let whens = whens_of(alloc, choices)?;
     let otherwise = expr_of(otherwise);
-    typed(alloc, column, Expr::Case { whens, otherwise })
+    typed(alloc, column, size, Expr::Case { whens, otherwise })
+}
+
+// The size of conditions and results side by side.
+fn size_of(choices: &Choices, otherwise: &Option<Bound>) -> Size {
+    let mut all = match otherwise {
+        None => Size::none(),
+        Some(bound) => bound.size,
+    };
+    for choice in choices.as_slice() {
+        all = all.with(choice.cond.size).with(choice.result.size);
+    }
+    all
 }
 
 fn expr_of(bound: Option<Bound>) -> Option<Box<Expr>>

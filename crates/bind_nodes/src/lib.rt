@@ -9,6 +9,7 @@ mod bound;
 mod calls;
 mod cases;
 mod nodes;
+mod size;
 
 pub use bound::{Bound, Bounds, columns_are_truths, operands};
 pub use calls::{CallForm, call, is_count};

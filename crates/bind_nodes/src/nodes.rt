@@ -9,6 +9,7 @@ ghost use Rattle.binding.specs.Expressions as e;
 ghost use Rattle.bind_nodes.specs.Views.{bound_view, bounds_view};
 
 use crate::bound::{Bound, Bounds, columns_are_truths, operands, typed};
+use crate::size::{Size, together};
 use bind_names::BindFault;
 use ct_expr::{
     ArithOp, Expr, arith_col, compare_col, literal_col, logic_col, null_test_col, number_col,
@@ -26,7 +27,7 @@ pub fn literal(alloc: Global, value: Value, ty: Ty) -> Result<Bound, BindFault>
     ensures refused { (code : ScriptCode) → IsErrOf result (f.Refused code) → n.literal value ty ≡ Err code }
 {
     let column = literal_col(&value, ty);
-    typed(alloc, column, Expr::Literal { value, ty })
+    typed(alloc, column, Size::none(), Expr::Literal { value, ty })
 }
 
 /// The number that a literal writes, with its type.
@@ -53,7 +54,8 @@ pub fn column(alloc: Global, place: u32, column: ColTy) -> Result<Bound, BindFau
             ty: column.ty,
         },
     )?;
-    Ok(Bound { expr, column })
+    let size = Size::none().above()?;
+    Ok(Bound { expr, column, size })
 }
 
 /// The column that a name finds; `changing` says that the name may be that of a function whose answer changes.
@@ -77,12 +79,13 @@ pub fn signed(alloc: Global, minus: bool, bound: Bound) -> Result<Bound, BindFau
 {
     let column = number_col(bound.column);
     if minus {
-        return typed(alloc, column, Expr::Neg(bound.expr));
+        return typed(alloc, column, bound.size, Expr::Neg(bound.expr));
     }
     match column {
         Some(column) => Ok(Bound {
             expr: bound.expr,
             column,
+            size: bound.size,
         }),
         None => Err(BindFault::Refused(ScriptCode::TypeMismatch)),
     }
@@ -94,12 +97,13 @@ fn arith(alloc: Global, op: ArithOp, left: Bound, right: Bound) -> Result<Bound,
     ensures refused { (code : ScriptCode) → IsErrOf result (f.Refused code) → n.arith op (bound_view left) (bound_view right) ≡ Err code }
 {
     let column = arith_col(op, left.column, right.column);
+    let size = left.size.with(right.size);
     let expr = Expr::Arith {
         op,
         left: left.expr,
         right: right.expr,
     };
-    typed(alloc, column, expr)
+    typed(alloc, column, size, expr)
 }
 
 #[tactic(auto, using(ct_expr::proofs::laws::Views::view_concat))]
@@ -108,11 +112,12 @@ fn concat(alloc: Global, left: Bound, right: Bound) -> Result<Bound, BindFault>
     ensures refused { (code : ScriptCode) → IsErrOf result (f.Refused code) → n.added SumWord.Concat (bound_view left) (bound_view right) ≡ Err code }
 {
     let column = texts_col(Ty::Text, left.column, right.column);
+    let size = left.size.with(right.size);
     let expr = Expr::Concat {
         left: left.expr,
         right: right.expr,
     };
-    typed(alloc, column, expr)
+    typed(alloc, column, size, expr)
 }
 
 /// A term of a sum more.
@@ -152,12 +157,13 @@ pub fn compare(alloc: Global, op: CompareOp, left: Bound, right: Bound) -> Resul
     ensures refused { (code : ScriptCode) → IsErrOf result (f.Refused code) → n.compare op (bound_view left) (bound_view right) ≡ Err code }
 {
     let column = compare_col(left.column, right.column);
+    let size = left.size.with(right.size);
     let expr = Expr::Compare {
         op,
         left: left.expr,
         right: right.expr,
     };
-    typed(alloc, column, expr)
+    typed(alloc, column, size, expr)
 }
 
 /// AND of conditions.
@@ -167,8 +173,9 @@ pub fn conjunction(alloc: Global, bounds: Bounds) -> Result<Bound, BindFault>
     ensures refused { (code : ScriptCode) → IsErrOf result (f.Refused code) → n.conjunction (bounds_view bounds) ≡ Err code }
 {
     let column = columns_are_truths(&bounds);
+    let size = together(&bounds);
     let exprs = operands(alloc, bounds)?;
-    typed(alloc, column, Expr::And(exprs))
+    typed(alloc, column, size, Expr::And(exprs))
 }
 
 /// OR of conditions.
@@ -178,8 +185,9 @@ pub fn disjunction(alloc: Global, bounds: Bounds) -> Result<Bound, BindFault>
     ensures refused { (code : ScriptCode) → IsErrOf result (f.Refused code) → n.disjunction (bounds_view bounds) ≡ Err code }
 {
     let column = columns_are_truths(&bounds);
+    let size = together(&bounds);
     let exprs = operands(alloc, bounds)?;
-    typed(alloc, column, Expr::Or(exprs))
+    typed(alloc, column, size, Expr::Or(exprs))
 }
 
 /// NOT.
@@ -188,7 +196,12 @@ pub fn negation(alloc: Global, bound: Bound) -> Result<Bound, BindFault>
     ensures ok { IfOk result (λ x. n.negation (bound_view bound) ≡ Ok (bound_view x)) }
     ensures refused { (code : ScriptCode) → IsErrOf result (f.Refused code) → n.negation (bound_view bound) ≡ Err code }
 {
-    typed(alloc, truth_col(bound.column), Expr::Not(bound.expr))
+    typed(
+        alloc,
+        truth_col(bound.column),
+        bound.size,
+        Expr::Not(bound.expr),
+    )
 }
 
 /// A test, or its NOT.
@@ -209,18 +222,20 @@ pub fn null_test(alloc: Global, bound: Bound) -> Result<Bound, BindFault>
     ensures refused { (code : ScriptCode) → IsErrOf result (f.Refused code) → n.null_test (bound_view bound) ≡ Err code }
 {
     let column = Some(null_test_col(bound.column));
-    typed(alloc, column, Expr::IsNull(bound.expr))
+    typed(alloc, column, bound.size, Expr::IsNull(bound.expr))
 }
 
-// An equal expression.
+// An equal expression, where it isn't too large.
 fn dup(alloc: Global, bound: &Bound) -> Result<Bound, BindFault>
     ensures ok { IfOk result (λ x. bound_view x ≡ bound_view bound.now) }
     ensures refused { (code : ScriptCode) → IsErrOf result (f.Refused code) → ⊥ }
 {
+    bound.size.copied()?;
     let expr = Box::new(alloc, bound.expr.dup()?)?;
     Ok(Bound {
         expr,
         column: bound.column,
+        size: bound.size,
     })
 }
 
@@ -272,12 +287,13 @@ pub fn in_list(alloc: Global, value: Bound, items: Bounds) -> Result<Bound, Bind
     ensures refused { (code : ScriptCode) → IsErrOf result (f.Refused code) → n.in_list (bound_view value) (bounds_view items) ≡ Err code }
 {
     let column = equalities(value.column, &items);
+    let size = value.size.with(together(&items));
     let items = operands(alloc, items)?;
     let expr = Expr::InList {
         value: value.expr,
         items,
     };
-    typed(alloc, column, expr)
+    typed(alloc, column, size, expr)
 }
 
 /// LIKE.
@@ -287,9 +303,10 @@ pub fn like(alloc: Global, value: Bound, pattern: Bound) -> Result<Bound, BindFa
     ensures refused { (code : ScriptCode) → IsErrOf result (f.Refused code) → n.like (bound_view value) (bound_view pattern) ≡ Err code }
 {
     let column = texts_col(Ty::Bool, value.column, pattern.column);
+    let size = value.size.with(pattern.size);
     let expr = Expr::Like {
         value: value.expr,
         pattern: pattern.expr,
     };
-    typed(alloc, column, expr)
+    typed(alloc, column, size, expr)
 }
