@@ -11,8 +11,11 @@ use phys_plan::{Edges, Exchange, Nodes, Plan};
 use rel_algebra::Rel;
 use std::alloc::Global;
 
+// The most levels of a tree: each takes some 1,500 bytes of the stack, of 8 MB.
+const MOST_LEVELS: u32 = 4_000;
+
 /// The plan that is laid of a tree over these tables, each node in so many subtasks; its last node is the sink. `NoTable` comes where a
-/// part of the tree scans a table that isn't there. Otherwise there is a plan, or memory was wanting.
+/// part of the tree scans a table that isn't there. Otherwise there is a plan, or memory was wanting, as for a tree of more than 4,000 levels.
 pub fn plan_of(
     alloc: Global,
     rel: &Rel,
@@ -30,7 +33,7 @@ pub fn plan_of(
         nodes: Nodes::new(alloc),
         edges: Edges::new(alloc),
     };
-    let root = laying.lay(rel, Exchange::Forward)?;
+    let root = laying.lay(rel, Exchange::Forward, MOST_LEVELS)?;
     laying.push_sink(root)?;
     let Laying {
         sources,

@@ -21,17 +21,27 @@ impl Laying {
     /// Lays the nodes of a tree whose consumer asks for this exchange, and answers the number of its root.
     #[cycle(tree)]
     #[tactic(auto, unfolding(rel_algebra::specs::View::rel_view))]
-    pub(crate) fn lay(&mut self, rel: &Rel, exchange: Exchange) -> Result<u32, LayingFault>
+    pub(crate) fn lay(
+        &mut self,
+        rel: &Rel,
+        exchange: Exchange,
+        levels: u32,
+    ) -> Result<u32, LayingFault>
         requires even { IsEven self.old }
         ensures laid { IfOk result (λ root. Lays self.old self.new exchange (rel_view rel.now) root) }
         ensures fails { IfErr result (λ fault. Fails self.old (rel_view rel.now) fault) }
     {
+        let Some(levels) = levels.checked_sub(1) else {
+            return Err(LayingFault::Memory);
+        };
         match rel {
             Rel::Scan { source } => self.lay_scan(*source, exchange),
-            Rel::Filter { input, cond } => self.lay_filter(input, cond, exchange),
-            Rel::Project { input, items } => self.lay_project(input, items, exchange),
-            Rel::Union { inputs } => self.lay_union(inputs.as_slice(), exchange),
-            Rel::Group { input, keys, aggs } => self.lay_group(input, *keys, aggs, exchange),
+            Rel::Filter { input, cond } => self.lay_filter(input, cond, exchange, levels),
+            Rel::Project { input, items } => self.lay_project(input, items, exchange, levels),
+            Rel::Union { inputs } => self.lay_union(inputs.as_slice(), exchange, levels),
+            Rel::Group { input, keys, aggs } => self.lay_group(
+                input, *keys, aggs, exchange, levels,
+            ),
             Rel::Join {
                 left,
                 right,
@@ -39,8 +49,8 @@ impl Laying {
                 on,
                 rest,
             } => {
-                let first = self.lay_left(left, on)?;
-                let second = self.lay_right(right, on)?;
+                let first = self.lay_left(left, on, levels)?;
+                let second = self.lay_right(right, on, levels)?;
                 self.push_join(first, second, *kind, on, rest, exchange)
             }
             Rel::Semi {
@@ -50,8 +60,8 @@ impl Laying {
                 on,
                 rest,
             } => {
-                let first = self.lay_left(left, on)?;
-                let second = self.lay_right(right, on)?;
+                let first = self.lay_left(left, on, levels)?;
+                let second = self.lay_right(right, on, levels)?;
                 self.push_semi(first, second, *anti, on, rest, exchange)
             }
             Rel::Rank {
@@ -60,7 +70,7 @@ impl Laying {
                 order,
                 bound,
                 ranked,
-            } => self.lay_rank(input, partition, order, *bound, *ranked, exchange),
+            } => self.lay_rank(input, partition, order, *bound, *ranked, exchange, levels),
         }
     }
 
@@ -71,12 +81,13 @@ impl Laying {
         input: &Rel,
         cond: &Expr,
         exchange: Exchange,
+        levels: u32,
     ) -> Result<u32, LayingFault>
         requires even { IsEven self.old }
         ensures laid { IfOk result (λ root. Lays self.old self.new exchange (r.Filter (rel_view input.now) (expr_view cond.now)) root) }
         ensures fails { IfErr result (λ fault. Fails self.old (r.Filter (rel_view input.now) (expr_view cond.now)) fault) }
     {
-        let below = self.lay(input, Exchange::Forward)?;
+        let below = self.lay(input, Exchange::Forward, levels)?;
         let cond = cond.dup()?;
         self.push_over(below, Op::Filter { cond }, exchange)
     }
@@ -88,12 +99,13 @@ impl Laying {
         input: &Rel,
         items: &Exprs,
         exchange: Exchange,
+        levels: u32,
     ) -> Result<u32, LayingFault>
         requires even { IsEven self.old }
         ensures laid { IfOk result (λ root. Lays self.old self.new exchange (r.Project (rel_view input.now) (exprs_view items.now)) root) }
         ensures fails { IfErr result (λ fault. Fails self.old (r.Project (rel_view input.now) (exprs_view items.now)) fault) }
     {
-        let below = self.lay(input, Exchange::Forward)?;
+        let below = self.lay(input, Exchange::Forward, levels)?;
         let items = dup_exprs(items)?;
         self.push_over(below, Op::Project { items }, exchange)
     }
@@ -106,13 +118,14 @@ impl Laying {
         keys: u32,
         aggs: &Aggs,
         exchange: Exchange,
+        levels: u32,
     ) -> Result<u32, LayingFault>
         requires even { IsEven self.old }
         ensures laid { IfOk result (λ root. Lays self.old self.new exchange (r.Group (rel_view input.now) keys aggs.now) root) }
         ensures fails { IfErr result (λ fault. Fails self.old (r.Group (rel_view input.now) keys aggs.now) fault) }
     {
         let columns = first_columns(self.alloc, keys)?;
-        let below = self.lay(input, Exchange::Hash(columns))?;
+        let below = self.lay(input, Exchange::Hash(columns), levels)?;
         let aggs = aggs.dup()?;
         self.push_over(below, Op::Group { keys, aggs }, exchange)
     }
@@ -127,13 +140,14 @@ impl Laying {
         bound: u32,
         ranked: bool,
         exchange: Exchange,
+        levels: u32,
     ) -> Result<u32, LayingFault>
         requires even { IsEven self.old }
         ensures laid { IfOk result (λ root. Lays self.old self.new exchange (r.Rank (rel_view input.now) partition.now order.now bound ranked) root) }
         ensures fails { IfErr result (λ fault. Fails self.old (r.Rank (rel_view input.now) partition.now order.now bound ranked) fault) }
     {
         let columns = partition.dup()?;
-        let below = self.lay(input, Exchange::Hash(columns))?;
+        let below = self.lay(input, Exchange::Hash(columns), levels)?;
         let partition = partition.dup()?;
         let order = order.dup()?;
         let op = Op::TopN {
@@ -147,47 +161,52 @@ impl Laying {
 
     // The left side of a join, hashed by its columns of the pairs.
     #[cycle(tree)]
-    fn lay_left(&mut self, left: &Rel, on: &Pairs) -> Result<u32, LayingFault>
+    fn lay_left(&mut self, left: &Rel, on: &Pairs, levels: u32) -> Result<u32, LayingFault>
         requires even { IsEven self.old }
         ensures laid { IfOk result (λ root. Lays self.old self.new (ByHash (left_pairs on.now)) (rel_view left.now) root) }
         ensures fails { IfErr result (λ fault. Fails self.old (rel_view left.now) fault) }
     {
         let columns = left_columns(self.alloc, on)?;
-        self.lay(left, Exchange::Hash(columns))
+        self.lay(left, Exchange::Hash(columns), levels)
     }
 
     // The right side.
     #[cycle(tree)]
-    fn lay_right(&mut self, right: &Rel, on: &Pairs) -> Result<u32, LayingFault>
+    fn lay_right(&mut self, right: &Rel, on: &Pairs, levels: u32) -> Result<u32, LayingFault>
         requires even { IsEven self.old }
         ensures laid { IfOk result (λ root. Lays self.old self.new (ByHash (right_pairs on.now)) (rel_view right.now) root) }
         ensures fails { IfErr result (λ fault. Fails self.old (rel_view right.now) fault) }
     {
         let columns = right_columns(self.alloc, on)?;
-        self.lay(right, Exchange::Hash(columns))
+        self.lay(right, Exchange::Hash(columns), levels)
     }
 
     #[cycle(tree)]
     #[inline(never)]
-    fn lay_union(&mut self, inputs: &[Rel], exchange: Exchange) -> Result<u32, LayingFault>
+    fn lay_union(
+        &mut self,
+        inputs: &[Rel],
+        exchange: Exchange,
+        levels: u32,
+    ) -> Result<u32, LayingFault>
         requires even { IsEven self.old }
         ensures laid { IfOk result (λ root. Lays self.old self.new exchange (r.Union (rels (rels_view inputs.now))) root) }
         ensures fails { IfErr result (λ fault. Fails self.old (r.Union (rels (rels_view inputs.now))) fault) }
     {
-        let roots = self.lay_all(inputs)?;
+        let roots = self.lay_all(inputs, levels)?;
         self.push_whole(Op::Union, roots, exchange)
     }
 
     // Several trees, one behind the other, with the numbers of their roots.
     #[cycle(tree)]
-    fn lay_all(&mut self, inputs: &[Rel]) -> Result<Numbers, LayingFault>
+    fn lay_all(&mut self, inputs: &[Rel], levels: u32) -> Result<Numbers, LayingFault>
         requires even { IsEven self.old }
         ensures laid { IfOk result (λ roots. LaysAll self.old self.new (rels (rels_view inputs.now)) roots) }
         ensures fails { IfErr result (λ fault. FailsAll self.old (rels (rels_view inputs.now)) fault) }
     {
         let mut roots = Numbers::new(self.alloc);
         for input in inputs {
-            let root = self.lay(input, Exchange::Forward)?;
+            let root = self.lay(input, Exchange::Forward, levels)?;
             roots.push(root)?;
         }
         Ok(roots)
