@@ -8,11 +8,11 @@ use Rattle.ct_catalog.specs.Types.{type_of}
 use Rattle.sql_syntax.specs.declared.statement.TypeName.{TypeName}
 use Rattle.sql_syntax.specs.Tree.{Tree}
 use Rattle.sql_syntax.specs.Tree as t
-use Rattle.query_answer.specs.Calls.{calls, args_calls, when_calls}
+use Rattle.query_answer.specs.Calls.{calls, args_calls, optional_calls, when_calls}
 use Rattle.query_answer.specs.Functions.{function_of}
 use Rattle.binding.specs.Checked.{Checked, ◌>>=◌, refused_if}
 use Rattle.binding.specs.Nodes.{Bound, signed, compare, conjunction, disjunction, negation, negated_if, null_test, between, in_list, like, cast_to, case, call}
-use Rattle.binding.specs.Expressions.{Leaf, bound, all_bound, sum_bound, product_bound, whens_bound, otherwise_bound, optional_bound, args_bound, unless_null, is_long, sum_length, product_length, form_of}
+use Rattle.binding.specs.Expressions.{Leaf, bound, all_bound, sum_bound, product_bound, whens_bound, otherwise_bound, optional_bound, window_bound, args_bound, unless_null, is_long, sum_length, product_length, form_of}
 use Rattle.bind_names.specs.declared.fault.BindFault.{BindFault}
 use Rattle.bind_nodes.specs.declared.bound.Bound.{Bound as Made}
 use Rattle.bind_nodes.specs.Views.{bound_view}
@@ -133,13 +133,20 @@ module _ (leaf : Leaf) (n : ℕ) where
   product_2 x xs a l h = (λ i. refused_if (l i) Unsupported (h i >>= λ a. product_bound leaf (n + length (calls x)) a xs))
 
   pub call_1 : (name : List ℕ) (args : t.Args) (filter : t.OptionalTree) (over : t.OptionalOver) (code : ScriptCode) → args_bound leaf n args ≡ Err code → node leaf n (t.Call name args filter over) ≡ Err code
-  call_1 name args filter over code h = (λ i. h i >>= λ xs. optional_bound leaf (n + length (args_calls args)) filter >>= λ c. call (function_of name) (form_of args filter over) xs)
+  call_1 name args filter over code h =
+      (λ i. h i >>= λ xs. optional_bound leaf (n + length (args_calls args)) filter >>= λ c. window_bound leaf (n + length (args_calls args) + length (optional_calls filter)) over >>= λ ys. call (function_of name) (form_of args filter over) xs)
 
   pub call_2 : (name : List ℕ) (args : t.Args) (filter : t.OptionalTree) (over : t.OptionalOver) (xs : List Bound) (code : ScriptCode) → args_bound leaf n args ≡ Ok xs → optional_bound leaf (n + length (args_calls args)) filter ≡ Err code → node leaf n (t.Call name args filter over) ≡ Err code
-  call_2 name args filter over xs code h k = (λ i. h i >>= λ xs. k i >>= λ c. call (function_of name) (form_of args filter over) xs)
+  call_2 name args filter over xs code h k =
+      (λ i. h i >>= λ xs. k i >>= λ c. window_bound leaf (n + length (args_calls args) + length (optional_calls filter)) over >>= λ ys. call (function_of name) (form_of args filter over) xs)
 
-  pub call_3 : (name : List ℕ) (args : t.Args) (filter : t.OptionalTree) (over : t.OptionalOver) (xs : List Bound) (c : Option Bound) → args_bound leaf n args ≡ Ok xs → optional_bound leaf (n + length (args_calls args)) filter ≡ Ok c → node leaf n (t.Call name args filter over) ≡ call (function_of name) (form_of args filter over) xs
-  call_3 name args filter over xs c h k = (λ i. h i >>= λ xs. k i >>= λ c. call (function_of name) (form_of args filter over) xs)
+  pub call_3 : (name : List ℕ) (args : t.Args) (filter : t.OptionalTree) (over : t.OptionalOver) (xs : List Bound) (c : Option Bound) (code : ScriptCode) → args_bound leaf n args ≡ Ok xs → optional_bound leaf (n + length (args_calls args)) filter ≡ Ok c
+      → window_bound leaf (n + length (args_calls args) + length (optional_calls filter)) over ≡ Err code → node leaf n (t.Call name args filter over) ≡ Err code
+  call_3 name args filter over xs c code h k w = (λ i. h i >>= λ xs. k i >>= λ c. w i >>= λ ys. call (function_of name) (form_of args filter over) xs)
+
+  pub call_4 : (name : List ℕ) (args : t.Args) (filter : t.OptionalTree) (over : t.OptionalOver) (xs : List Bound) (c : Option Bound) (ys : List Bound) → args_bound leaf n args ≡ Ok xs → optional_bound leaf (n + length (args_calls args)) filter ≡ Ok c
+      → window_bound leaf (n + length (args_calls args) + length (optional_calls filter)) over ≡ Ok ys → node leaf n (t.Call name args filter over) ≡ call (function_of name) (form_of args filter over) xs
+  call_4 name args filter over xs c ys h k w = (λ i. h i >>= λ xs. k i >>= λ c. w i >>= λ ys. call (function_of name) (form_of args filter over) xs)
 
   pub cast_1 : (x : Tree) (ty : TypeName) (code : ScriptCode) → unless_null x (bound leaf n x) ≡ Err code → node leaf n (t.Cast x ty) ≡ Err code
   cast_1 x ty code h = ap (λ r. r >>= cast_to (type_of ty)) h

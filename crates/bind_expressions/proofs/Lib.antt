@@ -5,3 +5,4 @@ pub mod Leaves
 pub mod Lists
 pub mod Nodes
 pub mod Operands
+pub mod Windows

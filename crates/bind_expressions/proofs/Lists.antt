@@ -3,17 +3,18 @@ use Rattle.std.proofs.Common.{◌≡◌, ℕ, suc, ◌+◌, ◌<◌, ◌≤◌, 
 use Rattle.std.proofs.lemmas.List.{at_drop_more, drop_all}
 use Rattle.ct_value.specs.declared.codes.ScriptCode.{ScriptCode}
 use Rattle.sql_syntax.specs.declared.tree.ProductTail.{ProductTail}
+use Rattle.sql_syntax.specs.declared.tree.Sort.{Sort}
 use Rattle.sql_syntax.specs.declared.tree.SumTail.{SumTail}
 use Rattle.sql_syntax.specs.declared.tree.Tree.{Tree}
 use Rattle.sql_syntax.specs.declared.tree.TreeWhen.{TreeWhen}
 use Rattle.sql_syntax.specs.Tree as t
-use Rattle.sql_syntax.specs.View.{view, trees_view, sum_tails_view, product_tails_view, whens_view}
-use Rattle.sql_syntax.proofs.laws.Views.{sum_tail, product_tail, tree_when}
+use Rattle.sql_syntax.specs.View.{view, sorts_view, trees_view, sum_tails_view, product_tails_view, whens_view}
+use Rattle.sql_syntax.proofs.laws.Views.{sort, sum_tail, product_tail, tree_when}
 use Rattle.query_answer.specs.Calls.{calls}
 use Rattle.query_answer.specs.Names.{Scope}
 use Rattle.binding.specs.Checked.{Checked, ◌>>=◌}
 use Rattle.binding.specs.Nodes.{Bound, added, multiplied}
-use Rattle.binding.specs.Expressions.{Leaf, bound, bound_over, each_bound, conjuncts_bound, all_conjuncts_bound, all_bound, sum_bound, sum_length, product_length, product_bound, unless_null, whens_bound}
+use Rattle.binding.specs.Expressions.{Leaf, bound, bound_over, each_bound, conjuncts_bound, all_conjuncts_bound, all_bound, sum_bound, sum_length, product_length, product_bound, order_bound, unless_null, whens_bound}
 
 -- these, and then those that are left
 abbrev pub behind : {A : Type 0} → List A → Checked (List A) → Checked (List A)
@@ -31,6 +32,9 @@ one_behind xs x (Err code) = refl
 abbrev pub trees_from : Leaf → ℕ → List Tree → Checked (List Bound)
 trees_from leaf n xs = all_bound leaf n (t.trees (trees_view xs))
 
+abbrev pub sorts_from : Leaf → ℕ → List Sort → Checked (List Bound)
+sorts_from leaf n xs = order_bound leaf n (t.sort_list (sorts_view xs))
+
 abbrev pub sums_from : Leaf → ℕ → Bound → List SumTail → Checked Bound
 sums_from leaf n a xs = sum_bound leaf n a (t.sum_tails (sum_tails_view xs))
 
@@ -43,6 +47,12 @@ whens_from leaf n xs = whens_bound leaf n (t.tree_whens (whens_view xs))
 pub trees_step : (leaf : Leaf) (n : ℕ) (xs : List Tree) (i : ℕ) (x : Tree) → i < length xs → x ≡ get_or xs i x
     → trees_from leaf n (drop i xs) ≡ (bound leaf n (view x) >>= λ a. trees_from leaf (n + length (calls (view x))) (drop (i + 1) xs) >>= λ bs. Ok (a ∷ bs))
 trees_step leaf n xs i x l h = at_drop_more (trees_from leaf n) xs i x l ∙ ap (λ y. trees_from leaf n (y ∷ drop (i + 1) xs)) (sym h)
+
+pub sorts_step : (leaf : Leaf) (n : ℕ) (xs : List Sort) (i : ℕ) (x : Sort) → i < length xs → x ≡ get_or xs i x
+    → sorts_from leaf n (drop i xs) ≡ (bound leaf n (view x.value) >>= λ a. sorts_from leaf (n + length (calls (view x.value))) (drop (i + 1) xs) >>= λ bs. Ok (a ∷ bs))
+sorts_step leaf n xs i x l h =
+    at_drop_more (sorts_from leaf n) xs i x l ∙ ap (λ y. sorts_from leaf n (y ∷ drop (i + 1) xs)) (sym h)
+    ∙ ap (λ v. order_bound leaf n (t.sort_and v (t.sort_list (sorts_view (drop (i + 1) xs))))) (sort x)
 
 pub sums_step : (leaf : Leaf) (n : ℕ) (a : Bound) (xs : List SumTail) (i : ℕ) (x : SumTail) → i < length xs → x ≡ get_or xs i x
     → sums_from leaf n a (drop i xs) ≡ (bound leaf n (view x.value) >>= λ b. added x.word a b >>= λ c. sums_from leaf (n + length (calls (view x.value))) c (drop (i + 1) xs))
@@ -108,6 +118,21 @@ module _ (leaf : Leaf) (n : ℕ) (whole : Checked (List Bound)) (xs : List Tree)
 
   pub trees_end : length xs ≤ i → whole ≡ Ok bs
   trees_end l = from ∙ ap (λ (ys : List Tree). behind bs (trees_from leaf n ys)) (drop_all i xs l) ∙ ap Ok (append-nil bs)
+
+module _ (leaf : Leaf) (n : ℕ) (whole : Checked (List Bound)) (xs : List Sort) (i : ℕ) (bs : List Bound) (from : whole ≡ behind bs (sorts_from leaf n (drop i xs))) where
+  pub sorts_failed : (x : Sort) (code : ScriptCode) → i < length xs → x ≡ get_or xs i x → bound leaf n (view x.value) ≡ Err code → whole ≡ Err code
+  sorts_failed x code l h k =
+      from ∙ ap (behind bs) (sorts_step leaf n xs i x l h ∙ ap (λ r. r >>= λ a. sorts_from leaf (n + length (calls (view x.value))) (drop (i + 1) xs) >>= λ bs. Ok (a ∷ bs)) k)
+
+  pub sorts_turn : (x : Sort) (a : Bound) (m : ℕ) (more : List Bound) → i < length xs → x ≡ get_or xs i x → bound leaf n (view x.value) ≡ Ok a → m ≡ n + length (calls (view x.value)) → more ≡ bs ++ a ∷ []
+      → whole ≡ behind more (sorts_from leaf m (drop (i + 1) xs))
+  sorts_turn x a m more l h k e p =
+      from ∙ ap (behind bs) (sorts_step leaf n xs i x l h ∙ ap (λ r. r >>= λ a. sorts_from leaf (n + length (calls (view x.value))) (drop (i + 1) xs) >>= λ bs. Ok (a ∷ bs)) k)
+      ∙ one_behind bs a (sorts_from leaf (n + length (calls (view x.value))) (drop (i + 1) xs))
+      ∙ (λ j. behind (sym p j) (sorts_from leaf (sym e j) (drop (i + 1) xs)))
+
+  pub sorts_end : length xs ≤ i → whole ≡ Ok bs
+  sorts_end l = from ∙ ap (λ (ys : List Sort). behind bs (sorts_from leaf n ys)) (drop_all i xs l) ∙ ap Ok (append-nil bs)
 
 module _ (leaf : Leaf) (n : ℕ) (whole : Checked Bound) (xs : List SumTail) (i : ℕ) (a : Bound) (from : whole ≡ sums_from leaf n a (drop i xs)) where
   pub sums_failed : (x : SumTail) (code : ScriptCode) → i < length xs → x ≡ get_or xs i x → bound leaf n (view x.value) ≡ Err code → whole ≡ Err code

@@ -6,13 +6,13 @@ use Rattle.ct_value.specs.declared.value.Value.TheVariants.{Bool as Truth, Text 
 use Rattle.ct_catalog.specs.Types.{type_of}
 use Rattle.sql_syntax.specs.Tree.{Tree}
 use Rattle.sql_syntax.specs.Tree as t
-use Rattle.query_answer.specs.Calls.{calls, args_calls, when_calls}
+use Rattle.query_answer.specs.Calls.{calls, args_calls, optional_calls, when_calls}
 use Rattle.query_answer.specs.Functions.{function_of}
 use Rattle.query_answer.specs.Literals.{number_of, is_short}
 use Rattle.query_answer.specs.Names.{Scope}
 use Rattle.binding.specs.Checked.{Checked, ◌>>=◌, refused_if}
 use Rattle.binding.specs.Nodes.{Bound, literal, number, signed, compare, conjunction, disjunction, negation, negated_if, null_test, between, in_list, like, cast_to, case, call}
-use Rattle.binding.specs.Expressions.{Leaf, bound, bound_over, all_bound, sum_bound, product_bound, whens_bound, otherwise_bound, optional_bound, args_bound, unless_null, is_long, sum_length, product_length, form_of}
+use Rattle.binding.specs.Expressions.{Leaf, bound, bound_over, all_bound, sum_bound, product_bound, whens_bound, otherwise_bound, optional_bound, window_bound, args_bound, unless_null, is_long, sum_length, product_length, form_of}
 
 abbrev pub node : Leaf → ℕ → Tree → Checked Bound
 node leaf n (t.Or xs) = all_bound leaf n xs >>= disjunction
@@ -33,7 +33,7 @@ node leaf n (t.Str text) = cond (is_short text) (literal (Words text) Texts) (Er
 node leaf n (t.Truth truth) = literal (Truth truth) Truths
 node leaf n t.Null = Err TypeMismatch
 node leaf n (t.Name of name quoted) = Err UnknownColumn
-node leaf n (t.Call name args filter over) = args_bound leaf n args >>= λ xs. optional_bound leaf (n + length (args_calls args)) filter >>= λ c. call (function_of name) (form_of args filter over) xs
+node leaf n (t.Call name args filter over) = args_bound leaf n args >>= λ xs. optional_bound leaf (n + length (args_calls args)) filter >>= λ c. window_bound leaf (n + length (args_calls args) + length (optional_calls filter)) over >>= λ ys. call (function_of name) (form_of args filter over) xs
 node leaf n (t.Cast x ty) = unless_null x (bound leaf n x) >>= cast_to (type_of ty)
 node leaf n (t.Paren x) = bound leaf n x
 node leaf n (t.Sub q) = Err Unsupported

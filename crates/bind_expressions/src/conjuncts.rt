@@ -2,22 +2,22 @@
 ghost use Rattle.bind_names.specs.declared.fault.BindFault.TheVariants as f;
 ghost use Rattle.std.specs.Prelude.{◌≡◌, Ok, Err, IfOk, IsErrOf};
 ghost use Rattle.ct_value.specs.declared.codes.ScriptCode.{ScriptCode};
-ghost use Rattle.sql_syntax.specs.Tree.{trees as tree_list};
-ghost use Rattle.sql_syntax.specs.View.{view, trees_view};
+ghost use Rattle.sql_syntax.specs.Tree.{over_of, some_over, sort_list, trees as tree_list};
+ghost use Rattle.sql_syntax.specs.View.{view, sorts_view, trees_view};
 ghost use Rattle.bind_names.specs.Lookups.{lookup_of};
-ghost use Rattle.binding.specs.Expressions.{all_conjuncts_bound, bound, bound_by, bound_over, conditions, conjuncts_bound, each_bound};
+ghost use Rattle.binding.specs.Expressions.{all_conjuncts_bound, bound, bound_by, bound_over, conditions, conjuncts_bound, each_bound, names, window_bound};
 ghost use Rattle.bind_nodes.specs.Views.{bound_view, bounds_view};
 ghost use Rattle.bind_expressions.specs.Reach.{group_leaf};
 ghost use Rattle.bind_expressions.specs.Walk.{only_conjunct};
 
-use crate::Group;
 use crate::reach::Reach;
 use crate::walk::bind;
+use crate::{Group, walk};
 use bind_names::{BindFault, Lookup};
 use bind_nodes::{Bound, Bounds, columns_are_truths};
 use ct_value::ScriptCode;
 use query_answer::Scope;
-use sql_syntax::{Tree, Trees};
+use sql_syntax::{SortList, Tree, Trees};
 use std::alloc::Global;
 
 /// What a tree over the columns in reach is bound to; it has no place for aggregate calls.
@@ -36,6 +36,23 @@ pub fn bind_by(alloc: Global, look: Lookup<'_>, tree: &Tree) -> Result<Bound, Bi
 {
     let reach = Reach::Rows(look);
     bind(alloc, &reach, 0, tree)
+}
+
+/// The operands of an OVER, PARTITION BY and then ORDER BY, over the columns in reach.
+pub fn bind_operands(
+    alloc: Global,
+    scope: &Scope,
+    partition: &Trees,
+    order: &SortList,
+) -> Result<Bounds, BindFault>
+    ensures ok { IfOk result (λ xs. window_bound (names scope.now) 0 (some_over (over_of (tree_list (trees_view partition.now)) (sort_list (sorts_view order.now)))) ≡ Ok (bounds_view xs)) }
+    ensures refused { (code : ScriptCode) → IsErrOf result (f.Refused code) → window_bound (names scope.now) 0 (some_over (over_of (tree_list (trees_view partition.now)) (sort_list (sorts_view order.now)))) ≡ Err code }
+{
+    let reach = Reach::Rows(Lookup::Own(scope));
+    let next = walk::after_all(alloc, 0, partition)?;
+    walk::bind_all(alloc, &reach, 0, partition)?;
+    let bounds = walk::bind_order(alloc, &reach, next, order)?;
+    Ok(bounds)
 }
 
 /// What a tree in a group is bound to. Aggregate calls are counted from `number`.

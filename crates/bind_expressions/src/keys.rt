@@ -14,7 +14,7 @@ ghost use Rattle.bind_expressions.specs.Keys.{key_in};
 use crate::group::Group;
 use bind_names::BindFault;
 use bind_nodes::{Bound, Bounds, column};
-use bind_shapes::{Code, Codes, column_code, place, shape_code};
+use bind_shapes::{Code, column_code, place, places_of, shape_code};
 use ct_value::Memory;
 use query_answer::Scope;
 use sql_syntax::{Tree, Trees};
@@ -31,23 +31,13 @@ pub fn group_of<'a>(
     ensures trees { IfOk result (λ group. group.trees.now ≡ trees.now) }
     ensures keys { IfOk result (λ group. group.keys ≡ keys) }
 {
-    let codes = codes_of(alloc, scope, trees)?;
+    let places = places_of(alloc, scope, trees)?;
     Ok(Group {
         scope,
         trees,
         keys,
-        codes,
+        places,
     })
-}
-
-fn codes_of(alloc: Global, scope: &Scope, trees: &Trees) -> Result<Codes, Memory>
-    ensures { IfOk result (λ codes. codes ≡ c.codes_of (find scope.now) (trees_view trees.now)) }
-{
-    let mut codes = Codes::with_capacity(alloc, trees.len())?;
-    for tree in trees.as_slice() {
-        codes.push(shape_code(alloc, scope, tree)?)?;
-    }
-    Ok(codes)
 }
 
 /// A number and so many more. No more columns or calls fit into memory than a number of 32 bits tells.
@@ -83,12 +73,12 @@ fn key_at(alloc: Global, keys: &Bounds, place: usize) -> Result<Option<Bound>, B
 }
 
 // The column of the first GROUP BY expression that has a shape.
-#[tactic(auto, using(bind_shapes::proofs::laws::Theorems::codes_tell_shapes, crate::proofs::Found::told))]
-fn key_of_code(alloc: Global, group: &Group<'_>, code: &Code) -> Result<Option<Bound>, BindFault>
-    ensures ok { IfOk result (λ o. (x : Shape) → code.now ≡ c.code x → option_map bound_view o ≡ key_in group.now x) }
+#[tactic(auto, using(crate::proofs::Found::told))]
+fn key_of_code(alloc: Global, group: &Group<'_>, code: Code) -> Result<Option<Bound>, BindFault>
+    ensures ok { IfOk result (λ o. (x : Shape) → code ≡ c.code x → option_map bound_view o ≡ key_in group.now x) }
     ensures refused { (code : ScriptCode) → IsErrOf result (f.Refused code) → ⊥ }
 {
-    match place(&group.codes, code) {
+    match place(&group.places, code) {
         None => Ok(None),
         Some(place) => key_at(alloc, &group.keys, place),
     }
@@ -100,11 +90,11 @@ pub fn key_of(alloc: Global, group: &Group<'_>, tree: &Tree) -> Result<Option<Bo
     ensures ok { IfOk result (λ o. option_map bound_view o ≡ key_in group.now (shape (find group.now.scope.now) (view tree.now))) }
     ensures refused { (code : ScriptCode) → IsErrOf result (f.Refused code) → ⊥ }
 {
-    if group.codes.is_empty() {
+    if group.trees.is_empty() {
         return Ok(None);
     }
     let code = shape_code(alloc, group.scope, tree)?;
-    key_of_code(alloc, group, &code)
+    key_of_code(alloc, group, code)
 }
 
 /// The column of the first GROUP BY expression that is the column at a place, counted from 0.
@@ -117,5 +107,6 @@ pub fn key_of_column(
     ensures refused { (code : ScriptCode) → IsErrOf result (f.Refused code) → ⊥ }
 {
     let code = column_code(alloc, place)?;
-    key_of_code(alloc, group, &code)
+    let key = key_of_code(alloc, group, code)?;
+    Ok(key)
 }

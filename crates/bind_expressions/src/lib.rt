@@ -13,8 +13,10 @@ mod reach;
 mod walk;
 
 pub use calls::{call_column, call_column_if, call_type, is_distinct};
-pub use conjuncts::{bind_by, bind_conjuncts, bind_each, bind_in_group, bind_over, conditions};
+pub use conjuncts::{
+    bind_by, bind_conjuncts, bind_each, bind_in_group, bind_operands, bind_over, conditions,
+};
 pub use group::Group;
 pub use keys::{group_of, has_no_keys, key_of, key_of_column, plus};
-pub use reach::{Reach, may_change};
+pub use reach::Reach;
 pub use walk::{after, bind};

@@ -25,8 +25,8 @@ pub enum Reach<'a> {
     Groups(&'a Group<'a>),
 }
 
-/// Whether a name that finds no column may be that of a function whose answer changes.
-pub fn may_change(of: &Option<Text>, name: &Text, quoted: bool) -> bool
+// Whether a name that finds no column may be that of a function whose answer changes.
+fn may_change(of: &Option<Text>, name: &Text, quoted: bool) -> bool
     ensures { result ≡ may_change of.now name.now quoted }
 {
     match (of, quoted) {

@@ -4,13 +4,13 @@ ghost use Rattle.std.specs.Prelude.{◌≡◌, ◌+◌, suc, length, true, false
 ghost use Rattle.ct_value.specs.declared.codes.ScriptCode.{ScriptCode};
 ghost use Rattle.ct_value.specs.declared.ty.Ty.TheVariants.{Text as Texts};
 ghost use Rattle.ct_value.specs.declared.value.Value.TheVariants.{Text as Words};
-ghost use Rattle.sql_syntax.specs.Tree.{optional_over, optional_tree, trees as tree_list, sum_tails, product_tails, tree_whens};
-ghost use Rattle.sql_syntax.specs.View.{view, trees_view, args_view, over_view, sum_tails_view, product_tails_view, whens_view};
-ghost use Rattle.query_answer.specs.Calls.{calls, args_calls, when_calls};
+ghost use Rattle.sql_syntax.specs.Tree.{optional_over, optional_tree, some_over, sort_list, trees as tree_list, sum_tails, product_tails, tree_whens};
+ghost use Rattle.sql_syntax.specs.View.{view, trees_view, args_view, over_view, sorts_view, sum_tails_view, product_tails_view, whens_view};
+ghost use Rattle.query_answer.specs.Calls.{calls, all_calls, args_calls, optional_calls, when_calls};
 ghost use Rattle.query_answer.specs.Literals.{is_short};
 ghost use Rattle.binding.specs.Nodes as n;
 ghost use Rattle.binding.specs.Expressions as e;
-ghost use Rattle.binding.specs.Expressions.{bound, all_bound, args_bound, optional_bound, otherwise_bound, product_bound, sum_bound, unless_null, whens_bound};
+ghost use Rattle.binding.specs.Expressions.{bound, all_bound, args_bound, optional_bound, order_bound, otherwise_bound, product_bound, sum_bound, unless_null, whens_bound, window_bound};
 ghost use Rattle.bind_nodes.specs.Views.{bound_view, bounds_view, branches_view, form_view};
 ghost use Rattle.bind_expressions.specs.Reach.{leaf_of, group_leaf};
 ghost use Rattle.bind_expressions.specs.Walk.{node};
@@ -18,8 +18,8 @@ ghost use Rattle.bind_expressions.specs.Walk.{node};
 use crate::reach::{Reach, named, numbered, ungrouped};
 use crate::{Group, is_distinct, key_of, plus};
 use bind_names::{
-    BindFault, CallRefs, Lookup, aggregate_of, function_of, is_null, is_short, number_of,
-    push_args, push_calls, push_whens,
+    BindFault, CallRefs, Lookup, aggregate_of, function_of, is_null, is_short, number_of, push_all,
+    push_args, push_calls, push_optional, push_whens,
 };
 use bind_nodes::{
     Bound, Bounds, Branch, Branches, CallForm, added, between, call, case, cast_to, compare,
@@ -28,7 +28,7 @@ use bind_nodes::{
 };
 use ct_catalog::type_of;
 use ct_value::{Memory, ScriptCode, Text, Ty, Value};
-use sql_syntax::{Args, Over, ProductTails, SumTails, Tree, TreeWhens, Trees};
+use sql_syntax::{Args, Over, ProductTails, SortList, SumTails, Tree, TreeWhens, Trees};
 use std::alloc::Global;
 
 /// The number of the aggregate call behind those of a tree, whose first one would be the `number`-th.
@@ -47,6 +47,24 @@ fn after_args(alloc: Global, number: u32, args: &Args) -> Result<u32, Memory>
 {
     let mut found = CallRefs::new(alloc);
     push_args(&mut found, args)?;
+    plus(number, found.len())
+}
+
+#[tactic(auto, using(crate::proofs::Counts::seen))]
+fn after_optional(alloc: Global, number: u32, tree: &Option<Box<Tree>>) -> Result<u32, Memory>
+    ensures { IfOk result (λ next. next ≡ number + length (optional_calls (optional_tree (option_map (λ y. view y.value) tree.now)))) }
+{
+    let mut found = CallRefs::new(alloc);
+    push_optional(&mut found, tree)?;
+    plus(number, found.len())
+}
+
+#[tactic(auto, using(crate::proofs::Counts::seen))]
+pub(crate) fn after_all(alloc: Global, number: u32, trees: &Trees) -> Result<u32, Memory>
+    ensures { IfOk result (λ next. next ≡ number + length (all_calls (tree_list (trees_view trees.now)))) }
+{
+    let mut found = CallRefs::new(alloc);
+    push_all(&mut found, trees)?;
     plus(number, found.len())
 }
 
@@ -226,8 +244,10 @@ fn bind_node(alloc: Global, reach: &Reach<'_>, number: u32, tree: &Tree) -> Resu
             over,
         } => {
             let next = after_args(alloc, number, args)?;
+            let last = after_optional(alloc, next, filter)?;
             let operands = bind_args(alloc, reach, number, args)?;
             bind_optional(alloc, reach, next, filter)?;
+            bind_window_if(alloc, reach, last, over)?;
             let form = call_form(args, filter, over);
             call(alloc, function_of(name), form, operands)
         }
@@ -282,7 +302,7 @@ fn call_form(args: &Args, filter: &Option<Box<Tree>>, over: &Option<Over>) -> Ca
 
 // Each tree in turn.
 #[cycle(bind)]
-fn bind_all(
+pub(crate) fn bind_all(
     alloc: Global,
     reach: &Reach<'_>,
     number: u32,
@@ -430,6 +450,62 @@ pub(crate) fn bind_optional(
             Ok(Some(bound))
         }
     }
+}
+
+// The operands of OVER, if there is one.
+#[cycle(bind)]
+fn bind_window_if(
+    alloc: Global,
+    reach: &Reach<'_>,
+    number: u32,
+    over: &Option<Over>,
+) -> Result<Bounds, BindFault>
+    ensures ok { IfOk result (λ xs. window_bound (leaf_of reach.now) number (optional_over (option_map over_view over.now)) ≡ Ok (bounds_view xs)) }
+    ensures refused { (code : ScriptCode) → IsErrOf result (f.Refused code) → window_bound (leaf_of reach.now) number (optional_over (option_map over_view over.now)) ≡ Err code }
+{
+    match over {
+        None => Ok(Bounds::new(alloc)),
+        Some(over) => bind_window(alloc, reach, number, over),
+    }
+}
+
+// PARTITION BY, then ORDER BY.
+#[cycle(bind)]
+fn bind_window(
+    alloc: Global,
+    reach: &Reach<'_>,
+    number: u32,
+    over: &Over,
+) -> Result<Bounds, BindFault>
+    ensures ok { IfOk result (λ xs. window_bound (leaf_of reach.now) number (some_over (over_view over.now)) ≡ Ok (bounds_view xs)) }
+    ensures refused { (code : ScriptCode) → IsErrOf result (f.Refused code) → window_bound (leaf_of reach.now) number (some_over (over_view over.now)) ≡ Err code }
+{
+    let next = after_all(alloc, number, &over.partition)?;
+    bind_all(alloc, reach, number, &over.partition)?;
+    let bounds = bind_order(alloc, reach, next, &over.order)?;
+    Ok(bounds)
+}
+
+// The trees of an ORDER BY.
+#[cycle(bind)]
+pub(crate) fn bind_order(
+    alloc: Global,
+    reach: &Reach<'_>,
+    number: u32,
+    sorts: &SortList,
+) -> Result<Bounds, BindFault>
+    ensures ok { IfOk result (λ xs. order_bound (leaf_of reach.now) number (sort_list (sorts_view sorts.now)) ≡ Ok (bounds_view xs)) }
+    ensures refused { (code : ScriptCode) → IsErrOf result (f.Refused code) → order_bound (leaf_of reach.now) number (sort_list (sorts_view sorts.now)) ≡ Err code }
+{
+    let mut bounds = Bounds::with_capacity(alloc, sorts.len())?;
+    let mut number = number;
+    for sort in sorts.as_slice() {
+        let next = after(alloc, number, &sort.value)?;
+        let value = bind(alloc, reach, number, &sort.value)?;
+        bounds.push(value)?;
+        number = next;
+    }
+    Ok(bounds)
 }
 
 // The operands of a call.

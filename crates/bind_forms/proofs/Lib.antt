@@ -1,5 +1,5 @@
 pub mod Around
 pub mod Entries
 pub mod Lefts
-pub mod Rests
+pub mod Owns
 pub mod Tops

@@ -4,23 +4,29 @@ use Rattle.std.specs.Borrow.{Bor}
 use Rattle.std.specs.Prelude.{option_copied, option_map, slice_get}
 use Rattle.std.proofs.lemmas.List.{at_drop_more, drop_all}
 use Rattle.rel_algebra.specs.declared.agg.AggCall.{AggCall}
+use Rattle.sql_syntax.specs.declared.tree.Args.TheViews.{out-Over}
+use Rattle.sql_syntax.specs.declared.tree.Over.{Over}
+use Rattle.sql_syntax.specs.declared.tree.Sort.{Sort}
 use Rattle.sql_syntax.specs.declared.tree.SumTail.{SumTail}
 use Rattle.sql_syntax.specs.declared.tree.ProductTail.{ProductTail}
 use Rattle.sql_syntax.specs.declared.tree.Tree.{Tree}
 use Rattle.sql_syntax.specs.declared.tree.TreeWhen.{TreeWhen}
 use Rattle.sql_syntax.specs.Tree as t
-use Rattle.sql_syntax.specs.View.{view, trees_view, sum_tails_view, product_tails_view, whens_view}
-use Rattle.sql_syntax.proofs.laws.Views.{sum_tail, product_tail, tree_when}
-use Rattle.query_answer.specs.Calls.{Call, aggregate_of, call_of, call_or, calls, all_calls, sum_calls, product_calls, when_calls, args_calls, optional_calls, first_tree}
+use Rattle.sql_syntax.specs.View.{view, over_view, sorts_view, trees_view, sum_tails_view, product_tails_view, whens_view}
+use Rattle.sql_syntax.proofs.laws.Views.{over, sort, sum_tail, product_tail, tree_when}
+use Rattle.query_answer.specs.Calls.{Call, aggregate_of, call_of, call_or, calls, all_calls, sum_calls, product_calls, when_calls, args_calls, optional_calls, window_calls, sort_calls, first_tree}
 use Rattle.query_answer.specs.Functions.{function_of}
 
 pub is_call : (name : List ℕ) (args : t.Args) (filter : t.OptionalTree) (over : t.OptionalOver) (c : AggCall) → aggregate_of (function_of name) over ≡ Some c
     → calls (t.Call name args filter over) ≡ call_of c args filter ∷ []
-is_call name args filter over c e = ap (λ o. call_or (option_map (λ c. call_of c args filter) o) (args_calls args ++ optional_calls filter)) e
+is_call name args filter over c e = ap (λ o. call_or (option_map (λ c. call_of c args filter) o) (args_calls args ++ (optional_calls filter ++ window_calls over))) e
 
 pub is_no_call : (name : List ℕ) (args : t.Args) (filter : t.OptionalTree) (over : t.OptionalOver) → aggregate_of (function_of name) over ≡ None
-    → calls (t.Call name args filter over) ≡ args_calls args ++ optional_calls filter
-is_no_call name args filter over e = ap (λ o. call_or (option_map (λ c. call_of c args filter) o) (args_calls args ++ optional_calls filter)) e
+    → calls (t.Call name args filter over) ≡ args_calls args ++ (optional_calls filter ++ window_calls over)
+is_no_call name args filter over e = ap (λ o. call_or (option_map (λ c. call_of c args filter) o) (args_calls args ++ (optional_calls filter ++ window_calls over))) e
+
+pub window : (x : Over) → window_calls (t.some_over (over_view x)) ≡ all_calls (t.trees (trees_view (out-Over x).partition)) ++ sort_calls (t.sort_list (sorts_view (out-Over x).order))
+window x = ap (λ v. window_calls (t.some_over v)) (over x)
 
 pub first_of : (xs : List Tree) → option_map view (slice_get xs 0) ≡ first_tree (t.trees (trees_view xs))
 first_of [] = refl
@@ -39,6 +45,14 @@ of_products xs = product_calls (t.product_tails (product_tails_view xs))
 
 abbrev pub of_whens : List TreeWhen → List Call
 of_whens xs = when_calls (t.tree_whens (whens_view xs))
+
+abbrev pub of_sorts : List Sort → List Call
+of_sorts xs = sort_calls (t.sort_list (sorts_view xs))
+
+pub sorts_step : (xs : List Sort) (i : ℕ) (x : Sort) → i < length xs → x ≡ get_or xs i x → of_sorts (drop i xs) ≡ calls (view x.value) ++ of_sorts (drop (i + 1) xs)
+sorts_step xs i x l h =
+    at_drop_more of_sorts xs i x l ∙ ap (λ y. of_sorts (y ∷ drop (i + 1) xs)) (sym h)
+    ∙ ap (λ v. sort_calls (t.sort_and v (t.sort_list (sorts_view (drop (i + 1) xs))))) (sort x)
 
 pub sums_step : (xs : List SumTail) (i : ℕ) (x : SumTail) → i < length xs → x ≡ get_or xs i x → of_sums (drop i xs) ≡ calls (view x.value) ++ of_sums (drop (i + 1) xs)
 sums_step xs i x l h =

@@ -1,6 +1,7 @@
 pub mod CallLists
 pub mod Digits
 pub mod Finds
+pub mod Foreigns
 pub mod Forms
-pub mod Outsides
+pub mod Rests
 pub mod Stars

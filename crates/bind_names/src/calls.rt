@@ -1,15 +1,15 @@
 //! The aggregate calls of trees.
 ghost use Rattle.std.specs.Prelude.{◌≡◌, ◌++◌, ◌∷◌, [], map, option_map, OnOk};
-ghost use Rattle.sql_syntax.specs.View.{view, trees_view, args_view, over_view, sum_tails_view, product_tails_view, whens_view};
-ghost use Rattle.sql_syntax.specs.Tree.{optional_over, optional_tree, trees as tree_list, sum_tails, product_tails, tree_whens};
-ghost use Rattle.query_answer.specs.Calls.{aggregate_of, agg_call, agg_arg, call_of, calls, all_calls, sum_calls, product_calls, when_calls, optional_calls, args_calls};
+ghost use Rattle.sql_syntax.specs.View.{view, trees_view, args_view, over_view, sorts_view, sum_tails_view, product_tails_view, whens_view};
+ghost use Rattle.sql_syntax.specs.Tree.{optional_over, optional_tree, sort_list, trees as tree_list, sum_tails, product_tails, tree_whens};
+ghost use Rattle.query_answer.specs.Calls.{aggregate_of, agg_call, agg_arg, call_of, calls, all_calls, sum_calls, product_calls, when_calls, optional_calls, args_calls, window_calls, sort_calls};
 ghost use Rattle.bind_names.specs.Calls.{call_view};
 
 use crate::functions::function_of;
 use ct_value::{List, Memory};
 use query_answer::Function;
 use rel_algebra::AggCall;
-use sql_syntax::{Args, Over, ProductTails, SumTails, Tree, TreeWhens, Trees};
+use sql_syntax::{Args, Over, ProductTails, SortList, SumTails, Tree, TreeWhens, Trees};
 
 /// An aggregate call as it is written, with its argument and its FILTER condition, where it has them.
 #[derive(Drop)]
@@ -105,7 +105,8 @@ pub fn push_calls<'a>(found: &mut CallRefs<'a>, tree: &'a Tree) -> Result<(), Me
             Some(call) => push_one(found, call, args, filter),
             None => {
                 push_args(found, args)?;
-                push_optional(found, filter)
+                push_optional(found, filter)?;
+                push_window(found, over)
             }
         },
         Tree::Case { whens, otherwise } => {
@@ -137,8 +138,9 @@ fn push_one<'a>(
     })
 }
 
+/// Puts the aggregate calls of trees behind those that were found.
 #[cycle(calls)]
-fn push_all<'a>(found: &mut CallRefs<'a>, trees: &'a Trees) -> Result<(), Memory>
+pub fn push_all<'a>(found: &mut CallRefs<'a>, trees: &'a Trees) -> Result<(), Memory>
     ensures { OnOk result (map call_view found.new ≡ map call_view found.old ++ all_calls (tree_list (trees_view trees.now))) }
 {
     for tree in trees.as_slice() {
@@ -179,8 +181,12 @@ pub fn push_whens<'a>(found: &mut CallRefs<'a>, whens: &'a TreeWhens) -> Result<
     Ok(())
 }
 
+/// Puts the aggregate calls of a condition of FILTER, if there is one, behind those that were found.
 #[cycle(calls)]
-fn push_optional<'a>(found: &mut CallRefs<'a>, tree: &'a Option<Box<Tree>>) -> Result<(), Memory>
+pub fn push_optional<'a>(
+    found: &mut CallRefs<'a>,
+    tree: &'a Option<Box<Tree>>,
+) -> Result<(), Memory>
     ensures { OnOk result (map call_view found.new ≡ map call_view found.old ++ optional_calls (optional_tree (option_map (λ y. view y.value) tree.now))) }
 {
     match tree {
@@ -199,4 +205,28 @@ pub fn push_args<'a>(found: &mut CallRefs<'a>, args: &'a Args) -> Result<(), Mem
         Args::Empty | Args::Star => Ok(()),
         Args::List { values, .. } => push_all(found, values),
     }
+}
+
+// Of PARTITION BY, then of ORDER BY.
+#[cycle(calls)]
+fn push_window<'a>(found: &mut CallRefs<'a>, over: &'a Option<Over>) -> Result<(), Memory>
+    ensures { OnOk result (map call_view found.new ≡ map call_view found.old ++ window_calls (optional_over (option_map over_view over.now))) }
+{
+    match over {
+        None => Ok(()),
+        Some(over) => {
+            push_all(found, &over.partition)?;
+            push_sorts(found, &over.order)
+        }
+    }
+}
+
+#[cycle(calls)]
+fn push_sorts<'a>(found: &mut CallRefs<'a>, sorts: &'a SortList) -> Result<(), Memory>
+    ensures { OnOk result (map call_view found.new ≡ map call_view found.old ++ sort_calls (sort_list (sorts_view sorts.now))) }
+{
+    for sort in sorts.as_slice() {
+        push_calls(found, &sort.value)?;
+    }
+    Ok(())
 }

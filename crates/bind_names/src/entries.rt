@@ -2,8 +2,9 @@
 ghost use Rattle.std.specs.Prelude.{◌≡◌, ◌++◌, ◌∷◌, [], map, Some, IfOk, OnOk};
 ghost use Rattle.sql_syntax.specs.Tree.{items as item_list};
 ghost use Rattle.sql_syntax.specs.View.{view, item_view, items_view};
-ghost use Rattle.query_answer.specs.Answer.{entries, entries_of, item_name, or_no_source, placed_from, placed_of, plain_name};
+ghost use Rattle.query_answer.specs.Answer.{entries, entries_of, or_no_source, placed_from, placed_of};
 ghost use Rattle.query_answer.specs.Answer as a;
+ghost use Rattle.query_answer.specs.SourceColumns.{item_name, plain_name};
 ghost use Rattle.bind_names.specs.Entries.{entry_view, entries_view};
 
 use crate::names::{dup_name, is_called, next_number};

@@ -4,8 +4,10 @@ use Rattle.std.proofs.lemmas.List.{length-map}
 use Rattle.ct_value.specs.declared.codes.ScriptCode.{ScriptCode}
 use Rattle.ct_value.specs.declared.codes.ScriptCode.TheVariants.{TooManyColumns}
 use Rattle.rel_algebra.specs.declared.sort.SortCol.{SortCol}
+use Rattle.sql_syntax.specs.Tree as t
 use Rattle.query_answer.specs.Ranks.{Ranked, with_rank}
 use Rattle.binding.specs.Checked.{Checked, ◌>>=◌}
+use Rattle.binding.specs.Expressions.{names, window_bound}
 use Rattle.binding.specs.Nodes.{Bound}
 use Rattle.binding.specs.Queries.{RankedList, Relation, few, items_bound, places_bound, rank_bound, ranked_list, sorts_bound}
 use Rattle.bind_nodes.specs.Views.{bound_view, bounds_view}
@@ -44,10 +46,16 @@ module _ (q : Ranked) (x : Relation) where
   abbrev from_order : List Bound → List ℕ → Checked RankedList
   from_order xs ns = sorts_bound x.scope q.order >>= from_behind xs ns
 
-  abbrev from_partition : List Bound → Checked RankedList
-  from_partition xs = places_bound x.scope q.partition >>= from_order xs
+  abbrev from_partition : List Bound → List Bound → Checked RankedList
+  from_partition xs walked = places_bound x.scope q.partition >>= from_order xs
 
-  pub too_many : (xs : List Bound) (ns : List ℕ) (ss : List SortCol) (ys : List Bound) (code : ScriptCode) → items_bound x.scope q.ahead ≡ Ok xs → places_bound x.scope q.partition ≡ Ok ns → sorts_bound x.scope q.order ≡ Ok ss
+  abbrev walk : Checked (List Bound)
+  walk = window_bound (names x.scope) 0 (t.some_over (t.over_of q.partition q.order))
+
+  abbrev from_window : List Bound → Checked RankedList
+  from_window xs = walk >>= from_partition xs
+
+  pub too_many : (xs ws : List Bound) (ns : List ℕ) (ss : List SortCol) (ys : List Bound) (code : ScriptCode) → items_bound x.scope q.ahead ≡ Ok xs → walk ≡ Ok ws → places_bound x.scope q.partition ≡ Ok ns → sorts_bound x.scope q.order ≡ Ok ss
       → items_bound x.scope q.behind ≡ Ok ys → few (with_rank true xs (rank_bound x.scope) ys) ≡ Err code → ranked_list q x ≡ Err code
-  too_many xs ns ss ys code a p o b h =
-      ap (λ r. r >>= from_partition) a ∙ ap (λ r. r >>= from_order xs) p ∙ ap (λ r. r >>= from_behind xs ns) o ∙ ap (λ r. r >>= all_of xs ns ss) b ∙ ap (λ r. r >>= whole xs ns ss ys) h
+  too_many xs ws ns ss ys code a w p o b h =
+      ap (λ r. r >>= from_window) a ∙ ap (λ r. r >>= from_partition xs) w ∙ ap (λ r. r >>= from_order xs) p ∙ ap (λ r. r >>= from_behind xs ns) o ∙ ap (λ r. r >>= all_of xs ns ss) b ∙ ap (λ r. r >>= whole xs ns ss ys) h

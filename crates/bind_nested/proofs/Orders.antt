@@ -6,7 +6,8 @@ use Rattle.rel_algebra.specs.declared.sort.SortCol.{SortCol}
 use Rattle.sql_syntax.specs.Tree as t
 use Rattle.sql_syntax.specs.View.{sort_view, sorts_view}
 use Rattle.sql_syntax.specs.declared.tree.Sort.{Sort}
-use Rattle.query_answer.specs.Names.{Scope}
+use Rattle.query_answer.specs.Joins.{plain_column}
+use Rattle.query_answer.specs.Names.{Scope, find}
 use Rattle.binding.specs.Checked.{Checked, ◌>>=◌}
 use Rattle.binding.specs.Queries.{plain_place, sorts_bound}
 use Rattle.bind_nested.specs.Sorts.{sort_bound}
@@ -17,7 +18,7 @@ each_sort scope xs = sorts_bound scope (t.sort_list xs)
 
 -- one column, and then the others
 one_more : (scope : Scope) (x : t.Sort) (xs : List t.Sort) → each_sort scope (x ∷ xs) ≡ (sort_bound scope x >>= λ s. each_sort scope xs >>= λ ss. Ok (s ∷ ss))
-one_more scope (t.sort_of x desc) xs = go (plain_place scope x)
+one_more scope (t.sort_of x desc) xs = go (plain_place (plain_column (find scope) x))
   where
     go : (o : Checked ℕ) → (o >>= λ n. each_sort scope xs >>= λ sorts. Ok (record { col = n; desc = desc } ∷ sorts)) ≡ (o >>= (λ n. Ok (record { col = n; desc = desc })) >>= λ s. each_sort scope xs >>= λ ss. Ok (s ∷ ss))
     go (Ok n) = refl

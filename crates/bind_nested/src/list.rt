@@ -14,6 +14,7 @@ ghost use Rattle.bind_nested.specs.RankViews.{list_view};
 
 use crate::places::{places_bound, sorts_bound};
 use bind_clauses::{Relation, each_listed};
+use bind_expressions::bind_operands;
 use bind_forms::Ranked;
 use bind_names::{BindFault, entries_of};
 use bind_nodes::Bounds;
@@ -67,6 +68,7 @@ pub fn ranked_list<'a>(
     ensures refused { (code : ScriptCode) → IsErrOf result (f.Refused code) → q.ranked_list (ranked_view list.entry) (relation_view input) ≡ Err code }
 {
     let ahead = items_bound(alloc, &input.scope, list.ahead)?;
+    bind_operands(alloc, &input.scope, list.partition, list.order)?;
     let partition = places_bound(alloc, &input.scope, list.partition)?;
     let order = sorts_bound(alloc, &input.scope, list.order)?;
     let behind = items_bound(alloc, &input.scope, list.behind)?;

@@ -4,50 +4,25 @@ ghost use Rattle.std.specs.Prelude.{◌≡◌, Ok, Err, IfOk, IsErrOf};
 ghost use Rattle.ct_value.specs.declared.codes.ScriptCode.{ScriptCode};
 ghost use Rattle.sql_syntax.specs.Tree.{sort_list, trees as tree_list};
 ghost use Rattle.sql_syntax.specs.View.{view, sort_view, sorts_view, trees_view};
-ghost use Rattle.query_answer.specs.declared.scope.Found.{Found};
+ghost use Rattle.query_answer.specs.Joins.{plain_column};
+ghost use Rattle.query_answer.specs.Names.{find};
 ghost use Rattle.binding.specs.Queries as q;
 ghost use Rattle.bind_nested.specs.Sorts.{sort_bound};
 
-use bind_expressions::may_change;
-use bind_names::{BindFault, find};
+use bind_names::{BindFault, Lookup, plain_column};
 use ct_value::{Cols, ScriptCode};
 use query_answer::{Found, Scope};
 use rel_algebra::{SortCol, Sorts};
 use sql_syntax::{Sort, SortList, Tree, Trees};
 use std::alloc::Global;
 
-fn absent(changing: bool) -> BindFault
-    ensures { (n : ScriptCode) → result ≡ f.Refused n → q.found_place changing Found.Absent ≡ Err n }
-{
-    if changing {
-        return BindFault::Refused(ScriptCode::Nondeterministic);
-    }
-    BindFault::Refused(ScriptCode::UnknownColumn)
-}
-
-fn found_place(changing: bool, found: Found) -> Result<u32, BindFault>
-    ensures ok { IfOk result (λ n. q.found_place changing found ≡ Ok n) }
-    ensures refused { (code : ScriptCode) → IsErrOf result (f.Refused code) → q.found_place changing found ≡ Err code }
-{
-    match found {
-        Found::Absent => Err(absent(changing)),
-        Found::At(place, _) => Ok(place),
-        Found::Several => Err(BindFault::Refused(ScriptCode::AmbiguousColumn)),
-    }
-}
-
-#[tactic(auto, unfolding(sql_syntax::specs::View::view))]
 fn plain_place(scope: &Scope, tree: &Tree) -> Result<u32, BindFault>
-    ensures ok { IfOk result (λ n. q.plain_place scope.now (view tree.now) ≡ Ok n) }
-    ensures refused { (code : ScriptCode) → IsErrOf result (f.Refused code) → q.plain_place scope.now (view tree.now) ≡ Err code }
+    ensures ok { IfOk result (λ n. q.plain_place (plain_column (find scope.now) (view tree.now)) ≡ Ok n) }
+    ensures refused { (code : ScriptCode) → IsErrOf result (f.Refused code) → q.plain_place (plain_column (find scope.now) (view tree.now)) ≡ Err code }
 {
-    match tree {
-        Tree::Name { of, name, quoted } => {
-            let found = find(scope, of, name)?;
-            found_place(may_change(of, name, *quoted), found)
-        }
-        Tree::Paren(value) => plain_place(scope, value),
-        _ => Err(BindFault::Refused(ScriptCode::Unsupported)),
+    match plain_column(Lookup::Own(scope), tree)? {
+        Found::At(place, _) => Ok(place),
+        Found::Absent | Found::Several => Err(BindFault::Refused(ScriptCode::Unsupported)),
     }
 }
 

@@ -14,6 +14,7 @@ use crate::list::RankedList;
 use bind_clauses::{Relation, renamed};
 use bind_forms::{Conjuncts, Top, is_kept, top_of};
 use bind_names::BindFault;
+use ct_catalog::Sources;
 use ct_value::Text;
 use sql_syntax::Select;
 use std::alloc::Global;
@@ -29,6 +30,7 @@ pub struct Framed {
 fn bounded_by(
     alloc: Global,
     free: bool,
+    sources: &Sources,
     outer: &Select,
     alias: &Option<Text>,
     list: RankedList<'_>,
@@ -37,8 +39,8 @@ fn bounded_by(
 ) -> Result<Framed, BindFault>
     requires all { map conjunct_view conjuncts.now ≡ a.select_conjuncts (select_view outer.now) }
     requires there { IfSome top (λ top. top.conjunct < length conjuncts.now) }
-    ensures ok { IfOk result (λ x. q.bounded free (select_view outer.now) (record { alias = alias.now; list = list_view list.entry }) (option_map top_view top) ≡ Ok (framed_view x)) }
-    ensures refused { (code : ScriptCode) → IsErrOf result (f.Refused code) → q.bounded free (select_view outer.now) (record { alias = alias.now; list = list_view list.entry }) (option_map top_view top) ≡ Err code }
+    ensures ok { IfOk result (λ x. q.bounded free sources.now (select_view outer.now) (record { alias = alias.now; list = list_view list.entry }) (option_map top_view top) ≡ Ok (framed_view x)) }
+    ensures refused { (code : ScriptCode) → IsErrOf result (f.Refused code) → q.bounded free sources.now (select_view outer.now) (record { alias = alias.now; list = list_view list.entry }) (option_map top_view top) ≡ Err code }
 {
     match top {
         None => {
@@ -49,7 +51,7 @@ fn bounded_by(
             })
         }
         Some(top) => {
-            let kept = is_kept(alias, list.list, outer, conjuncts, top.conjunct);
+            let kept = is_kept(sources, alias, list.list, outer, conjuncts, top.conjunct);
             let relation = first_ranked(alloc, top.bound, kept, list)?;
             Ok(Framed {
                 relation: renamed(alloc, alias, relation)?,
@@ -59,20 +61,21 @@ fn bounded_by(
     }
 }
 
-/// What a select reads whose only source is a query with a rank, under an alias: where one of the conjuncts of its WHERE bounds the
+/// What a select over these tables reads whose only source is a query with a rank, under an alias: where one of the conjuncts of its WHERE bounds the
 /// rank, the first rows.
 pub fn bounded(
     alloc: Global,
     free: bool,
+    sources: &Sources,
     outer: &Select,
     alias: &Option<Text>,
     list: RankedList<'_>,
     conjuncts: &Conjuncts<'_>,
 ) -> Result<Framed, BindFault>
     requires { map conjunct_view conjuncts.now ≡ a.select_conjuncts (select_view outer.now) }
-    ensures ok { IfOk result (λ x. q.framed free (select_view outer.now) (q.Only (record { alias = alias.now; list = list_view list.entry })) ≡ Ok (framed_view x)) }
-    ensures refused { (code : ScriptCode) → IsErrOf result (f.Refused code) → q.framed free (select_view outer.now) (q.Only (record { alias = alias.now; list = list_view list.entry })) ≡ Err code }
+    ensures ok { IfOk result (λ x. q.framed free sources.now (select_view outer.now) (q.Only (record { alias = alias.now; list = list_view list.entry })) ≡ Ok (framed_view x)) }
+    ensures refused { (code : ScriptCode) → IsErrOf result (f.Refused code) → q.framed free sources.now (select_view outer.now) (q.Only (record { alias = alias.now; list = list_view list.entry })) ≡ Err code }
 {
     let top = top_of(alloc, alias, &list.input.scope, list.list, conjuncts)?;
-    bounded_by(alloc, free, outer, alias, list, conjuncts, top)
+    bounded_by(alloc, free, sources, outer, alias, list, conjuncts, top)
 }

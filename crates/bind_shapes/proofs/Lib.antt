@@ -1,4 +1,3 @@
 pub mod Places
 pub mod Same
 pub mod Written
-pub mod laws

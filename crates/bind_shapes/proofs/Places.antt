@@ -1,15 +1,34 @@
--- Places among shapes, as far as a loop has come.
-use Rattle.std.proofs.Common.{◌≡◌, ℕ, suc, ◌+◌, ◌<◌, ◌≤◌, List, [], ◌∷◌, Option, Some, None, true, false, cond, length, drop, get_or, sym, ap, ◌∙◌, arith}
+-- Places among shapes, of which some are yet to be entered.
+use Rattle.std.proofs.Common.{◌≡◌, ℕ, suc, ◌+◌, Bool, List, [], ◌∷◌, ◌++◌, Option, Some, None, true, false, cond, length, Decides, refl, sym, ap, ◌∙◌, arith}
 use Rattle.std.specs.Str.{bytes_eq}
-use Rattle.std.proofs.lemmas.List.{at_drop_more}
+use Rattle.std.proofs.lemmas.Bool.Decides.{same_from_decides}
+use Rattle.std.proofs.lemmas.Slice.Eq.{bytes_eq-Decides}
 use Rattle.bind_shapes.specs.Codes.{place_in}
 
-step : (n : ℕ) (ys : List (List ℕ)) (x y : List ℕ) (i : ℕ) → i < length ys → y ≡ get_or ys i y → place_in n (drop i ys) x ≡ cond (bytes_eq x y) (Some n) (place_in (suc n) (drop (i + 1) ys) x)
-step n ys x y i l h = at_drop_more (λ zs. place_in n zs x) ys i y l ∙ ap (λ z. place_in n (z ∷ drop (i + 1) ys) x) (sym h)
+-- what is found among the first ones, or else among the others
+abbrev pub first_of : Option ℕ → Option ℕ → Option ℕ
+first_of (Some n) other = Some n
+first_of None other = other
 
-pub found_here : (n : ℕ) (ys : List (List ℕ)) (x y : List ℕ) (i : ℕ) → i < length ys → y ≡ get_or ys i y → bytes_eq x y ≡ true → place_in n (drop i ys) x ≡ Some n
-found_here n ys x y i l h e = step n ys x y i l h ∙ ap (λ b. cond b (Some n) (place_in (suc n) (drop (i + 1) ys) x)) e
+pub none_behind : (o : Option ℕ) → first_of o None ≡ o
+none_behind (Some n) = refl
+none_behind None = refl
 
-pub not_here : (n m : ℕ) (ys : List (List ℕ)) (x y : List ℕ) (i : ℕ) → i < length ys → y ≡ get_or ys i y → bytes_eq x y ≡ false → m ≡ n + 1 → place_in n (drop i ys) x ≡ place_in m (drop (i + 1) ys) x
-not_here n m ys x y i l h e k =
-    step n ys x y i l h ∙ ap (λ b. cond b (Some n) (place_in (suc n) (drop (i + 1) ys) x)) e ∙ ap (λ j. place_in j (drop (i + 1) ys) x) (let one : suc n ≡ m = omega arith in one)
+through : (b : Bool) (n : ℕ) (o p : Option ℕ) → cond b (Some n) (first_of o p) ≡ first_of (cond b (Some n) o) p
+through true n o p = refl
+through false n o p = refl
+
+pub last_entered : (n : ℕ) (ys : List (List ℕ)) (y x : List ℕ) (found : Option ℕ)
+    → first_of (place_in n (ys ++ y ∷ []) x) found ≡ first_of (place_in n ys x) (cond (bytes_eq x y) (Some (n + length ys)) found)
+last_entered n [] y x found =
+    ap (λ k. first_of (cond (bytes_eq x y) (Some k) None) found) (let same : n ≡ n + 0 = omega arith in same) ∙ sym (through (bytes_eq x y) (n + 0) None found)
+last_entered n (z ∷ ys) y x found =
+    sym (through (bytes_eq x z) n (place_in (suc n) (ys ++ y ∷ []) x) found)
+    ∙ ap (cond (bytes_eq x z) (Some n)) (last_entered (suc n) ys y x found
+    ∙ ap (λ k. first_of (place_in (suc n) ys x) (cond (bytes_eq x y) (Some k) found)) (let same : suc n + length ys ≡ n + suc (length ys) = omega arith in same))
+    ∙ through (bytes_eq x z) n (place_in (suc n) ys x) (cond (bytes_eq x y) (Some (n + suc (length ys))) found)
+
+pub swapped : (xs ys : List ℕ) → bytes_eq xs ys ≡ bytes_eq ys xs
+swapped xs ys =
+    let other = bytes_eq-Decides ys xs in
+    same_from_decides (bytes_eq xs ys) (bytes_eq ys xs) (bytes_eq-Decides xs ys) ((λ e. sym (other.0 e)), λ e. other.1 (sym e))

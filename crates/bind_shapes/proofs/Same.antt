@@ -1,5 +1,8 @@
 -- Equal codes are those of equal shapes.
 use Rattle.std.proofs.Common.{◌≡◌, ℕ, suc, Bool, true, false, ◌&&◌, cond, List, [], ◌∷◌, ◌++◌, map, Option, Some, None, Decides, refl, ap, sym, ◌∙◌, append_assoc}
+use Rattle.std.specs.BTreeMap.{BTreeMap, get}
+use Rattle.std.specs.Cmp.Lexicographic.{slice_cmp}
+use Rattle.std.specs.Ordering.{nat_cmp}
 use Rattle.std.specs.Str.{bytes_eq}
 use Rattle.std.proofs.lemmas.Bool.Decides.{same_from_decides}
 use Rattle.std.proofs.lemmas.Slice.Eq.{bytes_eq-Decides}
@@ -85,5 +88,7 @@ places_from : (n : ℕ) (look : Lookup) (ys : List Tree) (x : Shape) → place_i
 places_from n look [] x = refl
 places_from n look (y ∷ ys) x = λ i. cond (same x (shape look y) i) (Some n) (places_from (suc n) look ys x i)
 
-pub places : (look : Lookup) (ys : List Tree) (x : Shape) → place_in 0 (codes_of look ys) (code x) ≡ place_of look ys x
-places look ys x = places_from 0 look ys x
+-- what is found by code is found by shape
+pub placed : (look : Lookup) (ys : List Tree) (cs : List (List ℕ)) (places : BTreeMap (List ℕ) ℕ) (x : Shape) → cs ≡ codes_of look ys → ((word : List ℕ) → get (slice_cmp nat_cmp) places word ≡ place_in 0 cs word)
+    → get (slice_cmp nat_cmp) places (code x) ≡ place_of look ys x
+placed look ys cs places x same found = found (code x) ∙ ap (λ zs. place_in 0 zs (code x)) same ∙ places_from 0 look ys x

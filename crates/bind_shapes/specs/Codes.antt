@@ -1,9 +1,9 @@
 -- Shapes as lists of numbers: equal shapes have equal lists, and no list begins another.
-use Rattle.std.specs.Prelude.{◌≡◌, ℕ, suc, cond, List, [], ◌∷◌, ◌++◌, map, Option, Some, None}
+use Rattle.std.specs.Prelude.{ℕ, suc, cond, List, [], ◌∷◌, ◌++◌, map, Option, Some, None}
 use Rattle.std.specs.Str.{bytes_eq}
 use Rattle.sql_syntax.specs.Tree.{Tree}
 use Rattle.query_answer.specs.Names.{Lookup}
-use Rattle.query_answer.specs.Shapes.{Shape, Shapes, shape_of, no_shapes, shape_and, shape, place_of}
+use Rattle.query_answer.specs.Shapes.{Shape, Shapes, shape_of, no_shapes, shape_and, shape}
 
 -- what a node says itself, and an end
 abbrev pub word : List ℕ → List ℕ
@@ -25,7 +25,3 @@ place_in n (y ∷ ys) x = cond (bytes_eq x y) (Some n) (place_in (suc n) ys x)
 -- the codes of trees
 abbrev pub codes_of : Lookup → List Tree → List (List ℕ)
 codes_of look xs = map (λ x. code (shape look x)) xs
-
--- the place among the codes of trees is the place of the shape
-abbrev pub CodesTellShapes : Type 0
-CodesTellShapes = (look : Lookup) (xs : List Tree) (x : Shape) → place_in 0 (codes_of look xs) (code x) ≡ place_of look xs x

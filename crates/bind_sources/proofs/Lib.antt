@@ -4,4 +4,5 @@ pub mod Columns
 pub mod Conjuncts
 pub mod Operands
 pub mod Rels
+pub mod Sources
 pub mod Turns

@@ -26,6 +26,9 @@ use rel_algebra::{JoinKind, Pairs, Rel};
 use sql_syntax::{JoinWord, Tree};
 use std::alloc::Global;
 
+// No plan has so many, and each join looks through those of its left side.
+const MOST_COLUMNS: usize = 65_536;
+
 /// The kind of join that its word tells.
 pub fn kind_of(word: JoinWord) -> JoinKind
     ensures { result ≡ j.kind_of word }
@@ -146,6 +149,9 @@ pub fn joined(
     ensures ok { IfOk result (λ x. b.joined kind (relation_view left) (relation_view right) (view on.now) ≡ Ok (relation_view x)) }
     ensures refused { (code : ScriptCode) → IsErrOf result (f.Refused code) → b.joined kind (relation_view left) (relation_view right) (view on.now) ≡ Err code }
 {
+    if left.scope.len() > MOST_COLUMNS {
+        return Err(BindFault::Memory);
+    }
     if share_source(&left.scope, &right.scope) {
         return Err(BindFault::Refused(ScriptCode::AmbiguousColumn));
     }

@@ -1,5 +1,5 @@
 //! The columns of both sides.
-ghost use Rattle.std.specs.Prelude.{◌≡◌, ◌==◌, cond, IfOk};
+ghost use Rattle.std.specs.Prelude.{◌≡◌, ◌==◌, cond, option_map, IfOk, IsTrue};
 ghost use Rattle.std.specs.List.{list_any};
 ghost use Rattle.query_answer.specs.Names as q;
 ghost use Rattle.rel_algebra.specs.Joins as j;
@@ -30,14 +30,31 @@ fn has_source(scope: &Scope, source: &Option<Text>) -> bool
     }
 }
 
-/// Whether two sources have one name.
+// Whether a name is that one again.
+#[tactic(auto, using(crate::proofs::Sources::again))]
+fn is_again(last: Option<&Text>, source: &Option<Text>) -> bool
+    ensures { IsTrue result → source.now ≡ option_map (λ t. t.now) last.entry }
+{
+    match last {
+        None => source.is_none(),
+        Some(last) => is_called(last, source),
+    }
+}
+
+/// Whether two sources have one name. The columns of a source stand side by side: its name is looked for once.
 pub(crate) fn share_source(left: &Scope, right: &Scope) -> bool
     ensures { result ≡ b.share_source left.now right.now }
 {
-    right
-        .as_slice()
-        .iter()
-        .any(|column| has_source(left, &column.source))
+    let mut last = None;
+    for column in right.as_slice() {
+        if !is_again(last, &column.source) {
+            if has_source(left, &column.source) {
+                return true;
+            }
+            last = column.source.as_ref();
+        }
+    }
+    false
 }
 
 fn keeps_left(kind: JoinKind) -> bool
@@ -85,12 +102,23 @@ fn column_of(kind: JoinKind, left: usize, column: ScopeColumn) -> ScopeColumn
 }
 
 /// The columns of a join: those of both sides, the first so many of which are the left's.
+#[tactic(auto, using(crate::proofs::Sources::unchanged))]
 pub(crate) fn columns(
     alloc: Global,
     kind: JoinKind,
     width: usize,
     both: Scope,
 ) -> Result<Scope, Memory>
+    ensures { IfOk result (λ scope. scope ≡ c.columns kind width both) }
+{
+    if !keeps_left(kind) && !keeps_right(kind) {
+        return Ok(both);
+    }
+    changed(alloc, kind, width, both)
+}
+
+// Those of a join whose rows may be missing on a side.
+fn changed(alloc: Global, kind: JoinKind, width: usize, both: Scope) -> Result<Scope, Memory>
     ensures { IfOk result (λ scope. scope ≡ c.columns kind width both) }
 {
     let mut scope = Scope::with_capacity(alloc, both.len())?;

@@ -13,6 +13,7 @@ use Rattle.sql_syntax.specs.View.{items_view, join_view, joins_view, query_view,
 use Rattle.sql_syntax.proofs.laws.Views.{query, select}
 use Rattle.query_answer.specs.Ranks.{Ranked, ranked_select, with_rank}
 use Rattle.binding.specs.Checked.{Checked, ◌>>=◌}
+use Rattle.binding.specs.Expressions.{names, window_bound}
 use Rattle.binding.specs.Nodes.{Bound}
 use Rattle.binding.specs.Queries.{Framed, FromWhere, Only, RankedList, Relation, alone_bound, alone_of, exists_over, exists_part, few, find_source, framed, gathered_bound, is_plain, items_bound, joined_read, joins_bound, kept, list_inside, places_bound, query_bound, rank_bound, Part, ranked_list, read, read_by, renamed, select_bound, sorts_bound, source_bound, unbounded}
 use Rattle.binder.specs.Steps.{all_bound, from_list, joined_framed, only_framed, only_select, plain_exists, ranked_exists, read_framed, select_framed, selects_framed}
@@ -21,7 +22,7 @@ use Rattle.binder.proofs.BySelects.{by_selects}
 module _ (free : Bool) (sources : List TableDef) (outer : t.Select) where
   -- ---- side by side
 
-  side : (r : Checked Relation) → (joined_read r >>= framed free outer) ≡ (r >>= λ x. Ok (record { relation = x; spent = None }))
+  side : (r : Checked Relation) → (joined_read r >>= framed free sources outer) ≡ (r >>= λ x. Ok (record { relation = x; spent = None }))
   side (Ok x) = refl
   side (Err code) = refl
 
@@ -29,13 +30,13 @@ module _ (free : Bool) (sources : List TableDef) (outer : t.Select) where
   itself (Ok x) = refl
   itself (Err code) = refl
 
-  only : (from : t.Source) → (read_by t.no_joins (alone_bound free sources from) (source_bound free sources from >>= joins_bound free sources t.no_joins) >>= framed free outer) ≡ only_framed free sources outer from
-  only from = ap (λ r. read_by t.no_joins (alone_bound free sources from) r >>= framed free outer) (itself (source_bound free sources from))
+  only : (from : t.Source) → (read_by t.no_joins (alone_bound free sources from) (source_bound free sources from >>= joins_bound free sources t.no_joins) >>= framed free sources outer) ≡ only_framed free sources outer from
+  only from = ap (λ r. read_by t.no_joins (alone_bound free sources from) r >>= framed free sources outer) (itself (source_bound free sources from))
 
   -- ---- an only source that has no rank
 
   plainly : (from : t.Source) → alone_bound free sources from ≡ None → only_framed free sources outer from ≡ (source_bound free sources from >>= λ x. Ok (record { relation = x; spent = None }))
-  plainly from e = ap (λ o. read_by t.no_joins o (source_bound free sources from) >>= framed free outer) e ∙ side (source_bound free sources from)
+  plainly from e = ap (λ o. read_by t.no_joins o (source_bound free sources from) >>= framed free sources outer) e ∙ side (source_bound free sources from)
 
   pub table : (name : Text) (alias : Option Text) → only_framed free sources outer (t.Table name alias) ≡ (read alias (find_source 0 sources name) >>= λ x. Ok (record { relation = x; spent = None }))
   table name alias = side (read alias (find_source 0 sources name))
@@ -102,17 +103,17 @@ module _ (free : Bool) (sources : List TableDef) (outer : t.Select) where
   pub unranked : (x : t.Select) (alias : Option Text) → ranked_select x ≡ None → select_framed free sources outer x alias ≡ under alias (select_bound free sources x)
   unranked x alias e = by_all (t.select_and x t.no_selects) alias (ap (option_map (alone_of alias (gathered_bound free sources None x))) e)
 
-  with_list : (alias : Option Text) (q : Ranked) (g : Checked FromWhere) → ((alone_of alias g q >>= λ y. Ok (Only y)) >>= framed free outer) ≡ (g >>= from_list free outer alias q)
+  with_list : (alias : Option Text) (q : Ranked) (g : Checked FromWhere) → ((alone_of alias g q >>= λ y. Ok (Only y)) >>= framed free sources outer) ≡ (g >>= from_list free sources outer alias q)
   with_list alias q (Err code) = refl
   with_list alias q (Ok f) = go (ranked_list q (kept f.parts f.relation))
     where
-      go : (r : Checked RankedList) → (((r >>= λ x. Ok (record { alias = alias; list = x })) >>= λ y. Ok (Only y)) >>= framed free outer) ≡ (r >>= λ x. framed free outer (Only (record { alias = alias; list = x })))
+      go : (r : Checked RankedList) → (((r >>= λ x. Ok (record { alias = alias; list = x })) >>= λ y. Ok (Only y)) >>= framed free sources outer) ≡ (r >>= λ x. framed free sources outer (Only (record { alias = alias; list = x })))
       go (Ok x) = refl
       go (Err code) = refl
 
-  pub ranked : (x : t.Select) (alias : Option Text) (q : Ranked) → ranked_select x ≡ Some q → select_framed free sources outer x alias ≡ (gathered_bound free sources None x >>= from_list free outer alias q)
+  pub ranked : (x : t.Select) (alias : Option Text) (q : Ranked) → ranked_select x ≡ Some q → select_framed free sources outer x alias ≡ (gathered_bound free sources None x >>= from_list free sources outer alias q)
   ranked x alias q e =
-      ap (λ o. read_by t.no_joins (option_map (alone_of alias (gathered_bound free sources None x)) o) (source_bound free sources (t.FromQuery (t.query_of (t.select_and x t.no_selects) t.no_sorts None) alias)) >>= framed free outer) e
+      ap (λ o. read_by t.no_joins (option_map (alone_of alias (gathered_bound free sources None x)) o) (source_bound free sources (t.FromQuery (t.query_of (t.select_and x t.no_selects) t.no_sorts None) alias)) >>= framed free sources outer) e
       ∙ with_list alias q (gathered_bound free sources None x)
 
 -- ---- by the joins of a select
@@ -125,12 +126,12 @@ made x = t.select_of (out-Select x).distinct (t.items (items_view (out-Select x)
 
 module _ (free : Bool) (sources : List TableDef) where
   of_read : (outer : t.Select) (from : t.Source) (js : List JoinItem) → (length js == 0) ≡ true
-      → (read_by (t.joins (joins_view js)) (alone_bound free sources from) (source_bound free sources from >>= joins_bound free sources (t.joins (joins_view js))) >>= framed free outer) ≡ only_framed free sources outer from
+      → (read_by (t.joins (joins_view js)) (alone_bound free sources from) (source_bound free sources from >>= joins_bound free sources (t.joins (joins_view js))) >>= framed free sources outer) ≡ only_framed free sources outer from
   of_read outer from [] e = only free sources outer from
   of_read outer from (j ∷ js) e = absurd (some j js e)
 
   of_joins : (outer : t.Select) (from : t.Source) (js : List JoinItem) → (length js == 0) ≡ false
-      → (read_by (t.joins (joins_view js)) (alone_bound free sources from) (source_bound free sources from >>= joins_bound free sources (t.joins (joins_view js))) >>= framed free outer)
+      → (read_by (t.joins (joins_view js)) (alone_bound free sources from) (source_bound free sources from >>= joins_bound free sources (t.joins (joins_view js))) >>= framed free sources outer)
       ≡ (source_bound free sources from >>= joins_bound free sources (t.joins (joins_view js)) >>= λ x. Ok (record { relation = x; spent = None }))
   of_joins outer from [] l = absurd (cc)
   of_joins outer from (j ∷ js) l = side free sources outer (source_bound free sources from >>= joins_bound free sources (t.join_and (join_view j) (t.joins (joins_view js))))
@@ -176,13 +177,14 @@ after (Err code) f y P k e = absurd (cc)
 pub input_same : (q : Ranked) (x : Relation) (y : RankedList) → ranked_list q x ≡ Ok y → y.input ≡ x
 input_same q x y =
     after (items_bound x.scope q.ahead) _ y (y.input ≡ x) (λ xs.
+    after (window_bound (names x.scope) 0 (t.some_over (t.over_of q.partition q.order))) _ y (y.input ≡ x) (λ walked.
     after (places_bound x.scope q.partition) _ y (y.input ≡ x) (λ ns.
     after (sorts_bound x.scope q.order) _ y (y.input ≡ x) (λ ss.
     after (items_bound x.scope q.behind) _ y (y.input ≡ x) (λ ys.
     after (few (with_rank true xs (rank_bound x.scope) ys)) _ y (y.input ≡ x) (λ all e.
     let made : RankedList = record { list = q; input = x; ahead = xs; partition = ns; order = ss; behind = ys } in
     let same : made ≡ y = cc in
-    ap (λ z. z.input) (sym same))))))
+    ap (λ z. z.input) (sym same)))))))
 
 -- ---- selects
 

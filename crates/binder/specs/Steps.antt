@@ -115,11 +115,11 @@ joined_framed free sources (t.select_of distinct items from joins condition grou
     source_bound free sources from >>= joins_bound free sources joins >>= λ x. Ok (record { relation = x; spent = None })
 
 abbrev pub only_framed : Bool → List TableDef → t.Select → t.Source → Checked Framed
-only_framed free sources outer from = read_by t.no_joins (alone_bound free sources from) (source_bound free sources from) >>= framed free outer
+only_framed free sources outer from = read_by t.no_joins (alone_bound free sources from) (source_bound free sources from) >>= framed free sources outer
 
 abbrev pub read_framed : Bool → List TableDef → t.Select → Checked Framed
 read_framed free sources (t.select_of distinct items from joins condition groups having) =
-    read_by joins (alone_bound free sources from) (source_bound free sources from >>= joins_bound free sources joins) >>= framed free (t.select_of distinct items from joins condition groups having)
+    read_by joins (alone_bound free sources from) (source_bound free sources from >>= joins_bound free sources joins) >>= framed free sources (t.select_of distinct items from joins condition groups having)
 
 -- a select that is alone
 abbrev pub only_select : t.Selects → Option t.Select
@@ -135,8 +135,8 @@ abbrev pub select_framed : Bool → List TableDef → t.Select → t.Select → 
 select_framed free sources outer x alias = selects_framed free sources outer (t.select_and x t.no_selects) alias
 
 -- of one with a rank
-abbrev pub from_list : Bool → t.Select → Option Text → Ranked → FromWhere → Checked Framed
-from_list free outer alias q f = ranked_list q (kept f.parts f.relation) >>= λ x. framed free outer (Only (record { alias = alias; list = x }))
+abbrev pub from_list : Bool → List TableDef → t.Select → Option Text → Ranked → FromWhere → Checked Framed
+from_list free sources outer alias q f = ranked_list q (kept f.parts f.relation) >>= λ x. framed free sources outer (Only (record { alias = alias; list = x }))
 
 -- ---- the list of an EXISTS's subquery
 

@@ -19,6 +19,7 @@ use bind_clauses::{Relation, renamed};
 use bind_forms::{Conjuncts, Ranked, push_conjuncts, ranked_select};
 use bind_names::BindFault;
 use bind_nested::{Framed, Part, Parts, bounded, exists_part, kept, ranked_list, unbounded};
+use ct_catalog::Sources;
 use ct_value::{Memory, ScriptCode, Text};
 use sql_syntax::{Select, Tree};
 use std::alloc::Global;
@@ -67,18 +68,19 @@ fn conjuncts_of<'a>(alloc: Global, condition: &'a Option<Tree>) -> Result<Conjun
 pub(crate) fn sole(
     alloc: Global,
     free: bool,
+    sources: &Sources,
     outer: &Select,
     alias: &Option<Text>,
     list: Ranked<'_>,
     gathered: FromWhere,
 ) -> Result<Framed, BindFault>
-    ensures ok { IfOk result (λ x. from_list free (select_view outer.now) alias.now (ranked_view list.entry) (from_where_view gathered) ≡ Ok (framed_view x)) }
-    ensures refused { (code : ScriptCode) → IsErrOf result (f.Refused code) → from_list free (select_view outer.now) alias.now (ranked_view list.entry) (from_where_view gathered) ≡ Err code }
+    ensures ok { IfOk result (λ x. from_list free sources.now (select_view outer.now) alias.now (ranked_view list.entry) (from_where_view gathered) ≡ Ok (framed_view x)) }
+    ensures refused { (code : ScriptCode) → IsErrOf result (f.Refused code) → from_list free sources.now (select_view outer.now) alias.now (ranked_view list.entry) (from_where_view gathered) ≡ Err code }
 {
     let relation = kept(alloc, gathered.parts, gathered.relation)?;
     let list = ranked_list(alloc, list, relation)?;
     let conjuncts = conjuncts_of(alloc, &outer.cond)?;
-    bounded(alloc, free, outer, alias, list, &conjuncts)
+    bounded(alloc, free, sources, outer, alias, list, &conjuncts)
 }
 
 // The list of a select, which may have a rank.

@@ -304,7 +304,7 @@ fn bind_alone_select(
         }
         Some(list) => {
             let gathered = bind_from_where(alloc, free, sources, Outside::Hidden, select)?;
-            sole(alloc, free, outer, alias, list, gathered)
+            sole(alloc, free, sources, outer, alias, list, gathered)
         }
     }
 }

@@ -11,7 +11,7 @@ use Rattle.sql_syntax.specs.Tree.{Tree, Text}
 use Rattle.sql_syntax.specs.Tree as t
 use Rattle.query_answer.specs.declared.scope.Found.{Found}
 use Rattle.query_answer.specs.declared.scope.Found.TheVariants.{Absent, At, Several}
-use Rattle.query_answer.specs.Calls.{calls, args_calls, when_calls}
+use Rattle.query_answer.specs.Calls.{calls, all_calls, args_calls, optional_calls, when_calls}
 use Rattle.query_answer.specs.Functions.{function_of, is_changing}
 use Rattle.query_answer.specs.Literals.{number_of, is_null, is_short}
 use Rattle.query_answer.specs.Names.{Scope, Lookup, find}
@@ -76,7 +76,8 @@ abbrev mutual
   bound leaf n (t.Name of name quoted) = leaf n (t.Name of name quoted) >>= or_else (Err UnknownColumn)
   bound leaf n (t.Call name args filter over) =
       leaf n (t.Call name args filter over) >>= or_else (
-      args_bound leaf n args >>= λ xs. optional_bound leaf (n + length (args_calls args)) filter >>= λ c. call (function_of name) (form_of args filter over) xs)
+      args_bound leaf n args >>= λ xs. optional_bound leaf (n + length (args_calls args)) filter >>= λ c.
+      window_bound leaf (n + length (args_calls args) + length (optional_calls filter)) over >>= λ ys. call (function_of name) (form_of args filter over) xs)
   bound leaf n (t.Cast x ty) = leaf n (t.Cast x ty) >>= or_else (unless_null x (bound leaf n x) >>= cast_to (type_of ty))
   bound leaf n (t.Paren x) = leaf n (t.Paren x) >>= or_else (bound leaf n x)
   bound leaf n (t.Sub q) = leaf n (t.Sub q) >>= or_else (Err Unsupported)
@@ -108,6 +109,15 @@ abbrev mutual
   pub optional_bound : Leaf → ℕ → t.OptionalTree → Checked (Option Bound)
   optional_bound leaf n t.no_tree = Ok None
   optional_bound leaf n (t.some_tree x) = bound leaf n x >>= λ a. Ok (Some a)
+
+  -- OVER's operands: PARTITION BY, then ORDER BY
+  pub window_bound : Leaf → ℕ → t.OptionalOver → Checked (List Bound)
+  window_bound leaf n t.no_over = Ok []
+  window_bound leaf n (t.some_over (t.over_of partition order)) = all_bound leaf n partition >>= λ xs. order_bound leaf (n + length (all_calls partition)) order
+
+  pub order_bound : Leaf → ℕ → t.SortList → Checked (List Bound)
+  order_bound leaf n t.no_sorts = Ok []
+  order_bound leaf n (t.sort_and (t.sort_of x desc) xs) = bound leaf n x >>= λ a. order_bound leaf (n + length (calls x)) xs >>= λ bs. Ok (a ∷ bs)
 
   pub args_bound : Leaf → ℕ → t.Args → Checked (List Bound)
   args_bound leaf n t.Empty = Ok []

@@ -4,7 +4,7 @@ use Rattle.std.specs.List.{list_any, list_all}
 use Rattle.std.specs.Str.{bytes_eq}
 use Rattle.ct_value.specs.declared.ty.ColTy.{ColTy}
 use Rattle.ct_value.specs.declared.value.CompareOp.TheVariants.{Eq}
-use Rattle.ct_value.specs.declared.codes.ScriptCode.TheVariants.{UnknownTable, UnknownColumn, AmbiguousColumn, TypeMismatch, Unsupported, Nondeterministic, NotGrouped, TooManyColumns, RankUnbounded}
+use Rattle.ct_value.specs.declared.codes.ScriptCode.TheVariants.{UnknownTable, UnknownColumn, AmbiguousColumn, TypeMismatch, Unsupported, NotGrouped, TooManyColumns, RankUnbounded}
 use Rattle.ct_expr.specs.Expr.{Expr}
 use Rattle.ct_expr.specs.Expr as e
 use Rattle.ct_expr.specs.Types.{is_truths}
@@ -31,7 +31,7 @@ use Rattle.query_answer.specs.Shapes.{column_shape}
 use Rattle.query_answer.specs.Answer.{conjuncts, under, table_scope, renamed_scope, Listed, Placed, Written, NoSource, Entry, entries, listed_calls, select_calls, is_grouped, listed_trees, types, retyped, ranked_entries, select_conjuncts, top_of, is_kept}
 use Rattle.binding.specs.Checked.{Checked, ◌>>=◌, or_code, refused_if}
 use Rattle.binding.specs.Nodes.{Bound, expr_list, operands, compare}
-use Rattle.binding.specs.Expressions.{Leaf, bound, bound_by, bound_over, each_bound, conditions, conjuncts_bound, column, may_change}
+use Rattle.binding.specs.Expressions.{Leaf, bound, bound_by, bound_over, names, window_bound, each_bound, conditions, conjuncts_bound, column}
 use Rattle.binding.specs.InGroups.{in_group, key_for, has_no_keys, calls_bound, bound_arguments, bound_filters}
 
 -- the algebra, and the columns in reach over its rows
@@ -309,24 +309,18 @@ selected distinct (e ∷ es) groups having x =
 
 -- ---- Top-N
 
-abbrev pub found_place : Bool → Found → Checked ℕ
-found_place changing Absent = cond changing (Err Nondeterministic) (Err UnknownColumn)
-found_place changing (At n ty) = Ok n
-found_place changing Several = Err AmbiguousColumn
-
 -- PARTITION BY and ORDER BY take plain columns of the select's own sources, by their places
-abbrev pub plain_place : Scope → Tree → Checked ℕ
-plain_place scope (t.Name of name quoted) = found_place (may_change of name quoted) (find scope of name)
-plain_place scope (t.Paren x) = plain_place scope x
-plain_place scope _ = Err Unsupported
+abbrev pub plain_place : Found → Checked ℕ
+plain_place (At n ty) = Ok n
+plain_place _ = Err Unsupported
 
 abbrev pub places_bound : Scope → t.Trees → Checked (List ℕ)
 places_bound scope t.no_trees = Ok []
-places_bound scope (t.tree_and x xs) = plain_place scope x >>= λ n. places_bound scope xs >>= λ ns. Ok (n ∷ ns)
+places_bound scope (t.tree_and x xs) = plain_place (plain_column (find scope) x) >>= λ n. places_bound scope xs >>= λ ns. Ok (n ∷ ns)
 
 abbrev pub sorts_bound : Scope → t.SortList → Checked (List SortCol)
 sorts_bound scope t.no_sorts = Ok []
-sorts_bound scope (t.sort_and (t.sort_of x desc) xs) = plain_place scope x >>= λ n. sorts_bound scope xs >>= λ sorts. Ok (record { col = n; desc = desc } ∷ sorts)
+sorts_bound scope (t.sort_and (t.sort_of x desc) xs) = plain_place (plain_column (find scope) x) >>= λ n. sorts_bound scope xs >>= λ sorts. Ok (record { col = n; desc = desc } ∷ sorts)
 
 -- a list with a rank, over the columns of the sources
 pub record RankedList : Type 0 where
@@ -344,10 +338,11 @@ rank_bound scope = column (length scope) rank_column
 abbrev pub items_bound : Scope → t.Items → Checked (List Bound)
 items_bound scope items = in_turn (plain_listed scope) 0 (entries scope items)
 
--- PARTITION BY and ORDER BY are walked at the rank's place in the list
+-- PARTITION BY and ORDER BY are walked at the rank's place in the list, as operands are, and then have to be plain columns
 abbrev pub ranked_list : Ranked → Relation → Checked RankedList
 ranked_list q x =
     items_bound x.scope q.ahead >>= λ xs.
+    window_bound (names x.scope) 0 (t.some_over (t.over_of q.partition q.order)) >>= λ walked.
     places_bound x.scope q.partition >>= λ partition.
     sorts_bound x.scope q.order >>= λ order.
     items_bound x.scope q.behind >>= λ ys.
@@ -391,14 +386,14 @@ pub record Framed : Type 0 where
   pub relation : Relation
   pub spent : Option ℕ
 
-abbrev pub bounded : Bool → t.Select → Alone → Option Top → Checked Framed
-bounded free outer x None = unbounded free x.list >>= λ y. Ok (record { relation = renamed x.alias y; spent = None })
-bounded free outer x (Some top) =
-    Ok (record { relation = renamed x.alias (first_ranked top.bound (is_kept x.alias x.list.list outer top.conjunct) x.list); spent = Some top.conjunct })
+abbrev pub bounded : Bool → List TableDef → t.Select → Alone → Option Top → Checked Framed
+bounded free sources outer x None = unbounded free x.list >>= λ y. Ok (record { relation = renamed x.alias y; spent = None })
+bounded free sources outer x (Some top) =
+    Ok (record { relation = renamed x.alias (first_ranked top.bound (is_kept sources x.alias x.list.list outer top.conjunct) x.list); spent = Some top.conjunct })
 
-abbrev pub framed : Bool → t.Select → Read → Checked Framed
-framed free outer (Joined x) = Ok (record { relation = x; spent = None })
-framed free outer (Only x) = bounded free outer x (top_of x.alias x.list.input.scope x.list.list (select_conjuncts outer))
+abbrev pub framed : Bool → List TableDef → t.Select → Read → Checked Framed
+framed free sources outer (Joined x) = Ok (record { relation = x; spent = None })
+framed free sources outer (Only x) = bounded free sources outer x (top_of x.alias x.list.input.scope x.list.list (select_conjuncts outer))
 
 -- FROM with the conjuncts of WHERE that are left
 pub record FromWhere : Type 0 where
@@ -457,7 +452,7 @@ module _ (free : Bool) (sources : List TableDef) where
     -- FROM and WHERE of a select
     pub gathered_bound : Outside → t.Select → Checked FromWhere
     gathered_bound outside (t.select_of distinct items from joins condition groups having) =
-        read_by joins (alone_bound from) (source_bound from >>= joins_bound joins) >>= framed free (t.select_of distinct items from joins condition groups having) >>= λ f.
+        read_by joins (alone_bound from) (source_bound from >>= joins_bound joins) >>= framed free sources (t.select_of distinct items from joins condition groups having) >>= λ f.
         where_bound f.spent outside f.relation.scope condition >>= λ ps. Ok (record { relation = f.relation; parts = ps })
 
     -- a query of one select, which has a rank

@@ -29,6 +29,7 @@ use Rattle.query_answer.specs.Names.{Scope, Lookup, find, find_linked, named, co
 use Rattle.query_answer.specs.Outside.{looks_outside}
 use Rattle.query_answer.specs.Ranks.{Ranked, Top, ranked_select, places, sorts, top_from, with_rank, without, is_looked_at, reads_rank}
 use Rattle.query_answer.specs.Shapes.{shape, place_of, column_shape}
+use Rattle.query_answer.specs.SourceColumns.{item_name}
 use Rattle.query_answer.specs.Stands.{Leaf, stands, or_else}
 use Rattle.query_answer.specs.Table.{Typed, nothing, compare, conjunction}
 
@@ -206,16 +207,6 @@ abbrev pub or_no_source : List Entry → List Entry
 or_no_source [] = record { listed = NoSource; name = None } ∷ []
 or_no_source (e ∷ es) = e ∷ es
 
--- a plain column gives its name
-abbrev pub plain_name : Tree → Option Text
-plain_name (t.Name of name quoted) = Some name
-plain_name (t.Paren x) = plain_name x
-plain_name _ = None
-
-abbrev pub item_name : Tree → Option Text → Option Text
-item_name x None = plain_name x
-item_name x (Some name) = Some name
-
 abbrev pub entries_of : Scope → t.Item → List Entry
 entries_of scope t.All = placed_from 0 scope
 entries_of scope (t.AllOf source) = or_no_source (placed_of source 0 scope)
@@ -378,9 +369,9 @@ abbrev pub top_of : Option Text → Scope → Ranked → List Tree → Option To
 top_of alias scope q cs = top_from 0 (find (ranked_names alias scope q)) (length (entries scope q.ahead)) cs
 
 -- the rank is kept where the select outside looks at it besides its bound
-abbrev pub is_kept : Option Text → Ranked → t.Select → ℕ → Bool
-is_kept alias q (t.select_of distinct items from joins condition groups having) conjunct =
-    is_looked_at (reads_rank alias q.name) items (without conjunct (conjuncts_if condition)) groups having
+abbrev pub is_kept : List TableDef → Option Text → Ranked → t.Select → ℕ → Bool
+is_kept tables alias q (t.select_of distinct items from joins condition groups having) conjunct =
+    is_looked_at tables (reads_rank alias q.name) items (without conjunct (conjuncts_if condition)) groups having
 
 -- a query with a rank as the only source: its alias, its list, and the rows that its FROM and its WHERE give
 pub record Alone : Type 0 where
@@ -408,16 +399,16 @@ alone_of alias None f = None
 alone_of alias (Some q) f = Some (record { alias = alias; list = q; reach = filtered f.parts f.reach })
 
 -- the rank's bound is done with where the first rows are read; a rank without a bound isn't accepted
-abbrev pub bounded : Alone → t.Select → Option Top → List Part → FromWhere
-bounded x outer None ps = record { reach = no_reach; parts = ps }
-bounded x outer (Some top) ps = record { reach = renamed x.alias (first_ranked x.list top.bound (is_kept x.alias x.list outer top.conjunct) x.reach); parts = without top.conjunct ps }
+abbrev pub bounded : List TableDef → Alone → t.Select → Option Top → List Part → FromWhere
+bounded tables x outer None ps = record { reach = no_reach; parts = ps }
+bounded tables x outer (Some top) ps = record { reach = renamed x.alias (first_ranked x.list top.bound (is_kept tables x.alias x.list outer top.conjunct) x.reach); parts = without top.conjunct ps }
 
 abbrev pub select_conjuncts : t.Select → List Tree
 select_conjuncts (t.select_of distinct items from joins condition groups having) = conjuncts_if condition
 
-abbrev pub from_where : t.Select → Read → List Part → FromWhere
-from_where outer (Joined r) ps = record { reach = r; parts = ps }
-from_where outer (Only x) ps = bounded x outer (top_of x.alias x.reach.scope x.list (select_conjuncts outer)) ps
+abbrev pub from_where : List TableDef → t.Select → Read → List Part → FromWhere
+from_where tables outer (Joined r) ps = record { reach = r; parts = ps }
+from_where tables outer (Only x) ps = bounded tables x outer (top_of x.alias x.reach.scope x.list (select_conjuncts outer)) ps
 
 -- the list of a select over the rows that FROM and WHERE give
 abbrev pub select_over : t.Select → FromWhere → Reach
@@ -441,7 +432,7 @@ module _ (tables : List TableRows) where
     -- what FROM and WHERE of a select give
     pub gathered : t.Select → FromWhere
     gathered (t.select_of distinct items from joins condition groups having) =
-        from_where (t.select_of distinct items from joins condition groups having) (read_by joins (alone_in from) (from_joins (answer_source from) joins)) (where_parts condition)
+        from_where (map (λ x. x.table) tables) (t.select_of distinct items from joins condition groups having) (read_by joins (alone_in from) (from_joins (answer_source from) joins)) (where_parts condition)
 
     -- a query of one select, which has a rank
     pub alone_in : t.Source → Option Alone

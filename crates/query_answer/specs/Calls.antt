@@ -79,7 +79,7 @@ abbrev mutual
   calls (t.Truth truth) = []
   calls t.Null = []
   calls (t.Name of name quoted) = []
-  calls (t.Call name args filter over) = call_or (call_at (t.Call name args filter over)) (args_calls args ++ optional_calls filter)
+  calls (t.Call name args filter over) = call_or (call_at (t.Call name args filter over)) (args_calls args ++ (optional_calls filter ++ window_calls over))
   calls (t.Cast x ty) = calls x
   calls (t.Paren x) = calls x
   calls (t.Sub q) = []
@@ -109,6 +109,15 @@ abbrev mutual
   args_calls t.Empty = []
   args_calls t.Star = []
   args_calls (t.Values distinct xs) = all_calls xs
+
+  -- PARTITION BY, then ORDER BY
+  pub window_calls : t.OptionalOver → List Call
+  window_calls t.no_over = []
+  window_calls (t.some_over (t.over_of partition order)) = all_calls partition ++ sort_calls order
+
+  pub sort_calls : t.SortList → List Call
+  sort_calls t.no_sorts = []
+  sort_calls (t.sort_and (t.sort_of x desc) xs) = calls x ++ sort_calls xs
 
 abbrev pub with_tree : Option Tree → List Tree → List Tree
 with_tree None xs = xs

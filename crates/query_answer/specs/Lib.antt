@@ -10,5 +10,6 @@ pub mod Names
 pub mod Outside
 pub mod Ranks
 pub mod Shapes
+pub mod SourceColumns
 pub mod Stands
 pub mod Table

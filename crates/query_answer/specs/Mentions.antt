@@ -1,22 +1,14 @@
--- Whether a name that passes a test is written somewhere in a tree, also in a query within it.
-use Rattle.std.specs.Prelude.{Bool, false, ◌||◌, List, Option}
+-- Whether a name that passes a test is written in a tree, and whether a conjunct names it. What a query names is its own, but for the
+-- WHERE of an EXISTS.
+use Rattle.std.specs.Prelude.{Bool, false, not, ◌&&◌, ◌||◌, List, Option}
 use Rattle.std.specs.List.{list_any}
+use Rattle.ct_catalog.specs.declared.table.TableDef.{TableDef}
 use Rattle.sql_syntax.specs.Tree.{Tree, Text}
 use Rattle.sql_syntax.specs.Tree as t
+use Rattle.query_answer.specs.SourceColumns.{of_source, sources_have}
 
 module _ (test : Option Text → Text → Bool) where
   abbrev mutual
-    pub in_query : t.Query → Bool
-    in_query (t.query_of xs order limit) = in_selects xs || in_sorts order
-
-    pub in_selects : t.Selects → Bool
-    in_selects t.no_selects = false
-    in_selects (t.select_and x xs) = in_select x || in_selects xs
-
-    pub in_select : t.Select → Bool
-    in_select (t.select_of distinct items from joins condition groups having) =
-        in_items items || (in_source from || (in_joins joins || (in_optional condition || (in_trees groups || in_optional having))))
-
     pub in_items : t.Items → Bool
     in_items t.no_items = false
     in_items (t.item_and x xs) = in_item x || in_items xs
@@ -26,27 +18,16 @@ module _ (test : Option Text → Text → Bool) where
     in_item (t.AllOf source) = false
     in_item (t.One x name) = in_tree x
 
-    pub in_source : t.Source → Bool
-    in_source (t.Table name alias) = false
-    in_source (t.FromQuery q alias) = in_query q
-
-    pub in_joins : t.JoinItems → Bool
-    in_joins t.no_joins = false
-    in_joins (t.join_and j js) = in_join j || in_joins js
-
-    pub in_join : t.JoinItem → Bool
-    in_join (t.join_of word source on) = in_source source || in_tree on
-
     pub in_tree : Tree → Bool
     in_tree (t.Or xs) = in_trees xs
     in_tree (t.And xs) = in_trees xs
     in_tree (t.Not x) = in_tree x
-    in_tree (t.Exists q) = in_query q
+    in_tree (t.Exists q) = false
     in_tree (t.Compare op x y) = in_tree x || in_tree y
     in_tree (t.IsNull x negated) = in_tree x
     in_tree (t.Between x low high negated) = in_tree x || (in_tree low || in_tree high)
     in_tree (t.InList x xs negated) = in_tree x || in_trees xs
-    in_tree (t.InQuery x q negated) = in_tree x || in_query q
+    in_tree (t.InQuery x q negated) = in_tree x
     in_tree (t.Like x y negated) = in_tree x || in_tree y
     in_tree (t.Sum x xs) = in_tree x || in_sum xs
     in_tree (t.Product x xs) = in_tree x || in_product xs
@@ -59,7 +40,7 @@ module _ (test : Option Text → Text → Bool) where
     in_tree (t.Call name args filter over) = in_args args || (in_optional filter || in_optional_over over)
     in_tree (t.Cast x ty) = in_tree x
     in_tree (t.Paren x) = in_tree x
-    in_tree (t.Sub q) = in_query q
+    in_tree (t.Sub q) = false
     in_tree (t.Case whens otherwise) = in_whens whens || in_optional otherwise
 
     pub in_trees : t.Trees → Bool
@@ -95,6 +76,21 @@ module _ (test : Option Text → Text → Bool) where
     in_sorts t.no_sorts = false
     in_sorts (t.sort_and (t.sort_of x desc) xs) = in_tree x || in_sorts xs
 
-  -- in one of these trees
-  abbrev pub in_list : List Tree → Bool
-  in_list xs = list_any in_tree xs
+-- such a name, where the sources of this FROM have no column of it
+abbrev pub unless_own : List TableDef → t.Source → t.JoinItems → (Option Text → Text → Bool) → Option Text → Text → Bool
+unless_own tables from joins test of name = not (sources_have tables (of_source of) name from joins) && test of name
+
+-- in the WHERE of an EXISTS's subquery, which has one select
+abbrev pub in_exists : List TableDef → (Option Text → Text → Bool) → t.Query → Bool
+in_exists tables test (t.query_of (t.select_and (t.select_of distinct items from joins condition groups having) t.no_selects) order limit) = in_optional (unless_own tables from joins test) condition
+in_exists tables test _ = false
+
+abbrev pub in_conjunct : List TableDef → (Option Text → Text → Bool) → Tree → Bool
+in_conjunct tables test (t.Exists q) = in_exists tables test q
+in_conjunct tables test (t.Not x) = in_conjunct tables test x
+in_conjunct tables test (t.Paren x) = in_conjunct tables test x
+in_conjunct tables test x = in_tree test x
+
+-- in one of these conjuncts
+abbrev pub in_conjuncts : List TableDef → (Option Text → Text → Bool) → List Tree → Bool
+in_conjuncts tables test xs = list_any (in_conjunct tables test) xs

@@ -5,6 +5,7 @@ use Rattle.ct_value.specs.declared.ty.Ty.{Ty}
 use Rattle.ct_value.specs.declared.ty.Ty.TheVariants.{Int}
 use Rattle.ct_value.specs.declared.value.CompareOp.{CompareOp}
 use Rattle.ct_value.specs.declared.value.CompareOp.TheVariants.{Eq, Lt, Le}
+use Rattle.ct_catalog.specs.declared.table.TableDef.{TableDef}
 use Rattle.rel_algebra.specs.declared.sort.SortCol.{SortCol}
 use Rattle.rel_algebra.specs.Types.{largest_bound}
 use Rattle.sql_syntax.specs.Tree.{Tree, Text}
@@ -17,7 +18,7 @@ use Rattle.query_answer.specs.Forms.{is_simple}
 use Rattle.query_answer.specs.Functions.{function_of}
 use Rattle.query_answer.specs.Joins.{plain_column}
 use Rattle.query_answer.specs.Literals.{number_of}
-use Rattle.query_answer.specs.Mentions.{in_items, in_list, in_optional, in_trees}
+use Rattle.query_answer.specs.Mentions.{in_conjuncts, in_items, in_optional, in_trees}
 use Rattle.query_answer.specs.Names.{Lookup, is_called}
 use Rattle.query_answer.specs.Shapes.{has_over}
 
@@ -180,5 +181,5 @@ reads_rank alias rank None name = bytes_eq rank name
 reads_rank alias rank (Some source) name = is_called source alias && bytes_eq rank name
 
 -- the select outside lists a star, or has such a name, with these conjuncts besides the bound
-abbrev pub is_looked_at : (Option Text → Text → Bool) → t.Items → List Tree → t.Trees → t.OptionalTree → Bool
-is_looked_at test items others groups having = has_star items || (in_items test items || (in_list test others || (in_trees test groups || in_optional test having)))
+abbrev pub is_looked_at : List TableDef → (Option Text → Text → Bool) → t.Items → List Tree → t.Trees → t.OptionalTree → Bool
+is_looked_at tables test items others groups having = has_star items || (in_items test items || (in_conjuncts tables test others || (in_trees test groups || in_optional test having)))

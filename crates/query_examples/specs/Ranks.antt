@@ -32,9 +32,10 @@ trees =
     -- the first bound counts, and a second one is a condition as any other
     (codes "SELECT x FROM (SELECT *, ROW_NUMBER() OVER (ORDER BY a) AS n FROM u) WHERE n <= 3 AND n < 2", Project (Filter (rank (Scan 1) [] (by 0 false ∷ []) 3 true) (Compare Lt (Column 2 BigInt) (int 2))) (Column 1 Texts ∷ [])) ∷
     (codes "SELECT x FROM (SELECT *, ROW_NUMBER() OVER (ORDER BY a) AS n FROM u) WHERE n <= 0 AND n <= 10000 AND 5 > n", Project (Filter (rank (Scan 1) [] (by 0 false ∷ []) 10000 true) (And (exprs (Compare Le (Column 2 BigInt) (int 0) ∷ Compare Gt (int 5) (Column 2 BigInt) ∷ [])))) (Column 1 Texts ∷ [])) ∷
-    -- a name within a subquery looks at it, also one that the subquery's own column hides
+    -- a name in the WHERE of an EXISTS looks at it, unless a column there has the name
     (codes "SELECT x FROM (SELECT *, ROW_NUMBER() OVER (ORDER BY a) AS n FROM u) AS q WHERE n <= 3 AND EXISTS (SELECT 1 FROM t WHERE b = q.n)", Project (Semi (rank (Scan 1) [] (by 0 false ∷ []) 3 true) (Scan 0) false (pair 2 1 ∷ []) None) (Column 1 Texts ∷ [])) ∷
-    (codes "SELECT x FROM (SELECT *, ROW_NUMBER() OVER (ORDER BY a) AS b FROM u) WHERE b <= 3 AND EXISTS (SELECT 1 FROM t WHERE b = 1)", Project (Semi (rank (Scan 1) [] (by 0 false ∷ []) 3 true) (Filter (Scan 0) (Compare Eq b (int 1))) false [] None) (Column 1 Texts ∷ [])) ∷
+    (codes "SELECT x FROM (SELECT *, ROW_NUMBER() OVER (ORDER BY a) AS b FROM u) WHERE b <= 3 AND EXISTS (SELECT 1 FROM t WHERE b = 1)", Project (Semi (rank (Scan 1) [] (by 0 false ∷ []) 3 false) (Filter (Scan 0) (Compare Eq b (int 1))) false [] None) (Column 1 Texts ∷ [])) ∷
+    (codes "SELECT x FROM (SELECT *, ROW_NUMBER() OVER (ORDER BY a) AS b FROM u) WHERE b <= 3 AND 3 IN (SELECT b FROM t)", Project (Semi (rank (Scan 1) [] (by 0 false ∷ []) 3 false) (Project (Scan 0) (b ∷ [])) false [] (Some (Compare Eq (int 3) (Column 2 Int)))) (Column 1 Texts ∷ [])) ∷
     (codes "SELECT x FROM (SELECT *, ROW_NUMBER() OVER (ORDER BY a) AS n FROM u) AS q WHERE n <= 3 AND EXISTS (SELECT 1 FROM t WHERE t.b = 1)", Project (Semi (rank (Scan 1) [] (by 0 false ∷ []) 3 false) (Filter (Scan 0) (Compare Eq b (int 1))) false [] None) (Column 1 Texts ∷ [])) ∷ []
 
 abbrev pub rows : List Answered
@@ -88,11 +89,13 @@ refused =
     (codes "SELECT COUNT(*) OVER (ORDER BY a) AS n FROM t", Unsupported) ∷
     (codes "SELECT a FROM t WHERE ROW_NUMBER() OVER (ORDER BY a) <= 2", Unsupported) ∷
     (codes "SELECT a FROM (SELECT a, ROW_NUMBER() OVER (ORDER BY a) AS rn FROM t LIMIT 3) WHERE rn <= 2", RankUnbounded) ∷
-    -- S18, S4 and S5: PARTITION BY and ORDER BY take plain columns, and are walked at the rank's place
+    -- S18, S4 and S5: PARTITION BY and ORDER BY are walked at the rank's place, and take plain columns
     (codes "SELECT ROW_NUMBER() OVER (ORDER BY a + 1) AS rn, RAND() FROM t", Unsupported) ∷
     (codes "SELECT nosuch, ROW_NUMBER() OVER (ORDER BY a + 1) AS rn FROM t", UnknownColumn) ∷
     (codes "SELECT ROW_NUMBER() OVER (PARTITION BY nosuch ORDER BY a + 1) AS rn FROM t", UnknownColumn) ∷
-    (codes "SELECT ROW_NUMBER() OVER (PARTITION BY a, 1 ORDER BY nosuch) AS rn FROM t", Unsupported) ∷
+    (codes "SELECT ROW_NUMBER() OVER (PARTITION BY a, 1 ORDER BY nosuch) AS rn FROM t", UnknownColumn) ∷
+    (codes "SELECT ROW_NUMBER() OVER (ORDER BY nosuch) FROM t", UnknownColumn) ∷
+    (codes "SELECT a, ROW_NUMBER() OVER (ORDER BY SUM(b)) FROM t", NotGrouped) ∷
     (codes "SELECT ROW_NUMBER() OVER (ORDER BY b, (u.b)) AS rn FROM t JOIN u ON TRUE", UnknownColumn) ∷
     (codes "SELECT ROW_NUMBER() OVER (ORDER BY a) AS rn FROM t JOIN u ON TRUE", AmbiguousColumn) ∷
     (codes "SELECT ROW_NUMBER() OVER (ORDER BY NOW) AS rn FROM t", Nondeterministic) ∷

@@ -11,7 +11,7 @@ use Rattle.sql_syntax.specs.Tree.{Tree}
 use Rattle.sql_syntax.specs.Tree as t
 use Rattle.query_answer.specs.declared.function.Function.{Function}
 use Rattle.query_answer.specs.declared.function.Function.TheVariants.{Aggregate, Coalesce, NullIf, CharLength, RowNumber, Changing, Unknown}
-use Rattle.query_answer.specs.Calls.{Call, calls, all_calls, sum_calls, product_calls, when_calls, optional_calls, args_calls, aggregate_of, call_of, call_at, call_or}
+use Rattle.query_answer.specs.Calls.{Call, calls, all_calls, sum_calls, product_calls, when_calls, optional_calls, args_calls, window_calls, aggregate_of, call_of, call_at, call_or}
 use Rattle.query_answer.specs.Functions.{function_of}
 use Rattle.query_answer.specs.Literals.{number_of, is_null, is_short}
 use Rattle.query_answer.specs.Stands.{stands, all_stand, sum_stands, product_stands, whens_stand, otherwise_stands, args_stand, applied}
@@ -19,7 +19,7 @@ use Rattle.query_answer.specs.Stands as s
 use Rattle.query_answer.specs.Table.{Typed}
 use Rattle.query_answer.specs.Table as tab
 use Rattle.binding.specs.Checked.{Checked, ◌>>=◌}
-use Rattle.binding.specs.Expressions.{Leaf, or_else, unless_null, is_long, sum_length, product_length, form_of, bound, all_bound, sum_bound, product_bound, whens_bound, otherwise_bound, optional_bound, args_bound}
+use Rattle.binding.specs.Expressions.{Leaf, or_else, unless_null, is_long, sum_length, product_length, form_of, bound, all_bound, sum_bound, product_bound, whens_bound, otherwise_bound, optional_bound, window_bound, args_bound}
 use Rattle.binding.specs.Nodes.{Bound, CallForm}
 use Rattle.binding.specs.Nodes as node_of
 use Rattle.query_laws.proofs.Nodes as k
@@ -82,11 +82,11 @@ module _ (cols : List ColTy) (R : Row → Row → Type 0) (leaf : s.Leaf) (b : L
       go false = bind r _ (λ y. Is y z) _ h (λ y p. p)
 
   abbrev CallRight : ℕ → ℕ → Function → t.Args → t.OptionalTree → t.OptionalOver → Type 0
-  CallRight n m f args filter over = IfOk (args_bound b n args >>= λ xs. optional_bound b m filter >>= λ c. node_of.call f (form_of args filter over) xs) (λ y. Is y (applied f (args_stand leaf args)))
+  CallRight n m f args filter over = IfOk (args_bound b n args >>= λ xs. optional_bound b m filter >>= λ c. window_bound b (m + length (optional_calls filter)) over >>= λ ys. node_of.call f (form_of args filter over) xs) (λ y. Is y (applied f (args_stand leaf args)))
 
   plain_call : (n m : ℕ) (f : Function) (args : t.Args) (filter : t.OptionalTree) (over : t.OptionalOver) → IfOk (args_bound b n args) (λ xs. AllAre xs (args_stand leaf args)) → CallRight n m f args filter over
   plain_call n m f args filter over h =
-      bind (args_bound b n args) _ (λ xs. AllAre xs (args_stand leaf args)) _ h (λ xs p. then (optional_bound b m filter) _ _ (λ o i. k.call_is cols R f (form_of args filter over) xs (args_stand leaf args) p))
+      bind (args_bound b n args) _ (λ xs. AllAre xs (args_stand leaf args)) _ h (λ xs p. then (optional_bound b m filter) _ _ (λ o i. then (window_bound b (m + length (optional_calls filter)) over) _ _ (λ ys j. k.call_is cols R f (form_of args filter over) xs (args_stand leaf args) p)))
 
   -- of the operands of an aggregate nothing is asked, as it is refused
   call_node : (n m : ℕ) (f : Function) (args : t.Args) (filter : t.OptionalTree) (over : t.OptionalOver) (others : List Call)
@@ -94,7 +94,7 @@ module _ (cols : List ColTy) (R : Row → Row → Type 0) (leaf : s.Leaf) (b : L
       → (Known n (args_calls args) → IfOk (args_bound b n args) (λ xs. AllAre xs (args_stand leaf args)))
       → CallRight n m f args filter over
   call_node n m (Aggregate c) args filter over others h ih =
-      then (args_bound b n args) _ _ (λ xs e. then (optional_bound b m filter) _ _ (λ o i. k.aggregate_is_refused cols R c (form_of args filter over) xs (λ y. Is y (applied (Aggregate c) (args_stand leaf args)))))
+      then (args_bound b n args) _ _ (λ xs e. then (optional_bound b m filter) _ _ (λ o i. then (window_bound b (m + length (optional_calls filter)) over) _ _ (λ ys j. k.aggregate_is_refused cols R c (form_of args filter over) xs (λ y. Is y (applied (Aggregate c) (args_stand leaf args))))))
   call_node n m Coalesce args filter over others h ih = plain_call n m Coalesce args filter over (ih (front n (args_calls args) others h))
   call_node n m NullIf args filter over others h ih = plain_call n m NullIf args filter over (ih (front n (args_calls args) others h))
   call_node n m CharLength args filter over others h ih = plain_call n m CharLength args filter over (ih (front n (args_calls args) others h))
@@ -162,8 +162,8 @@ module _ (cols : List ColTy) (R : Row → Row → Type 0) (leaf : s.Leaf) (b : L
     bound_means h t.Null n f = node (b n t.Null) _ _ _ (h n t.Null (no_call n)) tt
     bound_means h (t.Name of name quoted) n f = node (b n (t.Name of name quoted)) _ _ _ (h n (t.Name of name quoted) (no_call n)) tt
     bound_means h (t.Call name args filter over) n f =
-        node (b n (t.Call name args filter over)) _ _ _ (h n (t.Call name args filter over) (the_call n (call_at (t.Call name args filter over)) (args_calls args ++ optional_calls filter) f))
-        (call_node n (n + length (args_calls args)) (function_of name) args filter over (optional_calls filter) f (args_mean h args n))
+        node (b n (t.Call name args filter over)) _ _ _ (h n (t.Call name args filter over) (the_call n (call_at (t.Call name args filter over)) (args_calls args ++ (optional_calls filter ++ window_calls over)) f))
+        (call_node n (n + length (args_calls args)) (function_of name) args filter over (optional_calls filter ++ window_calls over) f (args_mean h args n))
     bound_means h (t.Cast x ty) n f =
         node (b n (t.Cast x ty)) _ _ _ (h n (t.Cast x ty) (no_call n))
         (bind (unless_null x (bound b n x)) _ (λ o. MayBe o (s.unless_null x (stands leaf x))) _ (not_null x (bound b n x) (stands leaf x) (bound_means h x n f)) (λ o p.

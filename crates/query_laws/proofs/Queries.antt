@@ -295,30 +295,30 @@ module _ (tables : List TableRows) (fit : HaveWidths (tables_of tables)) where
 
   -- the columns in reach, with what is spent of the conjuncts
   pub record FrameIs (outer : t.Select) (w : a.Read) (f : b.Framed) : Type 0 where
-    pub reach_is : (ps : List a.Part) → R f.relation ≡ (a.from_where outer w ps).reach
+    pub reach_is : (ps : List a.Part) → R f.relation ≡ (a.from_where D outer w ps).reach
     pub fine : FineAt T f.relation
-    pub parts_are : (ps : List a.Part) → left_of f.spent ps ≡ (a.from_where outer w ps).parts
+    pub parts_are : (ps : List a.Part) → left_of f.spent ps ≡ (a.from_where D outer w ps).parts
     pub there : (n : ℕ) → f.spent ≡ Some n → n < length (a.select_conjuncts outer)
 
   abbrev BoundedIs : t.Select → a.Alone → Option Top → b.Framed → Type 0
   BoundedIs outer w o f =
-      ((ps : List a.Part) → R f.relation ≡ (a.bounded w outer o ps).reach) × FineAt T f.relation × ((ps : List a.Part) → left_of f.spent ps ≡ (a.bounded w outer o ps).parts) × ((n : ℕ) → f.spent ≡ Some n → n < length (a.select_conjuncts outer))
+      ((ps : List a.Part) → R f.relation ≡ (a.bounded D w outer o ps).reach) × FineAt T f.relation × ((ps : List a.Part) → left_of f.spent ps ≡ (a.bounded D w outer o ps).parts) × ((n : ℕ) → f.spent ≡ Some n → n < length (a.select_conjuncts outer))
 
-  bounded_right : (outer : t.Select) (y : b.Alone) (w : a.Alone) → AloneIs y w → (o : Option Top) → TopFits 0 (a.select_conjuncts outer) o → IfOk (b.bounded false outer y o) (BoundedIs outer w o)
+  bounded_right : (outer : t.Select) (y : b.Alone) (w : a.Alone) → AloneIs y w → (o : Option Top) → TopFits 0 (a.select_conjuncts outer) o → IfOk (b.bounded false D outer y o) (BoundedIs outer w o)
   bounded_right outer y w h None l = tt
   bounded_right outer y w h (Some top) l =
-      let kept = a.is_kept y.alias y.list.list outer top.conjunct in
+      let kept = a.is_kept D y.alias y.list.list outer top.conjunct in
       let p = first_right T h.query h.over y.list top.bound kept h.list_is h.fine l.0 in
       let x = b.first_ranked top.bound kept y.list in
       let q = renamed_right y.alias x (a.first_ranked y.list.list top.bound kept (R y.list.input)) p in
       let lists : y.list.list ≡ w.list = h.list_is.list_is ∙ h.ranked_is in (
-        λ ps. q.0 ∙ (λ i. a.renamed (h.alias_is i) (a.first_ranked (lists i) top.bound (a.is_kept (h.alias_is i) (lists i) outer top.conjunct) (h.reach_is i))),
+        λ ps. q.0 ∙ (λ i. a.renamed (h.alias_is i) (a.first_ranked (lists i) top.bound (a.is_kept D (h.alias_is i) (lists i) outer top.conjunct) (h.reach_is i))),
         q.1,
         λ ps. refl,
         λ n e. let j : top.conjunct ≡ n = some_is top.conjunct n e in subst (λ m. m < length (a.select_conjuncts outer)) j (let k : top.conjunct < 0 + length (a.select_conjuncts outer) = l.2 in omega arith),
       )
 
-  frame_right : (outer : t.Select) (y : b.Read) (w : a.Read) → ReadIs y w → IfOk (b.framed false outer y) (FrameIs outer w)
+  frame_right : (outer : t.Select) (y : b.Read) (w : a.Read) → ReadIs y w → IfOk (b.framed false D outer y) (FrameIs outer w)
   frame_right outer (b.Joined x) (a.Joined w) h = record { reach_is = λ ps. h.0; fine = h.1; parts_are = λ ps. refl; there = λ n e. absurd (cc) }
   frame_right outer (b.Joined x) (a.Only w) h = absurd h
   frame_right outer (b.Only y) (a.Joined w) h = absurd h
@@ -327,12 +327,12 @@ module _ (tables : List TableRows) (fit : HaveWidths (tables_of tables)) where
       let lists : y.list.list ≡ w.list = h.list_is.list_is ∙ h.ranked_is in
       let top = a.top_of y.alias y.list.input.scope y.list.list cs in
       let same : top ≡ a.top_of w.alias w.reach.scope w.list cs = (λ i. a.top_of (h.alias_is i) (h.reach_is i).scope (lists i) cs) in
-      weaker (b.framed false outer (b.Only y)) (BoundedIs outer w top) (FrameIs outer (a.Only w))
+      weaker (b.framed false D outer (b.Only y)) (BoundedIs outer w top) (FrameIs outer (a.Only w))
       (bounded_right outer y w h top (top_fits 0 (find (a.ranked_names y.alias y.list.input.scope y.list.list)) (length (entries y.list.input.scope y.list.list.ahead)) cs))
       (λ f k. record {
-        reach_is = λ ps. k.0 ps ∙ (λ i. (a.bounded w outer (same i) ps).reach);
+        reach_is = λ ps. k.0 ps ∙ (λ i. (a.bounded D w outer (same i) ps).reach);
         fine = k.1;
-        parts_are = λ ps. k.2 ps ∙ (λ i. (a.bounded w outer (same i) ps).parts);
+        parts_are = λ ps. k.2 ps ∙ (λ i. (a.bounded D w outer (same i) ps).parts);
         there = k.3;
       })
 
@@ -414,8 +414,8 @@ module _ (tables : List TableRows) (fit : HaveWidths (tables_of tables)) where
         let joined = a.from_joins tables (a.answer_source tables from) joins in
         let w = a.read_by joins (a.alone_in tables from) joined in
         let C = a.where_parts tables condition in
-        bind (b.read_by joins (b.alone_bound false D from) (source_bound false D from >>= b.joins_bound false D joins) >>= b.framed false outer) _ (FrameIs outer w) _
-        (bind (b.read_by joins (b.alone_bound false D from) (source_bound false D from >>= b.joins_bound false D joins)) (b.framed false outer) (λ y. ReadIs y w) (FrameIs outer w)
+        bind (b.read_by joins (b.alone_bound false D from) (source_bound false D from >>= b.joins_bound false D joins) >>= b.framed false D outer) _ (FrameIs outer w) _
+        (bind (b.read_by joins (b.alone_bound false D from) (source_bound false D from >>= b.joins_bound false D joins)) (b.framed false D outer) (λ y. ReadIs y w) (FrameIs outer w)
         (read_is joins (b.alone_bound false D from) (a.alone_in tables from) (source_bound false D from >>= b.joins_bound false D joins) joined (alone_right from) (sources_right from joins (source_right from) (joins_right joins)))
         (λ y h. frame_right outer y w h))
         (λ f h.

@@ -35,9 +35,9 @@ use Rattle.query_answer.specs.Names.{Scope, Lookup, find, column_at}
 use Rattle.query_answer.specs.Ranks.{Ranked, Top, places, sorts, with_place, with_sort, int_literal, ranks_left, bound_if, bound_by, is_at, bound_of, top_or, top_from, with_rank, without}
 use Rattle.query_answer.specs.Table.{Typed}
 use Rattle.binding.specs.Checked.{or_code}
-use Rattle.binding.specs.Expressions.{column, may_change}
+use Rattle.binding.specs.Expressions.{column, names, window_bound}
 use Rattle.binding.specs.Nodes.{Bound}
-use Rattle.binding.specs.Queries.{Relation, RankedList, plain_listed, projected, found_place, plain_place, places_bound, sorts_bound, items_bound, rank_bound, few, ranked_list}
+use Rattle.binding.specs.Queries.{Relation, RankedList, plain_listed, projected, plain_place, places_bound, sorts_bound, items_bound, rank_bound, few, ranked_list}
 use Rattle.binding.specs.Queries as b
 use Rattle.query_laws.proofs.Bound.{Known}
 use Rattle.query_laws.proofs.Clauses.{Fine}
@@ -80,16 +80,18 @@ ranked_width true columns row rank l = length-append row (Num (pos rank) ∷ [])
 abbrev IsPlain : Scope → Tree → ℕ → Type 0
 IsPlain scope x n = (ty : ColTy) × (plain_column (find scope) x ≡ At n ty) × (is_column (types scope) n ≡ true)
 
-plain_is : (scope : Scope) (x : Tree) → IfOk (plain_place scope x) (IsPlain scope x)
-plain_is scope (t.Name of name quoted) = go (may_change of name quoted) (find scope of name) refl (finds scope of name)
+plain_there : (scope : Scope) (x : Tree) → IsThere (types scope) (plain_column (find scope) x)
+plain_there scope (t.Name of name quoted) = finds scope of name
+plain_there scope (t.Paren x) = plain_there scope x
+plain_there scope _ = tt
+
+plain_is : (scope : Scope) (x : Tree) → IfOk (plain_place (plain_column (find scope) x)) (IsPlain scope x)
+plain_is scope x = go (plain_column (find scope) x) refl (plain_there scope x)
   where
-    go : (changing : Bool) (f : Found) → find scope of name ≡ f → IsThere (types scope) f → IfOk (found_place changing f) (λ n. (ty : ColTy) × (find scope of name ≡ At n ty) × (is_column (types scope) n ≡ true))
-    go true Absent e h = tt
-    go false Absent e h = tt
-    go changing (At n ty) e h = (ty, e, lt-ltb n (length (types scope)) (slice_there (types scope) n ty h))
-    go changing Several e h = tt
-plain_is scope (t.Paren x) = plain_is scope x
-plain_is scope _ = tt
+    go : (f : Found) → plain_column (find scope) x ≡ f → IsThere (types scope) f → IfOk (plain_place f) (IsPlain scope x)
+    go Absent e h = tt
+    go (At n ty) e h = (ty, e, lt-ltb n (length (types scope)) (slice_there (types scope) n ty h))
+    go Several e h = tt
 
 abbrev pub ArePlaces : Scope → t.Trees → List ℕ → Type 0
 ArePlaces scope xs ns = (ns ≡ places (find scope) xs) × (list_all (is_column (types scope)) ns ≡ true)
@@ -97,7 +99,7 @@ ArePlaces scope xs ns = (ns ≡ places (find scope) xs) × (list_all (is_column 
 places_are : (scope : Scope) (xs : t.Trees) → IfOk (places_bound scope xs) (ArePlaces scope xs)
 places_are scope t.no_trees = (refl, refl)
 places_are scope (t.tree_and x xs) =
-    bind (plain_place scope x) _ (IsPlain scope x) _ (plain_is scope x) (λ n p.
+    bind (plain_place (plain_column (find scope) x)) _ (IsPlain scope x) _ (plain_is scope x) (λ n p.
     bind (places_bound scope xs) _ (ArePlaces scope xs) _ (places_are scope xs) (λ ns q.
     (λ i. with_place (sym p.1 i) (q.0 i), λ i. p.2 i && q.1 i)))
 
@@ -107,7 +109,7 @@ AreSorts scope xs ss = (ss ≡ sorts (find scope) xs) × (list_all (λ sort. is_
 sorts_are : (scope : Scope) (xs : t.SortList) → IfOk (sorts_bound scope xs) (AreSorts scope xs)
 sorts_are scope t.no_sorts = (refl, refl)
 sorts_are scope (t.sort_and (t.sort_of x desc) xs) =
-    bind (plain_place scope x) _ (IsPlain scope x) _ (plain_is scope x) (λ n p.
+    bind (plain_place (plain_column (find scope) x)) _ (IsPlain scope x) _ (plain_is scope x) (λ n p.
     bind (sorts_bound scope xs) _ (AreSorts scope xs) _ (sorts_are scope xs) (λ ss q.
     (λ i. with_sort (sym p.1 i) desc (q.0 i), λ i. p.2 i && q.1 i)))
 
@@ -163,11 +165,12 @@ pub record ListIs (q : Ranked) (x : Relation) (y : RankedList) : Type 0 where
 pub list_right : (q : Ranked) (x : Relation) → IfOk (ranked_list q x) (ListIs q x)
 list_right q x =
     bind (items_bound x.scope q.ahead) _ (ItemsAre x.scope q.ahead) _ (items_mean x.scope q.ahead) (λ xs h.
+    then (window_bound (names x.scope) 0 (t.some_over (t.over_of q.partition q.order))) _ (ListIs q x) (λ walked w.
     bind (places_bound x.scope q.partition) _ (ArePlaces x.scope q.partition) _ (places_are x.scope q.partition) (λ ns p.
     bind (sorts_bound x.scope q.order) _ (AreSorts x.scope q.order) _ (sorts_are x.scope q.order) (λ ss s.
     bind (items_bound x.scope q.behind) _ (ItemsAre x.scope q.behind) _ (items_mean x.scope q.behind) (λ ys l.
     then (few (with_rank true xs (rank_bound x.scope) ys)) _ (ListIs q x) (λ all e.
-    record { list_is = refl; input_is = refl; ahead_is = h; partition_is = p; order_is = s; behind_is = l })))))
+    record { list_is = refl; input_is = refl; ahead_is = h; partition_is = p; order_is = s; behind_is = l }))))))
 
 -- with the rank, where it is kept
 module _ (cols : List ColTy) where

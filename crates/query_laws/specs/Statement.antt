@@ -6,7 +6,7 @@ use Rattle.ct_value.specs.declared.ty.ColTy.{ColTy}
 use Rattle.ct_expr.specs.Expr.{Expr}
 use Rattle.rel_algebra.specs.Answer.{Table, answer}
 use Rattle.rel_algebra.specs.Sums.{Each}
-use Rattle.rel_algebra.specs.Rel.{Rel, Rels, Scan, Filter, Project, Union, Group, Join, Semi, Rank, no_rels, rel_and}
+use Rattle.rel_algebra.specs.Rel.{Rel, Rels, Project}
 use Rattle.rel_algebra.specs.Types.{columns_of}
 use Rattle.rel_algebra.specs.Walks.{some_part, some_part_of_any}
 use Rattle.ct_catalog.specs.declared.table.TableDef.{TableDef}

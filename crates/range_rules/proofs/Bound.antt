@@ -11,13 +11,13 @@ use Rattle.query_answer.specs.declared.function.Function.{Function}
 use Rattle.query_answer.specs.declared.scope.Found.{Found}
 use Rattle.query_answer.specs.declared.scope.Found.TheVariants.{Absent, At, Several}
 use Rattle.query_answer.specs.Answer.{conjuncts, all_conjuncts}
-use Rattle.query_answer.specs.Calls.{calls, when_calls, args_calls}
+use Rattle.query_answer.specs.Calls.{calls, when_calls, args_calls, optional_calls}
 use Rattle.query_answer.specs.Functions.{function_of}
 use Rattle.query_answer.specs.Literals.{number_of, is_null, is_short}
 use Rattle.query_answer.specs.Names.{Scope, Lookup, find}
 use Rattle.range_rules.specs.Arithmetic.{is_sum_or_avg, in_tree, in_trees, in_when, in_whens, in_args, in_optional}
 use Rattle.binding.specs.Checked.{Checked, ◌>>=◌}
-use Rattle.binding.specs.Expressions.{Leaf, or_else, unless_null, form_of, bound, all_bound, whens_bound, otherwise_bound, optional_bound, args_bound, may_change, found_column, names, names_by, bound_by, bound_over, each_bound, truths, conditions}
+use Rattle.binding.specs.Expressions.{Leaf, or_else, unless_null, form_of, bound, all_bound, whens_bound, otherwise_bound, optional_bound, window_bound, args_bound, may_change, found_column, names, names_by, bound_by, bound_over, each_bound, truths, conditions}
 use Rattle.binding.specs.Nodes.{Bound, columns}
 use Rattle.binding.specs.Nodes as node_of
 use Rattle.ct_expr.specs.Types.{all_truths}
@@ -56,9 +56,9 @@ not_null x r h = go (is_null x)
 -- what whole nodes are bound to calculates nothing
 module _ (b : Leaf) (leaves : (n : ℕ) (x : Tree) → IfOk (b n x) MayBe) where
   call_node : (n m : ℕ) (f : Function) (args : t.Args) (filter : t.OptionalTree) (over : t.OptionalOver) → IfOk (args_bound b n args) AllTame
-      → IfOk (args_bound b n args >>= λ xs. optional_bound b m filter >>= λ c. node_of.call f (form_of args filter over) xs) Tame
+      → IfOk (args_bound b n args >>= λ xs. optional_bound b m filter >>= λ c. window_bound b (m + length (optional_calls filter)) over >>= λ ys. node_of.call f (form_of args filter over) xs) Tame
   call_node n m f args filter over h =
-      bind (args_bound b n args) _ AllTame _ h (λ xs p. then (optional_bound b m filter) _ _ (λ o. call_tame f (form_of args filter over) xs p))
+      bind (args_bound b n args) _ AllTame _ h (λ xs p. then (optional_bound b m filter) _ _ (λ o. then (window_bound b (m + length (optional_calls filter)) over) _ _ (λ ys. call_tame f (form_of args filter over) xs p)))
 
   mutual
     unfolding in_tree in_trees in_whens in_when in_optional in_args

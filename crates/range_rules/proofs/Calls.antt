@@ -9,9 +9,9 @@ use Rattle.sql_syntax.specs.Tree.{Tree, Text}
 use Rattle.sql_syntax.specs.Tree as t
 use Rattle.query_answer.specs.declared.function.Function.{Function}
 use Rattle.query_answer.specs.declared.function.Function.TheVariants.{Aggregate, Coalesce, NullIf, CharLength, RowNumber, Changing, Unknown}
-use Rattle.query_answer.specs.Calls.{Call, aggregate_of, of_all, of_distinct, optional, first_tree, agg_call, agg_arg, call_of, call_or, calls, all_calls, when_calls, optional_calls, args_calls}
+use Rattle.query_answer.specs.Calls.{Call, aggregate_of, of_all, of_distinct, optional, first_tree, agg_call, agg_arg, call_of, call_or, calls, all_calls, when_calls, optional_calls, args_calls, window_calls, sort_calls}
 use Rattle.query_answer.specs.Functions.{functions, function_in, function_of}
-use Rattle.range_rules.specs.Arithmetic.{is_sum_or_avg, in_tree, in_trees, in_when, in_whens, in_args, in_optional}
+use Rattle.range_rules.specs.Arithmetic.{is_sum_or_avg, in_tree, in_trees, in_when, in_whens, in_args, in_optional, in_optional_over, in_over, in_sorts, in_sort}
 use Rattle.range_rules.specs.Tame.{only_counts}
 use Rattle.binding.specs.Queries.{aggs_from, next}
 use Rattle.range_rules.proofs.Bound.{IsFree}
@@ -118,7 +118,7 @@ node_counts Changing args filter over others h f g k = k
 node_counts Unknown args filter over others h f g k = k
 
 mutual
-  unfolding in_tree in_trees in_whens in_when in_optional in_args
+  unfolding in_tree in_trees in_whens in_when in_optional in_args in_optional_over in_over in_sorts in_sort
 
   pub calls_count : (x : Tree) → IsFree x → AreCounts (calls x)
   calls_count (t.Or xs) f = all_calls_count xs f
@@ -146,8 +146,8 @@ mutual
       let g = neither (is_sum_or_avg name) _ f in
       let k = neither (in_args args) _ g.1 in
       let l = neither (in_optional filter) _ k.1 in
-      node_counts (function_of name) args filter over (args_calls args ++ optional_calls filter) (function_counts name g.0) k.0 l.0
-      (counts_append (args_calls args) (optional_calls filter) (args_count args k.0) (optional_count filter l.0))
+      node_counts (function_of name) args filter over (args_calls args ++ (optional_calls filter ++ window_calls over)) (function_counts name g.0) k.0 l.0
+      (counts_append (args_calls args) (optional_calls filter ++ window_calls over) (args_count args k.0) (counts_append (optional_calls filter) (window_calls over) (optional_count filter l.0) (window_count over l.1)))
   calls_count (t.Cast x ty) f = impossible f
   calls_count (t.Paren x) f = calls_count x f
   calls_count (t.Sub q) f = tt
@@ -174,6 +174,18 @@ mutual
   args_count t.Empty f = tt
   args_count t.Star f = tt
   args_count (t.Values distinct xs) f = all_calls_count xs f
+
+  window_count : (o : t.OptionalOver) → in_optional_over o ≡ false → AreCounts (window_calls o)
+  window_count t.no_over f = tt
+  window_count (t.some_over (t.over_of partition order)) f =
+      let g = neither (in_trees partition) (in_sorts order) f in
+      counts_append (all_calls partition) (sort_calls order) (all_calls_count partition g.0) (sorts_count order g.1)
+
+  sorts_count : (xs : t.SortList) → in_sorts xs ≡ false → AreCounts (sort_calls xs)
+  sorts_count t.no_sorts f = tt
+  sorts_count (t.sort_and (t.sort_of x desc) xs) f =
+      let g = neither (in_tree x) (in_sorts xs) f in
+      counts_append (calls x) (sort_calls xs) (calls_count x g.0) (sorts_count xs g.1)
 
 -- the aggregates of calls
 pub aggs_count : (m n : ℕ) (cs : List Call) → AreCounts cs → list_all (λ agg. only_counts agg.call) (aggs_from m n cs) ≡ true

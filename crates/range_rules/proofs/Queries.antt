@@ -69,11 +69,11 @@ module _ (free : Bool) (sources : List TableDef) where
         let of_joins = neither (in_joins joins) _ of_from.1 in
         let of_condition = neither (in_optional condition) _ of_joins.1 in
         let read = read_by joins (alone_bound free sources from) (source_bound free sources from >>= joins_bound free sources joins) in
-        bind (read >>= framed free outer) _ (λ y. TameRel y.relation) TameFrom
-        (bind read (framed free outer) TameRead (λ y. TameRel y.relation)
+        bind (read >>= framed free sources outer) _ (λ y. TameRel y.relation) TameFrom
+        (bind read (framed free sources outer) TameRead (λ y. TameRel y.relation)
         (read_by_tame joins (alone_bound free sources from) (source_bound free sources from >>= joins_bound free sources joins) (alone_source_tame from of_from.0)
         (sources_tame from joins (source_tame from of_from.0) (λ x h. joins_tame joins x of_joins.0 h)))
-        (λ y h. framed_tame free outer y h))
+        (λ y h. framed_tame free sources outer y h))
         (λ y h.
         bind (where_bound free sources y.spent outside y.relation.scope condition) _ TameParts TameFrom (where_parts_tame y.spent outside y.relation.scope condition of_condition.0) (λ ps w. (h, w)))
 

@@ -26,7 +26,7 @@ use Rattle.query_answer.specs.Shapes.{column_shape, place_of}
 use Rattle.range_rules.specs.Arithmetic.{in_tree, in_trees, in_optional, in_item, in_items, in_select, in_source, in_joins}
 use Rattle.range_rules.specs.Tame.{is_tame, rest_is_tame, is_tame_rel}
 use Rattle.binding.specs.Checked.{Checked, ◌>>=◌, or_code}
-use Rattle.binding.specs.Expressions.{Leaf, bound, bound_by, bound_over, each_bound, conditions, conjuncts_bound, column}
+use Rattle.binding.specs.Expressions.{Leaf, bound, bound_by, bound_over, each_bound, conditions, conjuncts_bound, column, names, window_bound}
 use Rattle.binding.specs.InGroups.{in_group, key_for, has_no_keys, calls_bound, bound_arguments, bound_filters}
 use Rattle.binding.specs.Nodes.{Bound, expr_list, compare}
 use Rattle.binding.specs.Queries.{Relation, Part, Own, Linked, Matched, Outside, own_part, linked_part, plain_part, is_test, tests, owns, rests, all_if, where_all, all_matched, kept, exists_part, own_value, only_column, matched_by, member_part, alone, read, all_of, share_source, rest_bound, on_bound, joined, is_in_place, projected, Lister, in_turn, few, list_bound, plain_listed, plain_select, group_listed, condition, having_bound, filter_if, group_rel, grouped_select, once, selected, RankedList, rank_bound, items_bound, places_bound, sorts_bound, ranked_list, first_ranked, unbounded, Alone, Read, Joined, Only, read_by, Framed, bounded, framed, FromWhere, alone_of, listed_by, select_over, list_inside, exists_over}
@@ -365,11 +365,12 @@ items_tame scope xs f = in_turn_tame (plain_listed scope) (plain_listed_tame sco
 pub ranked_list_tame : (q : Ranked) (x : Relation) → FreeRanked (Some q) → TameRel x → IfOk (ranked_list q x) TameList
 ranked_list_tame q x f h =
     bind (items_bound x.scope q.ahead) _ AllTame TameList (items_tame x.scope q.ahead f.0) (λ xs k.
+    then (window_bound (names x.scope) 0 (t.some_over (t.over_of q.partition q.order))) _ TameList (λ walked.
     then (places_bound x.scope q.partition) _ TameList (λ partition.
     then (sorts_bound x.scope q.order) _ TameList (λ order.
     bind (items_bound x.scope q.behind) _ AllTame TameList (items_tame x.scope q.behind f.1) (λ ys l.
     then (few (with_rank true xs (rank_bound x.scope) ys)) _ TameList (λ all.
-    (k, (l, h)))))))
+    (k, (l, h))))))))
 
 with_rank_tame : (kept : Bool) (xs : List Bound) (x : Bound) (ys : List Bound) → AllTame xs → Tame x → AllTame ys → AllTame (with_rank kept xs x ys)
 with_rank_tame true xs x ys h k l = tame_append xs (x ∷ ys) h (k, l)
@@ -406,13 +407,13 @@ read_by_tame t.no_joins None x h k = bind x _ TameRel TameRead k (λ y l. l)
 read_by_tame t.no_joins (Some o) x h k = bind o _ TameAlone TameRead h (λ y l. l)
 read_by_tame (t.join_and j js) o x h k = bind x _ TameRel TameRead k (λ y l. l)
 
-pub framed_tame : (free : Bool) (outer : t.Select) (y : Read) → TameRead y → IfOk (framed free outer y) TameFramed
-framed_tame free outer (Joined x) h = h
-framed_tame free outer (Only x) h = go (top_of x.alias x.list.input.scope x.list.list (select_conjuncts outer))
+pub framed_tame : (free : Bool) (sources : List TableDef) (outer : t.Select) (y : Read) → TameRead y → IfOk (framed free sources outer y) TameFramed
+framed_tame free sources outer (Joined x) h = h
+framed_tame free sources outer (Only x) h = go (top_of x.alias x.list.input.scope x.list.list (select_conjuncts outer))
   where
-    go : (o : Option Top) → IfOk (bounded free outer x o) TameFramed
+    go : (o : Option Top) → IfOk (bounded free sources outer x o) TameFramed
     go None = bind (unbounded free x.list) _ TameRel TameFramed (unbounded_tame free x.list h) (λ y l. l)
-    go (Some top) = first_tame top.bound (is_kept x.alias x.list.list outer top.conjunct) x.list h
+    go (Some top) = first_tame top.bound (is_kept sources x.alias x.list.list outer top.conjunct) x.list h
 
 pub alone_tame_if : (alias : Option Text) (f : Checked FromWhere) (o : Option Ranked) → FreeRanked o → IfOk f TameFrom → IfTame (option_map (alone_of alias f) o)
 alone_tame_if alias f None h k = tt

@@ -43,13 +43,13 @@ unbounded_again x = inr refl
 ranked_again : (q : Ranked) (x : Relation) → Again (ranked_list q x >>= unbounded true) (ranked_list q x >>= unbounded false)
 ranked_again q x = then (ranked_list q x) (ranked_list q x) (unbounded true) (unbounded false) (same (ranked_list q x)) unbounded_again
 
-bounded_again : (outer : t.Select) (x : Alone) (o : Option Top) → Again (bounded true outer x o) (bounded false outer x o)
-bounded_again outer x None = inr refl
-bounded_again outer x (Some top) = inl refl
+bounded_again : (sources : List TableDef) (outer : t.Select) (x : Alone) (o : Option Top) → Again (bounded true sources outer x o) (bounded false sources outer x o)
+bounded_again sources outer x None = inr refl
+bounded_again sources outer x (Some top) = inl refl
 
-framed_again : (outer : t.Select) (x : Read) → Again (framed true outer x) (framed false outer x)
-framed_again outer (Joined x) = inl refl
-framed_again outer (Only x) = bounded_again outer x (top_of x.alias x.list.input.scope x.list.list (select_conjuncts outer))
+framed_again : (sources : List TableDef) (outer : t.Select) (x : Read) → Again (framed true sources outer x) (framed false sources outer x)
+framed_again sources outer (Joined x) = inl refl
+framed_again sources outer (Only x) = bounded_again sources outer x (top_of x.alias x.list.input.scope x.list.list (select_conjuncts outer))
 
 listed_again : (o : Option Ranked) (select : t.Select) (x : Relation) → Again (listed_by true o select x) (listed_by false o select x)
 listed_again None (t.select_of distinct items from joins condition groups having) x = inl refl
@@ -113,14 +113,14 @@ module _ (sources : List TableDef) where
     gathered_again : (outside : Outside) (x : t.Select) → Again (gathered_bound true sources outside x) (gathered_bound false sources outside x)
     gathered_again outside (t.select_of distinct items from joins condition groups having) =
         let outer = t.select_of distinct items from joins condition groups having in
-        then (read_by joins (alone_bound true sources from) (source_bound true sources from >>= joins_bound true sources joins) >>= framed true outer)
-        (read_by joins (alone_bound false sources from) (source_bound false sources from >>= joins_bound false sources joins) >>= framed false outer) _ _
+        then (read_by joins (alone_bound true sources from) (source_bound true sources from >>= joins_bound true sources joins) >>= framed true sources outer)
+        (read_by joins (alone_bound false sources from) (source_bound false sources from >>= joins_bound false sources joins) >>= framed false sources outer) _ _
         (then (read_by joins (alone_bound true sources from) (source_bound true sources from >>= joins_bound true sources joins))
-        (read_by joins (alone_bound false sources from) (source_bound false sources from >>= joins_bound false sources joins)) (framed true outer) (framed false outer)
+        (read_by joins (alone_bound false sources from) (source_bound false sources from >>= joins_bound false sources joins)) (framed true sources outer) (framed false sources outer)
         (read_again joins (alone_bound true sources from) (alone_bound false sources from) (source_bound true sources from >>= joins_bound true sources joins) (source_bound false sources from >>= joins_bound false sources joins)
         (alone_again from)
         (then (source_bound true sources from) (source_bound false sources from) (joins_bound true sources joins) (joins_bound false sources joins) (source_again from) (joins_again joins)))
-        (framed_again outer))
+        (framed_again sources outer))
         (λ f. after (where_bound true sources f.spent outside f.relation.scope condition) (where_bound false sources f.spent outside f.relation.scope condition) _ (where_again f.spent outside f.relation.scope condition))
 
     alone_again : (from : t.Source) → AgainIf (alone_bound true sources from) (alone_bound false sources from)

@@ -1,13 +1,14 @@
 use Rattle.std.proofs.Common.{rules, ◌≡◌, suc, ◌+◌, false, [], ◌∷◌, ◌++◌, Some, Ok, Err, length, sym, ap, ◌∙◌, arith}
 use Rattle.std.specs.Prelude.{option_map}
 use Rattle.std.proofs.lemmas.List.{map-append}
+use Rattle.sql_syntax.specs.declared.tree.Args.TheViews.{out-Over}
 use Rattle.sql_syntax.specs.Tree as t
-use Rattle.sql_syntax.specs.View.{view, trees_view, args_view, over_view, sum_tails_view, product_tails_view, whens_view}
+use Rattle.sql_syntax.specs.View.{view, trees_view, args_view, over_view, sorts_view, sum_tails_view, product_tails_view, whens_view}
 use Rattle.sql_syntax.proofs.laws.Views.{tree_or, tree_and, tree_not, tree_compare, tree_is_null, tree_between, tree_in_list, tree_like, tree_sum, tree_product, tree_sign, tree_call, tree_cast, tree_case}
-use Rattle.query_answer.specs.Calls.{aggregate_of, calls, args_calls, when_calls}
+use Rattle.query_answer.specs.Calls.{aggregate_of, calls, all_calls, args_calls, optional_calls, when_calls}
 use Rattle.query_answer.specs.Functions.{function_of}
 use Rattle.binding.specs.Nodes.{added, multiplied, null_test, between, in_list, like, cast_to, call, case, compare, conjunction, disjunction, negation, negated_if, signed}
-use Rattle.binding.specs.Expressions.{bound, all_bound, sum_bound, product_bound, whens_bound, otherwise_bound, optional_bound, args_bound, names_by, unless_null, is_long}
+use Rattle.binding.specs.Expressions.{bound, all_bound, sum_bound, product_bound, whens_bound, otherwise_bound, optional_bound, order_bound, window_bound, args_bound, names_by, unless_null, is_long}
 use Rattle.binding.specs.InGroups.{call_column, has_no_keys}
 use Rattle.bind_names.specs.declared.names.Lookup.TheVariants as l
 use Rattle.bind_names.specs.Lookups.{lookup_of}
@@ -16,9 +17,10 @@ use Rattle.bind_nodes.specs.Views.{bound_view, bounds_view, branch_view, branche
 use Rattle.bind_expressions.specs.declared.reach.Reach.TheVariants as r
 use Rattle.bind_expressions.specs.Reach.{leaf_of, group_leaf}
 use Rattle.bind_expressions.specs.Walk.{node}
-use Rattle.bind_expressions.proofs.Exits.{Long, ok_as, or_1, or_2, and_1, and_2, not_1, not_2, compare_1, compare_2, compare_3, is_null_1, is_null_2, is_null_3, between_1, between_2, between_3, between_4, between_5, in_list_1, in_list_2, in_list_3, in_list_4, like_1, like_2, like_3, like_4, sum_long, sum_1, sum_2, product_long, product_1, product_2, sign_1, sign_2, call_1, call_2, call_3, cast_1, cast_2, case_1, case_2, case_3}
+use Rattle.bind_expressions.proofs.Exits.{Long, ok_as, or_1, or_2, and_1, and_2, not_1, not_2, compare_1, compare_2, compare_3, is_null_1, is_null_2, is_null_3, between_1, between_2, between_3, between_4, between_5, in_list_1, in_list_2, in_list_3, in_list_4, like_1, like_2, like_3, like_4, sum_long, sum_1, sum_2, product_long, product_1, product_2, sign_1, sign_2, call_1, call_2, call_3, call_4, cast_1, cast_2, case_1, case_2, case_3}
 use Rattle.bind_expressions.proofs.Leaves.{args_failed, at_number, column_is, filter_failed, own_leaf, rows_leaf}
-use Rattle.bind_expressions.proofs.Lists.{sum_length_is, product_length_is, sums_failed, sums_refused, sums_turn, products_failed, products_refused, products_turn, whens_failed, whens_refused, whens_turn}
+use Rattle.bind_expressions.proofs.Lists.{sum_length_is, product_length_is, sums_failed, sums_refused, sums_turn, products_failed, products_refused, products_turn, sorts_failed, sorts_turn, whens_failed, whens_refused, whens_turn}
+use Rattle.bind_expressions.proofs.Windows.{over_failed, over_then}
 use Rattle.bind_expressions.proofs.walk.+bind.Goals as goal
 
 pub bind_node-returns-in_err-bounds-in-Or-clause-refused : goal.bind_node-returns-in_err-bounds-in-Or-clause-refused
@@ -487,39 +489,80 @@ pub bind_node-returns-in_err-operands-in-Call-clause-refused : goal.bind_node-re
 bind_node-returns-in_err-operands-in-Call-clause-refused u c =
     let L = leaf_of c.args.reach.now in
     let n = c.args.number in
+    let A = args_view c.in-Call.args in
+    let F = t.optional_tree (option_map (λ y. view y.value) c.in-Call.filter) in
+    let O = t.optional_over (option_map over_view c.in-Call.over) in
     λ code e.
-    let h : args_bound L n (args_view c.in-Call.args) ≡ Err code = search rules in
-    (ap (node L n) (ap view c.in-Call.is ∙ tree_call c.in-Call.name c.in-Call.args c.in-Call.filter c.in-Call.over)) ∙ call_1 L n c.in-Call.name (args_view c.in-Call.args) (t.optional_tree (option_map (λ y. view y.value) c.in-Call.filter)) (t.optional_over (option_map over_view c.in-Call.over)) code h
+    let h : args_bound L n A ≡ Err code = search rules in
+    ap (node L n) (ap view c.in-Call.is ∙ tree_call c.in-Call.name c.in-Call.args c.in-Call.filter c.in-Call.over) ∙ call_1 L n c.in-Call.name A F O code h
 
 pub bind_node-returns-in_err-bind_optional-in-Call-clause-refused : goal.bind_node-returns-in_err-bind_optional-in-Call-clause-refused
 bind_node-returns-in_err-bind_optional-in-Call-clause-refused u c =
     let L = leaf_of c.args.reach.now in
     let n = c.args.number in
+    let A = args_view c.in-Call.args in
+    let F = t.optional_tree (option_map (λ y. view y.value) c.in-Call.filter) in
+    let O = t.optional_over (option_map over_view c.in-Call.over) in
     λ code e.
-    let one : args_bound L n (args_view c.in-Call.args) ≡ Ok (bounds_view c.in_ok-operands-in-Call.operands) = search rules in
-    let e_next : c.in_ok-next-in-Call.next ≡ n + length (args_calls (args_view c.in-Call.args)) = search rules in
-    let h : optional_bound L c.in_ok-next-in-Call.next (t.optional_tree (option_map (λ y. view y.value) c.in-Call.filter)) ≡ Err code = search rules in
-    (ap (node L n) (ap view c.in-Call.is ∙ tree_call c.in-Call.name c.in-Call.args c.in-Call.filter c.in-Call.over)) ∙ call_2 L n c.in-Call.name (args_view c.in-Call.args) (t.optional_tree (option_map (λ y. view y.value) c.in-Call.filter)) (t.optional_over (option_map over_view c.in-Call.over)) (bounds_view c.in_ok-operands-in-Call.operands) code one (ap (λ k. optional_bound L k (t.optional_tree (option_map (λ y. view y.value) c.in-Call.filter))) (sym e_next) ∙ h)
+    let one : args_bound L n A ≡ Ok (bounds_view c.in_ok-operands-in-Call.operands) = search rules in
+    let e_next : c.in_ok-next-in-Call.next ≡ n + length (args_calls A) = search rules in
+    let h : optional_bound L c.in_ok-next-in-Call.next F ≡ Err code = search rules in
+    ap (node L n) (ap view c.in-Call.is ∙ tree_call c.in-Call.name c.in-Call.args c.in-Call.filter c.in-Call.over) ∙ call_2 L n c.in-Call.name A F O (bounds_view c.in_ok-operands-in-Call.operands) code one (ap (λ k. optional_bound L k F) (sym e_next) ∙ h)
 
-pub bind_node-returns-in_ok-bind_optional-in-Call-clause-ok : goal.bind_node-returns-in_ok-bind_optional-in-Call-clause-ok
-bind_node-returns-in_ok-bind_optional-in-Call-clause-ok u c =
+pub bind_node-returns-in_err-bind_window_if-in-Call-clause-refused : goal.bind_node-returns-in_err-bind_window_if-in-Call-clause-refused
+bind_node-returns-in_err-bind_window_if-in-Call-clause-refused u c =
     let L = leaf_of c.args.reach.now in
     let n = c.args.number in
-    let one : args_bound L n (args_view c.in-Call.args) ≡ Ok (bounds_view c.in_ok-operands-in-Call.operands) = search rules in
-    let e_next : c.in_ok-next-in-Call.next ≡ n + length (args_calls (args_view c.in-Call.args)) = search rules in
-    let two : optional_bound L c.in_ok-next-in-Call.next (t.optional_tree (option_map (λ y. view y.value) c.in-Call.filter)) ≡ Ok (option_map bound_view c.in_ok-bind_optional-in-Call.field-0) = search rules in
-    let e : node L n (view c.args.tree.now) ≡ call c.function_of.result (form_view c.call_form-form.result) (bounds_view c.in_ok-operands-in-Call.operands) = (ap (node L n) (ap view c.in-Call.is ∙ tree_call c.in-Call.name c.in-Call.args c.in-Call.filter c.in-Call.over)) ∙ (call_3 L n c.in-Call.name (args_view c.in-Call.args) (t.optional_tree (option_map (λ y. view y.value) c.in-Call.filter)) (t.optional_over (option_map over_view c.in-Call.over)) (bounds_view c.in_ok-operands-in-Call.operands) (option_map bound_view c.in_ok-bind_optional-in-Call.field-0) one (ap (λ k. optional_bound L k (t.optional_tree (option_map (λ y. view y.value) c.in-Call.filter))) (sym e_next) ∙ two) ∙ (λ i. call (sym c.function_of.ensures i) (sym c.call_form-form.ensures i) (bounds_view c.in_ok-operands-in-Call.operands))) in
+    let A = args_view c.in-Call.args in
+    let F = t.optional_tree (option_map (λ y. view y.value) c.in-Call.filter) in
+    let O = t.optional_over (option_map over_view c.in-Call.over) in
+    λ code e.
+    let one : args_bound L n A ≡ Ok (bounds_view c.in_ok-operands-in-Call.operands) = search rules in
+    let e_next : c.in_ok-next-in-Call.next ≡ n + length (args_calls A) = search rules in
+    let two : optional_bound L c.in_ok-next-in-Call.next F ≡ Ok (option_map bound_view c.in_ok-bind_optional-in-Call.field-0) = search rules in
+    let e_last : c.in_ok-last-in-Call.last ≡ c.in_ok-next-in-Call.next + length (optional_calls F) = search rules in
+    let at : c.in_ok-last-in-Call.last ≡ n + length (args_calls A) + length (optional_calls F) = e_last ∙ ap (λ k. k + length (optional_calls F)) e_next in
+    let h : window_bound L c.in_ok-last-in-Call.last O ≡ Err code = search rules in
+    ap (node L n) (ap view c.in-Call.is ∙ tree_call c.in-Call.name c.in-Call.args c.in-Call.filter c.in-Call.over)
+    ∙ call_3 L n c.in-Call.name A F O (bounds_view c.in_ok-operands-in-Call.operands) (option_map bound_view c.in_ok-bind_optional-in-Call.field-0) code one (ap (λ k. optional_bound L k F) (sym e_next) ∙ two) (ap (λ k. window_bound L k O) (sym at) ∙ h)
+
+pub bind_node-returns-in_ok-bind_window_if-in-Call-clause-ok : goal.bind_node-returns-in_ok-bind_window_if-in-Call-clause-ok
+bind_node-returns-in_ok-bind_window_if-in-Call-clause-ok u c =
+    let L = leaf_of c.args.reach.now in
+    let n = c.args.number in
+    let A = args_view c.in-Call.args in
+    let F = t.optional_tree (option_map (λ y. view y.value) c.in-Call.filter) in
+    let O = t.optional_over (option_map over_view c.in-Call.over) in
+    let one : args_bound L n A ≡ Ok (bounds_view c.in_ok-operands-in-Call.operands) = search rules in
+    let e_next : c.in_ok-next-in-Call.next ≡ n + length (args_calls A) = search rules in
+    let two : optional_bound L c.in_ok-next-in-Call.next F ≡ Ok (option_map bound_view c.in_ok-bind_optional-in-Call.field-0) = search rules in
+    let e_last : c.in_ok-last-in-Call.last ≡ c.in_ok-next-in-Call.next + length (optional_calls F) = search rules in
+    let at : c.in_ok-last-in-Call.last ≡ n + length (args_calls A) + length (optional_calls F) = e_last ∙ ap (λ k. k + length (optional_calls F)) e_next in
+    let three : window_bound L c.in_ok-last-in-Call.last O ≡ Ok (bounds_view c.in_ok-bind_window_if-in-Call.field-0) = search rules in
+    let e : node L n (view c.args.tree.now) ≡ call c.function_of.result (form_view c.call_form-form.result) (bounds_view c.in_ok-operands-in-Call.operands) =
+    ap (node L n) (ap view c.in-Call.is ∙ tree_call c.in-Call.name c.in-Call.args c.in-Call.filter c.in-Call.over)
+    ∙ (call_4 L n c.in-Call.name A F O (bounds_view c.in_ok-operands-in-Call.operands) (option_map bound_view c.in_ok-bind_optional-in-Call.field-0) (bounds_view c.in_ok-bind_window_if-in-Call.field-0) one (ap (λ k. optional_bound L k F) (sym e_next) ∙ two) (ap (λ k. window_bound L k O) (sym at) ∙ three)
+    ∙ (λ i. call (sym c.function_of.ensures i) (sym c.call_form-form.ensures i) (bounds_view c.in_ok-operands-in-Call.operands))) in
     ok_as c.call.result (node L n (view c.args.tree.now)) (call c.function_of.result (form_view c.call_form-form.result) (bounds_view c.in_ok-operands-in-Call.operands)) e c.call.ensures.ok
 
-pub bind_node-returns-in_ok-bind_optional-in-Call-clause-refused : goal.bind_node-returns-in_ok-bind_optional-in-Call-clause-refused
-bind_node-returns-in_ok-bind_optional-in-Call-clause-refused u c =
+pub bind_node-returns-in_ok-bind_window_if-in-Call-clause-refused : goal.bind_node-returns-in_ok-bind_window_if-in-Call-clause-refused
+bind_node-returns-in_ok-bind_window_if-in-Call-clause-refused u c =
     let L = leaf_of c.args.reach.now in
     let n = c.args.number in
-    let one : args_bound L n (args_view c.in-Call.args) ≡ Ok (bounds_view c.in_ok-operands-in-Call.operands) = search rules in
-    let e_next : c.in_ok-next-in-Call.next ≡ n + length (args_calls (args_view c.in-Call.args)) = search rules in
-    let two : optional_bound L c.in_ok-next-in-Call.next (t.optional_tree (option_map (λ y. view y.value) c.in-Call.filter)) ≡ Ok (option_map bound_view c.in_ok-bind_optional-in-Call.field-0) = search rules in
+    let A = args_view c.in-Call.args in
+    let F = t.optional_tree (option_map (λ y. view y.value) c.in-Call.filter) in
+    let O = t.optional_over (option_map over_view c.in-Call.over) in
+    let one : args_bound L n A ≡ Ok (bounds_view c.in_ok-operands-in-Call.operands) = search rules in
+    let e_next : c.in_ok-next-in-Call.next ≡ n + length (args_calls A) = search rules in
+    let two : optional_bound L c.in_ok-next-in-Call.next F ≡ Ok (option_map bound_view c.in_ok-bind_optional-in-Call.field-0) = search rules in
+    let e_last : c.in_ok-last-in-Call.last ≡ c.in_ok-next-in-Call.next + length (optional_calls F) = search rules in
+    let at : c.in_ok-last-in-Call.last ≡ n + length (args_calls A) + length (optional_calls F) = e_last ∙ ap (λ k. k + length (optional_calls F)) e_next in
     λ code r.
-    let e : node L n (view c.args.tree.now) ≡ call c.function_of.result (form_view c.call_form-form.result) (bounds_view c.in_ok-operands-in-Call.operands) = (ap (node L n) (ap view c.in-Call.is ∙ tree_call c.in-Call.name c.in-Call.args c.in-Call.filter c.in-Call.over)) ∙ (call_3 L n c.in-Call.name (args_view c.in-Call.args) (t.optional_tree (option_map (λ y. view y.value) c.in-Call.filter)) (t.optional_over (option_map over_view c.in-Call.over)) (bounds_view c.in_ok-operands-in-Call.operands) (option_map bound_view c.in_ok-bind_optional-in-Call.field-0) one (ap (λ k. optional_bound L k (t.optional_tree (option_map (λ y. view y.value) c.in-Call.filter))) (sym e_next) ∙ two) ∙ (λ i. call (sym c.function_of.ensures i) (sym c.call_form-form.ensures i) (bounds_view c.in_ok-operands-in-Call.operands))) in
+    let three : window_bound L c.in_ok-last-in-Call.last O ≡ Ok (bounds_view c.in_ok-bind_window_if-in-Call.field-0) = search rules in
+    let e : node L n (view c.args.tree.now) ≡ call c.function_of.result (form_view c.call_form-form.result) (bounds_view c.in_ok-operands-in-Call.operands) =
+    ap (node L n) (ap view c.in-Call.is ∙ tree_call c.in-Call.name c.in-Call.args c.in-Call.filter c.in-Call.over)
+    ∙ (call_4 L n c.in-Call.name A F O (bounds_view c.in_ok-operands-in-Call.operands) (option_map bound_view c.in_ok-bind_optional-in-Call.field-0) (bounds_view c.in_ok-bind_window_if-in-Call.field-0) one (ap (λ k. optional_bound L k F) (sym e_next) ∙ two) (ap (λ k. window_bound L k O) (sym at) ∙ three)
+    ∙ (λ i. call (sym c.function_of.ensures i) (sym c.call_form-form.ensures i) (bounds_view c.in_ok-operands-in-Call.operands))) in
     e ∙ c.call.ensures.refused code r
 
 pub bind_node-returns-in_err-branches-in-Case-clause-refused : goal.bind_node-returns-in_err-branches-in-Case-clause-refused
@@ -620,6 +663,59 @@ bind_product-loop-tail-preserved u c =
     let two : multiplied x.word (bound_view c.loop-tail.all) (bound_view c.in_ok-value.value) ≡ Ok (bound_view c.in_ok-all.all) = search rules in
     let e_next : c.in_ok-next.next ≡ n + length (calls (view x.value)) = search rules in
     products_turn L n _ xs c.loop-tail.tail-index (bound_view c.loop-tail.all) c.loop-tail.invariant x (bound_view c.in_ok-value.value) (bound_view c.in_ok-all.all) c.in_ok-next.next (omega arith) c.tail-item.is one two e_next
+
+pub bind_window-returns-in_err-bind_all-clause-refused : goal.bind_window-returns-in_err-bind_all-clause-refused
+bind_window-returns-in_err-bind_all-clause-refused u c = λ code e.
+    let L = leaf_of c.args.reach.now in
+    let n = c.args.number in
+    let x = c.args.over.now in
+    let h : all_bound L n (t.trees (trees_view (out-Over x).partition)) ≡ Err code = search rules in
+    over_failed L n x code h
+
+pub bind_window-returns-in_err-bounds-clause-refused : goal.bind_window-returns-in_err-bounds-clause-refused
+bind_window-returns-in_err-bounds-clause-refused u c = λ code e.
+    let L = leaf_of c.args.reach.now in
+    let n = c.args.number in
+    let x = c.args.over.now in
+    let P = t.trees (trees_view (out-Over x).partition) in
+    let one : all_bound L n P ≡ Ok (bounds_view c.in_ok-bind_all.field-0) = search rules in
+    let e_next : c.in_ok-next.next ≡ n + length (all_calls P) = search rules in
+    let h : order_bound L c.in_ok-next.next (t.sort_list (sorts_view (out-Over x).order)) ≡ Err code = search rules in
+    over_then L n x (bounds_view c.in_ok-bind_all.field-0) c.in_ok-next.next (Err code) one e_next h
+
+pub bind_window-returns-clause-ok : goal.bind_window-returns-clause-ok
+bind_window-returns-clause-ok u c =
+    let L = leaf_of c.args.reach.now in
+    let n = c.args.number in
+    let x = c.args.over.now in
+    let P = t.trees (trees_view (out-Over x).partition) in
+    let ys = bounds_view c.in_ok-bounds.bounds in
+    let one : all_bound L n P ≡ Ok (bounds_view c.in_ok-bind_all.field-0) = search rules in
+    let e_next : c.in_ok-next.next ≡ n + length (all_calls P) = search rules in
+    let h : order_bound L c.in_ok-next.next (t.sort_list (sorts_view (out-Over x).order)) ≡ Ok ys = search rules in
+    over_then L n x (bounds_view c.in_ok-bind_all.field-0) c.in_ok-next.next (Ok ys) one e_next h
+
+pub bind_order-returns-in_err-value-clause-refused : goal.bind_order-returns-in_err-value-clause-refused
+bind_order-returns-in_err-value-clause-refused u c = λ code e.
+    let L = leaf_of c.args.reach.now in
+    let xs = c.as_slice-sort-items.result.now in
+    let n = c.loop-sort.number in
+    let x = c.sort-item.result in
+    let h : bound L n (view x.value) ≡ Err code = search rules in
+    sorts_failed L n _ xs c.loop-sort.sort-index (bounds_view c.loop-sort.bounds) c.loop-sort.invariant x code (omega arith) c.sort-item.is h
+
+pub bind_order-loop-sort-preserved : goal.bind_order-loop-sort-preserved
+bind_order-loop-sort-preserved u c =
+    let L = leaf_of c.args.reach.now in
+    let xs = c.as_slice-sort-items.result.now in
+    let n = c.loop-sort.number in
+    let x = c.sort-item.result in
+    let b = c.in_ok-value.value in
+    let one : bound L n (view x.value) ≡ Ok (bound_view b) = search rules in
+    let e_next : c.in_ok-next.next ≡ n + length (calls (view x.value)) = search rules in
+    let pushed : c.push.new.self ≡ c.loop-sort.bounds ++ b ∷ [] = search rules in
+    sorts_turn L n _ xs c.loop-sort.sort-index (bounds_view c.loop-sort.bounds) c.loop-sort.invariant x (bound_view b) c.in_ok-next.next (bounds_view c.push.new.self) (omega arith) c.sort-item.is one e_next
+    (ap bounds_view pushed ∙ map-append bound_view c.loop-sort.bounds (b ∷ []))
 
 pub bind_whens-returns-in_err-cond-clause-refused : goal.bind_whens-returns-in_err-cond-clause-refused
 bind_whens-returns-in_err-cond-clause-refused u c = λ code e.

@@ -1,6 +1,6 @@
 use Rattle.std.proofs.Common.{◌≡◌, ◌++◌, drop, map}
 use Rattle.bind_names.specs.Calls.{call_view}
-use Rattle.bind_names.proofs.CallLists.{of_trees, of_sums, of_products, of_whens}
+use Rattle.bind_names.proofs.CallLists.{of_trees, of_sorts, of_sums, of_products, of_whens}
 use Rattle.bind_names.proofs.calls.+calls.Given as goal
 
 abbrev pub invariant-push_all-loop-tree : goal.invariant-push_all-loop-tree
@@ -14,3 +14,6 @@ invariant-push_product-loop-tail l = map call_view l.found ++ of_products (drop 
 
 abbrev pub invariant-push_whens-loop-when : goal.invariant-push_whens-loop-when
 invariant-push_whens-loop-when l = map call_view l.found ++ of_whens (drop l.when-index l.when-items) ≡ map call_view l.fn.found ++ of_whens l.fn.whens
+
+abbrev pub invariant-push_sorts-loop-sort : goal.invariant-push_sorts-loop-sort
+invariant-push_sorts-loop-sort l = map call_view l.found ++ of_sorts (drop l.sort-index l.sort-items) ≡ map call_view l.fn.found ++ of_sorts l.fn.sorts

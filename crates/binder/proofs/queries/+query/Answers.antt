@@ -321,5 +321,5 @@ bind_alone_select-returns-in_ok-gathered-in-Some-clause-refused u c = λ code e.
     let q = ranked_view c.in-Some.list in
     let r : ranked_select x ≡ Some q = search rules in
     let g : gathered_bound F S None x ≡ Ok (from_where_view c.in_ok-gathered-in-Some.gathered) = search rules in
-    let h : from_list F O alias q (from_where_view c.in_ok-gathered-in-Some.gathered) ≡ Err code = search rules in
-    ranked F S O x alias q r ∙ ap (λ g. g >>= from_list F O alias q) g ∙ h
+    let h : from_list F S O alias q (from_where_view c.in_ok-gathered-in-Some.gathered) ≡ Err code = search rules in
+    ranked F S O x alias q r ∙ ap (λ g. g >>= from_list F S O alias q) g ∙ h
