@@ -83,7 +83,7 @@ refused =
     (codes "SELECT ROW_NUMBER() OVER (ORDER BY a) AS rn, nosuch, ROW_NUMBER() OVER (ORDER BY b) AS m FROM t", Unsupported) ∷
     (codes "SELECT DISTINCT ROW_NUMBER() OVER (ORDER BY a) AS rn FROM t", Unsupported) ∷
     (codes "SELECT ROW_NUMBER() OVER (ORDER BY a) AS rn FROM t GROUP BY a", Unsupported) ∷
-    (codes "SELECT COUNT(*), ROW_NUMBER() OVER (ORDER BY a) AS rn FROM t", Unsupported) ∷
+    (codes "SELECT COUNT(*), ROW_NUMBER() OVER (ORDER BY g) AS rn FROM t GROUP BY g", Unsupported) ∷
     (codes "SELECT ROW_NUMBER(*) OVER (ORDER BY a) AS rn FROM t", Unsupported) ∷
     (codes "SELECT ROW_NUMBER() FILTER (WHERE f) OVER (ORDER BY a) AS rn FROM t", Unsupported) ∷
     (codes "SELECT COUNT(*) OVER (ORDER BY a) AS n FROM t", Unsupported) ∷
@@ -96,6 +96,7 @@ refused =
     (codes "SELECT ROW_NUMBER() OVER (PARTITION BY a, 1 ORDER BY nosuch) AS rn FROM t", UnknownColumn) ∷
     (codes "SELECT ROW_NUMBER() OVER (ORDER BY nosuch) FROM t", UnknownColumn) ∷
     (codes "SELECT a, ROW_NUMBER() OVER (ORDER BY SUM(b)) FROM t", NotGrouped) ∷
+    (codes "SELECT COUNT(*), ROW_NUMBER() OVER (ORDER BY a) AS rn FROM t", NotGrouped) ∷
     (codes "SELECT ROW_NUMBER() OVER (ORDER BY b, (u.b)) AS rn FROM t JOIN u ON TRUE", UnknownColumn) ∷
     (codes "SELECT ROW_NUMBER() OVER (ORDER BY a) AS rn FROM t JOIN u ON TRUE", AmbiguousColumn) ∷
     (codes "SELECT ROW_NUMBER() OVER (ORDER BY NOW) AS rn FROM t", Nondeterministic) ∷
