@@ -22,38 +22,12 @@ as_many [] = refl
 as_many (item ∷ items) = ap suc (as_many items)
 
 operator_is : (sources : List TableDef) (sink : TableDef) (o : Op) (inputs : ℕ) → operator_text sources sink (op_as_seen o) inputs ≡ operator_text sources sink o inputs
-operator_is sources sink (op.Scan source) inputs = refl
-operator_is sources sink (op.Filter cond) inputs = refl
 operator_is sources sink (op.Project items) inputs = ap (λ n. called (codes "Project") (decimal n)) (as_many items)
-operator_is sources sink op.Union inputs = refl
-operator_is sources sink (op.Normalize key) inputs = refl
-operator_is sources sink (op.Group keys aggs) inputs = refl
-operator_is sources sink (op.BatchGroup keys aggs) inputs = refl
-operator_is sources sink (op.Join kind on rest) inputs = refl
-operator_is sources sink (op.Semi anti on rest) inputs = refl
-operator_is sources sink (op.TopN partition order bound ranked) inputs = refl
-operator_is sources sink (op.Materialize key) inputs = refl
-operator_is sources sink op.Sink inputs = refl
-operator_is sources sink (op.LocalGroup keys aggs) inputs = refl
-operator_is sources sink (op.MultiJoin on) inputs = refl
-operator_is sources sink (op.SetOp except all) inputs = refl
+operator_is sources sink _ inputs = refl
 
 edge_is : (o : Op) (edge : Option Edge) → edge_text (op_as_seen o) edge ≡ edge_text o edge
-edge_is (op.Scan source) edge = refl
 edge_is (op.Filter cond) edge = refl
-edge_is (op.Project items) edge = refl
-edge_is op.Union edge = refl
-edge_is (op.Normalize key) edge = refl
-edge_is (op.Group keys aggs) edge = refl
-edge_is (op.BatchGroup keys aggs) edge = refl
-edge_is (op.Join kind on rest) edge = refl
-edge_is (op.Semi anti on rest) edge = refl
-edge_is (op.TopN partition order bound ranked) edge = refl
-edge_is (op.Materialize key) edge = refl
-edge_is op.Sink edge = refl
-edge_is (op.LocalGroup keys aggs) edge = refl
-edge_is (op.MultiJoin on) edge = refl
-edge_is (op.SetOp except all) edge = refl
+edge_is _ edge = refl
 
 module _ (plan : Plan) (before : ℕ) where
   line_is : (v : ℕ) (node : Node) → node_line (plan_as_seen plan) before v (node_as_seen node) ≡ node_line plan before v node

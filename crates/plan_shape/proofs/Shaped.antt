@@ -102,77 +102,21 @@ uses_one v (x ∷ nodes) (suc n) (suc m) p q a b l e f i j =
 no_inputs : (operator : Op) (source : ℕ) (inputs : List ℕ) → scan_of operator ≡ Some source → takes operator (length inputs) ≡ true → inputs ≡ []
 no_inputs (op.Scan s) source [] e t = refl
 no_inputs (op.Scan s) source (input ∷ inputs) e t = let h : suc (length inputs) ≡ 0 = eqb-true (suc (length inputs)) 0 t in absurd (omega (arith, h))
-no_inputs (op.Filter c) source inputs e t = absurd (cc)
-no_inputs (op.Project i) source inputs e t = absurd (cc)
-no_inputs op.Union source inputs e t = absurd (cc)
-no_inputs (op.Normalize k) source inputs e t = absurd (cc)
-no_inputs (op.Group k a) source inputs e t = absurd (cc)
-no_inputs (op.BatchGroup k a) source inputs e t = absurd (cc)
-no_inputs (op.Join k o r) source inputs e t = absurd (cc)
-no_inputs (op.Semi a o r) source inputs e t = absurd (cc)
-no_inputs (op.TopN p o b r) source inputs e t = absurd (cc)
-no_inputs (op.Materialize k) source inputs e t = absurd (cc)
-no_inputs op.Sink source inputs e t = absurd (cc)
-no_inputs (op.LocalGroup k a) source inputs e t = absurd (cc)
-no_inputs (op.MultiJoin o) source inputs e t = absurd (cc)
-no_inputs (op.SetOp x a) source inputs e t = absurd (cc)
+no_inputs _ source inputs e t = absurd (cc)
 
 is_there : (plan : Plan) (operator : Op) (source : ℕ) → scan_of operator ≡ Some source → suits_plan plan operator ≡ true → source < length plan.sources
 is_there plan (op.Scan s) source e t = let h : s ≡ source = cc in subst (λ n. n < length plan.sources) h (ltb-true s (length plan.sources) t)
-is_there plan (op.Filter c) source e t = absurd (cc)
-is_there plan (op.Project i) source e t = absurd (cc)
-is_there plan op.Union source e t = absurd (cc)
-is_there plan (op.Normalize k) source e t = absurd (cc)
-is_there plan (op.Group k a) source e t = absurd (cc)
-is_there plan (op.BatchGroup k a) source e t = absurd (cc)
-is_there plan (op.Join k o r) source e t = absurd (cc)
-is_there plan (op.Semi a o r) source e t = absurd (cc)
-is_there plan (op.TopN p o b r) source e t = absurd (cc)
-is_there plan (op.Materialize k) source e t = absurd (cc)
-is_there plan op.Sink source e t = absurd (cc)
-is_there plan (op.LocalGroup k a) source e t = absurd (cc)
-is_there plan (op.MultiJoin o) source e t = absurd (cc)
-is_there plan (op.SetOp x a) source e t = absurd (cc)
+is_there plan _ source e t = absurd (cc)
 
-one_is : (n : ℕ) → (n == 1) ≡ true → 0 < n
-one_is n t = let h : n ≡ 1 = eqb-true n 1 t in omega (arith, h)
-
-two_is : (n : ℕ) → (n == 2) ≡ true → 0 < n
-two_is n t = let h : n ≡ 2 = eqb-true n 2 t in omega (arith, h)
-
+-- none but a scan takes no input
 some_inputs : (operator : Op) (n : ℕ) → scan_of operator ≡ None → takes operator n ≡ true → 0 < n
 some_inputs (op.Scan s) n e t = absurd (cc)
-some_inputs (op.Filter c) n e t = one_is n t
-some_inputs (op.Project i) n e t = one_is n t
-some_inputs op.Union n e t = let h : 2 ≤ n = leb-true 2 n t in omega (arith, h)
-some_inputs (op.Normalize k) n e t = one_is n t
-some_inputs (op.Group k a) n e t = one_is n t
-some_inputs (op.BatchGroup k a) n e t = one_is n t
-some_inputs (op.Join k o r) n e t = two_is n t
-some_inputs (op.Semi a o r) n e t = two_is n t
-some_inputs (op.TopN p o b r) n e t = one_is n t
-some_inputs (op.Materialize k) n e t = one_is n t
-some_inputs op.Sink n e t = one_is n t
-some_inputs (op.LocalGroup k a) n e t = one_is n t
-some_inputs (op.MultiJoin o) n e t = let h : 3 ≤ n = leb-true 3 n (both _ _ t).0 in omega (arith, h)
-some_inputs (op.SetOp x a) n e t = two_is n t
+some_inputs _ zero e t = absurd (cc)
+some_inputs _ (suc n) e t = omega arith
 
 sinks_do_not_scan : (operator : Op) → is_sink (Some operator) ≡ true → scan_of operator ≡ None
 sinks_do_not_scan (op.Scan s) t = absurd (cc)
-sinks_do_not_scan (op.Filter c) t = refl
-sinks_do_not_scan (op.Project i) t = refl
-sinks_do_not_scan op.Union t = refl
-sinks_do_not_scan (op.Normalize k) t = refl
-sinks_do_not_scan (op.Group k a) t = refl
-sinks_do_not_scan (op.BatchGroup k a) t = refl
-sinks_do_not_scan (op.Join k o r) t = refl
-sinks_do_not_scan (op.Semi a o r) t = refl
-sinks_do_not_scan (op.TopN p o b r) t = refl
-sinks_do_not_scan (op.Materialize k) t = refl
-sinks_do_not_scan op.Sink t = refl
-sinks_do_not_scan (op.LocalGroup k a) t = refl
-sinks_do_not_scan (op.MultiJoin o) t = refl
-sinks_do_not_scan (op.SetOp x a) t = refl
+sinks_do_not_scan _ t = refl
 
 -- ---- nodes
 

@@ -64,20 +64,7 @@ tells_in_full Append key kinds above n r = refl
 tells_in_full Retract key kinds above n r = refl
 tells_in_full Upsert None kinds above n r = refl
 tells_in_full Upsert (Some key) kinds (op.Normalize by) n r = absurd (cc)
-tells_in_full Upsert (Some key) kinds (op.Scan source) n r = absurd (cc)
-tells_in_full Upsert (Some key) kinds (op.Filter cond) n r = absurd (cc)
-tells_in_full Upsert (Some key) kinds (op.Project items) n r = absurd (cc)
-tells_in_full Upsert (Some key) kinds op.Union n r = absurd (cc)
-tells_in_full Upsert (Some key) kinds (op.Group keys aggs) n r = absurd (cc)
-tells_in_full Upsert (Some key) kinds (op.BatchGroup keys aggs) n r = absurd (cc)
-tells_in_full Upsert (Some key) kinds (op.Join kind on rest) n r = absurd (cc)
-tells_in_full Upsert (Some key) kinds (op.Semi anti on rest) n r = absurd (cc)
-tells_in_full Upsert (Some key) kinds (op.TopN partition order bound ranked) n r = absurd (cc)
-tells_in_full Upsert (Some key) kinds (op.Materialize shown) n r = absurd (cc)
-tells_in_full Upsert (Some key) kinds op.Sink n r = absurd (cc)
-tells_in_full Upsert (Some key) kinds (op.LocalGroup keys aggs) n r = absurd (cc)
-tells_in_full Upsert (Some key) kinds (op.MultiJoin on) n r = absurd (cc)
-tells_in_full Upsert (Some key) kinds (op.SetOp except all) n r = absurd (cc)
+tells_in_full Upsert (Some key) kinds _ n r = absurd (cc)
 
 scan_in_full : (table : Option TableDef) (kinds : KindSet) (above : Op) → normalizes above ≡ false → is_read table (Some above) ≡ true → scan_update table kinds ≡ in_full kinds
 scan_in_full None kinds above n r = refl

@@ -23,7 +23,7 @@ use Rattle.upsert_keys.specs.Seen.{all_seen, exchange_in, seen_over}
 use Rattle.mode_infer.specs.declared.kinds.Flow.{Flow}
 use Rattle.mode_infer.specs.declared.modes.EdgeMode.{EdgeMode}
 use Rattle.mode_infer.specs.Exchanges.{asked}
-use Rattle.mode_infer.specs.Kinds.{flow_of, flows, grouped, grouped_in_bundles, join_kinds, no_flow, passed, plain, semi_kinds, set_kinds, top_rows, with_one, with_two}
+use Rattle.mode_infer.specs.Kinds.{flow_of, flows, no_flow, plain}
 use Rattle.mode_infer.specs.Modes.{all_modes, edge_kinds, edge_modes, mode, modes_of, updates, with_sink, with_sinks}
 use Rattle.mode_infer.specs.UpdateKeys.{input_width, update_key_of, update_keys}
 use Rattle.mode_infer.specs.Updates.{is_input, is_taken, port_of, takes}
@@ -103,33 +103,12 @@ item_there d xs (suc n) l h = let x = found xs n (omega arith) in x.1 ∙ ap (λ
 
 -- ---- a node with a rule sends rows as they are
 
-one_plain : (flow : Flow → Flow) → ((a : Flow) → flow a ≡ plain (flow a).sent) → (inputs : List Flow) → with_one flow inputs ≡ plain (with_one flow inputs).sent
-one_plain flow is [] = refl
-one_plain flow is (a ∷ []) = is a
-one_plain flow is (a ∷ (b ∷ inputs)) = refl
-
-two_plain : (kinds : KindSet → KindSet → KindSet) (inputs : List Flow) → with_two kinds inputs ≡ plain (with_two kinds inputs).sent
-two_plain kinds [] = refl
-two_plain kinds (a ∷ []) = refl
-two_plain kinds (a ∷ (b ∷ [])) = refl
-two_plain kinds (a ∷ (b ∷ (x ∷ inputs))) = refl
-
 flow_plain : (sources : List TableDef) (o : Op) (inputs : List Flow) → has_rule o ≡ true → flow_of sources o inputs ≡ plain (flow_of sources o inputs).sent
-flow_plain sources (op.Scan source) inputs r = refl
-flow_plain sources (op.Filter cond) inputs r = one_plain passed (λ a. refl) inputs
-flow_plain sources (op.Project items) inputs r = one_plain passed (λ a. refl) inputs
-flow_plain sources op.Union inputs r = refl
-flow_plain sources (op.Normalize key) inputs r = refl
-flow_plain sources (op.Group keys aggs) inputs r = one_plain (grouped keys aggs) (λ a. refl) inputs
-flow_plain sources (op.BatchGroup keys aggs) inputs r = one_plain (grouped_in_bundles keys aggs) (λ a. refl) inputs
-flow_plain sources (op.Join kind on rest) inputs r = two_plain (join_kinds kind) inputs
-flow_plain sources (op.Semi anti on rest) inputs r = two_plain (semi_kinds anti) inputs
-flow_plain sources (op.TopN partition order bound ranked) inputs r = one_plain (top_rows ranked bound) (λ a. refl) inputs
-flow_plain sources (op.Materialize key) inputs r = refl
-flow_plain sources op.Sink inputs r = one_plain passed (λ a. refl) inputs
 flow_plain sources (op.LocalGroup keys aggs) inputs r = absurd (cc)
-flow_plain sources (op.MultiJoin on) inputs r = refl
-flow_plain sources (op.SetOp except all) inputs r = two_plain (set_kinds except) inputs
+flow_plain sources _ [] r = refl
+flow_plain sources _ (a ∷ []) r = refl
+flow_plain sources _ (a ∷ (b ∷ [])) r = refl
+flow_plain sources _ (a ∷ (b ∷ (c ∷ inputs))) r = refl
 
 module _ (laws : Laws) (plan : Plan) (ruled : IsRuled plan) where
   pub shape : MeetsShape plan
