@@ -33,6 +33,9 @@ use Rattle.plan_shape.specs.Shaped.{MeetsShape}
 use Rattle.plan_shape.specs.Tables.{are_tables}
 use Rattle.sound_plans.specs.Agrees.{Agrees}
 use Rattle.sound_plans.specs.Outputs.{Output, around_by}
+use Rattle.sound_plans.proofs.laws.Groups.{groups_fit}
+use Rattle.sound_plans.proofs.laws.Normalizes.{normalizes_fit}
+use Rattle.sound_plans.proofs.laws.TopN.{topns_fit}
 use Rattle.sound_plans.proofs.laws.Widths.{first_within}
 use Rattle.sound_plans.proofs.laws.JoinColumns.{made_if}
 use Rattle.sound_plans.proofs.laws.Routes.{left_within, right_within}
@@ -170,14 +173,14 @@ module _ (types : ColumnsHaveTypes) (laws : Laws) (plan : Plan) (ruled : IsRuled
   normalizes v node e key is =
       let i = one_input v node e (op.Normalize key) is (λ n. refl) in
       let agrees = agreed.normalize_agrees laws plan ruled v node key i.0 e is i.1 (proper_inputs laws plan ruled v node e) in
-      let fits = laws.normalizes_fit plan.parallelism shape.parallel plan.sink key (output_at plan i.0) (output_at plan v) agrees in
+      let fits = normalizes_fit plan.parallelism shape.parallel plan.sink key (output_at plan i.0) (output_at plan v) agrees in
       suits_over v node (op.Normalize key) i.0 i.1 fits.0.tells
 
   groups : (v : ℕ) (node : Node) → numbered plan.nodes v ≡ Some node → (keys : ℕ) (aggs : List Agg) → node.op ≡ op.Group keys aggs → Suits (op.Group keys aggs) (around_of plan v node.inputs)
   groups v node e keys aggs is =
       let i = one_input v node e (op.Group keys aggs) is (λ n. refl) in
       let agrees = agrees_over v node e (op.Group keys aggs) i.0 is i.1 refl refl refl in
-      let fits = laws.groups_fit plan.parallelism shape.parallel plan.sources plan.sink keys aggs (output_at plan i.0) (output_at plan v) agrees in
+      let fits = groups_fit plan.parallelism shape.parallel plan.sources plan.sink keys aggs (output_at plan i.0) (output_at plan v) agrees in
       suits_over v node (op.Group keys aggs) i.0 i.1 fits.0.sound
 
   ranks : (v : ℕ) (node : Node) → numbered plan.nodes v ≡ Some node → (partition : List ℕ) (order : List SortCol) (bound : ℕ) (ranked : Bool) → node.op ≡ op.TopN partition order bound ranked
@@ -185,7 +188,7 @@ module _ (types : ColumnsHaveTypes) (laws : Laws) (plan : Plan) (ruled : IsRuled
   ranks v node e partition order bound ranked is =
       let i = one_input v node e (op.TopN partition order bound ranked) is (λ n. refl) in
       let agrees = agrees_over v node e (op.TopN partition order bound ranked) i.0 is i.1 refl refl refl in
-      let fits = laws.topns_fit plan.parallelism shape.parallel plan.sources plan.sink partition order bound ranked (output_at plan i.0) (output_at plan v) agrees in
+      let fits = topns_fit plan.parallelism shape.parallel plan.sources plan.sink partition order bound ranked (output_at plan i.0) (output_at plan v) agrees in
       suits_over v node (op.TopN partition order bound ranked) i.0 i.1 fits.0.sound
 
   suits_by : (v : ℕ) (node : Node) → numbered plan.nodes v ≡ Some node → (o : Op) → node.op ≡ o → Suits o (around_of plan v node.inputs)

@@ -10,10 +10,7 @@ use Rattle.mode_infer.specs.Kinds.{flows, flow_of, no_flow}
 use Rattle.mode_infer.specs.UpdateKeys.{input_width, update_key_of, update_keys}
 use Rattle.plan_inferred.specs.Local.{AreOrdered, IsLocal}
 use Rattle.plan_shape.specs.Shaped.{ShapedPlansHaveShape}
-use Rattle.emission_rules.specs.GroupFits.{GroupsStand, GroupsTake}
-use Rattle.stream_model.specs.Scans.{ScansStand}
-use Rattle.sound_plans.specs.RowFits.{FiltersFit, GroupsFit, NormalizesFit, ProjectsFit, ScansFit, SinksFit, UnionsFit}
-use Rattle.sound_plans.specs.JoinFits.{EdgesAreKeyed, JoinsFit, SemisFit, TopNsFit}
+use Rattle.sound_plans.specs.JoinFits.{EdgesAreKeyed}
 
 abbrev pub KeysGoByInputs : Type 0
 KeysGoByInputs = (columns : ℕ → List ColTy) (sources : List TableDef) (edges : List Edge) (ws : List Wire) → AreOrdered ws
@@ -25,25 +22,11 @@ KindsGoByInputs = (sources : List TableDef) (ws : List Wire) → AreOrdered ws �
 abbrev pub UpdateKeysGoByInputs : Type 0
 UpdateKeysGoByInputs = (columns : ℕ → List ColTy) (ws : List Wire) → AreOrdered ws → IsLocal (λ w. update_key_of (input_width columns w.inputs) w.op) None ws (update_keys columns ws)
 
--- laws of lower crates on which those of sound plans stand
+-- laws on which those of sound plans stand
 pub record Laws : Type 0 where
   pub shaped : ShapedPlansHaveShape
   pub keys : KeysGoByInputs
   pub kinds : KindsGoByInputs
   pub update_keys : UpdateKeysGoByInputs
-  -- nodes fit between edges as they are inferred
-  pub filters_fit : FiltersFit
-  pub projects_fit : ProjectsFit
-  pub unions_fit : UnionsFit
-  pub normalizes_fit : NormalizesFit
-  pub groups_fit : GroupsFit
-  pub joins_fit : JoinsFit
-  pub semis_fit : SemisFit
-  pub topns_fit : TopNsFit
-  pub sinks_fit : SinksFit
-  pub scans_fit : ScansFit
+  -- an edge that carries new rows alone keeps each key in one channel
   pub edges_are_keyed : EdgesAreKeyed
-  -- and such nodes meet their facts
-  pub groups_stand : GroupsStand
-  pub groups_take : GroupsTake
-  pub scans_stand : ScansStand

@@ -18,6 +18,8 @@ use Rattle.emission_rules.proofs.laws.Normalizes.{normalizes_stand, normalizes_t
 use Rattle.emission_rules.proofs.laws.Sinks.{sinks_stand, sinks_take}
 use Rattle.emission_rules.specs.Grouping.{group_rule}
 use Rattle.emission_rules.specs.GroupFits.{group_task}
+use Rattle.emission_rules.proofs.laws.GroupFacts.{group_stands as groups_stand}
+use Rattle.emission_rules.proofs.laws.Theorems.{groups_take}
 use Rattle.emission_rules.specs.Joining.{joins, matched}
 use Rattle.emission_rules.proofs.laws.Nodes.{joins_stand, joins_take}
 use Rattle.emission_rules.specs.Ranking.{topn_rule}
@@ -28,6 +30,7 @@ use Rattle.phys_plan.specs.declared.node.Op.{Op}
 use Rattle.phys_plan.specs.declared.node.Op.TheVariants as op
 use Rattle.phys_plan.specs.declared.plan.Plan.{Plan}
 use Rattle.stream_model.specs.Network.{task, ScanFacts}
+use Rattle.stream_model.proofs.laws.Theorems.{scans_stand}
 use Rattle.plan_rules.specs.Plans.{inputs_in, scan_of, table_of}
 use Rattle.phys_plan.specs.Reading.{numbered}
 use Rattle.plan_rules.specs.Around.{Around, filter_of, grouping_of, joining_of, normalize_of, project_of, ranking_of, sink_of, union_of}
@@ -38,6 +41,15 @@ use Rattle.plan_shape.specs.Shaped.{MeetsShape}
 use Rattle.sound_plans.specs.Agrees.{Agrees, NormalizeAgrees, SinkAgrees}
 use Rattle.sound_plans.specs.Outputs.{IsProper, Output, around_by, edge_of, edges_of, no_output, printed_edge}
 use Rattle.sound_plans.specs.Sound.{IsRuled}
+use Rattle.sound_plans.proofs.laws.Filters.{filters_fit}
+use Rattle.sound_plans.proofs.laws.Projects.{projects_fit}
+use Rattle.sound_plans.proofs.laws.Unions.{unions_fit}
+use Rattle.sound_plans.proofs.laws.Normalizes.{normalizes_fit}
+use Rattle.sound_plans.proofs.laws.Groups.{groups_fit}
+use Rattle.sound_plans.proofs.laws.Joins.{joins_fit, semis_fit}
+use Rattle.sound_plans.proofs.laws.TopN.{topns_fit}
+use Rattle.sound_plans.proofs.laws.Sinks.{sinks_fit}
+use Rattle.sound_plans.proofs.laws.Scans.{scans_fit}
 use Rattle.sound_plans.proofs.laws.Inputs.{facts_of_ports, takes_by_ports, takes_of_ports}
 use Rattle.sound_plans.proofs.laws.Numbers.{index_at}
 use Rattle.sound_plans.proofs.laws.Lists.{map_length, same_number}
@@ -49,7 +61,7 @@ use Rattle.sound_plans.proofs.laws.Outputs.{around_is, edge_is, output_at, print
 
 -- ---- one operator, between what its inputs send and its own edge
 
-module _ (laws : Laws) (many : ℕ) (some : 0 < many) (sources : List TableDef) (sink : TableDef) where
+module _ (many : ℕ) (some : 0 < many) (sources : List TableDef) (sink : TableDef) where
   abbrev pub task_by : Op → Around → List Output → Edge → Task
   task_by o around inputs to = record {
     subtasks = many;
@@ -74,55 +86,55 @@ module _ (laws : Laws) (many : ℕ) (some : 0 < many) (sources : List TableDef) 
 
   filter_works : (cond : Expr) (input own : Output) → Agrees sources sink (op.Filter cond) (input ∷ []) own → Works (op.Filter cond) (input ∷ []) own
   filter_works cond input own agrees =
-      let f = laws.filters_fit many sources sink cond input own agrees in
+      let f = filters_fit many sources sink cond input own agrees in
       let rule = filter_of (expr_view cond) in
       ((filters_stand rule many (edges_of many (input ∷ [])) (edge_of many own) f.0, filters_take rule many (edges_of many (input ∷ [])) (edge_of many own) f.0), f.1)
 
   project_works : (items : List Expr) (input own : Output) → Agrees sources sink (op.Project items) (input ∷ []) own → Works (op.Project items) (input ∷ []) own
   project_works items input own agrees =
-      let f = laws.projects_fit many sources sink items input own agrees in
+      let f = projects_fit many sources sink items input own agrees in
       let rule = project_of (map expr_view items) (around_by sink (input ∷ []) own) in
       ((projects_stand rule many (edges_of many (input ∷ [])) (edge_of many own) f.0, projects_take rule many (edges_of many (input ∷ [])) (edge_of many own) f.0), f.1)
 
   union_works : (inputs : List Output) (own : Output) → Agrees sources sink op.Union inputs own → Works op.Union inputs own
   union_works inputs own agrees =
-      let f = laws.unions_fit many sources sink inputs own agrees in
+      let f = unions_fit many sources sink inputs own agrees in
       let rule = union_of (around_by sink inputs own) in
       ((unions_stand rule many (edges_of many inputs) (edge_of many own) f.0, unions_take rule many (edges_of many inputs) (edge_of many own) f.0), f.1)
 
   normalize_works : (key : List ℕ) (input own : Output) → NormalizeAgrees key input own → Works (op.Normalize key) (input ∷ []) own
   normalize_works key input own agrees =
-      let f = laws.normalizes_fit many some sink key input own agrees in
+      let f = normalizes_fit many some sink key input own agrees in
       let rule = normalize_of key (around_by sink (input ∷ []) own) in
       ((normalizes_stand rule many (edges_of many (input ∷ [])) (edge_of many own) f.0, normalizes_take rule many (edges_of many (input ∷ [])) (edge_of many own) f.0), f.1)
 
   group_works : (keys : ℕ) (aggs : List Agg) (input own : Output) → Agrees sources sink (op.Group keys aggs) (input ∷ []) own → Works (op.Group keys aggs) (input ∷ []) own
   group_works keys aggs input own agrees =
-      let f = laws.groups_fit many some sources sink keys aggs input own agrees in
+      let f = groups_fit many some sources sink keys aggs input own agrees in
       let g = grouping_of keys aggs (around_by sink (input ∷ []) own) in
       let t = group_task many g (edge_of many input) (edge_of many own) in (
         (
-          facts_of_ports t (edges_of many (input ∷ [])) (one_port input) (laws.groups_stand many g (edge_of many input) (edge_of many own) f.0),
-          takes_of_ports t (edges_of many (input ∷ [])) (one_port input) (group_rule g) (laws.groups_take many g (edge_of many input) (edge_of many own) f.0),
+          facts_of_ports t (edges_of many (input ∷ [])) (one_port input) (groups_stand many g (edge_of many input) (edge_of many own) f.0),
+          takes_of_ports t (edges_of many (input ∷ [])) (one_port input) (group_rule g) (groups_take many g (edge_of many input) (edge_of many own) f.0),
         ),
         f.1,
       )
 
   join_works : (kind : JoinKind) (on : List Pair) (rest : Option Expr) (left right own : Output) → Agrees sources sink (op.Join kind on rest) (left ∷ (right ∷ [])) own → Works (op.Join kind on rest) (left ∷ (right ∷ [])) own
   join_works kind on rest left right own agrees =
-      let f = laws.joins_fit many some sources sink kind on rest left right own agrees in
+      let f = joins_fit many some sources sink kind on rest left right own agrees in
       let j = joining_of (joins kind) on (option_map expr_view rest) (around_by sink (left ∷ (right ∷ [])) own) in
       ((joins_stand many j (edges_of many (left ∷ (right ∷ []))) (edge_of many own) f.0, joins_take many j (edges_of many (left ∷ (right ∷ []))) (edge_of many own) f.0), f.1)
 
   semi_works : (anti : Bool) (on : List Pair) (rest : Option Expr) (left right own : Output) → Agrees sources sink (op.Semi anti on rest) (left ∷ (right ∷ [])) own → Works (op.Semi anti on rest) (left ∷ (right ∷ [])) own
   semi_works anti on rest left right own agrees =
-      let f = laws.semis_fit many some sources sink anti on rest left right own agrees in
+      let f = semis_fit many some sources sink anti on rest left right own agrees in
       let j = joining_of (matched anti) on (option_map expr_view rest) (around_by sink (left ∷ (right ∷ [])) own) in
       ((joins_stand many j (edges_of many (left ∷ (right ∷ []))) (edge_of many own) f.0, joins_take many j (edges_of many (left ∷ (right ∷ []))) (edge_of many own) f.0), f.1)
 
   rank_works : (partition : List ℕ) (order : List SortCol) (bound : ℕ) (ranked : Bool) (input own : Output) → Agrees sources sink (op.TopN partition order bound ranked) (input ∷ []) own → Works (op.TopN partition order bound ranked) (input ∷ []) own
   rank_works partition order bound ranked input own agrees =
-      let f = laws.topns_fit many some sources sink partition order bound ranked input own agrees in
+      let f = topns_fit many some sources sink partition order bound ranked input own agrees in
       let r = ranking_of partition order bound ranked (around_by sink (input ∷ []) own) in
       let t = topn_task many r (edge_of many input) (edge_of many own) in (
         (
@@ -134,7 +146,7 @@ module _ (laws : Laws) (many : ℕ) (some : 0 < many) (sources : List TableDef) 
 
   sink_works : (input own : Output) → SinkAgrees sink input own → StandsBy op.Sink (input ∷ []) own (printed_edge many sink own) × IsProper own
   sink_works input own agrees =
-      let f = laws.sinks_fit many sink input own agrees in
+      let f = sinks_fit many sink input own agrees in
       let rule = sink_of (around_by sink (input ∷ []) own) in
       ((sinks_stand rule many (edges_of many (input ∷ [])) (printed_edge many sink own) f.0, sinks_take rule many (edges_of many (input ∷ [])) (printed_edge many sink own) f.0), f.1)
 
@@ -154,7 +166,7 @@ module _ (laws : Laws) (plan : Plan) (ruled : IsRuled plan) where
   some = (s.shape plan meets laws.shaped).parallel
 
   abbrev Fits : Op → List Output → Output → Edge → Type 0
-  Fits o inputs own to = StandsBy laws plan.parallelism some plan.sources plan.sink o inputs own to
+  Fits o inputs own to = StandsBy plan.parallelism some plan.sources plan.sink o inputs own to
 
   abbrev pub Stands : ℕ → Node → Type 0
   Stands v node = Facts (task (network plan) v) × TakesBy (behaviour node.op (around_of plan v node.inputs)) (task (network plan) v)
@@ -206,7 +218,7 @@ module _ (laws : Laws) (plan : Plan) (ruled : IsRuled plan) where
   stands_at v node first rest e are h =
       let own = output_at plan v in
       let around = around_by plan.sink (outs node.inputs) own in
-      let t = task_by laws plan.parallelism some plan.sources plan.sink node.op around (outs node.inputs) (edge_at v) in
+      let t = task_by plan.parallelism some plan.sources plan.sink node.op around (outs node.inputs) (edge_at v) in
       let other = λ (p : ℕ). edge_at (slice_index_or node.inputs p 0) in
       let told : task_told v node.op node.inputs (length (outs node.inputs)) around ≡ task_told v node.op node.inputs (length (outs node.inputs)) around = refl in
       let facts : Facts (task_told v node.op node.inputs (length (outs node.inputs)) around) = facts_of_ports t other (ports_are v node e) h.0 in
@@ -252,7 +264,7 @@ module _ (laws : Laws) (plan : Plan) (ruled : IsRuled plan) where
 
   -- a node with one input, by its operator
   one : (v : ℕ) (node : Node) → numbered plan.nodes v ≡ Some node → (o : Op) → node.op ≡ o → ((n : ℕ) → ports_of o n ≡ (n == 1)) → scan_of o ≡ None → a.scans o ≡ false → a.normalizes o ≡ false → a.sinks o ≡ false
-      → a.AreProper laws plan ruled node.inputs → ((input own : Output) → Agrees plan.sources plan.sink o (input ∷ []) own → Works laws plan.parallelism some plan.sources plan.sink o (input ∷ []) own) → NodeStands v node
+      → a.AreProper laws plan ruled node.inputs → ((input own : Output) → Agrees plan.sources plan.sink o (input ∷ []) own → Works plan.parallelism some plan.sources plan.sink o (input ∷ []) own) → NodeStands v node
   one v node e o is takes_one no_scan x y z proper works =
       let i = a.one_input laws plan ruled v node e (λ n. ap (λ p. ports_of p n) is ∙ takes_one n) in
       let own = output_at plan v in
@@ -272,7 +284,7 @@ module _ (laws : Laws) (plan : Plan) (ruled : IsRuled plan) where
   -- a node with two inputs, by its operator
   two : (v : ℕ) (node : Node) → numbered plan.nodes v ≡ Some node → (o : Op) → node.op ≡ o → ((n : ℕ) → ports_of o n ≡ (n == 2)) → scan_of o ≡ None → a.scans o ≡ false → a.normalizes o ≡ false → a.sinks o ≡ false
       → a.AreProper laws plan ruled node.inputs
-      → ((left right own : Output) → Agrees plan.sources plan.sink o (left ∷ (right ∷ [])) own → Works laws plan.parallelism some plan.sources plan.sink o (left ∷ (right ∷ [])) own) → NodeStands v node
+      → ((left right own : Output) → Agrees plan.sources plan.sink o (left ∷ (right ∷ [])) own → Works plan.parallelism some plan.sources plan.sink o (left ∷ (right ∷ [])) own) → NodeStands v node
   two v node e o is takes_two no_scan x y z proper works =
       let i = a.two_inputs laws plan ruled v node e (λ n. ap (λ p. ports_of p n) is ∙ takes_two n) in
       let own = output_at plan v in
@@ -292,7 +304,7 @@ module _ (laws : Laws) (plan : Plan) (ruled : IsRuled plan) where
   scan : (v : ℕ) (node : Node) → numbered plan.nodes v ≡ Some node → (source : ℕ) → node.op ≡ op.Scan source → NodeStands v node
   scan v node e source is =
       let t = a.table_there laws plan ruled v node source e is in
-      let f = laws.scans_fit plan.parallelism some t.0 (output_at plan v) (a.scan_agrees laws plan ruled v node source t.0 e is t.1 t.2) in
+      let f = scans_fit plan.parallelism some t.0 (output_at plan v) (a.scan_agrees laws plan ruled v node source t.0 e is t.1 t.2) in
       record {
         works = inl (record {
           source = source;
@@ -302,7 +314,7 @@ module _ (laws : Laws) (plan : Plan) (ruled : IsRuled plan) where
           is_table = t.1;
           facts =
               subst (λ (x : Edge). ScanFacts plan.parallelism (table_of plan.parallelism t.0) x) (sym (inner_edge v node e (ap a.sinks is)))
-              (laws.scans_stand plan.parallelism (table_of plan.parallelism t.0) (edge_of plan.parallelism (output_at plan v)) f.0);
+              (scans_stand plan.parallelism (table_of plan.parallelism t.0) (edge_of plan.parallelism (output_at plan v)) f.0);
         });
         proper = f.1;
       }
@@ -312,7 +324,7 @@ module _ (laws : Laws) (plan : Plan) (ruled : IsRuled plan) where
       let i = a.some_inputs laws plan ruled v node e is in
       let own = output_at plan v in
       let agrees = a.agrees laws plan ruled v node e (ap a.scans is) (ap a.normalizes is) (ap a.sinks is) proper in
-      let w = union_works laws plan.parallelism some plan.sources plan.sink (outs node.inputs) own (subst (λ p. Agrees plan.sources plan.sink p (outs node.inputs) own) is agrees) in
+      let w = union_works plan.parallelism some plan.sources plan.sink (outs node.inputs) own (subst (λ p. Agrees plan.sources plan.sink p (outs node.inputs) own) is agrees) in
       let fits : Fits op.Union (outs node.inputs) own (edge_at v) = subst (λ (to : Edge). Fits op.Union (outs node.inputs) own to) (sym (inner_edge v node e (ap a.sinks is))) w.0 in
       record {
         works = inr (record {
@@ -328,7 +340,7 @@ module _ (laws : Laws) (plan : Plan) (ruled : IsRuled plan) where
       let i = a.one_input laws plan ruled v node e (λ n. ap (λ p. ports_of p n) is) in
       let own = output_at plan v in
       let sent : outs node.inputs ≡ output_at plan i.0 ∷ [] = ap outs i.1 in
-      let w = normalize_works laws plan.parallelism some plan.sources plan.sink key (output_at plan i.0) own (a.normalize_agrees laws plan ruled v node key i.0 e is i.1 proper) in
+      let w = normalize_works plan.parallelism some plan.sources plan.sink key (output_at plan i.0) own (a.normalize_agrees laws plan ruled v node key i.0 e is i.1 proper) in
       let fits : Fits (op.Normalize key) (outs node.inputs) own (edge_at v) =
       subst (λ (to : Edge). Fits (op.Normalize key) (outs node.inputs) own to) (sym (inner_edge v node e (ap a.sinks is))) (subst (λ xs. Fits (op.Normalize key) xs own (edge_of plan.parallelism own)) (sym sent) w.0) in
       record {
@@ -351,7 +363,7 @@ module _ (laws : Laws) (plan : Plan) (ruled : IsRuled plan) where
       let i = sink_is v node e is proper in
       let own = output_at plan v in
       let sent : outs node.inputs ≡ output_at plan i.0 ∷ [] = ap outs i.1 in
-      let w = sink_works laws plan.parallelism some plan.sources plan.sink (output_at plan i.0) own i.2 in
+      let w = sink_works plan.parallelism some plan.sources plan.sink (output_at plan i.0) own i.2 in
       let last : (v == length plan.nodes) ≡ true = ap (λ n. n == length plan.nodes) (is_last v node e is) ∙ same_number (length plan.nodes) in
       let fits : Fits op.Sink (outs node.inputs) own (edge_at v) =
       subst (λ (to : Edge). Fits op.Sink (outs node.inputs) own to) (sym (printed_is plan v last)) (subst (λ xs. Fits op.Sink xs own (printed_edge plan.parallelism plan.sink own)) (sym sent) w.0) in
@@ -366,15 +378,15 @@ module _ (laws : Laws) (plan : Plan) (ruled : IsRuled plan) where
 
   by_op : (v : ℕ) (node : Node) → numbered plan.nodes v ≡ Some node → a.AreProper laws plan ruled node.inputs → (o : Op) → node.op ≡ o → has_rule o ≡ true → NodeStands v node
   by_op v node e proper (op.Scan source) is r = scan v node e source is
-  by_op v node e proper (op.Filter cond) is r = one v node e (op.Filter cond) is (λ n. refl) refl refl refl refl proper (filter_works laws plan.parallelism some plan.sources plan.sink cond)
-  by_op v node e proper (op.Project items) is r = one v node e (op.Project items) is (λ n. refl) refl refl refl refl proper (project_works laws plan.parallelism some plan.sources plan.sink items)
+  by_op v node e proper (op.Filter cond) is r = one v node e (op.Filter cond) is (λ n. refl) refl refl refl refl proper (filter_works plan.parallelism some plan.sources plan.sink cond)
+  by_op v node e proper (op.Project items) is r = one v node e (op.Project items) is (λ n. refl) refl refl refl refl proper (project_works plan.parallelism some plan.sources plan.sink items)
   by_op v node e proper op.Union is r = union v node e is proper
   by_op v node e proper (op.Normalize key) is r = normalize v node e key is proper
-  by_op v node e proper (op.Group keys aggs) is r = one v node e (op.Group keys aggs) is (λ n. refl) refl refl refl refl proper (group_works laws plan.parallelism some plan.sources plan.sink keys aggs)
-  by_op v node e proper (op.Join kind on rest) is r = two v node e (op.Join kind on rest) is (λ n. refl) refl refl refl refl proper (join_works laws plan.parallelism some plan.sources plan.sink kind on rest)
-  by_op v node e proper (op.Semi anti on rest) is r = two v node e (op.Semi anti on rest) is (λ n. refl) refl refl refl refl proper (semi_works laws plan.parallelism some plan.sources plan.sink anti on rest)
+  by_op v node e proper (op.Group keys aggs) is r = one v node e (op.Group keys aggs) is (λ n. refl) refl refl refl refl proper (group_works plan.parallelism some plan.sources plan.sink keys aggs)
+  by_op v node e proper (op.Join kind on rest) is r = two v node e (op.Join kind on rest) is (λ n. refl) refl refl refl refl proper (join_works plan.parallelism some plan.sources plan.sink kind on rest)
+  by_op v node e proper (op.Semi anti on rest) is r = two v node e (op.Semi anti on rest) is (λ n. refl) refl refl refl refl proper (semi_works plan.parallelism some plan.sources plan.sink anti on rest)
   by_op v node e proper (op.TopN partition order bound ranked) is r =
-      one v node e (op.TopN partition order bound ranked) is (λ n. refl) refl refl refl refl proper (rank_works laws plan.parallelism some plan.sources plan.sink partition order bound ranked)
+      one v node e (op.TopN partition order bound ranked) is (λ n. refl) refl refl refl refl proper (rank_works plan.parallelism some plan.sources plan.sink partition order bound ranked)
   by_op v node e proper op.Sink is r = sink v node e is proper
   by_op v node e proper (op.BatchGroup keys aggs) is r = absurd (cc)
   by_op v node e proper (op.Materialize key) is r = absurd (cc)

@@ -1,48 +1,24 @@
 -- The theorems of this crate, put together of its lemmas.
 use Rattle.sound_plans.specs.Promises.{Laws}
-use Rattle.emission_rules.proofs.laws.GroupFacts.{group_stands as groups_stand}
-use Rattle.emission_rules.proofs.laws.Theorems.{groups_take}
 use Rattle.plan_inferred.proofs.laws.Theorems.{keys_go_by_inputs_local, kinds_go_by_inputs_local, update_keys_go_by_inputs_local}
-use Rattle.sound_plans.proofs.laws.Joins.{joins_fit, semis_fit}
-use Rattle.sound_plans.proofs.laws.TopN.{topns_fit}
 use Rattle.sound_plans.proofs.laws.JoinInputs.{edges_are_keyed}
 use Rattle.plan_shape.proofs.laws.Theorems.{shaped_plans_have_shape}
-use Rattle.sound_plans.proofs.laws.Filters.{filters_fit}
-use Rattle.sound_plans.proofs.laws.Projects.{projects_fit}
-use Rattle.sound_plans.proofs.laws.Unions.{unions_fit}
-use Rattle.sound_plans.proofs.laws.Normalizes.{normalizes_fit}
-use Rattle.sound_plans.proofs.laws.Groups.{groups_fit}
-use Rattle.sound_plans.proofs.laws.Sinks.{sinks_fit}
-use Rattle.sound_plans.proofs.laws.Scans.{scans_fit}
-use Rattle.stream_model.proofs.laws.Theorems.{plans_compose, scans_stand, printed_folds_to_answer}
+use Rattle.stream_model.proofs.laws.Theorems.{plans_compose, printed_folds_to_answer}
 use Rattle.sound_plans.proofs.laws.States.{plans_hold}
 use Rattle.sound_plans.proofs.laws.Wiring as wiring
 use Rattle.sound_plans.specs.Sound.{SoundNodesHaveColumns, SoundPlansAnswer, SoundPlansMeetFacts, SoundPortsTake, SoundPlansAreWired, SoundPlansPrint}
 use Rattle.sound_plans.specs.States.{SoundPlansHold}
 use Rattle.plan_rules.proofs.laws.Theorems.{plans_answer_as_erased, plans_are_wired}
 
--- The laws of lower crates on which these stand: a plan of this shape is fed as the composition theorem asks, what is inferred of a node
--- goes by what its inputs have, and a node with what is inferred of it fits between its edges and meets its facts.
+-- The laws on which these stand: a plan of this shape is fed as the composition theorem asks, what is inferred of a node goes by what its
+-- inputs have, and an edge that carries new rows alone keeps each key in one channel.
 pub nodes_fit : Laws
 nodes_fit = record {
   shaped = shaped_plans_have_shape;
   keys = keys_go_by_inputs_local;
   kinds = kinds_go_by_inputs_local;
   update_keys = update_keys_go_by_inputs_local;
-  filters_fit = filters_fit;
-  projects_fit = projects_fit;
-  unions_fit = unions_fit;
-  normalizes_fit = normalizes_fit;
-  groups_fit = groups_fit;
-  joins_fit = joins_fit;
-  semis_fit = semis_fit;
-  topns_fit = topns_fit;
-  sinks_fit = sinks_fit;
-  scans_fit = scans_fit;
   edges_are_keyed = edges_are_keyed;
-  groups_stand = groups_stand;
-  groups_take = groups_take;
-  scans_stand = scans_stand;
 }
 
 -- Each of its nodes has columns.

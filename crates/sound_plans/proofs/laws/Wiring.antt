@@ -36,6 +36,7 @@ use Rattle.sound_plans.specs.Promises.{Laws}
 use Rattle.sound_plans.proofs.laws.Agreed as a
 use Rattle.sound_plans.proofs.laws.Local as l
 use Rattle.sound_plans.proofs.laws.Shapes as s
+use Rattle.sound_plans.proofs.laws.Sinks.{sinks_fit}
 use Rattle.sound_plans.proofs.laws.Outputs.{edge_or, output_at, printed_is}
 use Rattle.sound_plans.proofs.laws.Stands.{IsScanNode, IsWorker, NodeStands, edge_at, node_stands, proper_inputs, sink_is}
 
@@ -197,5 +198,5 @@ sound_plans_print laws wired printed plan ruled limit items typed =
     let last = printed_is plan (length plan.nodes) (same_number (length plan.nodes)) in
     printed (network plan) (sound_plans_are_wired laws wired plan ruled) (meets_facts laws plan ruled) (table_mode plan.sink)
     (ap (λ (x : Edge). x.meaning) last)
-    (λ kind h. (laws.sinks_fit plan.parallelism plan.sink (output_at plan sink.0) (output_at plan (length plan.nodes)) sink.2).2 kind (subst (λ (x : Edge). has x.kinds kind ≡ true) last h))
+    (λ kind h. (sinks_fit plan.parallelism plan.sink (output_at plan sink.0) (output_at plan (length plan.nodes)) sink.2).2 kind (subst (λ (x : Edge). has x.kinds kind ≡ true) last h))
     limit items typed
