@@ -13,19 +13,12 @@ use Rattle.phys_plan.specs.Reading.{numbered}
 use Rattle.plan_rules.specs.Around.{Around, filter_of, project_of, union_of, normalize_of, grouping_of, joining_of, ranking_of, sink_of}
 use Rattle.plan_rules.specs.Doings.{around_of, doing_by, doing_in, network}
 use Rattle.sound_plans.proofs.laws.Lists.{the_same}
-use Rattle.range_rules.specs.Ranges.{StaysInRange, FiltersStayInRange, ProjectsStayInRange, UnionsStayInRange, NormalizesStayInRange, SinksStayInRange, GroupsStayInRange, JoinsStayInRange, TopNsStayInRange}
+use Rattle.range_rules.specs.Ranges.{StaysInRange}
+use Rattle.range_rules.proofs.laws.Rows.{filters_stay, projects_stay, unions_stay, normalizes_stay, sinks_stay}
+use Rattle.range_rules.proofs.laws.Groups.{groups_stay}
+use Rattle.range_rules.proofs.laws.Joins.{joins_stay}
+use Rattle.range_rules.proofs.laws.Ranks.{topns_stay}
 use Rattle.run_laws.specs.Runs.{is_tame_op, is_tame_plan}
-
--- the rules that stay in range
-pub record Rules : Type 0 where
-  pub filters : FiltersStayInRange
-  pub projects : ProjectsStayInRange
-  pub unions : UnionsStayInRange
-  pub normalizes : NormalizesStayInRange
-  pub sinks : SinksStayInRange
-  pub groups : GroupsStayInRange
-  pub joins : JoinsStayInRange
-  pub topns : TopNsStayInRange
 
 -- nothing is sent
 idles : StaysInRange (λ subtask. []) (λ before piece. Ok [])
@@ -37,27 +30,26 @@ tame_at [] all n node e = absurd (cc)
 tame_at (first ∷ nodes) all zero node e = ap (λ (x : Node). is_tame_op x.op) (sym (the_same first node e)) ∙ (and_parts _ _ all).0
 tame_at (first ∷ nodes) all (suc n) node e = tame_at nodes (and_parts _ _ all).1 n node e
 
-module _ (rules : Rules) where
-  does : (o : Op) (around : Around) → is_tame_op o ≡ true → StaysInRange (doing_by o around).opening (doing_by o around).emits
-  does (op.Filter cond) around tame = rules.filters (filter_of (expr_view cond)) tame
-  does (op.Project items) around tame = rules.projects (project_of (map expr_view items) around) tame
-  does op.Union around tame = rules.unions (union_of around)
-  does (op.Normalize key) around tame = rules.normalizes (normalize_of key around)
-  does (op.Group keys aggs) around tame = rules.groups (grouping_of keys aggs around) tame
-  does (op.Join kind on rest) around tame = rules.joins (joining_of (joins kind) on (option_map expr_view rest) around) tame
-  does (op.Semi anti on rest) around tame = rules.joins (joining_of (matched anti) on (option_map expr_view rest) around) tame
-  does (op.TopN partition order bound ranked) around tame = rules.topns (ranking_of partition order bound ranked around)
-  does op.Sink around tame = rules.sinks (sink_of around)
-  does _ around tame = idles
+does : (o : Op) (around : Around) → is_tame_op o ≡ true → StaysInRange (doing_by o around).opening (doing_by o around).emits
+does (op.Filter cond) around tame = filters_stay (filter_of (expr_view cond)) tame
+does (op.Project items) around tame = projects_stay (project_of (map expr_view items) around) tame
+does op.Union around tame = unions_stay (union_of around)
+does (op.Normalize key) around tame = normalizes_stay (normalize_of key around)
+does (op.Group keys aggs) around tame = groups_stay (grouping_of keys aggs around) tame
+does (op.Join kind on rest) around tame = joins_stay (joining_of (joins kind) on (option_map expr_view rest) around) tame
+does (op.Semi anti on rest) around tame = joins_stay (joining_of (matched anti) on (option_map expr_view rest) around) tame
+does (op.TopN partition order bound ranked) around tame = topns_stay (ranking_of partition order bound ranked around)
+does op.Sink around tame = sinks_stay (sink_of around)
+does _ around tame = idles
 
-  module _ (plan : Plan) (tame : is_tame_plan plan ≡ true) where
-    does_in : (v : ℕ) (o : Option Node) → ((node : Node) → o ≡ Some node → is_tame_op node.op ≡ true) → StaysInRange (doing_in plan v o).opening (doing_in plan v o).emits
-    does_in v None own = idles
-    does_in v (Some node) own = does node.op (around_of plan v node.inputs) (own node refl)
+module _ (plan : Plan) (tame : is_tame_plan plan ≡ true) where
+  does_in : (v : ℕ) (o : Option Node) → ((node : Node) → o ≡ Some node → is_tame_op node.op ≡ true) → StaysInRange (doing_in plan v o).opening (doing_in plan v o).emits
+  does_in v None own = idles
+  does_in v (Some node) own = does node.op (around_of plan v node.inputs) (own node refl)
 
-    numbered_tame : (v : ℕ) (node : Node) → numbered plan.nodes v ≡ Some node → is_tame_op node.op ≡ true
-    numbered_tame zero node e = absurd (cc)
-    numbered_tame (suc n) node e = tame_at plan.nodes tame n node e
+  numbered_tame : (v : ℕ) (node : Node) → numbered plan.nodes v ≡ Some node → is_tame_op node.op ≡ true
+  numbered_tame zero node e = absurd (cc)
+  numbered_tame (suc n) node e = tame_at plan.nodes tame n node e
 
-    pub nodes_stay : (v : ℕ) → StaysInRange ((network plan).opening v) ((network plan).emits v)
-    nodes_stay v = does_in v (numbered plan.nodes v) (numbered_tame v)
+  pub nodes_stay : (v : ℕ) → StaysInRange ((network plan).opening v) ((network plan).emits v)
+  nodes_stay v = does_in v (numbered plan.nodes v) (numbered_tame v)

@@ -27,7 +27,7 @@ use Rattle.range_rules.specs.Ranges.{StaysInRange}
 use Rattle.run_laws.specs.Runs.{RunsStayInRange}
 use Rattle.run_laws.proofs.laws.Lines.{lines_are_short}
 use Rattle.run_laws.proofs.laws.Steps.{IsShortState, InRange, TakesShort, opened_short, item_in_range}
-use Rattle.run_laws.proofs.laws.Nodes.{Rules, nodes_stay}
+use Rattle.run_laws.proofs.laws.Nodes.{nodes_stay}
 
 -- ---- a drain takes nothing
 
@@ -158,7 +158,7 @@ module _ (fit : LinesFitColumns) (plan : Plan) (wired : IsWired (network plan)) 
 
 -- ---- the law
 
-pub runs_stay : Rules → LinesFitColumns → SoundPlansAreWired → SoundPlansMeetFacts → RunsAreSafe → RunsStayInRange
-runs_stay rules fit wired meets safe plan ruled tame limit small bytes node subtask row types printed stops =
-    let nodes = nodes_stay rules plan tame in
+pub runs_stay : LinesFitColumns → SoundPlansAreWired → SoundPlansMeetFacts → RunsAreSafe → RunsStayInRange
+runs_stay fit wired meets safe plan ruled tame limit small bytes node subtask row types printed stops =
+    let nodes = nodes_stay plan tame in
     subst (Stays fit plan (wired plan ruled) (meets plan ruled) safe limit small nodes) stops (stays_whole fit plan (wired plan ruled) (meets plan ruled) safe limit small nodes bytes)
