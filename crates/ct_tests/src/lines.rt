@@ -1,16 +1,33 @@
-// Change files of one source.
+// Change files of sources of words with numbers.
 use crate::tables::words;
-use ct_catalog::Sources;
+use ct_catalog::{Sources, TableDef};
 use ct_change::{Declared, Kind};
-use ct_value::{Bytes, ChangeCode, Memory, Value};
-use job_text::{ChangeLines, Line, LineFault};
+use ct_value::{Bytes, ChangeCode, Memory, Text, Value};
+use job_text::{ChangeLines, Line, LineFault, NamedSources};
 use std::alloc::Global;
 use std::test::Fail;
 
-// The source `t` of words with numbers, in append mode.
-fn sources(alloc: Global) -> Result<Sources, Memory> {
+// The source `t`, in append mode.
+fn one_source(alloc: Global) -> Result<Sources, Memory> {
     let mut sources = Sources::new(alloc);
     sources.push(words(alloc, Declared::Append, false)?)?;
+    Ok(sources)
+}
+
+// A source of this name, in append mode.
+fn source(alloc: Global, name: &str) -> Result<TableDef, Memory> {
+    let mut table = words(alloc, Declared::Append, false)?;
+    table.name = Text::from_str(alloc, name)?;
+    Ok(table)
+}
+
+// Sources out of order, of which two have one name.
+fn some_sources(alloc: Global) -> Result<Sources, Memory> {
+    let mut sources = Sources::new(alloc);
+    sources.push(source(alloc, "b")?)?;
+    sources.push(source(alloc, "a")?)?;
+    sources.push(source(alloc, "b")?)?;
+    sources.push(source(alloc, "ab")?)?;
     Ok(sources)
 }
 
@@ -22,17 +39,21 @@ fn lines_of(alloc: Global, text: &[u8]) -> Result<ChangeLines, Memory> {
     ChangeLines::new(alloc, Bytes::from_slice(alloc, text)?)
 }
 
-// Whether a line adds this word with a number.
-fn adds(line: Result<Option<Line>, LineFault>, word: &[u8], number: i128) -> bool {
+// Whether a line adds this word with a number to the source at a place.
+fn adds_to(table: u32, line: Result<Option<Line>, LineFault>, word: &[u8], number: i128) -> bool {
     let Ok(Some(line)) = line else {
         return false;
     };
     match line.change.row.as_slice() {
         [Value::Text(text), Value::Num(n)] => {
-            line.table == 0 && line.change.kind == Kind::I && text.is(word) && *n == number
+            line.table == table && line.change.kind == Kind::I && text.is(word) && *n == number
         }
         _ => false,
     }
+}
+
+fn adds(line: Result<Option<Line>, LineFault>, word: &[u8], number: i128) -> bool {
+    adds_to(0, line, word, number)
 }
 
 fn is_refused(line: Result<Option<Line>, LineFault>, code: ChangeCode) -> bool {
@@ -50,7 +71,8 @@ fn is_end(line: Result<Option<Line>, LineFault>) -> bool {
 }
 
 fn reads_each_line(alloc: Global) -> Result<bool, Memory> {
-    let sources = sources(alloc)?;
+    let tables = one_source(alloc)?;
+    let sources = NamedSources::new(alloc, &tables)?;
     let mut lines = lines_of(alloc, b"t,+I,a,1\r\n\nt,+X,a,1\nu,+I\nt,+I,\"b,\",-2")?;
     Ok(
         lines.left() == 4
@@ -65,6 +87,20 @@ fn reads_each_line(alloc: Global) -> Result<bool, Memory> {
     )
 }
 
+fn finds_each_source(alloc: Global) -> Result<bool, Memory> {
+    let tables = some_sources(alloc)?;
+    let sources = NamedSources::new(alloc, &tables)?;
+    let mut lines = lines_of(alloc, b"ab,+I,w,1\na,+I,w,2\nb,+I,w,3\nB,+I,w,4\n,+I,w,5")?;
+    Ok(
+        adds_to(3, lines.next_line(&sources), b"w", 1)
+            && adds_to(1, lines.next_line(&sources), b"w", 2)
+            && adds_to(0, lines.next_line(&sources), b"w", 3)
+            && is_refused(lines.next_line(&sources), ChangeCode::UnknownTable)
+            && is_refused(lines.next_line(&sources), ChangeCode::UnknownTable)
+            && is_end(lines.next_line(&sources)),
+    )
+}
+
 // A line that adds a word of so many letters, with the number 1.
 fn push_line(text: &mut Vec<u8>, letters: usize) -> Result<(), Memory> {
     text.extend_from_slice(b"t,+I,")?;
@@ -76,7 +112,8 @@ fn push_line(text: &mut Vec<u8>, letters: usize) -> Result<(), Memory> {
 }
 
 fn reads_longest_field(alloc: Global) -> Result<bool, Memory> {
-    let sources = sources(alloc)?;
+    let tables = one_source(alloc)?;
+    let sources = NamedSources::new(alloc, &tables)?;
     let mut text = Vec::new(alloc);
     push_line(&mut text, 65_536)?;
     push_line(&mut text, 65_537)?;
@@ -93,6 +130,11 @@ fn reads_longest_field(alloc: Global) -> Result<bool, Memory> {
 #[test]
 fn lines_are_read_one_by_one(rt: HostRuntime) {
     assert!(rt; matches!(reads_each_line(rt.alloc()), Ok(true)));
+}
+
+#[test]
+fn each_source_is_found(rt: HostRuntime) {
+    assert!(rt; matches!(finds_each_source(rt.alloc()), Ok(true)));
 }
 
 #[test]

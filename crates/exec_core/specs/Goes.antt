@@ -45,6 +45,10 @@ TakesSome session plan = (limit : ℕ) × (items : List Item) × Stands session 
 abbrev pub ForTaken : Session → Plan → (ℕ → List Item → Type 0) → Type 0
 ForTaken session plan P = (limit : ℕ) (items : List Item) → Stands session plan limit [] items → P limit items
 
+-- and of each plan over these sources
+abbrev pub ForPlans : Session → List TableDef → (Plan → ℕ → List Item → Type 0) → Type 0
+ForPlans session sources P = (plan : Plan) → plan.sources ≡ sources → ForTaken session plan (P plan)
+
 -- with the next line, which has this number, it stands for the run behind it
 pub record Takes (next : Session) (plan : Plan) (limit : ℕ) (items : List Item) (number : ℕ) (fields : Record) : Type 0 where
   pub more : List Item

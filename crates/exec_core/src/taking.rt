@@ -6,14 +6,13 @@ ghost use Rattle.plan_rules.specs.Doings.{network};
 ghost use Rattle.stream_model.specs.Runs.{Item};
 ghost use Rattle.source_lines.specs.Run.{take_line};
 ghost use Rattle.exec_core.specs.Faults.{IsLineRan};
-ghost use Rattle.exec_core.specs.Goes.{ForTaken, IsOfSource, Takes, TakesSome};
+ghost use Rattle.exec_core.specs.Goes.{ForPlans, ForTaken, IsOfSource, Takes, TakesSome};
 ghost use Rattle.exec_core.specs.Stands.{Stands, reached};
 
 use crate::fault::at_line;
 use crate::{RunFault, Session};
 use ct_change::Steps;
-use job_text::{ChangeLines, Line, LineFault};
-use phys_plan::Plan;
+use job_text::{ChangeLines, Line, LineFault, NamedSources};
 use std::sync::ledger::Ledger;
 use stream_model::Event;
 
@@ -43,15 +42,15 @@ pub(crate) fn take_next<L: Ledger>(
     session: Session,
     lines: &mut ChangeLines,
     number: u32,
-    plan: &Plan,
+    sources: &NamedSources<'_>,
     steps: &mut Steps<L>,
 ) -> Result<Session, RunFault>
-    requires ready { TakesSome session plan.now }
+    requires ready { (plan : Plan) × (plan.sources ≡ sources.now) × TakesSome session plan }
     requires more { (first : Record) × (rest : List Record) × (lines.old ≡ first ∷ rest) }
-    ensures ok { IfOk result (λ next. (first : Record) (rest : List Record) → lines.old ≡ first ∷ rest → (lines.new ≡ rest) × ForTaken session plan.now (λ limit items. Takes next plan.now limit items number first)) }
-    ensures refused { IfErr result (λ fault. (first : Record) (rest : List Record) → lines.old ≡ first ∷ rest → ForTaken session plan.now (λ limit items. IsLineRan fault (take_line (network plan.now) limit plan.now.sources number (reached plan.now limit items) (line_of plan.now.sources first)))) }
+    ensures ok { IfOk result (λ next. (first : Record) (rest : List Record) → lines.old ≡ first ∷ rest → (lines.new ≡ rest) × ForPlans session sources.now (λ plan limit items. Takes next plan limit items number first)) }
+    ensures refused { IfErr result (λ fault. (first : Record) (rest : List Record) → lines.old ≡ first ∷ rest → ForPlans session sources.now (λ plan limit items. IsLineRan fault (take_line (network plan) limit plan.sources number (reached plan limit items) (line_of plan.sources first)))) }
 {
-    match lines.next_line(&plan.sources) {
+    match lines.next_line(sources) {
         Ok(Some(line)) => take_line(session, line, number, steps),
         Ok(None) => unreachable!(),
         Err(LineFault::Change(code)) => Err(RunFault::Refused { code, line: number }),

@@ -36,7 +36,7 @@ pub(crate) fn printed_of<L: Ledger>(
     let lines = ChangeLines::new(alloc, bytes)?;
     let mut steps = Steps::<L>::new(blank);
     match Session::open_job(alloc, plan, sent_limit) {
-        Ok(session) => run_lines(session, lines, plan, &mut steps),
+        Ok(session) => run_lines(alloc, session, lines, plan, &mut steps),
         Err(OpenFault::Limit) => Err(RunFault::Stopped(Stopped {
             cause: StepFault::Limit,
             printed: PrintList::new(alloc),

@@ -1,3 +1,4 @@
+pub mod Names
 pub mod Readers
 pub mod Reading
 pub mod Texts

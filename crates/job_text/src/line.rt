@@ -3,8 +3,9 @@ ghost use Rattle.csv.specs.Records.{fields_of};
 ghost use Rattle.ct_value.specs.declared.codes.ChangeCode.{ChangeCode};
 ghost use Rattle.ct_value.specs.declared.codes.ChangeCode.TheVariants.{BadField};
 ghost use Rattle.job_text.specs.declared.line.LineFault.TheVariants.{Change as Refused};
-ghost use Rattle.job_text.specs.Lines.{change_of, change_of_kind, kind_of, line_of, source_named, spelled, values_from};
+ghost use Rattle.job_text.specs.Lines.{change_of, change_of_kind, kind_of, line_of, spelled, values_from};
 
+use crate::named::NamedSources;
 use csv::ByteRecord;
 use ct_catalog::{ColDef, TableDef};
 use ct_change::{Change, Kind};
@@ -41,7 +42,7 @@ impl From<Memory> for LineFault {
 /// The line that a record is.
 pub(crate) fn line_of(
     alloc: Global,
-    sources: &[TableDef],
+    sources: &NamedSources<'_>,
     fields: &ByteRecord,
 ) -> Result<Line, LineFault>
     ensures line { IfOk result (λ line. line_of sources.now (fields_of fields.now) ≡ Ok line) }
@@ -50,20 +51,14 @@ pub(crate) fn line_of(
     if fields.len() < 2 {
         return Err(LineFault::Change(ChangeCode::FieldCount));
     }
-    let Some(place) = source_named(sources, field(fields, 0)) else {
+    let Some((place, source)) = sources.find(field(fields, 0)) else {
         return Err(LineFault::Change(ChangeCode::UnknownTable));
     };
     let Ok(table) = u32::try_from(place) else {
         return Err(LineFault::Memory);
     };
-    let change = change_of(alloc, &sources[place], fields)?;
+    let change = change_of(alloc, source, fields)?;
     Ok(Line { table, change })
-}
-
-fn source_named(sources: &[TableDef], name: &[u8]) -> Option<usize>
-    ensures { result ≡ source_named sources.now name.now }
-{
-    sources.iter().position(|table| table.name.is(name))
 }
 
 // The change of a table that a record is, whatever the record's name.

@@ -7,8 +7,8 @@ ghost use Rattle.job_text.specs.Reading.{IsReading, Takes, left_in};
 
 use crate::fields::test_fields;
 use crate::line::{Line, LineFault, line_of};
+use crate::named::NamedSources;
 use csv::{ByteRecord, Reader, ReaderBuilder};
-use ct_catalog::Sources;
 use ct_value::{Bytes, Memory};
 use std::alloc::Global;
 use std::io::{AsBytes, Cursor, Read};
@@ -115,7 +115,7 @@ impl ChangeLines {
 
     /// Reads the next record, and answers the line of one of the sources that it is, and `None` exactly at the end. After a
     /// refusal it stands behind the refused record, after want of memory at its end.
-    pub fn next_line(&mut self, sources: &Sources) -> Result<Option<Line>, LineFault>
+    pub fn next_line(&mut self, sources: &NamedSources<'_>) -> Result<Option<Line>, LineFault>
         ensures end { self.old ≡ [] → (result ≡ Ok None) × (self.new ≡ []) }
         ensures line { (first : Record) (rest : List Record) → self.old ≡ first ∷ rest
             → ((result ≡ Err LineFault.Memory) × (self.new ≡ [])) ⊎ ((result ≡ answer_of (line_of sources.now first)) × (self.new ≡ rest)) }
@@ -128,7 +128,7 @@ impl ChangeLines {
             return Err(LineFault::Memory);
         }
         self.left -= 1;
-        match line_of(self.alloc, sources.as_slice(), &self.fields) {
+        match line_of(self.alloc, sources, &self.fields) {
             Ok(line) => Ok(Some(line)),
             Err(LineFault::Change(code)) => Err(LineFault::Change(code)),
             Err(LineFault::Memory) => {

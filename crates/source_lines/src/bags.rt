@@ -9,7 +9,7 @@ use crate::{SourceFold, TakeFault};
 use ct_catalog::Sources;
 use ct_change::Bag;
 use ct_value::{Bytes, List, Memory};
-use job_text::ChangeLines;
+use job_text::{ChangeLines, NamedSources};
 use std::alloc::Global;
 
 /// The rows of sources, in the sources' order.
@@ -29,7 +29,8 @@ pub fn bags_of(
 {
     let lines = ChangeLines::new(alloc, bytes)?;
     let count = first_lines(lines.left(), first);
-    let folds = take_lines(alloc, lines, sources, count)?;
+    let named = NamedSources::new(alloc, sources)?;
+    let folds = take_lines(alloc, lines, &named, count)?;
     Ok(rows_of(alloc, folds)?)
 }
 

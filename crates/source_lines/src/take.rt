@@ -5,9 +5,9 @@ ghost use Rattle.source_lines.specs.Standing.{StandAll, Took};
 ghost use Rattle.source_lines.specs.Taken.{IsRefused, Taken, line_refusal, nothing_taken, take_line, take_records, unless_refused, with_line};
 
 use crate::{SourceFault, SourceFold, TakeFault};
-use ct_catalog::{Sources, TableDef};
+use ct_catalog::TableDef;
 use ct_value::Memory;
-use job_text::{ChangeLines, Line, LineFault};
+use job_text::{ChangeLines, Line, LineFault, NamedSources};
 use std::alloc::Global;
 
 // The folds of sources, of which no change was taken.
@@ -40,7 +40,7 @@ fn take_line(folds: &mut Vec<SourceFold>, number: u32, line: &Line) -> Result<()
 // Takes the next line, which has this number.
 fn take_next(
     lines: &mut ChangeLines,
-    sources: &Sources,
+    sources: &NamedSources<'_>,
     folds: &mut Vec<SourceFold>,
     number: u32,
 ) -> Result<(), TakeFault>
@@ -60,7 +60,7 @@ fn take_next(
 pub(crate) fn take_lines(
     alloc: Global,
     lines: ChangeLines,
-    sources: &Sources,
+    sources: &NamedSources<'_>,
     count: u32,
 ) -> Result<Vec<SourceFold>, TakeFault>
     requires { count ≤ length lines }
