@@ -15,7 +15,6 @@ use Rattle.ct_catalog.specs.Columns.{column_types}
 use Rattle.judge.specs.Judgement.{Judged, then}
 use Rattle.phys_plan.specs.declared.plan.Plan.{Plan}
 use Rattle.planner.specs.Faults.{lacks_table}
-use Rattle.planner.specs.Promises.{TreesHaveOnePlan, TreesHavePlans}
 use Rattle.plan_rules.specs.Seen.{plan_as_seen}
 use Rattle.plan_rules.specs.Pieces.{plan_of_tree}
 use Rattle.plan_inferred.specs.declared.inferred.Inferred.{Inferred}
@@ -32,7 +31,6 @@ use Rattle.planner.specs.Planned.{IsLaidPlan, Made, Refused, Waits, Planned, Pla
 use Rattle.job_plan.specs.Inserts.{InsertsHaveLaidPlans}
 use Rattle.job_judgement.specs.Judged.{IsBound, IsJudged}
 use Rattle.job_judgement.specs.Judgement.{Accepted}
-use Rattle.job_plan.specs.Laid.{IsLaidFor}
 use Rattle.job_plan.specs.Promises.{RunnableScriptsArePlanned}
 use Rattle.job_plan.specs.Planned.{built, keeps_bundles, laid, planned, planned_by}
 use Rattle.job_plan.specs.Views.{plan_view, planned_view}
@@ -56,30 +54,21 @@ module _ (script : Accepted) (bound : IsBound script) where
       have script.inserted.sources script.inserted.query.rel (types script.inserted.query.scope)
       (of_ok (insert_bound script.catalogue.tables bound.table script.query) script.inserted (λ b. columns_of (map column_types b.sources) b.query.rel ≡ Some (types b.query.scope)) bound.bound (typed script.catalogue.tables bound.table script.query))
 
-  pub laid_well : InsertsHaveLaidPlans → (plan : Plan) → IsLaidFor script plan → IsLaidPlan plan script.inserted.query.rel
-  laid_well inserts plan is = inserts bound.text bound.table script.query script.inserted plan (record {
-    asked = bound.asked;
-    is_asked = bound.asks;
-    is_bound = ap (λ (c : Catalogue). insert_bound c.tables bound.table script.query) bound.tables ∙ bound.bound;
-    plan_of = is.plan_of;
-    sources = is.sources;
-    sink = is.sink;
-    parallelism = is.parallelism ∙ sym (ap (λ (c : Catalogue). c.settings.parallelism) bound.tables);
-  })
-
-  -- the definition's plan is one
-  own_laid : InsertsAreTyped → TypedTreesHaveTables → TreesHavePlans → IsLaidFor script (laid script)
-  own_laid typed have plans = record {
-    plan_of = plans script.inserted.sources script.inserted.sink script.catalogue.settings.parallelism script.inserted.query.rel (have_tables typed have);
-    sources = refl;
-    sink = refl;
-    parallelism = refl;
-  }
-
--- it is the definition's, as it is seen
-seen_is : TreesHaveOnePlan → (script : Accepted) (plan : Plan) → IsLaidFor script plan → plan_as_seen plan ≡ laid script
-seen_is one script plan is =
-    one plan script.inserted.query.rel is.plan_of ∙ (λ i. plan_of_tree (is.sources i) (is.sink i) (is.parallelism i) script.inserted.query.rel)
+  -- a plan that is the definition's, as it is seen
+  pub laid_well : InsertsHaveLaidPlans → (plan : Plan) → plan_as_seen plan ≡ laid script → IsLaidPlan plan script.inserted.query.rel
+  laid_well inserts plan is =
+      let sources : plan.sources ≡ script.inserted.sources = ap (λ (p : Plan). p.sources) is in
+      let sink : plan.sink ≡ script.inserted.sink = ap (λ (p : Plan). p.sink) is in
+      let parallelism : plan.parallelism ≡ script.catalogue.settings.parallelism = ap (λ (p : Plan). p.parallelism) is in
+      inserts bound.text bound.table script.query script.inserted plan (record {
+        asked = bound.asked;
+        is_asked = bound.asks;
+        is_bound = ap (λ (c : Catalogue). insert_bound c.tables bound.table script.query) bound.tables ∙ bound.bound;
+        laid_out = is ∙ sym (λ i. plan_of_tree (sources i) (sink i) (parallelism i) script.inserted.query.rel);
+        sources = sources;
+        sink = sink;
+        parallelism = parallelism ∙ sym (ap (λ (c : Catalogue). c.settings.parallelism) bound.tables);
+      })
 
 -- ---- what the planner makes of it
 
@@ -103,17 +92,17 @@ module _ (infers : PlansInferAsSeen) (with : InferredAsSeen) (refuses : RefusedA
       (λ i. made_by (plan_as_seen plan) (code i) (has_materializer (way i))) ∙ seen_by plan (refusal (inferred_of plan) plan setting) (has_materializer (sink_way (inferred_of plan) plan setting))
 
   -- so it makes of the definition's what it makes of the code's
-  made_of : TreesHaveOnePlan → (script : Accepted) (plan : Plan) → IsLaidFor script plan → (setting : Materialize) → made (laid script) setting ≡ made_seen (made plan setting)
-  made_of one script plan is setting = ap (λ (p : Plan). made p setting) (sym (seen_is one script plan is)) ∙ made_as_seen plan setting
+  made_of : (script : Accepted) (plan : Plan) → plan_as_seen plan ≡ laid script → (setting : Materialize) → made (laid script) setting ≡ made_seen (made plan setting)
+  made_of script plan is setting = ap (λ (p : Plan). made p setting) (sym is) ∙ made_as_seen plan setting
 
-  module _ (one : TreesHaveOnePlan) (script : Accepted) (plan : Plan) (is : IsLaidFor script plan) (setting : Materialize) where
+  module _ (script : Accepted) (plan : Plan) (is : plan_as_seen plan ≡ laid script) (setting : Materialize) where
     pub answers : (r : Result CheckedPlan PlannerFault) → IfOk r (λ checked. made plan setting ≡ Planned (plan_in checked)) → IfOk r (λ checked. made (laid script) setting ≡ Planned (plan_view checked))
-    answers (Ok checked) e = made_of one script plan is setting ∙ ap made_seen e
+    answers (Ok checked) e = made_of script plan is setting ∙ ap made_seen e
     answers (Err f) e = tt
 
     says_seen : (f : PlannerFault) → Says (made plan setting) f → Says (made (laid script) setting) f
-    says_seen (fault.Refused code) e = made_of one script plan is setting ∙ ap made_seen e
-    says_seen fault.Waits e = made_of one script plan is setting ∙ ap made_seen e
+    says_seen (fault.Refused code) e = made_of script plan is setting ∙ ap made_seen e
+    says_seen fault.Waits e = made_of script plan is setting ∙ ap made_seen e
     says_seen fault.Memory e = tt
 
     pub faults : (r : Result CheckedPlan PlannerFault) → IfErr r (λ f. Says (made plan setting) f) → IfErr r (λ f. Says (made (laid script) setting) f)
@@ -146,6 +135,9 @@ ruled_unless false checked o is e own f = let same : checked ≡ own = cc (e, f)
 
 -- ---- the law
 
+abbrev pub PlansOfTreesAreSeen : Type 0
+PlansOfTreesAreSeen = (sources : List TableDef) (sink : TableDef) (parallelism : ℕ) (rel : Rel) → plan_as_seen (plan_of_tree sources sink parallelism rel) ≡ plan_of_tree sources sink parallelism rel
+
 built_plan : (statement : ℕ) (bundles : Bool) (own plan : Plan) → then (built statement) (Ok (cond bundles None (Some own))) ≡ Ok plan → Planned own ≡ Planned plan
 built_plan statement true own plan e = absurd (cc (e))
 built_plan statement false own plan e = let same : own ≡ plan = cc (e) in ap Planned same
@@ -160,12 +152,12 @@ inferred_is p plan (Some code) materialized e = absurd (cc)
 inferred_is p plan None true e = absurd (cc)
 inferred_is p plan None false e = sym (let same : with_inferred p ≡ plan = cc (e) in same)
 
-pub are_planned : ((script : Accepted) → IsJudged script → IsBound script) → InsertsAreTyped → InsertsHaveLaidPlans → PlannedPlansAreRuled → TreesHavePlans → TypedTreesHaveTables → RunnableScriptsArePlanned
-are_planned bound typed inserts rules plans have script judged plan e =
+pub are_planned : ((script : Accepted) → IsJudged script → IsBound script) → InsertsHaveLaidPlans → PlannedPlansAreRuled → PlansOfTreesAreSeen → RunnableScriptsArePlanned
+are_planned bound inserts rules seen script judged plan e =
     let b = bound script judged in
     let setting = script.catalogue.settings.materialize in
     let m : made (laid script) setting ≡ Planned plan = of_built script (made (laid script) setting) plan refl e in
-    let well = laid_well script b inserts (laid script) (own_laid script b typed have plans) in
+    let well = laid_well script b inserts (laid script) (seen script.inserted.sources script.inserted.sink script.catalogue.settings.parallelism script.inserted.query.rel) in
     record {
       laid_well = well;
       is = inferred_is (laid script) plan (refusal (inferred_of (laid script)) (laid script) setting) (has_materializer (sink_way (inferred_of (laid script)) (laid script) setting)) m;

@@ -1,13 +1,12 @@
 -- The plan that is laid of what an INSERT is bound to.
-use Rattle.std.specs.Prelude.{◌≡◌, ℕ, ◌<◌, ◌≤◌, ◌&&◌, ◌||◌, Bool, not, cond, List, map, filter, length, ◌++◌, Option, Ok, Err, IfOk}
+use Rattle.std.specs.Prelude.{◌≡◌, ℕ, ◌<◌, ◌≤◌, ◌&&◌, Bool, not, cond, List, map, filter, Option, Ok, Err, IfOk}
 use Rattle.std.specs.List.{AllByRecursion, find, list_all, list_any}
 use Rattle.std.specs.Str.{bytes_eq}
 use Rattle.std.proofs.lemmas.Bool.{and_from, not_from_false, or_from, or_parts}
 use Rattle.std.proofs.lemmas.Slice.Eq.{bytes_eq-Decides}
-use Rattle.std.proofs.Common.{true, false, [], ◌∷◌, refl, sym, ap, subst, ◌∙◌, Some, None}
+use Rattle.std.proofs.Common.{true, false, [], ◌∷◌, refl, sym, ap, subst, ◌∙◌, Some}
 use Rattle.ct_catalog.specs.Tables.{repeats}
 use Rattle.ct_catalog.specs.declared.table.TableDef.{TableDef}
-use Rattle.rel_algebra.specs.Rel.{Rel}
 use Rattle.rel_algebra.specs.Types.{columns_of}
 use Rattle.sql_syntax.specs.Tree.{Query, Text}
 use Rattle.query_answer.specs.Answer.{types}
@@ -16,10 +15,7 @@ use Rattle.binding.specs.Checked.{Checked}
 use Rattle.binding.specs.Inserts.{Inserted, insert_bound, is_table, sources_for}
 use Rattle.rel_algebra.specs.GoesInto.{go_into}
 use Rattle.ct_catalog.specs.Columns.{column_types}
-use Rattle.phys_plan.specs.declared.plan.Plan.{Plan}
-use Rattle.plan_rules.specs.Laid.{IsPlanOf}
 use Rattle.plan_shape.specs.Tables.{are_tables, is_declarable, table_name}
-use Rattle.laid_plans.specs.Shapes.{IsLaidOut}
 use Rattle.job_plan.specs.Inserts.{InsertsHaveLaidPlans, SubtasksAreFew}
 use Rattle.judge.specs.Judgement.{Asked, asked_of}
 use Rattle.judge.specs.WellDeclared.{HasTypes}
@@ -104,9 +100,6 @@ of_ok : (o : Checked Inserted) (bound : Inserted) (P : Inserted → Type 0) → 
 of_ok (Ok x) bound P e p = let same : x ≡ bound = cc in subst P same p
 of_ok (Err code) bound P e p = absurd (cc)
 
-laid_out : (plan : Plan) (rel : Rel) → IsPlanOf plan rel → IsLaidOut plan rel
-laid_out plan rel is = record { root = is.root; laid = is.laid; sink_node = is.sink_node; sink_edge = (_, is.sink_edge, refl); nodes = is.nodes; edges = is.edges; unbundled = is.batches }
-
 abbrev pub TablesHaveTypes : Type 0
 TablesHaveTypes = (text : List ℕ) (asked : Asked) → asked_of text ≡ Ok asked → AllByRecursion HasTypes asked.catalogue.tables
 
@@ -116,7 +109,7 @@ OfInserts P = (tables : List TableDef) (name : Text) (query : Query) → IfOk (i
 pub have_laid_plans : OfInserts (λ bound. columns_of (map column_types bound.sources) bound.query.rel ≡ Some (types bound.query.scope)) → OfInserts (λ bound. has_full_unions bound.query.rel ≡ true)
     → OfInserts (λ bound. go_into (types bound.query.scope) (column_types bound.sink) ≡ true) → TablesHaveTypes → SubtasksAreFew → InsertsHaveLaidPlans
 have_laid_plans typed unions goes declared few text name query bound plan is = record {
-  laid_out = laid_out plan bound.query.rel is.plan_of;
+  laid_out = is.laid_out;
   columns = types bound.query.scope;
   typed = ap (λ (sources : List TableDef). columns_of (map column_types sources) bound.query.rel) is.sources
       ∙ of_ok (insert_bound tables name query) bound (λ b. columns_of (map column_types b.sources) b.query.rel ≡ Some (types b.query.scope)) is.is_bound (typed tables name query);

@@ -1,5 +1,4 @@
 pub mod Inserts
-pub mod Laid
 pub mod Networks
 pub mod Planned
 pub mod Promises

@@ -3,11 +3,11 @@ ghost use Rattle.std.specs.Prelude.{◌≡◌, cond, Some, None, Ok, IfOk, IfErr
 ghost use Rattle.plan_check.specs.declared.checked.CheckedPlan.{CheckedPlan};
 ghost use Rattle.plan_check.specs.Checked.{plan_in};
 ghost use Rattle.sound_plans.specs.Sound.{IsRuled};
+ghost use Rattle.plan_rules.specs.Seen.{plan_as_seen};
 ghost use Rattle.planner.specs.Planned.{Planned, Says, made};
 ghost use Rattle.job_judgement.specs.Halts.{IsHalt};
 ghost use Rattle.job_judgement.specs.Judged.{IsJudged};
 ghost use Rattle.job_judgement.specs.Views.{accepted_view};
-ghost use Rattle.job_plan.specs.Laid.{IsLaidFor};
 ghost use Rattle.job_plan.specs.Planned.{keeps_bundles, laid, planned, runnable};
 ghost use Rattle.job_plan.specs.Views.{plan_view, planned_view};
 
@@ -71,10 +71,10 @@ fn made(alloc: Global, script: &Accepted) -> Result<CheckedPlan, PlannerFault>
     plan(alloc, laid, script.catalog.settings().materialize)
 }
 
-// The plan that is laid of the script's query.
+// The plan that is laid of the script's query, wherever the parts of its expressions lie.
 fn laid_of(alloc: Global, script: &Accepted) -> Result<Plan, Memory>
     requires judged { IsJudged (accepted_view script.now) }
-    ensures { IfOk result (λ plan. IsLaidFor (accepted_view script.now) plan) }
+    ensures { IfOk result (λ plan. plan_as_seen plan ≡ laid (accepted_view script.now)) }
 {
     let sources = script.inserted.sources.dup()?;
     let sink = script.inserted.sink.dup()?;

@@ -6,10 +6,14 @@ pub mod Inferences
 pub mod Laid
 pub mod LaidNodes
 pub mod LaidPlans
+pub mod LaidTrees
 pub mod Nodes
 pub mod Parts
+pub mod Placed
+pub mod Places
 pub mod Plans
 pub mod Same
+pub mod SeenTrees
 pub mod Segments
 pub mod Shapes
 pub mod Tables

@@ -43,6 +43,8 @@ use Rattle.sound_plans.proofs.laws.Shapes.{among, inner_no_sink, node_there}
 use Rattle.laid_plans.specs.Inferred.{InferredPlansAreSound, with_inferred}
 use Rattle.laid_plans.proofs.laws.Nodes.{node_read}
 use Rattle.laid_plans.specs.Shapes.{HasTreeShape, IsLaidWell, LaidPlansHaveShape}
+use Rattle.laid_plans.proofs.laws.LaidTrees.{LaysOut}
+use Rattle.laid_plans.proofs.laws.Placed.{lays_out}
 use Rattle.laid_plans.proofs.laws.Trees.{tree}
 use Rattle.planner.specs.Planned.{IsLaidPlan, Planned, PlannedPlansAreRuled, made_by}
 
@@ -138,8 +140,12 @@ module _ (laid : Plan) (rel : Rel) (is : IsLaidPlan laid rel) (setting : Materia
   abbrev way : Way
   way = sink_way (inferred_of laid) laid setting
 
+  -- the tree's nodes
+  out : LaysOut laid rel
+  out = lays_out laid rel is.laid_out
+
   abbrev root : ℕ
-  root = is.laid_out.root
+  root = out.root
 
   -- the tests of a refusal, none of which is so
   record Tests : Type 0 where
@@ -164,16 +170,16 @@ module _ (laid : Plan) (rel : Rel) (is : IsLaidPlan laid rel) (setting : Materia
       each_declarable laid.sources source table (both (is_declarable laid.sink) (list_all is_declarable laid.sources) all).1 e
 
   high : root < length laid.nodes
-  high = let n = is.laid_out.nodes in omega arith
+  high = let n = out.nodes in omega arith
 
   types : types_at laid.sources laid.nodes root ≡ Some is.columns
-  types = (tree laid tables rel 0 Forward root is.laid_out.laid high is.unions is.columns is.typed).columns_are
+  types = (tree laid tables rel 0 Forward root out.laid high is.unions is.columns is.typed).columns_are
 
   -- the node below the sink is the tree's root
   below_is : below_sink laid.nodes ≡ root
   below_is =
-      let has = is.laid_out.sink_node in
-      ap (λ o. first_input (inputs_in o)) (alike laid.nodes (length laid.nodes) ∙ ap (numbered laid.nodes) is.laid_out.nodes ∙ has.is_there) ∙ ap first_input has.inputs_are
+      let has = out.sink_node in
+      ap (λ o. first_input (inputs_in o)) (alike laid.nodes (length laid.nodes) ∙ ap (numbered laid.nodes) out.nodes ∙ has.is_there) ∙ ap first_input has.inputs_are
 
   keeps : keep_nulls is.columns (column_types laid.sink) ≡ true
   keeps =
@@ -204,7 +210,7 @@ module _ (laid : Plan) (rel : Rel) (is : IsLaidPlan laid rel) (setting : Materia
 
     some_root : 0 < root
     some_root =
-        let sink = is.laid_out.sink_node in
+        let sink = out.sink_node in
         ((shaped laid has.shape).before (root + 1) 0 root (record { node = sink.node; is_node = sink.is_there; is_input = ap (λ (xs : List ℕ). slice_get xs 0) sink.inputs_are })).0
 
     suits_root : suits_table inferred laid.nodes laid.sink.mode laid.sink.key root ≡ true
@@ -225,8 +231,8 @@ module _ (laid : Plan) (rel : Rel) (is : IsLaidPlan laid rel) (setting : Materia
 
     filled : (v : ℕ) (node : Node) → numbered laid.nodes v ≡ Some node → (o : Op) → node.op ≡ o → fills inferred laid o node.inputs ≡ true
     filled v node e op.Sink sinks =
-        let own = is.laid_out.sink_node in
-        let same : node ≡ own.node = the_same node own.node (sym e ∙ ap (numbered laid.nodes) (last v node e sinks ∙ is.laid_out.nodes) ∙ own.is_there) in
+        let own = out.sink_node in
+        let same : node ≡ own.node = the_same node own.node (sym e ∙ ap (numbered laid.nodes) (last v node e sinks ∙ out.nodes) ∙ own.is_there) in
         ap (λ xs. suits_table inferred laid.nodes laid.sink.mode laid.sink.key (first_input xs)) (ap (λ (n : Node). n.inputs) same ∙ own.inputs_are) ∙ suits_root
     filled v node e _ sinks = refl
 

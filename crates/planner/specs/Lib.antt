@@ -1,5 +1,5 @@
 pub mod Faults
 pub mod Laying
 pub mod Planned
-pub mod Promises
 pub mod Refusals
+pub mod Ways

@@ -1,20 +1,17 @@
 //! What is laid of a plan, and nodes that are put behind it.
-ghost use Rattle.std.specs.Prelude.{◌≡◌, ◌+◌, [], ◌∷◌, option_map, IfOk, IfErr};
-ghost use Rattle.ct_expr.specs.View.{expr_view};
+ghost use Rattle.std.specs.Prelude.{◌≡◌, ◌+◌, [], ◌∷◌, IfOk, IfErr};
 ghost use Rattle.ct_change.specs.Changelog.{retract, upsert, kinds_of};
 ghost use Rattle.phys_plan.specs.declared.edge.Exchange.TheVariants.{Forward as ToSame, Hash as ByHash};
 ghost use Rattle.ct_change.specs.declared.update.Update.TheVariants.{Absent as NoUpdate, After as AfterKey, Both as BothRows};
 ghost use Rattle.phys_plan.specs.declared.node.Op.TheVariants as op;
-ghost use Rattle.planner.specs.Laying.{IsJoin, IsSemi, Pushed, PushedAs};
+ghost use Rattle.planner.specs.Laying.{Pushed};
 
 use crate::laying_fault::LayingFault;
-use crate::parts::{all_kinds, dup_rest, no_keys, two_numbers, upsert_kinds};
+use crate::parts::{all_kinds, no_keys, upsert_kinds};
 use ct_catalog::Sources;
 use ct_change::Update;
-use ct_expr::Expr;
 use ct_value::{Cols, Numbers};
 use phys_plan::{Edge, Edges, Exchange, Node, Nodes, Op};
-use rel_algebra::{JoinKind, Pairs};
 use std::alloc::Global;
 
 /// What is laid of a plan over some tables: its nodes so far, and the edges that leave them.
@@ -78,46 +75,6 @@ impl Laying {
         let mut inputs = Numbers::new(self.alloc);
         inputs.push(below)?;
         self.push_whole(op, inputs, exchange)
-    }
-
-    // A join of two nodes.
-    #[inline(never)]
-    pub(crate) fn push_join(
-        &mut self,
-        left: u32,
-        right: u32,
-        kind: JoinKind,
-        on: &Pairs,
-        rest: &Option<Expr>,
-        exchange: Exchange,
-    ) -> Result<u32, LayingFault>
-        ensures pushed { IfOk result (λ number. PushedAs self.old self.new (IsJoin kind on.now (option_map expr_view rest.now)) (left ∷ (right ∷ [])) exchange number) }
-        ensures full { IfErr result (λ fault. fault ≡ LayingFault.Memory) }
-    {
-        let inputs = two_numbers(self.alloc, left, right)?;
-        let on = on.dup()?;
-        let rest = dup_rest(rest)?;
-        self.push_whole(Op::Join { kind, on, rest }, inputs, exchange)
-    }
-
-    // A semi join of two nodes, or with `anti` an anti join.
-    #[inline(never)]
-    pub(crate) fn push_semi(
-        &mut self,
-        left: u32,
-        right: u32,
-        anti: bool,
-        on: &Pairs,
-        rest: &Option<Expr>,
-        exchange: Exchange,
-    ) -> Result<u32, LayingFault>
-        ensures pushed { IfOk result (λ number. PushedAs self.old self.new (IsSemi anti on.now (option_map expr_view rest.now)) (left ∷ (right ∷ [])) exchange number) }
-        ensures full { IfErr result (λ fault. fault ≡ LayingFault.Memory) }
-    {
-        let inputs = two_numbers(self.alloc, left, right)?;
-        let on = on.dup()?;
-        let rest = dup_rest(rest)?;
-        self.push_whole(Op::Semi { anti, on, rest }, inputs, exchange)
     }
 
     // A scan whose edge is after-only by a key, and hashed by it.

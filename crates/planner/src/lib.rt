@@ -1,19 +1,20 @@
 //! The planner: from a tree of the algebra to a plan that is checked.
 //!
-//! Promised: what `plan_of` answers is the plan that is laid of the tree: a node for each node of the tree, each behind its inputs, a
-//! normalizer behind the scan of each upsert table, and the sink behind all; each fault says what is so of the tree (`specs/Faults`).
+//! Promised: what `plan_of` answers is the plan of the tree (`plan_rules/specs/Pieces`), wherever the parts of its expressions lie: a node
+//! for each node of the tree, each behind its inputs, a normalizer behind the scan of each upsert table, and the sink behind all; each
+//! fault says what is so of the tree (`specs/Faults`).
 //! `refusal` answers the first of the refusals that `specs/Refusals` tells, in the order in which they count: ties in a Top-N,
 //! changes into an append table, an upsert table whose key isn't unique, NULL where it may not stand, a materializer that is needed
 //! and off, and too many nodes. `plan` answers a checked plan, which is the plan as it is laid with what is inferred of it, or
 //! exactly the first refusal, or that a materializer is needed, which isn't built yet. That such a plan is sound is proved, so its
-//! check never refuses it. The plan of a tree is a function of the tree, of its tables and of the number of subtasks, wherever the
-//! parts of its expressions lie (`specs/Trees`). It stands on the algebra, on what is inferred of plans and on their check.
+//! check never refuses it. It stands on the algebra, on what is inferred of plans and on their check.
 #![tactic(auto)]
 
 mod fault;
 mod laying;
 mod laying_fault;
 mod make;
+mod operators;
 mod parts;
 mod planning;
 mod promises;
@@ -23,6 +24,7 @@ mod sinks;
 mod sizes;
 mod ties;
 mod tree;
+mod way;
 
 pub use fault::PlannerFault;
 pub use laying_fault::LayingFault;

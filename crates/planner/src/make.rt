@@ -1,7 +1,8 @@
 //! The plan of a tree.
 ghost use Rattle.std.specs.Prelude.{◌≡◌, false, IfOk, IfErr, OnOk};
 ghost use Rattle.rel_algebra.specs.View.{rel_view};
-ghost use Rattle.plan_rules.specs.Laid.{IsPlanOf};
+ghost use Rattle.plan_rules.specs.Pieces.{plan_of_tree};
+ghost use Rattle.plan_rules.specs.Seen.{plan_as_seen};
 ghost use Rattle.planner.specs.Faults.{Says, lacks_table};
 
 use crate::laying::Laying;
@@ -11,11 +12,12 @@ use phys_plan::{Edges, Exchange, Nodes, Plan};
 use rel_algebra::Rel;
 use std::alloc::Global;
 
-// The most levels of a tree: each takes some 1,500 bytes of the stack, of 8 MB.
-const MOST_LEVELS: u32 = 4_000;
+// The most levels to which inputs behind a first one may nest: each takes stack, and a script nests them no deeper than its parentheses.
+const MOST_LEVELS: u32 = 1_000;
 
-/// The plan that is laid of a tree over these tables, each node in so many subtasks; its last node is the sink. `NoTable` comes where a
-/// part of the tree scans a table that isn't there. Otherwise there is a plan, or memory was wanting, as for a tree of more than 4,000 levels.
+/// The plan that is laid of a tree over these tables, each node in so many subtasks, wherever the parts of its expressions lie; its last node is the sink. `NoTable` comes where a
+/// part of the tree scans a table that isn't there. Otherwise there is a plan, or memory was wanting, as where other inputs than first ones nest more
+/// than 1,000 levels.
 pub fn plan_of(
     alloc: Global,
     rel: &Rel,
@@ -23,7 +25,7 @@ pub fn plan_of(
     sink: TableDef,
     parallelism: u32,
 ) -> Result<Plan, LayingFault>
-    ensures plan { IfOk result (λ plan. IsPlanOf plan (rel_view rel.now) × (plan.sources ≡ sources) × (plan.sink ≡ sink) × (plan.parallelism ≡ parallelism)) }
+    ensures plan { IfOk result (λ plan. plan_as_seen plan ≡ plan_of_tree sources sink parallelism (rel_view rel.now)) }
     ensures tables { OnOk result (lacks_table sources (rel_view rel.now) ≡ false) }
     ensures fault { IfErr result (λ fault. Says sources (rel_view rel.now) fault) }
 {

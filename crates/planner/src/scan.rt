@@ -3,7 +3,7 @@ ghost use Rattle.std.specs.Prelude.{◌≡◌, ◌≢◌, [], slice_get, Some, u
 ghost use Rattle.ct_catalog.specs.declared.table.TableDef.{TableDef};
 ghost use Rattle.ct_change.specs.declared.kind.Declared.TheVariants.{Upsert as IsUpsert};
 ghost use Rattle.rel_algebra.specs.Rel as r;
-ghost use Rattle.planner.specs.Laying.{IsEven, Lays, Fails};
+ghost use Rattle.planner.specs.Laying.{Lays, Fails};
 
 use crate::laying::Laying;
 use crate::laying_fault::LayingFault;
@@ -17,7 +17,6 @@ impl Laying {
     #[inline(never)]
     #[tactic(auto, using(crate::proofs::laws::Laid::no_table))]
     pub(crate) fn lay_scan(&mut self, source: u32, exchange: Exchange) -> Result<u32, LayingFault>
-        requires even { IsEven self.old }
         ensures laid { IfOk result (λ root. Lays self.old self.new exchange (r.Scan source) root) }
         ensures fails { IfErr result (λ fault. Fails self.old (r.Scan source) fault) }
     {
@@ -37,7 +36,6 @@ impl Laying {
     // The scan of an append or retract table.
     #[tactic(auto, using(crate::proofs::laws::Laid::plain_lays, crate::proofs::laws::Laid::full_fails))]
     fn lay_plain(&mut self, source: u32, exchange: Exchange) -> Result<u32, LayingFault>
-        requires even { IsEven self.old }
         requires table { (table : TableDef) × (slice_get self.old.sources source ≡ Some table) × (table.mode ≢ IsUpsert) }
         ensures laid { IfOk result (λ root. Lays self.old self.new exchange (r.Scan source) root) }
         ensures fails { IfErr result (λ fault. Fails self.old (r.Scan source) fault) }
@@ -49,7 +47,6 @@ impl Laying {
     // The scan of an upsert table, normalized by its key.
     #[tactic(auto, using(crate::proofs::laws::Laid::upsert_lays, crate::proofs::laws::Laid::full_fails))]
     fn lay_upsert(&mut self, source: u32, key: Cols, exchange: Exchange) -> Result<u32, LayingFault>
-        requires even { IsEven self.old }
         requires table { (table : TableDef) × (slice_get self.old.sources source ≡ Some table) × (table.mode ≡ IsUpsert) × (unwrap_or table.key [] ≡ key) }
         ensures laid { IfOk result (λ root. Lays self.old self.new exchange (r.Scan source) root) }
         ensures fails { IfErr result (λ fault. Fails self.old (r.Scan source) fault) }

@@ -24,8 +24,9 @@ use Rattle.stream_model.specs.declared.events.PrintItem.TheVariants.{Change as P
 use Rattle.stream_model.specs.Runs.{Item, quiet, state_in, after}
 use Rattle.stream_model.specs.Drain.{drain_stages, delivers}
 use Rattle.run_examples.specs.Worked.{take, move, printed_by}
-use Rattle.plan_rules.specs.Laid.{IsPlanOf}
-use Rattle.run_examples.specs.Planned.{counts, counts_rel, a_word, a_comes, twice, counted, CountsAsWorked}
+use Rattle.plan_rules.specs.Pieces.{plan_of_tree}
+use Rattle.plan_rules.specs.Seen.{plan_as_seen}
+use Rattle.run_examples.specs.Planned.{word_table, count_table, counts, counts_rel, a_word, a_comes, twice, counted, CountsAsWorked}
 
 abbrev g : Network
 g = network counts
@@ -118,16 +119,8 @@ printed =
 
 -- ---- the plan
 
-is_plan : IsPlanOf counts counts_rel
-is_plan = record {
-  root = 2;
-  laid = (1, (refl, record { node = _; is_there = refl; is_op = refl; inputs_are = refl; keyless = refl }, refl), refl, record { node = _; is_there = refl; is_op = refl; inputs_are = refl; keyless = refl }, refl);
-  sink_node = record { node = _; is_there = refl; is_op = refl; inputs_are = refl; keyless = refl };
-  sink_edge = refl;
-  nodes = refl;
-  edges = refl;
-  batches = refl;
-}
+is_plan : plan_as_seen counts ≡ plan_of_tree (word_table ∷ []) count_table 1 counts_rel
+is_plan = refl
 
 pub counts_as_worked : CountsAsWorked
 counts_as_worked = record { is_plan = is_plan; printed = printed }

@@ -17,7 +17,8 @@ use Rattle.phys_plan.specs.declared.edge.Exchange.TheVariants.{Forward, Hash}
 use Rattle.ct_change.specs.declared.update.Update.TheVariants.{Absent, Both}
 use Rattle.phys_plan.specs.declared.node.Op.TheVariants as op
 use Rattle.phys_plan.specs.declared.plan.Plan.{Plan}
-use Rattle.plan_rules.specs.Laid.{IsPlanOf}
+use Rattle.plan_rules.specs.Pieces.{plan_of_tree}
+use Rattle.plan_rules.specs.Seen.{plan_as_seen}
 use Rattle.phys_plan.specs.Reading.{no_keys}
 use Rattle.plan_rules.specs.Doings.{network}
 use Rattle.stream_model.specs.declared.events.PrintItem.TheVariants.{Change as Printed, Quiet}
@@ -75,6 +76,6 @@ abbrev pub counted : Kind → ℕ → Change
 counted kind n = record { kind = kind; row = a_word ++ Num (pos n) ∷ [] }
 
 pub record CountsAsWorked : Type 0 where
-  pub is_plan : IsPlanOf counts counts_rel
+  pub is_plan : plan_as_seen counts ≡ plan_of_tree (word_table ∷ []) count_table 1 counts_rel
   -- the first count, and then the second in its place
   pub printed : printed_by (network counts) twice ≡ Printed (counted I 1) ∷ Printed (counted UB 1) ∷ Printed (counted UA 2) ∷ Quiet 2 ∷ []

@@ -2,13 +2,11 @@
 use Rattle.job_plan.proofs.Made.{are_planned}
 use Rattle.job_plan.specs.Promises.{RunnableScriptsArePlanned}
 use Rattle.job_judgement.proofs.laws.Theorems.{accepted_is_bound}
-use Rattle.planner.proofs.laws.TypedTrees.{typed_trees_have_tables}
-use Rattle.planner.proofs.laws.TreePlans.{trees_have_plans}
+use Rattle.laid_plans.proofs.laws.SeenTrees.{plans_of_trees_are_seen}
 use Rattle.job_plan.proofs.laws.PlannedInserts.{inserts_have_laid_plans}
 use Rattle.planner.proofs.laws.Theorems.{planned_plans_are_ruled}
-use Rattle.query_laws.proofs.laws.Theorems.{bound_inserts_are_well_typed_columns}
 
 -- The plan of a script is the one that is laid of its tree, with what is inferred of it; it is sound, and its operators have rules.
 pub runnable_scripts_are_planned : RunnableScriptsArePlanned
 runnable_scripts_are_planned =
-    are_planned accepted_is_bound bound_inserts_are_well_typed_columns inserts_have_laid_plans planned_plans_are_ruled trees_have_plans typed_trees_have_tables
+    are_planned accepted_is_bound inserts_have_laid_plans planned_plans_are_ruled plans_of_trees_are_seen

@@ -16,7 +16,7 @@ use Rattle.upsert_keys.proofs.laws.Keys.{wires_keyed}
 use Rattle.plan_check.specs.Sound.{inferred_of}
 use Rattle.plan_rules.specs.Answers.{tables_with}
 use Rattle.plan_rules.specs.Erased.{erased, erased_at}
-use Rattle.plan_rules.specs.Laid.{HasNode, ScanLaid, SourceLaid, IsLaid, AreLaid}
+use Rattle.laid_plans.proofs.laws.LaidTrees.{HasNode, ScanLaid, SourceLaid, IsLaid, AreLaid}
 use Rattle.plan_rules.specs.Pieces.{unary_way, binary_way}
 use Rattle.plan_rules.specs.Roles.{nothing, role, tree_of}
 use Rattle.plan_rules.proofs.laws.Answering.{tree_is}
@@ -24,6 +24,7 @@ use Rattle.sound_plans.specs.Sound.{SoundPlansAnswer}
 use Rattle.laid_plans.specs.Erased.{InferredPlansAnswer, LaidPlansAreErased}
 use Rattle.laid_plans.specs.Inferred.{with_inferred}
 use Rattle.laid_plans.proofs.laws.Given.{nodes_many}
+use Rattle.laid_plans.proofs.laws.Placed.{lays_out}
 use Rattle.laid_plans.proofs.laws.Trees.{unary_fits, binary_fits}
 
 -- ---- inputs with smaller numbers
@@ -95,7 +96,7 @@ module _ (plan : Plan) where
       over_one n (n + 1) root (op.Normalize key) (Scan source) (Scan source) l.3 l.3.is_op (omega (arith, l.0)) scan refl
 
   source_root : (n : ℕ) (x : Exchange) (source root : ℕ) (o : Option TableDef) → SourceLaid plan n x source o root → IsRoot n root (Scan source)
-  source_root n x source root None l = absurd l
+  source_root n x source root None l = table_root n x source Append [] root l
   source_root n x source root (Some table) l = table_root n x source table.mode (unwrap_or table.key []) root l
 
   -- ---- the tree
@@ -138,9 +139,10 @@ erased_stays plan =
 
 pub laid_plans_are_erased : LaidPlansAreErased
 laid_plans_are_erased plan rel is =
-    let tree = tree_root plan rel 0 Forward is.root is.laid in
-    let sink = over_one plan 0 is.root (is.root + 1) op.Sink rel rel is.sink_node is.sink_node.is_op refl tree refl in
-    erased_stays plan ∙ ap (erased_at plan) is.nodes ∙ sink.tree
+    let out = lays_out plan rel is in
+    let tree = tree_root plan rel 0 Forward out.root out.laid in
+    let sink = over_one plan 0 out.root (out.root + 1) op.Sink rel rel out.sink_node out.sink_node.is_op refl tree refl in
+    erased_stays plan ∙ ap (erased_at plan) out.nodes ∙ sink.tree
 
 pub inferred_plans_answer : SoundPlansAnswer → InferredPlansAnswer
 inferred_plans_answer answers plan rel is ruled rows result a =

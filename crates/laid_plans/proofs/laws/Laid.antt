@@ -7,7 +7,7 @@ use Rattle.ct_expr.specs.Views.{expr_of, as_seen}
 use Rattle.ct_expr.specs.declared.expr.Expr.{Expr as CodeExpr}
 use Rattle.phys_plan.specs.declared.node.Op.{Op}
 use Rattle.phys_plan.specs.declared.plan.Plan.{Plan}
-use Rattle.plan_rules.specs.Laid.{HasNode}
+use Rattle.laid_plans.proofs.laws.LaidTrees.{HasNode}
 
 pub both_parts : {A B C : Type 0} (f : A → B → Option C) (o : Option A) (p : Option B) (c : C) → both_of f o p ≡ Some c → (a : A) × (b : B) × (o ≡ Some a) × (p ≡ Some b) × (f a b ≡ Some c)
 both_parts f None p c e = absurd (cc)

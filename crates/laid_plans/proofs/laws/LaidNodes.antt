@@ -16,7 +16,7 @@ use Rattle.mode_infer.specs.Exchanges.{asked}
 use Rattle.plan_inferred.specs.Rules.{by_columns}
 use Rattle.plan_rules.specs.Plans.{kinds_in}
 use Rattle.phys_plan.specs.Reading.{numbered, first_input}
-use Rattle.plan_rules.specs.Laid.{HasNode}
+use Rattle.laid_plans.proofs.laws.LaidTrees.{HasNode}
 use Rattle.plan_shape.specs.Shape.{is_sink, op_in, suits_consumer, suits_input, suits_plan, takes}
 use Rattle.plan_check.specs.Types.{is_typed_by, types_at, types_by}
 use Rattle.plan_rules.specs.Behaviours.{has_rule}

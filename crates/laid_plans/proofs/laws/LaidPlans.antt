@@ -30,6 +30,8 @@ use Rattle.sound_plans.proofs.laws.Consumers.{by_test}
 use Rattle.laid_plans.specs.Shapes.{IsLaidWell, LaidPlansHaveShape}
 use Rattle.laid_plans.proofs.laws.Uses.{IsUsedOnce, all_pass, and, consumer_once, found_once, no_consumer, port_once, used_once}
 use Rattle.laid_plans.proofs.laws.LaidNodes.{types_from}
+use Rattle.laid_plans.proofs.laws.LaidTrees.{LaysOut}
+use Rattle.laid_plans.proofs.laws.Placed.{lays_out}
 use Rattle.laid_plans.proofs.laws.Parts.{IsAmong, IsUsed, Part, next_part}
 use Rattle.laid_plans.proofs.laws.Trees.{Told, feeds_port, one_port, tree}
 
@@ -63,9 +65,13 @@ consumed plan v o last inner =
     feeds_one = not (is_sink (Some o)) && (uses v plan.nodes == 1 && suits_consumer plan.sources o (consumer v plan.nodes))
 
 module _ (plan : Plan) (rel : Rel) (is : IsLaidWell plan rel) where
+  -- its nodes
+  out : LaysOut plan rel
+  out = lays_out plan rel is.laid_out
+
   -- the tree's root
   abbrev root : ℕ
-  root = is.laid_out.root
+  root = out.root
 
   -- the tables that are read may be declared
   tables : (source : ℕ) (table : TableDef) → slice_get plan.sources source ≡ Some table → is_declarable table ≡ true
@@ -75,7 +81,7 @@ module _ (plan : Plan) (rel : Rel) (is : IsLaidWell plan rel) where
 
   -- what holds of the tree's nodes
   told : Told plan 0 Forward root is.columns
-  told = tree plan tables rel 0 Forward root is.laid_out.laid (let n = is.laid_out.nodes in omega arith) is.unions is.columns is.typed
+  told = tree plan tables rel 0 Forward root out.laid (let n = out.nodes in omega arith) is.unions is.columns is.typed
 
   -- ---- all nodes, with the sink
 
@@ -83,7 +89,7 @@ module _ (plan : Plan) (rel : Rel) (is : IsLaidWell plan rel) where
   all : Part plan 0 (root + 1) ((root + 1) ∷ [])
   all =
       let v = root + 1 in
-      let has = is.laid_out.sink_node in
+      let has = out.sink_node in
       let lower : root < v = omega arith in
       let k : types_at plan.sources plan.nodes v ≡ Some is.columns =
       types_from plan v op.Sink (root ∷ []) has refl (lower, tt) ∙ ap (λ (c : Option (List ColTy)). types_by plan.sources op.Sink (c ∷ [])) told.columns_are in
@@ -92,14 +98,14 @@ module _ (plan : Plan) (rel : Rel) (is : IsLaidWell plan rel) where
         suits = refl;
         ports = refl;
         below = refl;
-        last = sym (eq-eqb v (length plan.nodes) (sym is.laid_out.nodes));
+        last = sym (eq-eqb v (length plan.nodes) (sym out.nodes));
         typed = ap (is_typed_by plan.sink op.Sink) k ∙ is.fits;
         fed = one_port plan op.Sink root (feeds_port plan 0 Forward root is.columns op.Sink 0 (λ width. refl) told);
       })
 
   -- each node is one of them
   reached : (v : ℕ) (node : Node) → numbered plan.nodes v ≡ Some node → (0 < v) × (v ≤ root + 1)
-  reached v node e = let w = numbered_within plan.nodes v node e in let n = is.laid_out.nodes in (w.0, let h = w.1 in omega arith)
+  reached v node e = let w = numbered_within plan.nodes v node e in let n = out.nodes in (w.0, let h = w.1 in omega arith)
 
   -- an input of a node feeds it alone, at this port
   fed_once : (v w p : ℕ) (h : HasInput plan w p v) → (place : ℕ) → w ≡ suc place → IsUsedOnce v plan.nodes place p h.node
@@ -161,11 +167,11 @@ module _ (plan : Plan) (rel : Rel) (is : IsLaidWell plan rel) where
   -- how many nodes, edges and subtasks there are
   sizes : has_sizes plan ≡ true
   sizes =
-      let n = is.laid_out.nodes in
+      let n = out.nodes in
       let some : 0 < length plan.nodes = omega arith in
-      let bundled : plan.mini_batch ≤ most_bundled = let m = is.laid_out.unbundled in omega arith in
+      let bundled : plan.mini_batch ≤ most_bundled = let m = out.unbundled in omega arith in
       and (has_nodes plan) (nat_le plan.mini_batch most_bundled && is_up_to most_subtasks plan.parallelism)
-      (and (is_up_to most_nodes (length plan.nodes)) (length plan.edges == length plan.nodes) (up_to most_nodes (length plan.nodes) some is.few) (eq-eqb (length plan.edges) (length plan.nodes) (is.laid_out.edges ∙ sym n)))
+      (and (is_up_to most_nodes (length plan.nodes)) (length plan.edges == length plan.nodes) (up_to most_nodes (length plan.nodes) some is.few) (eq-eqb (length plan.edges) (length plan.nodes) (out.edges ∙ sym n)))
       (and (nat_le plan.mini_batch most_bundled) (is_up_to most_subtasks plan.parallelism) (le-leb plan.mini_batch most_bundled bundled) (up_to most_subtasks plan.parallelism is.parallel is.narrow))
 
   -- and which tables
@@ -200,7 +206,7 @@ module _ (plan : Plan) (rel : Rel) (is : IsLaidWell plan rel) where
         where
           lower : (v ≤ root) ⊎ (root < v) → v < root + 1
           lower (inl h) = omega arith
-          lower (inr h) = absurd (eqb-false v (length plan.nodes) f (let n = is.laid_out.nodes in omega arith))
+          lower (inr h) = absurd (eqb-false v (length plan.nodes) f (let n = out.nodes in omega arith))
 
   shape : Meets rule.Shape plan
   shape v low high =
@@ -245,14 +251,13 @@ module _ (plan : Plan) (rel : Rel) (is : IsLaidWell plan rel) where
       go (inr l) =
           let h = (reached v node e).1 in
           let number : root + 1 ≡ v = omega arith in
-          let edge = is.laid_out.sink_edge in
           subst (λ u. says_exchange (exchange_by width u (consumer_of u plan.nodes)) (numbered plan.edges u) ≡ true) number
-          ((λ i. says_exchange (exchange_by width (root + 1) (no_consumer (root + 1) plan.nodes sink_unused i)) (edge.1 i)) ∙ ap (same_exchange Forward) edge.2)
+          ((λ i. says_exchange (exchange_by width (root + 1) (no_consumer (root + 1) plan.nodes sink_unused i)) (out.sink_edge i)))
 
   -- each number that is looked at has a node
   node_there : (v : ℕ) → 1 ≤ v → v ≤ max 1 (length plan.nodes) → (node : Node) × (numbered plan.nodes v ≡ Some node)
   node_there zero low high = absurd (omega arith)
-  node_there (suc n) low high = found plan.nodes n (let k = is.laid_out.nodes in omega arith)
+  node_there (suc n) low high = found plan.nodes n (let k = out.nodes in omega arith)
 
   exchanged : Meets rule.Exchanged plan
   exchanged v low high = let n = node_there v low high in exchanged_at v n.0 n.1 (width_at (inferred_of plan) v)

@@ -4,7 +4,7 @@ use Rattle.std.proofs.Common.{zero, suc, [], ◌∷◌, ap, ◌∙◌, arith, So
 use Rattle.phys_plan.specs.declared.node.Op.{Op}
 use Rattle.phys_plan.specs.declared.plan.Plan.{Plan}
 use Rattle.plan_rules.specs.Plans.{HasInput}
-use Rattle.plan_rules.specs.Laid.{HasNode}
+use Rattle.laid_plans.proofs.laws.LaidTrees.{HasNode}
 use Rattle.sound_plans.proofs.laws.Numbers.{side}
 use Rattle.laid_plans.proofs.laws.Segments.{Segment, nothing, both, more}
 use Rattle.laid_plans.proofs.laws.LaidNodes.{NodeMeets, OpMeets, node_meets}

@@ -4,6 +4,7 @@ use Rattle.std.proofs.Common.{zero, suc, true, false, [], ◌∷◌, refl, sym, 
 use Rattle.std.specs.List.{AllByRecursion, list_all}
 use Rattle.std.specs.Str.{bytes_eq}
 use Rattle.std.proofs.lemmas.Bool.{le-leb, lt-ltb}
+use Rattle.std.proofs.lemmas.Option.{slice_get-map}
 use Rattle.std.proofs.lemmas.Slice.Eq.{bytes_eq-Decides}
 use Rattle.ct_value.specs.declared.ty.ColTy.{ColTy}
 use Rattle.ct_change.specs.declared.kind.Declared.{Declared}
@@ -26,7 +27,7 @@ use Rattle.plan_inferred.specs.Rules.{by_columns}
 use Rattle.phys_plan.specs.Reading.{numbered}
 use Rattle.ct_catalog.specs.Columns.{column_types}
 use Rattle.plan_rules.specs.Columns.{columns_as, common_with}
-use Rattle.plan_rules.specs.Laid.{IsUnary, IsBinary, HasNode, CarriesAll, ScanLaid, SourceLaid, IsLaid, AreLaid}
+use Rattle.laid_plans.proofs.laws.LaidTrees.{IsUnary, IsBinary, HasNode, CarriesAll, ScanLaid, SourceLaid, IsLaid, AreLaid}
 use Rattle.plan_rules.specs.Pieces.{unary_way, binary_way}
 use Rattle.plan_rules.specs.Roles.{Role, one_of, two_of, role, takes as takes_as}
 use Rattle.plan_shape.specs.Shape.{is_keyed_by, is_read, is_upsert_by, normalizes_by, scans_by, suits_consumer, takes, op_in}
@@ -346,7 +347,9 @@ module _ (plan : Plan) where
   -- a table that is there, with its columns
   source_tree : ((source : ℕ) (table : TableDef) → slice_get plan.sources source ≡ Some table → is_declarable table ≡ true) → (n source root : ℕ) (x : Exchange) → root < length plan.nodes
       → (o : Option TableDef) → slice_get plan.sources source ≡ o → SourceLaid plan n x source o root → (columns : List ColTy) → slice_get (types_of plan.sources) source ≡ Some columns → Told n x root columns
-  source_tree tables n source root x high None e laid columns t = absurd laid
+  source_tree tables n source root x high None e laid columns t =
+      let none : slice_get (types_of plan.sources) source ≡ None = slice_get-map column_types plan.sources source ∙ ap (option_map column_types) e in
+      absurd (let k : None ≡ Some columns = sym none ∙ t in cc (k))
   source_tree tables n source root x high (Some table) e laid columns t =
       let same : column_types table ≡ columns = the_same (column_types table) columns (sym (map_at column_types plan.sources source table e) ∙ t) in
       subst (λ c. Told n x root c) same (table_tree n source root table x e (tables source table e) high table.mode refl laid)

@@ -1,19 +1,19 @@
 -- Several trees, laid one behind the other.
 use Rattle.std.specs.Prelude.{◌≡◌, ℕ, ◌+◌, ◌<◌, ◌≤◌, ◌||◌, List, ◌++◌, length, take, get_or, slice_get}
-use Rattle.std.proofs.Common.{zero, suc, true, false, [], ◌∷◌, refl, sym, ap, subst, ◌∙◌, arith, Bool, Some}
-use Rattle.std.proofs.lemmas.List.{take_more, take_all}
+use Rattle.std.proofs.Common.{zero, suc, true, false, [], ◌∷◌, refl, sym, ap, subst, ◌∙◌, arith, Bool, Some, length-append}
+use Rattle.std.proofs.lemmas.List.{append-nil, append_assoc, take_more, take_all}
 use Rattle.ct_catalog.specs.declared.table.TableDef.{TableDef}
 use Rattle.rel_algebra.specs.declared.rel.Rel.{Rel as Tree}
 use Rattle.rel_algebra.specs.Rel.{Rel, rels}
 use Rattle.rel_algebra.specs.View.{rel_view, rels_view}
 use Rattle.phys_plan.specs.declared.edge.Exchange.TheVariants.{Forward}
-use Rattle.phys_plan.specs.declared.plan.Plan.{Plan}
-use Rattle.plan_rules.specs.Laid.{IsLaid, AreLaid}
+use Rattle.plan_rules.specs.Pieces.{Piece, pieces_of, pieces_of_all, roots_of}
 use Rattle.planner.specs.declared.laying_fault.LayingFault.{LayingFault}
 use Rattle.planner.specs.declared.laying_fault.LayingFault.TheVariants.{NoTable, Memory}
 use Rattle.planner.specs.declared.laying.Laying.{Laying}
 use Rattle.planner.specs.Faults.{lacks_table, any_lacks}
-use Rattle.planner.specs.Laying.{Lays, LaysAll, Fails, FailsAll}
+use Rattle.planner.specs.Laying.{Adds, Lays, LaysAll, Fails, FailsAll}
+use Rattle.planner.proofs.laws.Laid.{adds_behind, adds_count, adds_more}
 
 -- ---- one tree more
 
@@ -34,22 +34,46 @@ tables_behind sources (y ∷ xs) x all one =
     or_not (lacks_table sources y) (any_lacks sources (rels (xs ++ x ∷ []))) (left_not (lacks_table sources y) (any_lacks sources (rels xs)) all)
     (tables_behind sources xs x (right_not (lacks_table sources y) (any_lacks sources (rels xs)) all) one)
 
-more_laid : (plan : Plan) (x : Rel) (mid root : ℕ) → IsLaid plan mid Forward x root → (xs : List Rel) (n : ℕ) (roots : List ℕ) → AreLaid plan n (rels xs) roots mid → AreLaid plan n (rels (xs ++ x ∷ [])) (roots ++ root ∷ []) root
-more_laid plan x mid root laid [] n roots are =
-    (root, [], subst (λ m. IsLaid plan m Forward x root) are.1 laid, (refl, refl), ap (λ (ro : List ℕ). ro ++ root ∷ []) are.0)
-more_laid plan x mid root laid (first ∷ xs) n roots are =
-    (are.0, are.1 ++ root ∷ [], are.2, more_laid plan x mid root laid xs are.0 are.1 are.3, ap (λ (ro : List ℕ). ro ++ root ∷ []) are.4)
+-- the pieces of a tree more, and its root
+module _ (sources : List TableDef) (x : Rel) where
+  -- where they begin
+  abbrev next : ℕ → List Rel → ℕ
+  next n xs = n + length (pieces_of_all sources n (rels xs))
+
+  more_pieces : (n : ℕ) (xs : List Rel) → pieces_of_all sources n (rels (xs ++ x ∷ [])) ≡ pieces_of_all sources n (rels xs) ++ pieces_of sources (next n xs) Forward x
+  more_pieces n [] =
+      let none : n ≡ n + 0 = omega arith in
+      append-nil (pieces_of sources n Forward x) ∙ ap (λ m. pieces_of sources m Forward x) none
+  more_pieces n (y ∷ xs) =
+      let ps = pieces_of sources n Forward y in
+      let mid : ℕ = n + length (pieces_of sources n Forward y) in
+      let qs = pieces_of_all sources (n + length (pieces_of sources n Forward y)) (rels xs) in
+      let same : mid + length qs ≡ n + length (ps ++ qs) = omega (arith, length-append ps qs) in
+      ap (λ (rest : List Piece). ps ++ rest) (more_pieces mid xs ∙ ap (λ m. qs ++ pieces_of sources m Forward x) same) ∙ sym (append_assoc ps qs (pieces_of sources (n + length (ps ++ qs)) Forward x))
+
+  more_roots : (n : ℕ) (xs : List Rel) → roots_of sources n (rels (xs ++ x ∷ [])) ≡ roots_of sources n (rels xs) ++ (next n xs + length (pieces_of sources (next n xs) Forward x)) ∷ []
+  more_roots n [] =
+      let none : n ≡ n + 0 = omega arith in ap (λ m. (m + length (pieces_of sources m Forward x)) ∷ []) none
+  more_roots n (y ∷ xs) =
+      let ps = pieces_of sources n Forward y in
+      let mid : ℕ = n + length (pieces_of sources n Forward y) in
+      let qs = pieces_of_all sources (n + length (pieces_of sources n Forward y)) (rels xs) in
+      let same : mid + length qs ≡ n + length (ps ++ qs) = omega (arith, length-append ps qs) in
+      ap (λ (rest : List ℕ). mid ∷ rest) (more_roots mid xs ∙ ap (λ m. roots_of sources mid (rels xs) ++ (m + length (pieces_of sources m Forward x)) ∷ []) same)
 
 one_more_lays : (old mid new : Laying) (xs : List Rel) (x : Rel) (roots : List ℕ) (root : ℕ) → LaysAll old mid (rels xs) roots → Lays mid new Forward x root → LaysAll old new (rels (xs ++ x ∷ [])) (roots ++ root ∷ [])
-one_more_lays old mid new xs x roots root all l = record {
-  even = l.even;
-  sources = l.sources ∙ all.sources;
-  extends = λ plan e. all.extends plan (l.extends plan e);
-  laid = λ plan e.
-      subst (λ m. AreLaid plan (length old.nodes) (rels (xs ++ x ∷ [])) (roots ++ root ∷ []) m) l.root_is
-      (more_laid plan x (length mid.nodes) root (l.laid plan e) xs (length old.nodes) roots (all.laid plan (l.extends plan e)));
-  tables = tables_behind old.sources xs x all.tables (subst (λ (s : List TableDef). lacks_table s x ≡ false) all.sources l.tables);
-}
+one_more_lays old mid new xs x roots root all l =
+    let n = length old.nodes in
+    let ps = pieces_of_all old.sources (length old.nodes) (rels xs) in
+    let qs = pieces_of old.sources (length old.nodes + length (pieces_of_all old.sources (length old.nodes) (rels xs))) Forward x in
+    let count : length mid.nodes ≡ n + length ps = adds_count old mid ps all.adds in
+    let behind : Adds mid new qs = adds_behind old mid new (n + length ps) Forward x root all.adds.sources count l in
+    let root_is : root ≡ n + length ps + length qs = l.root_is ∙ adds_count mid new qs behind ∙ ap (λ k. k + length qs) count in
+    record {
+      adds = subst (λ (pieces : List Piece). Adds old new pieces) (sym (more_pieces old.sources x n xs)) (adds_more old mid new ps qs all.adds behind);
+      roots_are = (λ i. all.roots_are i ++ root_is i ∷ []) ∙ sym (more_roots old.sources x n xs);
+      tables = tables_behind old.sources xs x all.tables (subst (λ (s : List TableDef). lacks_table s x ≡ false) all.adds.sources l.tables);
+    }
 
 -- ---- one that isn't laid
 
@@ -67,7 +91,7 @@ lacks_at sources (y ∷ xs) zero x e f = let same : y ≡ x = cc in or_left (lac
 lacks_at sources (y ∷ xs) (suc p) x e f = or_right (lacks_table sources y) (any_lacks sources (rels xs)) (lacks_at sources xs p x e f)
 
 one_fails : (old mid : Laying) (xs : List Rel) (p : ℕ) (x : Rel) (roots : List ℕ) (fault : LayingFault) → slice_get xs p ≡ Some x → LaysAll old mid (rels (take p xs)) roots → Fails mid x fault → FailsAll old (rels xs) fault
-one_fails old mid xs p x roots NoTable e all f = lacks_at old.sources xs p x e (subst (λ (s : List TableDef). lacks_table s x ≡ true) all.sources f)
+one_fails old mid xs p x roots NoTable e all f = lacks_at old.sources xs p x e (subst (λ (s : List TableDef). lacks_table s x ≡ true) all.adds.sources f)
 one_fails old mid xs p x roots Memory e all f = tt
 
 -- ---- the code's trees

@@ -17,9 +17,10 @@ use Rattle.phys_plan.specs.declared.node.Node.{Node}
 use Rattle.phys_plan.specs.declared.plan.Plan.{Plan}
 use Rattle.upsert_keys.specs.Keys.{keyed_from}
 use Rattle.phys_plan.specs.Reading.{numbered}
-use Rattle.plan_rules.specs.Laid.{IsUnary, IsBinary, HasNode, ScanLaid, SourceLaid, IsLaid, AreLaid}
+use Rattle.laid_plans.proofs.laws.LaidTrees.{IsUnary, IsBinary, HasNode, ScanLaid, SourceLaid, IsLaid, AreLaid}
 use Rattle.plan_rules.specs.Pieces.{unary_way, binary_way}
 use Rattle.plan_check.specs.Sound.{inferred_of}
+use Rattle.laid_plans.proofs.laws.Placed.{lays_out}
 use Rattle.laid_plans.proofs.laws.Trees.{unary_fits, binary_fits}
 use Rattle.sound_plans.proofs.laws.Lists.{the_same, within}
 use Rattle.sound_plans.proofs.laws.Numbers.{side}
@@ -60,7 +61,7 @@ module _ (plan : Plan) where
       (at_node root (λ o. o ≡ op.Normalize key) ((n + 1) ∷ []) laid.3 (is_op (op.Normalize key) refl))
 
   source_tame : (n : ℕ) (x : Exchange) (source : ℕ) (o : Option TableDef) (root : ℕ) → TameUpTo n → SourceLaid plan n x source o root → TameUpTo root
-  source_tame n x source None root before laid = absurd laid
+  source_tame n x source None root before laid = scan_tame n x source Append [] root before laid
   source_tame n x source (Some table) root before laid = scan_tame n x source table.mode (unwrap_or table.key []) root before laid
 
   mutual
@@ -98,8 +99,9 @@ keeps table v (node ∷ nodes) = ap (λ b. is_tame_op node.op && b) (keeps table
 
 pub trees_have_tame_plans : TreesHaveTamePlans
 trees_have_tame_plans plan rel is tame =
-    let tree = tree_tame plan rel tame 0 Forward is.root (no_nodes plan) is.laid in
-    let all = more plan is.root (is.root + 1) tree refl (at_node plan (is.root + 1) (λ o. o ≡ op.Sink) (is.root ∷ []) is.sink_node (is_op op.Sink refl)) in
-    let count = is.nodes in
+    let out = lays_out plan rel is in
+    let tree = tree_tame plan rel tame 0 Forward out.root (no_nodes plan) out.laid in
+    let all = more plan out.root (out.root + 1) tree refl (at_node plan (out.root + 1) (λ o. o ≡ op.Sink) (out.root ∷ []) out.sink_node (is_op op.Sink refl)) in
+    let count = out.nodes in
     keeps (inferred_of plan).keys 1 plan.nodes
     ∙ each_tame plan.nodes (λ n node e. all (suc n) (let l = within plan.nodes n node e in omega arith) node e)

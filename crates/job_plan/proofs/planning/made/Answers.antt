@@ -8,7 +8,6 @@ use Rattle.job_plan.specs.Views.{plan_view}
 use Rattle.job_plan.proofs.Made.{answers, faults, laid_well, ruled}
 use Rattle.job_plan.proofs.planning.made.Goals as goal
 use Rattle.job_judgement.proofs.laws.Theorems.{accepted_is_bound}
-use Rattle.planner.proofs.laws.TreePlans.{trees_have_one_plan}
 use Rattle.job_plan.proofs.laws.PlannedInserts.{inserts_have_laid_plans}
 use Rattle.planner.proofs.laws.Theorems.{planned_plans_are_ruled}
 use Rattle.job_plan.proofs.laws.Inferred.{infers_as_seen as plans_infer_as_seen_same, with_inferred_seen as plans_infer_as_seen_with}
@@ -24,7 +23,7 @@ returns-clause-planned c =
     let script = accepted_view c.args.script.now in
     let same = ap (λ (s : Settings). s.materialize) c.settings.ensures in
     subst (λ (m : Materialize). IfOk c.plan.result (λ checked. p.made (laid script) m ≡ p.Planned (plan_view checked))) same
-    (answers plans_infer_as_seen_same plans_infer_as_seen_with plans_are_refused_as_seen_refused plans_are_refused_as_seen_taken trees_have_one_plan script c.in_ok-laid.laid c.in_ok-laid.ensures
+    (answers plans_infer_as_seen_same plans_infer_as_seen_with plans_are_refused_as_seen_refused plans_are_refused_as_seen_taken script c.in_ok-laid.laid c.in_ok-laid.ensures
     c.settings.result.now.materialize c.plan.result c.plan.ensures.planned)
 
 pub returns-clause-ruled : goal.returns-clause-ruled
@@ -38,5 +37,5 @@ returns-clause-fault c =
     let script = accepted_view c.args.script.now in
     let same = ap (λ (s : Settings). s.materialize) c.settings.ensures in
     subst (λ (m : Materialize). IfErr c.plan.result (λ fault. p.Says (p.made (laid script) m) fault)) same
-    (faults plans_infer_as_seen_same plans_infer_as_seen_with plans_are_refused_as_seen_refused plans_are_refused_as_seen_taken trees_have_one_plan script c.in_ok-laid.laid c.in_ok-laid.ensures
+    (faults plans_infer_as_seen_same plans_infer_as_seen_with plans_are_refused_as_seen_refused plans_are_refused_as_seen_taken script c.in_ok-laid.laid c.in_ok-laid.ensures
     c.settings.result.now.materialize c.plan.result c.plan.ensures.refused)

@@ -16,11 +16,6 @@ module _ (nodes : List Node) (edges : List Edge) where
   Stand n [] = Unit {0}
   Stand n (p ∷ pieces) = (slice_get nodes n ≡ Some p.node) × (slice_get edges n ≡ Some p.edge) × Stand (suc n) pieces
 
-  pub stand_behind : (n : ℕ) (ps qs : List Piece) → Stand n ps → Stand (n + length ps) qs → Stand n (ps ++ qs)
-  stand_behind n [] qs s t = let none : n + 0 ≡ n = omega arith in subst (λ m. Stand m qs) none t
-  stand_behind n (p ∷ ps) qs s t =
-      let next : n + length (p ∷ ps) ≡ suc n + length ps = omega arith in (s.0, s.1, stand_behind (suc n) ps qs s.2 (subst (λ m. Stand m qs) next t))
-
   pub front_stands : (n : ℕ) (ps qs : List Piece) → Stand n (ps ++ qs) → Stand n ps
   front_stands n [] qs s = tt
   front_stands n (p ∷ ps) qs s = (s.0, s.1, front_stands (suc n) ps qs s.2)
@@ -32,33 +27,11 @@ module _ (nodes : List Node) (edges : List Edge) where
 
 -- ---- a node and an edge more in front
 
-pub inner : (x : Node) (nodes : List Node) (y : Edge) (edges : List Edge) (n : ℕ) (ps : List Piece) → Stand (x ∷ nodes) (y ∷ edges) (suc n) ps → Stand nodes edges n ps
-inner x nodes y edges n [] s = tt
-inner x nodes y edges n (p ∷ ps) s = (s.0, s.1, inner x nodes y edges (suc n) ps s.2)
-
 pub outer : (x : Node) (nodes : List Node) (y : Edge) (edges : List Edge) (n : ℕ) (ps : List Piece) → Stand nodes edges n ps → Stand (x ∷ nodes) (y ∷ edges) (suc n) ps
 outer x nodes y edges n [] s = tt
 outer x nodes y edges n (p ∷ ps) s = (s.0, s.1, outer x nodes y edges (suc n) ps s.2)
 
 -- ---- pieces that are all there is
-
-some_same : {A : Type 0} (x y : A) → Some x ≡ Some y → x ≡ y
-some_same x y e = cc
-
-pub all_there_is : (ps : List Piece) (nodes : List Node) (edges : List Edge) → length nodes ≡ length ps → length edges ≡ length ps → Stand nodes edges 0 ps
-    → (nodes ≡ nodes_in ps) × (edges ≡ edges_in ps)
-all_there_is [] [] [] l m s = (refl, refl)
-all_there_is [] [] (y ∷ edges) l m s = absurd (omega (arith, m))
-all_there_is [] (x ∷ nodes) edges l m s = absurd (omega (arith, l))
-all_there_is (p ∷ ps) [] edges l m s = absurd (omega (arith, l))
-all_there_is (p ∷ ps) (x ∷ nodes) [] l m s = absurd (omega (arith, m))
-all_there_is (p ∷ ps) (x ∷ nodes) (y ∷ edges) l m s =
-    let others = all_there_is ps nodes edges (omega (arith, l)) (omega (arith, m)) (inner x nodes y edges 0 ps s.2) in
-    let node = some_same x p.node s.0 in
-    let edge = some_same y p.edge s.1 in (
-      λ i. node i ∷ others.0 i,
-      λ i. edge i ∷ others.1 i,
-    )
 
 pub stand_alone : (ps : List Piece) → Stand (nodes_in ps) (edges_in ps) 0 ps
 stand_alone [] = tt

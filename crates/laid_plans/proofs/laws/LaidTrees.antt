@@ -1,0 +1,89 @@
+-- The nodes of a plan that is laid of a tree, by their numbers: each lies behind its inputs.
+use Rattle.std.specs.Prelude.{◌≡◌, ℕ, ◌+◌, List, [], ◌∷◌, length, slice_get, Option, Some, None, unwrap_or}
+use Rattle.ct_change.specs.declared.kind.Declared.{Declared}
+use Rattle.ct_change.specs.declared.kind.Declared.TheVariants.{Append, Retract, Upsert}
+use Rattle.ct_change.specs.declared.kind.KindSet.{KindSet}
+use Rattle.ct_change.specs.Changelog.{retract, upsert, kinds_of}
+use Rattle.ct_catalog.specs.declared.table.TableDef.{TableDef}
+use Rattle.rel_algebra.specs.Rel.{Unary, Binary, Rel, Rels, Scan, One, Two, Many, no_rels, rel_and}
+use Rattle.phys_plan.specs.declared.edge.Exchange.{Exchange}
+use Rattle.phys_plan.specs.declared.edge.Exchange.TheVariants.{Forward, Hash}
+use Rattle.ct_change.specs.declared.update.Update.{Update}
+use Rattle.ct_change.specs.declared.update.Update.TheVariants.{Absent, After, Both}
+use Rattle.phys_plan.specs.declared.node.Op.{Op}
+use Rattle.phys_plan.specs.declared.node.Op.TheVariants as op
+use Rattle.phys_plan.specs.declared.node.Node.{Node}
+use Rattle.phys_plan.specs.declared.plan.Plan.{Plan}
+use Rattle.phys_plan.specs.Reading.{numbered, no_keys}
+use Rattle.plan_rules.specs.Pieces.{unary_way, binary_way}
+use Rattle.plan_rules.specs.Seen.{op_as_seen}
+
+-- ---- operators
+
+-- one is, as it is seen, that of the way of a tree with one input, and with two
+abbrev pub IsUnary : Unary → Op → Type 0
+IsUnary how o = op_as_seen o ≡ (unary_way how).op
+
+abbrev pub IsBinary : Binary → Op → Type 0
+IsBinary how o = op_as_seen o ≡ (binary_way how).op
+
+-- ---- nodes and edges
+
+module _ (plan : Plan) where
+  -- the node of a number, with the numbers of its inputs
+  pub record HasNode (v : ℕ) (IsOp : Op → Type 0) (inputs : List ℕ) : Type 0 where
+    pub node : Node
+    pub is_there : numbered plan.nodes v ≡ Some node
+    pub is_op : IsOp node.op
+    pub inputs_are : node.inputs ≡ inputs
+    pub keyless : node.keys ≡ no_keys
+
+  abbrev pub HasEdge : ℕ → Exchange → KindSet → Update → Type 0
+  HasEdge v exchange kinds update = numbered plan.edges v ≡ Some (record { exchange = exchange; kinds = kinds; update = update })
+
+  -- the edge carries all kinds, and both rows of an update
+  abbrev pub CarriesAll : ℕ → Exchange → Type 0
+  CarriesAll v exchange = HasEdge v exchange (kinds_of retract) Both
+
+  -- ---- a tree behind n nodes, up to its root, whose consumer asks for an exchange
+
+  -- a table is scanned; an upsert table is also normalized by its key
+  abbrev pub ScanLaid : ℕ → Exchange → ℕ → Declared → List ℕ → ℕ → Type 0
+  ScanLaid n exchange source Append key root = (root ≡ n + 1) × HasNode root (λ o. o ≡ op.Scan source) [] × CarriesAll root exchange
+  ScanLaid n exchange source Retract key root = (root ≡ n + 1) × HasNode root (λ o. o ≡ op.Scan source) [] × CarriesAll root exchange
+  ScanLaid n exchange source Upsert key root =
+      (root ≡ n + 2) × HasNode (n + 1) (λ o. o ≡ op.Scan source) [] × HasEdge (n + 1) (Hash key) (kinds_of (upsert key)) (After key)
+      × HasNode root (λ o. o ≡ op.Normalize key) ((n + 1) ∷ []) × CarriesAll root exchange
+
+  -- one that isn't there is scanned like another
+  abbrev pub SourceLaid : ℕ → Exchange → ℕ → Option TableDef → ℕ → Type 0
+  SourceLaid n exchange source None root = ScanLaid n exchange source Append [] root
+  SourceLaid n exchange source (Some table) root = ScanLaid n exchange source table.mode (unwrap_or table.key []) root
+
+  abbrev mutual
+    pub IsLaid : ℕ → Exchange → Rel → ℕ → Type 0
+    IsLaid n exchange (Scan source) root = SourceLaid n exchange source (slice_get plan.sources source) root
+    IsLaid n exchange (One how input) root =
+        (below : ℕ) × IsLaid n (unary_way how).asks input below × (root ≡ below + 1) × HasNode root (IsUnary how) (below ∷ []) × CarriesAll root exchange
+    -- the right side lies behind the left
+    IsLaid n exchange (Two how left right) root =
+        (first : ℕ) × (second : ℕ) × IsLaid n (binary_way how).left left first × IsLaid first (binary_way how).right right second
+        × (root ≡ second + 1) × HasNode root (IsBinary how) (first ∷ (second ∷ [])) × CarriesAll root exchange
+    IsLaid n exchange (Many inputs) root =
+        (roots : List ℕ) × (below : ℕ) × AreLaid n inputs roots below × (root ≡ below + 1) × HasNode root (λ o. o ≡ op.Union) roots × CarriesAll root exchange
+
+    -- several trees behind one another, with their roots, up to the last
+    pub AreLaid : ℕ → Rels → List ℕ → ℕ → Type 0
+    AreLaid n no_rels roots last = (roots ≡ []) × (last ≡ n)
+    AreLaid n (rel_and input inputs) roots last =
+        (root : ℕ) × (others : List ℕ) × IsLaid n Forward input root × AreLaid root inputs others last × (roots ≡ root ∷ others)
+
+  -- the plan of the tree: the tree, and behind it the sink
+  pub record LaysOut (rel : Rel) : Type 0 where
+    pub root : ℕ
+    pub laid : IsLaid 0 Forward rel root
+    pub sink_node : HasNode (root + 1) (λ o. o ≡ op.Sink) (root ∷ [])
+    pub sink_edge : HasEdge (root + 1) Forward (kinds_of retract) Absent
+    pub nodes : length plan.nodes ≡ root + 1
+    pub edges : length plan.edges ≡ root + 1
+    pub unbundled : plan.mini_batch ≡ 0

@@ -1,0 +1,203 @@
+-- The pieces of a tree, wherever they stand in a plan, as it is seen, are the tree laid.
+use Rattle.std.specs.Prelude.{◌≡◌, ℕ, ◌+◌, Bool, List, ◌++◌, length, map, slice_get, Option, unwrap_or}
+use Rattle.std.proofs.Common.{zero, suc, true, false, [], ◌∷◌, refl, sym, ap, subst, ◌∙◌, arith, Some, None, length-append}
+use Rattle.std.proofs.lemmas.List.{length-map}
+use Rattle.ct_change.specs.Changelog.{retract, upsert, kinds_of}
+use Rattle.ct_change.specs.declared.kind.Declared.{Declared}
+use Rattle.ct_change.specs.declared.kind.Declared.TheVariants.{Append, Retract, Upsert}
+use Rattle.ct_change.specs.declared.kind.KindSet.{KindSet}
+use Rattle.ct_catalog.specs.declared.table.TableDef.{TableDef}
+use Rattle.rel_algebra.specs.Rel.{Rel, Rels, Scan, One, Two, Many, no_rels, rel_and}
+use Rattle.phys_plan.specs.declared.edge.Edge.{Edge}
+use Rattle.phys_plan.specs.declared.edge.Exchange.{Exchange}
+use Rattle.phys_plan.specs.declared.edge.Exchange.TheVariants.{Forward, Hash}
+use Rattle.ct_change.specs.declared.update.Update.{Update}
+use Rattle.ct_change.specs.declared.update.Update.TheVariants.{Absent, After, Both}
+use Rattle.phys_plan.specs.declared.node.Node.{Node}
+use Rattle.phys_plan.specs.declared.node.Op.{Op}
+use Rattle.phys_plan.specs.declared.node.Op.TheVariants as op
+use Rattle.phys_plan.specs.declared.plan.Plan.{Plan}
+use Rattle.phys_plan.specs.Reading.{numbered}
+use Rattle.plan_rules.specs.Pieces.{unary_way, binary_way, Piece, node_of, edge_of, piece, full_piece, topped_both, scan_pieces, source_pieces, pieces_of, pieces_of_all, roots_of, with_sink, nodes_in, edges_in}
+use Rattle.plan_rules.specs.Seen.{op_as_seen, node_as_seen}
+use Rattle.laid_plans.specs.Shapes.{IsLaidOut}
+use Rattle.laid_plans.proofs.laws.LaidTrees.{IsUnary, IsBinary, HasNode, HasEdge, ScanLaid, SourceLaid, IsLaid, AreLaid, LaysOut}
+use Rattle.laid_plans.proofs.laws.Places.{one_longer, Stand, front_stands, back_stands, stand_alone}
+
+some_same : {A : Type 0} (x y : A) → Some x ≡ Some y → x ≡ y
+some_same x y e = cc
+
+-- what is seen of a node is of one that is there
+seen_at : (nodes : List Node) (m : ℕ) (seen : Node) → slice_get (map node_as_seen nodes) m ≡ Some seen → (node : Node) × (slice_get nodes m ≡ Some node) × (node_as_seen node ≡ seen)
+seen_at [] m seen e = absurd (cc)
+seen_at (node ∷ nodes) zero seen e = (node, refl, some_same (node_as_seen node) seen e)
+seen_at (node ∷ nodes) (suc m) seen e = seen_at nodes m seen e
+
+-- an operator that holds expressions
+abbrev holds : Op → Bool
+holds (op.Filter cond) = true
+holds (op.Project items) = true
+holds (op.Join kind on rest) = true
+holds (op.Semi anti on rest) = true
+holds _ = false
+
+-- another is what is seen of it
+plain : (o q : Op) → holds o ≡ false → op_as_seen q ≡ o → q ≡ o
+plain o (op.Filter cond) h e = absurd (let k : true ≡ holds o = ap holds e in cc (h, k))
+plain o (op.Project items) h e = absurd (let k : true ≡ holds o = ap holds e in cc (h, k))
+plain o (op.Join kind on rest) h e = absurd (let k : true ≡ holds o = ap holds e in cc (h, k))
+plain o (op.Semi anti on rest) h e = absurd (let k : true ≡ holds o = ap holds e in cc (h, k))
+plain o _ h e = e
+
+module _ (plan : Plan) where
+  abbrev Placed : ℕ → List Piece → Type 0
+  Placed n ps = Stand (map node_as_seen plan.nodes) plan.edges n ps
+
+  module _ (m v : ℕ) (next : v ≡ m + 1) where
+    has_node : (IsOp : Op → Type 0) (inputs : List ℕ) (o : Op) → ((q : Op) → op_as_seen q ≡ o → IsOp q) → slice_get (map node_as_seen plan.nodes) m ≡ Some (node_of o inputs) → HasNode plan v IsOp inputs
+    has_node IsOp inputs o is there =
+        let number : v ≡ suc m = omega (arith, next) in
+        let found = seen_at plan.nodes m (node_of o inputs) there in
+        record {
+          node = found.0;
+          is_there = ap (numbered plan.nodes) number ∙ found.1;
+          is_op = is found.0.op (ap (λ (node : Node). node.op) found.2);
+          inputs_are = ap (λ (node : Node). node.inputs) found.2;
+          keyless = ap (λ (node : Node). node.keys) found.2;
+        }
+
+    has_edge : (x : Exchange) (kinds : KindSet) (update : Update) → slice_get plan.edges m ≡ Some (edge_of x kinds update) → HasEdge plan v x kinds update
+    has_edge x kinds update there = let number : v ≡ suc m = omega (arith, next) in ap (numbered plan.edges) number ∙ there
+
+  -- the last of pieces behind n nodes
+  module _ (n : ℕ) (ps : List Piece) (o : Op) (inputs : List ℕ) (x : Exchange) (kinds : KindSet) (update : Update) (placed : Placed n (ps ++ piece o inputs x kinds update ∷ [])) where
+    last_number : n + length (ps ++ piece o inputs x kinds update ∷ []) ≡ n + length ps + 1
+    last_number = omega (arith, one_longer ps (piece o inputs x kinds update))
+
+    last_has : (IsOp : Op → Type 0) → ((q : Op) → op_as_seen q ≡ o → IsOp q) → HasNode plan (n + length (ps ++ piece o inputs x kinds update ∷ [])) IsOp inputs
+    last_has IsOp is =
+        has_node (n + length ps) (n + length (ps ++ piece o inputs x kinds update ∷ [])) last_number IsOp inputs o is (back_stands (map node_as_seen plan.nodes) plan.edges n ps (piece o inputs x kinds update ∷ []) placed).0
+
+    last_told : HasEdge plan (n + length (ps ++ piece o inputs x kinds update ∷ [])) x kinds update
+    last_told =
+        has_edge (n + length ps) (n + length (ps ++ piece o inputs x kinds update ∷ [])) last_number x kinds update (back_stands (map node_as_seen plan.nodes) plan.edges n ps (piece o inputs x kinds update ∷ []) placed).1
+
+  scan_laid : (n : ℕ) (x : Exchange) (source : ℕ) (mode : Declared) (key : List ℕ) → Placed n (scan_pieces n x source mode key)
+      → ScanLaid plan n x source mode key (n + length (scan_pieces n x source mode key))
+  scan_laid n x source Append key s = (refl, has_node n (n + 1) refl (λ o. o ≡ op.Scan source) [] (op.Scan source) (λ q e. plain (op.Scan source) q refl e) s.0, has_edge n (n + 1) refl x (kinds_of retract) Both s.1)
+  scan_laid n x source Retract key s = (refl, has_node n (n + 1) refl (λ o. o ≡ op.Scan source) [] (op.Scan source) (λ q e. plain (op.Scan source) q refl e) s.0, has_edge n (n + 1) refl x (kinds_of retract) Both s.1)
+  scan_laid n x source Upsert key s =
+      let next : n + 2 ≡ suc n + 1 = omega arith in (
+        refl,
+        has_node n (n + 1) refl (λ o. o ≡ op.Scan source) [] (op.Scan source) (λ q e. plain (op.Scan source) q refl e) s.0,
+        has_edge n (n + 1) refl (Hash key) (kinds_of (upsert key)) (After key) s.1,
+        has_node (suc n) (n + 2) next (λ o. o ≡ op.Normalize key) ((n + 1) ∷ []) (op.Normalize key) (λ q e. plain (op.Normalize key) q refl e) s.2.0,
+        has_edge (suc n) (n + 2) next x (kinds_of retract) Both s.2.1,
+      )
+
+  source_laid : (n : ℕ) (x : Exchange) (source : ℕ) (table : Option TableDef) → Placed n (source_pieces n x source table)
+      → SourceLaid plan n x source table (n + length (source_pieces n x source table))
+  source_laid n x source None s = scan_laid n x source Append [] s
+  source_laid n x source (Some table) s = scan_laid n x source table.mode (unwrap_or table.key []) s
+
+  -- the pieces of both sides of a join, and a node of this operator over them
+  module _ (n : ℕ) (x y z : Exchange) (left right : Rel) (ps qs : List Piece) (o : Op) (s : Placed n (topped_both n ps qs o x)) where
+    abbrev top : ℕ
+    top = n + length (topped_both n ps qs o x)
+
+    left_placed : Placed n ps
+    left_placed = front_stands (map node_as_seen plan.nodes) plan.edges n ps qs (front_stands (map node_as_seen plan.nodes) plan.edges n (ps ++ qs) (full_piece o ((n + length ps) ∷ ((n + length ps + length qs) ∷ [])) x ∷ []) s)
+
+    right_placed : Placed (n + length ps) qs
+    right_placed = back_stands (map node_as_seen plan.nodes) plan.edges n ps qs (front_stands (map node_as_seen plan.nodes) plan.edges n (ps ++ qs) (full_piece o ((n + length ps) ∷ ((n + length ps + length qs) ∷ [])) x ∷ []) s)
+
+    both_laid : (IsOp : Op → Type 0) → ((q : Op) → op_as_seen q ≡ o → IsOp q) → IsLaid plan n y left (n + length ps) → IsLaid plan (n + length ps) z right (n + length ps + length qs)
+        → (first : ℕ) × (second : ℕ) × IsLaid plan n y left first × IsLaid plan first z right second × (top ≡ second + 1) × HasNode plan top IsOp (first ∷ (second ∷ [])) × HasEdge plan top x (kinds_of retract) Both
+    both_laid IsOp is l m =
+        let inputs = (n + length ps) ∷ ((n + length ps + length qs) ∷ []) in
+        let number = last_number n (ps ++ qs) o inputs x (kinds_of retract) Both s in
+        let whole = length-append ps qs in (
+          n + length ps,
+          n + length ps + length qs,
+          l,
+          m,
+          omega (arith, number, whole),
+          last_has n (ps ++ qs) o inputs x (kinds_of retract) Both s IsOp is,
+          last_told n (ps ++ qs) o inputs x (kinds_of retract) Both s,
+        )
+
+  mutual
+    laid : (n : ℕ) (x : Exchange) (rel : Rel) → Placed n (pieces_of plan.sources n x rel)
+        → IsLaid plan n x rel (n + length (pieces_of plan.sources n x rel))
+    laid n x (Scan source) s = source_laid n x source (slice_get plan.sources source) s
+    laid n x (One how input) s =
+        let ps = pieces_of plan.sources n (unary_way how).asks input in
+        let o = (unary_way how).op in (
+          n + length ps,
+          laid n (unary_way how).asks input (front_stands (map node_as_seen plan.nodes) plan.edges n ps (full_piece o ((n + length ps) ∷ []) x ∷ []) s),
+          last_number n ps o ((n + length ps) ∷ []) x (kinds_of retract) Both s,
+          last_has n ps o ((n + length ps) ∷ []) x (kinds_of retract) Both s (IsUnary how) (λ q e. e),
+          last_told n ps o ((n + length ps) ∷ []) x (kinds_of retract) Both s,
+        )
+    laid n x (Two how left right) s =
+        let y = (binary_way how).left in
+        let z = (binary_way how).right in
+        let mid : ℕ = n + length (pieces_of plan.sources n (binary_way how).left left) in
+        let ps = pieces_of plan.sources n (binary_way how).left left in
+        let qs = pieces_of plan.sources (n + length (pieces_of plan.sources n (binary_way how).left left)) (binary_way how).right right in
+        let o = (binary_way how).op in
+        both_laid n x y z left right ps qs o s (IsBinary how) (λ q e. e)
+        (laid n (binary_way how).left left (left_placed n x y z left right ps qs o s))
+        (laid mid (binary_way how).right right (right_placed n x y z left right ps qs o s))
+    laid n x (Many inputs) s =
+        let ps = pieces_of_all plan.sources n inputs in
+        let roots = roots_of plan.sources n inputs in (
+          roots,
+          n + length ps,
+          all_laid n inputs (front_stands (map node_as_seen plan.nodes) plan.edges n ps (full_piece op.Union roots x ∷ []) s),
+          last_number n ps op.Union roots x (kinds_of retract) Both s,
+          last_has n ps op.Union roots x (kinds_of retract) Both s (λ o. o ≡ op.Union) (λ q e. plain op.Union q refl e),
+          last_told n ps op.Union roots x (kinds_of retract) Both s,
+        )
+
+    all_laid : (n : ℕ) (inputs : Rels) → Placed n (pieces_of_all plan.sources n inputs)
+        → AreLaid plan n inputs (roots_of plan.sources n inputs) (n + length (pieces_of_all plan.sources n inputs))
+    all_laid n no_rels s = (refl, omega arith)
+    all_laid n (rel_and input inputs) s =
+        let ps = pieces_of plan.sources n Forward input in
+        let mid : ℕ = n + length (pieces_of plan.sources n Forward input) in
+        let qs = pieces_of_all plan.sources (n + length (pieces_of plan.sources n Forward input)) inputs in
+        let whole : mid + length qs ≡ n + length (ps ++ qs) = omega (arith, length-append ps qs) in (
+          mid,
+          roots_of plan.sources mid inputs,
+          laid n Forward input (front_stands (map node_as_seen plan.nodes) plan.edges n ps qs s),
+          subst (λ last. AreLaid plan mid inputs (roots_of plan.sources mid inputs) last) whole
+              (all_laid mid inputs (back_stands (map node_as_seen plan.nodes) plan.edges n ps qs s)),
+          refl,
+        )
+
+-- so a plan that is the tree's, as it is seen, has these nodes
+pub lays_out : (plan : Plan) (rel : Rel) → IsLaidOut plan rel → LaysOut plan rel
+lays_out plan rel is =
+    let ps = pieces_of plan.sources 0 Forward rel in
+    let sink = piece op.Sink (length ps ∷ []) Forward (kinds_of retract) Absent in
+    let root : ℕ = 0 + length ps in
+    let root_is : length ps ≡ root = omega arith in
+    let nodes : map node_as_seen plan.nodes ≡ nodes_in (with_sink ps) = ap (λ (p : Plan). p.nodes) is in
+    let edges : plan.edges ≡ edges_in (with_sink ps) = ap (λ (p : Plan). p.edges) is in
+    let all : Stand (map node_as_seen plan.nodes) plan.edges 0 (with_sink ps) =
+    subst (λ (ns : List Node). Stand ns plan.edges 0 (with_sink ps)) (sym nodes) (subst (λ (es : List Edge). Stand (nodes_in (with_sink ps)) es 0 (with_sink ps)) (sym edges) (stand_alone (with_sink ps))) in
+    let last : 0 + length (with_sink ps) ≡ root + 1 = last_number plan 0 ps op.Sink (length ps ∷ []) Forward (kinds_of retract) Absent all in
+    let has = last_has plan 0 ps op.Sink (length ps ∷ []) Forward (kinds_of retract) Absent all (λ o. o ≡ op.Sink) (λ q e. plain op.Sink q refl e) in
+    let told = last_told plan 0 ps op.Sink (length ps ∷ []) Forward (kinds_of retract) Absent all in
+    let node_count : length plan.nodes ≡ length (with_sink ps) = sym (length-map plan.nodes node_as_seen) ∙ ap length nodes ∙ length-map (with_sink ps) (λ p. p.node) in
+    let edge_count : length plan.edges ≡ length (with_sink ps) = ap length edges ∙ length-map (with_sink ps) (λ p. p.edge) in
+    record {
+      root = root;
+      laid = laid plan 0 Forward rel (front_stands (map node_as_seen plan.nodes) plan.edges 0 ps (sink ∷ []) all);
+      sink_node = subst (λ (inputs : List ℕ). HasNode plan (root + 1) (λ o. o ≡ op.Sink) inputs) (ap (λ m. m ∷ []) root_is) (subst (λ v. HasNode plan v (λ o. o ≡ op.Sink) (length ps ∷ [])) last has);
+      sink_edge = subst (λ v. HasEdge plan v Forward (kinds_of retract) Absent) last told;
+      nodes = omega (arith, node_count, last);
+      edges = omega (arith, edge_count, last);
+      unbundled = ap (λ (p : Plan). p.mini_batch) is;
+    }

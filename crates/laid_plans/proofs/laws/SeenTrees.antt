@@ -1,0 +1,65 @@
+-- The plan of a tree is what is seen of it.
+use Rattle.std.specs.Prelude.{◌≡◌, ℕ, ◌+◌, List, ◌++◌, length, map, slice_get, Option, unwrap_or}
+use Rattle.std.proofs.Common.{[], ◌∷◌, refl, sym, ap, ◌∙◌, Some, None}
+use Rattle.std.proofs.lemmas.List.{map-append}
+use Rattle.ct_change.specs.Changelog.{retract, kinds_of}
+use Rattle.ct_change.specs.declared.kind.Declared.{Declared}
+use Rattle.ct_change.specs.declared.kind.Declared.TheVariants.{Append, Retract, Upsert}
+use Rattle.ct_change.specs.declared.update.Update.TheVariants.{Absent}
+use Rattle.ct_catalog.specs.declared.table.TableDef.{TableDef}
+use Rattle.rel_algebra.specs.Rel.{Rel, Rels, Scan, One, Two, Many, no_rels, rel_and}
+use Rattle.phys_plan.specs.declared.edge.Exchange.{Exchange}
+use Rattle.phys_plan.specs.declared.edge.Exchange.TheVariants.{Forward}
+use Rattle.phys_plan.specs.declared.node.Op.{Op}
+use Rattle.phys_plan.specs.declared.node.Op.TheVariants as op
+use Rattle.plan_rules.specs.Pieces.{unary_way, binary_way, Piece, node_of, piece, full_piece, scan_pieces, source_pieces, pieces_of, pieces_of_all, roots_of, with_sink, nodes_in, edges_in, plan_of_tree}
+use Rattle.plan_rules.specs.Seen.{op_as_seen, node_as_seen, plan_as_seen}
+use Rattle.laid_plans.proofs.laws.Trees.{unary_is, binary_is}
+
+abbrev AreSeen : List Piece → Type 0
+AreSeen ps = map node_as_seen (nodes_in ps) ≡ nodes_in ps
+
+both_seen : (ps qs : List Piece) → AreSeen ps → AreSeen qs → AreSeen (ps ++ qs)
+both_seen ps qs a b =
+    ap (map node_as_seen) (map-append (λ (p : Piece). p.node) ps qs) ∙ map-append node_as_seen (nodes_in ps) (nodes_in qs) ∙ (λ i. a i ++ b i) ∙ sym (map-append (λ (p : Piece). p.node) ps qs)
+
+-- a node more
+more_seen : (ps : List Piece) (o : Op) (inputs : List ℕ) (x : Exchange) → op_as_seen o ≡ o → AreSeen ps → AreSeen (ps ++ full_piece o inputs x ∷ [])
+more_seen ps o inputs x same all = both_seen ps (full_piece o inputs x ∷ []) all (ap (λ (q : Op). node_of q inputs ∷ []) same)
+
+scan_seen : (n : ℕ) (x : Exchange) (source : ℕ) (mode : Declared) (key : List ℕ) → AreSeen (scan_pieces n x source mode key)
+scan_seen n x source Append key = refl
+scan_seen n x source Retract key = refl
+scan_seen n x source Upsert key = refl
+
+source_seen : (n : ℕ) (x : Exchange) (source : ℕ) (table : Option TableDef) → AreSeen (source_pieces n x source table)
+source_seen n x source None = refl
+source_seen n x source (Some table) = scan_seen n x source table.mode (unwrap_or table.key [])
+
+module _ (sources : List TableDef) where
+  mutual
+    tree_seen : (n : ℕ) (x : Exchange) (rel : Rel) → AreSeen (pieces_of sources n x rel)
+    tree_seen n x (Scan source) = source_seen n x source (slice_get sources source)
+    tree_seen n x (One how input) =
+        let ps = pieces_of sources n (unary_way how).asks input in
+        more_seen ps (unary_way how).op ((n + length ps) ∷ []) x (unary_is how) (tree_seen n (unary_way how).asks input)
+    tree_seen n x (Two how left right) =
+        let ps = pieces_of sources n (binary_way how).left left in
+        let mid : ℕ = n + length (pieces_of sources n (binary_way how).left left) in
+        let qs = pieces_of sources (n + length (pieces_of sources n (binary_way how).left left)) (binary_way how).right right in
+        more_seen (ps ++ qs) (binary_way how).op ((n + length ps) ∷ ((n + length ps + length qs) ∷ [])) x (binary_is how)
+        (both_seen ps qs (tree_seen n (binary_way how).left left) (tree_seen mid (binary_way how).right right))
+    tree_seen n x (Many inputs) = more_seen (pieces_of_all sources n inputs) op.Union (roots_of sources n inputs) x refl (trees_seen n inputs)
+
+    trees_seen : (n : ℕ) (inputs : Rels) → AreSeen (pieces_of_all sources n inputs)
+    trees_seen n no_rels = refl
+    trees_seen n (rel_and input inputs) =
+        let mid : ℕ = n + length (pieces_of sources n Forward input) in
+        both_seen (pieces_of sources n Forward input) (pieces_of_all sources (n + length (pieces_of sources n Forward input)) inputs) (tree_seen n Forward input) (trees_seen mid inputs)
+
+pub plans_of_trees_are_seen : (sources : List TableDef) (sink : TableDef) (parallelism : ℕ) (rel : Rel)
+    → plan_as_seen (plan_of_tree sources sink parallelism rel) ≡ plan_of_tree sources sink parallelism rel
+plans_of_trees_are_seen sources sink parallelism rel =
+    let ps = pieces_of sources 0 Forward rel in
+    let all : AreSeen (with_sink ps) = both_seen ps (piece op.Sink (length ps ∷ []) Forward (kinds_of retract) Absent ∷ []) (tree_seen sources 0 Forward rel) refl in
+    λ i. record { sources = sources; sink = sink; nodes = all i; edges = edges_in (with_sink ps); parallelism = parallelism; mini_batch = 0 }
