@@ -31,7 +31,7 @@ pub record IsAnswered (mode : Mode) (sources : List TableDef) (answers : List Ro
 
 -- so it is before each quiet item numbered n
 abbrev pub AreAnswered : Mode → List TableDef → (List Rows → Option Rows) → List Record → List PrintItem → Type 0
-AreAnswered mode sources answers lines items = (before after : List PrintItem) (n : ℕ) → items ≡ before ++ Quiet n ∷ after → IsAnswered mode sources answers lines n (changes_in before)
+AreAnswered mode sources answers lines items = (before behind : List PrintItem) (n : ℕ) → items ≡ before ++ Quiet n ∷ behind → IsAnswered mode sources answers lines n (changes_in before)
 
 -- the last item is a quiet one, and its number is that of all lines
 abbrev pub EndsQuiet : List Record → List PrintItem → Type 0
