@@ -6,13 +6,13 @@ use Rattle.ct_expr.specs.declared.evaluate.EvalFault.{EvalFault}
 use Rattle.ct_change.specs.Changelog.{Rows}
 use Rattle.rel_algebra.specs.Sums.{together}
 use Rattle.rel_algebra.specs.declared.rel.Rel.{Rel as Tree}
-use Rattle.rel_algebra.specs.Rel.{Rel, Union, Project, Group, Join, Semi, Rank, rels}
+use Rattle.rel_algebra.specs.Rel.{project_on, group_by, rank_in, join_on, semi_on, Rel, Union, Project, Group, Join, Semi, Rank, rels}
 use Rattle.rel_algebra.specs.View.{rel_view, rels_view}
 use Rattle.batch_answer.specs.Tallies.{Unfit}
 use Rattle.batch_answer.specs.Parts.{IsFew, IsPart, IsAnswered, IsLost}
 use Rattle.batch_answer.specs.Tables.{tables_of}
 use Rattle.batch_answer.proofs.Inputs.{from, from_more, from_end, inputs-start, input-typed, input-lost, sum-lost, inputs-turn, inputs-end}
-use Rattle.batch_answer.proofs.Makings.{project-lost, group-lost, rank-lost, join-left-lost, join-right-lost, semi-right-lost}
+use Rattle.batch_answer.proofs.Makings.{node-lost, left-node-lost, right-node-lost}
 use Rattle.batch_answer.proofs.Views.{project-view, group-view, rank-view, join-view, semi-view}
 use Rattle.batch_answer.proofs.walk.+part_of.Goals as goal
 
@@ -23,7 +23,7 @@ part_of-returns-in_err-part-in-Project-clause-out t c =
     let node : Rel = Project (rel_view input) (exprs_view c.in-Project.items) in
     let view : rel_view c.args.rel.now ≡ node = project-view c.args.rel.now c.in-Project.input input c.deref-in-Project.ensures c.in-Project.items c.in-Project.is in
     let lost : IsErrOf c.from_residual-in_err-part-in-Project.result EvalFault.Out → IsLost tables (rel_view input) = search rules in
-    λ e. subst (λ (rel : Rel). IsLost tables rel) (sym view) (project-lost tables (rel_view input) (lost e) (exprs_view c.in-Project.items))
+    λ e. subst (λ (rel : Rel). IsLost tables rel) (sym view) (node-lost (project_on (exprs_view c.in-Project.items)) tables (rel_view input) (lost e))
 
 pub part_of-returns-in_ok-part-in-Project-clause-value : goal.part_of-returns-in_ok-part-in-Project-clause-value
 part_of-returns-in_ok-part-in-Project-clause-value t c =
@@ -41,7 +41,7 @@ part_of-returns-in_err-part-in-Group-clause-out t c =
     let node : Rel = Group (rel_view input) c.in-Group.keys c.in-Group.aggs in
     let view : rel_view c.args.rel.now ≡ node = group-view c.args.rel.now c.in-Group.input input c.deref-in-Group.ensures c.in-Group.keys c.in-Group.aggs c.in-Group.is in
     let lost : IsErrOf c.from_residual-in_err-part-in-Group.result EvalFault.Out → IsLost tables (rel_view input) = search rules in
-    λ e. subst (λ (rel : Rel). IsLost tables rel) (sym view) (group-lost tables (rel_view input) (lost e) c.in-Group.keys c.in-Group.aggs)
+    λ e. subst (λ (rel : Rel). IsLost tables rel) (sym view) (node-lost (group_by c.in-Group.keys c.in-Group.aggs) tables (rel_view input) (lost e))
 
 pub part_of-returns-in_ok-part-in-Group-clause-value : goal.part_of-returns-in_ok-part-in-Group-clause-value
 part_of-returns-in_ok-part-in-Group-clause-value t c =
@@ -68,7 +68,7 @@ part_of-returns-in_err-part-in-Rank-clause-out t c =
     let node : Rel = Rank (rel_view input) c.in-Rank.partition c.in-Rank.order c.in-Rank.bound c.in-Rank.ranked in
     let view : rel_view c.args.rel.now ≡ node = rank-view c.args.rel.now c.in-Rank.input input c.deref-in-Rank.ensures c.in-Rank.partition c.in-Rank.order c.in-Rank.bound c.in-Rank.ranked c.in-Rank.is in
     let lost : IsErrOf c.from_residual-in_err-part-in-Rank.result EvalFault.Out → IsLost tables (rel_view input) = search rules in
-    λ e. subst (λ (rel : Rel). IsLost tables rel) (sym view) (rank-lost tables (rel_view input) (lost e) c.in-Rank.partition c.in-Rank.order c.in-Rank.bound c.in-Rank.ranked)
+    λ e. subst (λ (rel : Rel). IsLost tables rel) (sym view) (node-lost (rank_in c.in-Rank.partition c.in-Rank.order c.in-Rank.bound c.in-Rank.ranked) tables (rel_view input) (lost e))
 
 pub part_of-returns-in_ok-part-in-Rank-clause-value : goal.part_of-returns-in_ok-part-in-Rank-clause-value
 part_of-returns-in_ok-part-in-Rank-clause-value t c =
@@ -96,7 +96,7 @@ part_of-returns-in_err-left-in-Join-clause-out t c =
     let node : Rel = Join (rel_view left) (rel_view right) c.in-Join.kind c.in-Join.on (option_map expr_view c.in-Join.rest) in
     let view : rel_view c.args.rel.now ≡ node = join-view c.args.rel.now c.in-Join.left left c.deref-in-Join.ensures c.in-Join.right right refl c.in-Join.on c.in-Join.rest c.in-Join.kind c.in-Join.is in
     let lost : IsErrOf c.from_residual-in_err-left-in-Join.result EvalFault.Out → IsLost tables (rel_view left) = search rules in
-    λ e. subst (λ (rel : Rel). IsLost tables rel) (sym view) (join-left-lost tables (rel_view left) (rel_view right) c.in-Join.on (option_map expr_view c.in-Join.rest) c.in-Join.kind (lost e))
+    λ e. subst (λ (rel : Rel). IsLost tables rel) (sym view) (left-node-lost (join_on c.in-Join.kind c.in-Join.on (option_map expr_view c.in-Join.rest)) tables (rel_view left) (rel_view right) (lost e))
 
 pub part_of-returns-in_err-right-in-Join-clause-out : goal.part_of-returns-in_err-right-in-Join-clause-out
 part_of-returns-in_err-right-in-Join-clause-out t c =
@@ -106,7 +106,7 @@ part_of-returns-in_err-right-in-Join-clause-out t c =
     let node : Rel = Join (rel_view left) (rel_view right) c.in-Join.kind c.in-Join.on (option_map expr_view c.in-Join.rest) in
     let view : rel_view c.args.rel.now ≡ node = join-view c.args.rel.now c.in-Join.left left c.deref-in-Join.ensures c.in-Join.right right c.deref-in-Join-2.ensures c.in-Join.on c.in-Join.rest c.in-Join.kind c.in-Join.is in
     let lost : IsErrOf c.from_residual-in_err-right-in-Join.result EvalFault.Out → IsLost tables (rel_view right) = search rules in
-    λ e. subst (λ (rel : Rel). IsLost tables rel) (sym view) (join-right-lost tables (rel_view left) (rel_view right) c.in-Join.on (option_map expr_view c.in-Join.rest) c.in-Join.kind (lost e))
+    λ e. subst (λ (rel : Rel). IsLost tables rel) (sym view) (right-node-lost (join_on c.in-Join.kind c.in-Join.on (option_map expr_view c.in-Join.rest)) tables (rel_view left) (rel_view right) (lost e))
 
 pub part_of-returns-in_ok-right-in-Join-clause-value : goal.part_of-returns-in_ok-right-in-Join-clause-value
 part_of-returns-in_ok-right-in-Join-clause-value t c =
@@ -134,7 +134,7 @@ part_of-returns-in_err-right-in-Semi-clause-out t c =
     let node : Rel = Semi (rel_view left) (rel_view right) c.in-Semi.anti c.in-Semi.on (option_map expr_view c.in-Semi.rest) in
     let view : rel_view c.args.rel.now ≡ node = semi-view c.args.rel.now c.in-Semi.left left c.deref-in-Semi.ensures c.in-Semi.right right c.deref-in-Semi-2.ensures c.in-Semi.on c.in-Semi.rest c.in-Semi.anti c.in-Semi.is in
     let lost : IsErrOf c.from_residual-in_err-right-in-Semi.result EvalFault.Out → IsLost tables (rel_view right) = search rules in
-    λ e. subst (λ (rel : Rel). IsLost tables rel) (sym view) (semi-right-lost tables (rel_view left) (rel_view right) c.in-Semi.on (option_map expr_view c.in-Semi.rest) c.in-Semi.anti (lost e))
+    λ e. subst (λ (rel : Rel). IsLost tables rel) (sym view) (right-node-lost (semi_on c.in-Semi.anti c.in-Semi.on (option_map expr_view c.in-Semi.rest)) tables (rel_view left) (rel_view right) (lost e))
 
 pub part_of-returns-in_ok-right-in-Semi-clause-value : goal.part_of-returns-in_ok-right-in-Semi-clause-value
 part_of-returns-in_ok-right-in-Semi-clause-value t c =
