@@ -1,3 +1,4 @@
 pub mod Counts
+pub mod KeyRow
 pub mod Runs
 pub mod laws

@@ -7,6 +7,7 @@ use Rattle.ct_change.specs.declared.kind.Kind.TheVariants.{I, UB, UA, D}
 use Rattle.ct_change.specs.declared.change.Change.{Change}
 use Rattle.ct_change.specs.declared.change.Diff.{Diff}
 use Rattle.ct_change.specs.Changelog.{Mode, append, retract, upsert, Rows, adds, fold_from, IsValidFrom, row_at, same_row, without, with}
+use Rattle.ct_change.specs.KeyRows.{deleted}
 
 -- a change taken as it is: it comes where it adds, and goes where it removes
 abbrev pub as_it_is : Bool → Change → Diff
@@ -67,11 +68,11 @@ update append old fresh = []
 update retract old fresh = record { kind = UB; row = old } ∷ record { kind = UA; row = fresh } ∷ []
 update (upsert key) old fresh = record { kind = UA; row = fresh } ∷ []
 
--- the changes that replace one row, or none, by another, or none; equal rows give none
+-- the changes that replace one row, or none, by another, or none; equal rows give none, and a row that goes is told as the mode does
 abbrev pub emission : Mode → Option Row → Option Row → List Change
 emission mode None None = []
 emission mode None (Some fresh) = record { kind = I; row = fresh } ∷ []
-emission mode (Some old) None = record { kind = D; row = old } ∷ []
+emission mode (Some old) None = record { kind = D; row = deleted mode old } ∷ []
 emission mode (Some old) (Some fresh) = cond (same_row old fresh) [] (update mode old fresh)
 
 -- what a mode can tell: nothing goes from an append changelog, and an update of an upsert changelog keeps the key

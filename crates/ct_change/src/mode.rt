@@ -39,8 +39,8 @@ pub trait InMode: ChangeMode {
 
 /// A mode of a changelog that is written.
 pub trait OutMode: ChangeMode {
-    /// Puts behind the others the changes that replace one row, or none, by another, or none. The mode has
-    /// to be able to tell it.
+    /// Puts behind the others the changes that replace one row, or none, by another, or none; where the mode has a key, a row
+    /// that goes is told by its key row. The mode has to be able to tell it.
     fn emit(&self, old: Option<Row>, fresh: Option<Row>, to: &mut Changes) -> Result<(), Memory>
         requires { CanTell (Self.mode self.now) old fresh }
         ensures { OnOk result (to.new ≡ to.old ++ emission (Self.mode self.now) old fresh) };

@@ -5,12 +5,12 @@ ghost use Rattle.ct_change.specs.Changelog.{upsert, HasKey};
 ghost use Rattle.ct_change.specs.Emission.{replaced_by};
 ghost use Rattle.ct_change.specs.LastRows.{AreLast, last_after};
 
-use crate::{Change, ChangeMode, Changes, Diff, InMode, Kind, LastRows, OutMode};
+use crate::{Change, ChangeMode, Changes, Diff, InMode, Kind, LastRows, OutMode, key_row};
 use ct_value::{Cols, Memory, Row};
 use std::alloc::Global;
 
 /// The mode in which a row is set or removed by its key, which these columns are (Flink documentation, "Table to Stream
-/// Conversion"). The last rows are kept by memory of `alloc`.
+/// Conversion"); a row that goes is told by its key alone. The last rows are kept by memory of `alloc`.
 #[derive(Debug, Drop)]
 pub struct UpsertBy {
     pub alloc: Global,
@@ -46,7 +46,9 @@ impl OutMode for UpsertBy {
         match (old, fresh) {
             (None, None) => Ok(()),
             (None, Some(fresh)) => to.push(Change::new(Kind::I, fresh)),
-            (Some(old), None) => to.push(Change::new(Kind::D, old)),
+            (Some(old), None) => {
+                to.push(Change::new(Kind::D, key_row(self.alloc, &old, &self.key)?))
+            }
             (Some(old), Some(fresh)) => {
                 if old != fresh {
                     to.push(Change::new(Kind::UA, fresh))?;

@@ -84,6 +84,33 @@ fn refuses(
     Ok(is_refused(checked(alloc, &table, changes.as_slice()), code))
 }
 
+// A word alone, as a delete by key tells it.
+fn word_alone(alloc: Global, word: Value) -> Result<Row, Memory> {
+    let mut values = Values::new(alloc);
+    values.push(word)?;
+    values.push(Value::Null)?;
+    Ok(Row::from_values(values))
+}
+
+// Takes a delete by this key.
+fn deleted(alloc: Global, word: Value) -> Result<(), SourceFault> {
+    let table = words(alloc, Declared::Upsert, true)?;
+    let mut changes = Changes::new(alloc);
+    changes.push(Change::new(Kind::D, word_alone(alloc, word)?))?;
+    checked(alloc, &table, changes.as_slice())
+}
+
+#[test]
+fn deletes_have_a_key(rt: HostRuntime) {
+    assert!(rt;
+        is_refused(
+            deleted(rt.alloc(), Value::Null),
+            ChangeCode::NullNotAllowed(1)
+        )
+    );
+    assert!(rt; matches!(deleted(rt.alloc(), Value::Num(1)), Ok(())));
+}
+
 #[test]
 fn changes_leave_rows(rt: HostRuntime) {
     for (mode, has_key, last, number, left) in [

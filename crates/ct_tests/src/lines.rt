@@ -1,5 +1,5 @@
-// Change files of sources of words with numbers.
-use crate::tables::words;
+// Change files of sources of words with numbers, and deletes by key.
+use crate::tables::{pairs, words};
 use ct_catalog::{Sources, TableDef};
 use ct_change::{Declared, Kind};
 use ct_value::{Bytes, ChangeCode, Memory, Text, Value};
@@ -87,6 +87,43 @@ fn reads_each_line(alloc: Global) -> Result<bool, Memory> {
     )
 }
 
+// The upsert sources `t`, by words, and `b`, by words and numbers.
+fn upserts(alloc: Global) -> Result<Sources, Memory> {
+    let mut sources = Sources::new(alloc);
+    sources.push(words(alloc, Declared::Upsert, true)?)?;
+    sources.push(pairs(alloc)?)?;
+    Ok(sources)
+}
+
+// Whether a line removes the row of the word `a` of this source, and tells this number, or none.
+fn removes(line: Result<Option<Line>, LineFault>, table: u32, number: Option<i128>) -> bool {
+    let Ok(Some(line)) = line else {
+        return false;
+    };
+    if line.table != table || line.change.kind != Kind::D {
+        return false;
+    }
+    match line.change.row.as_slice() {
+        [Value::Text(text), Value::Null] => text.is(b"a") && number.is_none(),
+        [Value::Text(text), Value::Num(n)] => text.is(b"a") && number == Some(*n),
+        _ => false,
+    }
+}
+
+// A delete has a field for each column, of which only the key's are read, or for each of the key.
+fn reads_deletes(alloc: Global) -> Result<bool, Memory> {
+    let tables = upserts(alloc)?;
+    let sources = NamedSources::new(alloc, &tables)?;
+    let mut lines = lines_of(alloc, b"t,-D,a\nt,-D,a,x\nb,-D,a,1\nt,+U,a,1")?;
+    Ok(
+        removes(lines.next_line(&sources), 0, None)
+            && removes(lines.next_line(&sources), 0, None)
+            && removes(lines.next_line(&sources), 1, Some(1))
+            && matches!(lines.next_line(&sources), Ok(Some(_)))
+            && is_end(lines.next_line(&sources)),
+    )
+}
+
 fn finds_each_source(alloc: Global) -> Result<bool, Memory> {
     let tables = some_sources(alloc)?;
     let sources = NamedSources::new(alloc, &tables)?;
@@ -98,6 +135,23 @@ fn finds_each_source(alloc: Global) -> Result<bool, Memory> {
             && is_refused(lines.next_line(&sources), ChangeCode::UnknownTable)
             && is_refused(lines.next_line(&sources), ChangeCode::UnknownTable)
             && is_end(lines.next_line(&sources)),
+    )
+}
+
+fn refuses_deletes(alloc: Global) -> Result<bool, Memory> {
+    let tables = upserts(alloc)?;
+    let sources = NamedSources::new(alloc, &tables)?;
+    let mut lines = lines_of(
+        alloc,
+        b"t,-D,a,1,x\nt,-D\nt,+U,a\nt,-D,\\x\nb,-D,a\nb,-D,a,x",
+    )?;
+    Ok(
+        is_refused(lines.next_line(&sources), ChangeCode::FieldCount)
+            && is_refused(lines.next_line(&sources), ChangeCode::FieldCount)
+            && is_refused(lines.next_line(&sources), ChangeCode::FieldCount)
+            && is_refused(lines.next_line(&sources), ChangeCode::BadField(1))
+            && is_refused(lines.next_line(&sources), ChangeCode::FieldCount)
+            && is_refused(lines.next_line(&sources), ChangeCode::BadField(2)),
     )
 }
 
@@ -140,4 +194,14 @@ fn each_source_is_found(rt: HostRuntime) {
 #[test]
 fn longest_field_is_read(rt: HostRuntime) {
     assert!(rt; matches!(reads_longest_field(rt.alloc()), Ok(true)));
+}
+
+#[test]
+fn deletes_are_read_by_key(rt: HostRuntime) {
+    assert!(rt; matches!(reads_deletes(rt.alloc()), Ok(true)));
+}
+
+#[test]
+fn deletes_are_refused_by_key(rt: HostRuntime) {
+    assert!(rt; matches!(refuses_deletes(rt.alloc()), Ok(true)));
 }

@@ -31,3 +31,17 @@ pub fn words(alloc: Global, mode: Declared, has_key: bool) -> Result<TableDef, M
         mode,
     })
 }
+
+/// The upsert table `b` of words with numbers, of which each row is its own key.
+pub fn pairs(alloc: Global) -> Result<TableDef, Memory> {
+    let TableDef { cols, mode, .. } = words(alloc, Declared::Upsert, true)?;
+    let mut both = Cols::new(alloc);
+    both.push(0)?;
+    both.push(1)?;
+    Ok(TableDef {
+        name: Text::from_str(alloc, "b")?,
+        cols,
+        key: Some(both),
+        mode,
+    })
+}

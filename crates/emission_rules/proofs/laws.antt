@@ -1,9 +1,11 @@
+pub mod Arriving
 pub mod Columns
 pub mod Filters
 pub mod Fronts
 pub mod GroupAnswers
 pub mod GroupFacts
 pub mod Guarded
+pub mod Images
 pub mod InRange
 pub mod JoinAnswers
 pub mod JoinFacts

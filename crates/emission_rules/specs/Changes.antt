@@ -1,6 +1,8 @@
 -- Rules that answer each change by itself.
 use Rattle.std.specs.Prelude.{ℕ, true, List, [], ◌∷◌, map, Option, Some, None, Ok}
 use Rattle.ct_change.specs.declared.change.Change.{Change}
+use Rattle.ct_change.specs.declared.update.Update.{Update}
+use Rattle.ct_change.specs.declared.update.Update.TheVariants.{Absent, After, Both}
 use Rattle.ct_change.specs.Changelog.{Mode, retract, upsert}
 use Rattle.op_rules.specs.History.{Arrival}
 use Rattle.op_rules.specs.Rules.{Answer, appended, Rule}
@@ -24,6 +26,12 @@ row_rule ports mode answer = record {
   emits = λ before piece. each_change answer (changes_of piece);
   work = λ before a. 0;
 }
+
+-- the key by which an edge that tells updates so is after-only
+abbrev pub after_key : Update → Option (List ℕ)
+after_key Absent = None
+after_key (After columns) = Some columns
+after_key Both = None
 
 -- how the changes of an edge are read: as the last row of each key, where the edge is after-only by that key
 abbrev pub mode_after : Option (List ℕ) → Mode

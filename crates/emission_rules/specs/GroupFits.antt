@@ -7,13 +7,15 @@ use Rattle.ct_change.specs.declared.kind.Kind.{Kind}
 use Rattle.ct_change.specs.declared.kind.Kind.TheVariants.{UB, UA}
 use Rattle.ct_change.specs.declared.kind.KindSet.{KindSet}
 use Rattle.ct_change.specs.declared.change.Change.{Change}
-use Rattle.ct_change.specs.Changelog.{HasKey, Rows, has, admits}
+use Rattle.ct_change.specs.Changelog.{HasKey, Rows, adds, has, admits}
+use Rattle.ct_change.specs.KeyRows.{row_told}
 use Rattle.rel_algebra.specs.declared.agg.Agg.{Agg}
 use Rattle.rel_algebra.specs.Clauses.{Fits}
 use Rattle.rel_algebra.specs.Batch.{group_answer}
 use Rattle.op_rules.specs.Edges.{meaning_of, hash, Edge, LiesIn}
 use Rattle.op_rules.specs.Ports.{task_of, TakesAll}
 use Rattle.op_rules.specs.Tasks.{Task, Facts}
+use Rattle.emission_rules.specs.Arriving.{FitsIn}
 use Rattle.emission_rules.specs.Grouping.{Grouping, group_rule, IsSound}
 use Rattle.ct_change.specs.Kinds.{has_more_than_inserts}
 
@@ -59,13 +61,13 @@ pub record GroupFits (many : ℕ) (g : Grouping) (from to : Edge) : Type 0 where
   pub routed : (key : Row) → from.route key < many
   pub home : g.keys ≡ 0 → from.route [] ≡ 0
   pub kinds : (kind : Kind) → has from.kinds kind ≡ true → admits g.input kind ≡ true
-  pub fits : (change : Change) → from.fits change ≡ true → Fits g.columns change.row
+  pub fits : (change : Change) → from.fits change ≡ true → FitsIn g.input g.columns change
   pub keyed : (change : Change) → from.fits change ≡ true → HasKey g.input change.row
   pub holds : (row : Row) → from.holds row ≡ true → Fits g.columns row
   -- what leaves
   pub writes : to.meaning ≡ meaning_of g.output
   pub out_kinds : (kind : Kind) → has (output_kinds g from.kinds) kind ≡ true → has to.kinds kind ≡ true
-  pub out_fits : (change : Change) → Fits sound.made change.row → to.fits change ≡ true
+  pub out_fits : (kind : Kind) (row : Row) → Fits sound.made row → to.fits (record { kind = kind; row = row_told g.output (adds kind) row }) ≡ true
   pub out_holds : (row : Row) → Fits sound.made row → to.holds row ≡ true
   -- in each of its keys and fixing sets the group's columns lie
   pub unique : (key : List ℕ) → Contains to.unique key → LiesIn (first_columns g.keys) key

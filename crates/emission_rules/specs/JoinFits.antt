@@ -15,6 +15,7 @@ use Rattle.rel_algebra.specs.Joins.{join_columns}
 use Rattle.op_rules.specs.Edges.{bag, meaning_of, hash, Edge, LiesIn, HoldsOver, IsSeen}
 use Rattle.op_rules.specs.Ports.{task_of, TakesAll}
 use Rattle.op_rules.specs.Tasks.{Task, Facts}
+use Rattle.emission_rules.specs.Arriving.{FitsIn}
 use Rattle.emission_rules.specs.Joining.{Shape, joins, matched, Joining, joined_answer, join_rule}
 use Rattle.ct_change.specs.Kinds.{has_more_than_inserts}
 
@@ -118,7 +119,7 @@ pub record SideFits (many : ℕ) (mode : Mode) (columns : List ColTy) (pairs : L
   pub routed : (key : Row) → from.route key < many
   pub kinds : (kind : Kind) → has from.kinds kind ≡ true → admits mode kind ≡ true
   pub updates : SaysUpdates mode from.kinds
-  pub fits : (change : Change) → from.fits change ≡ true → Fits columns change.row
+  pub fits : (change : Change) → from.fits change ≡ true → FitsIn mode columns change
   pub keyed : (change : Change) → from.fits change ≡ true → HasKey mode change.row
   pub holds : (row : Row) → from.holds row ≡ true → Fits columns row
 

@@ -1,3 +1,4 @@
+pub mod Arriving
 pub mod Changes
 pub mod Filter
 pub mod GroupFits

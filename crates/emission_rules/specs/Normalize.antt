@@ -6,6 +6,7 @@ use Rattle.ct_change.specs.declared.kind.Kind.{Kind}
 use Rattle.ct_change.specs.declared.change.Change.{Change}
 use Rattle.ct_change.specs.Changelog.{Mode, append, retract, upsert, Rows, adds, has, admits, row_at, apply, fold, HasKey}
 use Rattle.ct_change.specs.Emission.{emission}
+use Rattle.ct_change.specs.KeyRows.{row_told}
 use Rattle.op_rules.specs.Rules.{Answer, Rule}
 use Rattle.op_rules.specs.Edges.{last_rows, meaning_of, hash, Edge, LiesIn, HoldsOver}
 use Rattle.op_rules.specs.Tasks.{Task, Facts}
@@ -64,7 +65,7 @@ pub record NormalizeFits (normalize : Normalize) (many : ℕ) (from to : Edge) :
   pub admitted : (kind : Kind) → has from.kinds kind ≡ true → admits (upsert normalize.key) kind ≡ true
   pub keyed : (change : Change) → from.fits change ≡ true → HasKey (upsert normalize.key) change.row
   pub kinds : (kind : Kind) → admits normalize.output kind ≡ true → has to.kinds kind ≡ true
-  pub fits : (change other : Change) → from.fits change ≡ true → change.row ≡ other.row → to.fits other ≡ true
+  pub fits : (change : Change) (kind : Kind) → from.fits change ≡ true → adds change.kind ≡ true → to.fits (record { kind = kind; row = row_told normalize.output (adds kind) change.row }) ≡ true
   pub holds : (row : Row) → from.holds row ≡ true → to.holds row ≡ true
   pub unique : (set : List ℕ) → Contains to.unique set → Contains from.unique set ⊎ HoldsOver from set
   -- in each of its local keys and fixing sets its key lies

@@ -6,12 +6,14 @@ use Rattle.ct_change.specs.declared.kind.Kind.{Kind}
 use Rattle.ct_change.specs.declared.kind.Kind.TheVariants.{UB, UA}
 use Rattle.ct_change.specs.declared.kind.KindSet.{KindSet}
 use Rattle.ct_change.specs.declared.change.Change.{Change}
-use Rattle.ct_change.specs.Changelog.{HasKey, has, admits}
+use Rattle.ct_change.specs.Changelog.{HasKey, adds, has, admits}
+use Rattle.ct_change.specs.KeyRows.{row_told}
 use Rattle.rel_algebra.specs.Clauses.{Fits}
 use Rattle.rel_algebra.specs.Ranks.{rank_rows, rank_columns}
 use Rattle.op_rules.specs.Edges.{meaning_of, hash, Edge, LiesIn, HoldsOver, IsSeen}
 use Rattle.op_rules.specs.Ports.{task_of, TakesAll}
 use Rattle.op_rules.specs.Tasks.{Task, Facts}
+use Rattle.emission_rules.specs.Arriving.{FitsIn}
 use Rattle.emission_rules.specs.Ranking.{Ranking, topn_rule, by_rank, names, IsSound}
 use Rattle.ct_change.specs.Kinds.{has_more_than_inserts}
 
@@ -59,13 +61,13 @@ pub record TopNFits (many : ℕ) (r : Ranking) (from to : Edge) : Type 0 where
   pub hashed : from.exchange ≡ hash r.partition
   pub routed : (key : Row) → from.route key < many
   pub kinds : (kind : Kind) → has from.kinds kind ≡ true → admits r.input kind ≡ true
-  pub fits : (change : Change) → from.fits change ≡ true → Fits r.columns change.row
+  pub fits : (change : Change) → from.fits change ≡ true → FitsIn r.input r.columns change
   pub keyed : (change : Change) → from.fits change ≡ true → HasKey r.input change.row
   pub holds : (row : Row) → from.holds row ≡ true → Fits r.columns row
   -- what leaves
   pub writes : to.meaning ≡ meaning_of r.output
   pub out_kinds : (kind : Kind) → has (output_kinds r from.kinds) kind ≡ true → has to.kinds kind ≡ true
-  pub out_fits : (change : Change) → Fits (rank_columns r.ranked r.columns) change.row → to.fits change ≡ true
+  pub out_fits : (kind : Kind) (row : Row) → Fits (rank_columns r.ranked r.columns) row → to.fits (record { kind = kind; row = row_told r.output (adds kind) row }) ≡ true
   pub out_holds : (row : Row) → Fits (rank_columns r.ranked r.columns) row → to.holds row ≡ true
   pub unique : (set : List ℕ) → Contains to.unique set → IsUniqueKey (λ columns. Contains from.unique columns ⊎ HoldsOver from columns) r set
   pub local : (set : List ℕ) → Contains to.local set → IsLocalKey (IsSeen from) r set

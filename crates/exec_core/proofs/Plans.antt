@@ -26,30 +26,25 @@ use Rattle.plan_rules.specs.Plans.{HasShape, bundle_of, spread_of}
 use Rattle.phys_plan.specs.Reading.{numbered, first_input}
 use Rattle.ct_catalog.specs.Columns.{column_types}
 use Rattle.plan_rules.specs.Columns.{columns_at, columns_by, matched_columns}
-use Rattle.plan_rules.specs.Around.{Around}
-use Rattle.plan_rules.specs.Doings.{around_of}
 use Rattle.plan_shape.specs.Shape.{has_nodes, has_sizes, is_shaped, is_up_to, is_whole, most_bundled, most_nodes, most_subtasks, takes as ports_of}
 use Rattle.plan_shape.specs.Shaped.{MeetsShape}
 use Rattle.plan_shape.specs.Tables.{are_tables}
-use Rattle.sound_plans.specs.Agrees.{Agrees}
-use Rattle.sound_plans.specs.Outputs.{Output, around_by}
-use Rattle.sound_plans.proofs.laws.Groups.{groups_fit}
-use Rattle.sound_plans.proofs.laws.Normalizes.{normalizes_fit}
-use Rattle.sound_plans.proofs.laws.TopN.{topns_fit}
+use Rattle.sound_plans.specs.Outputs.{Output}
 use Rattle.sound_plans.proofs.laws.Widths.{first_within}
 use Rattle.sound_plans.proofs.laws.JoinColumns.{made_if}
 use Rattle.sound_plans.proofs.laws.Routes.{left_within, right_within}
-use Rattle.plan_rules.specs.Behaviours.{has_rule, Suits}
-use Rattle.sound_plans.specs.Sound.{IsRuled, SoundPlansAreWired, SoundPlansMeetFacts, SoundPortsTake}
+use Rattle.plan_rules.specs.Behaviours.{has_rule}
+use Rattle.sound_plans.specs.Sound.{IsRuled, SoundPlansAreWired, SoundPlansMeetFacts, SoundPlansSuit, SoundPortsTake}
 use Rattle.sound_plans.proofs.laws.Agreed as agreed
 use Rattle.sound_plans.proofs.laws.Consumers.{by_test}
 use Rattle.sound_plans.specs.Promises.{Laws}
 use Rattle.sound_plans.proofs.laws.Lists.{both, found, is_somewhere, of_each, the_same, within}
 use Rattle.sound_plans.proofs.laws.Local as local
 use Rattle.sound_plans.proofs.laws.SentTypes.{ColumnsHaveTypes, sent_types_exist}
-use Rattle.sound_plans.proofs.laws.Outputs.{around_is, edge_or, output_at}
+use Rattle.sound_plans.proofs.laws.Outputs.{edge_or, output_at}
 use Rattle.sound_plans.proofs.laws.Shapes as shapes
 use Rattle.sound_plans.proofs.laws.Stands.{proper_inputs}
+use Rattle.sound_plans.proofs.laws.Suits as suited
 use Rattle.typing_laws.specs.Exist.{Exist}
 use Rattle.session_open.specs.Opening.{AreRoutable, IsExchange}
 use Rattle.exec_core.specs.Opening.{PlansOpen}
@@ -152,54 +147,6 @@ module _ (types : ColumnsHaveTypes) (laws : Laws) (plan : Plan) (ruled : IsRuled
   exist : (v : ℕ) → Exist (columns_of v)
   exist v = sent_types_exist types plan ruled v
 
-  -- ---- operators
-
-  -- what fits a node with one input, by what the input sends
-  suits_over : (v : ℕ) (node : Node) (o : Op) (input : ℕ) → node.inputs ≡ input ∷ [] → Suits o (around_by plan.sink (output_at plan input ∷ []) (output_at plan v)) → Suits o (around_of plan v node.inputs)
-  suits_over v node o input are fits =
-      subst (λ (inputs : List ℕ). Suits o (around_of plan v inputs)) (sym are) (subst (λ (around : Around). Suits o around) (sym (around_is plan v input [])) fits)
-
-  agrees_over : (v : ℕ) (node : Node) → numbered plan.nodes v ≡ Some node → (o : Op) (input : ℕ) → node.op ≡ o → node.inputs ≡ input ∷ []
-      → agreed.scans o ≡ false → agreed.normalizes o ≡ false → agreed.sinks o ≡ false → Agrees plan.sources plan.sink o (output_at plan input ∷ []) (output_at plan v)
-  agrees_over v node e o input is are scans normalizes sinks =
-      let agrees = agreed.agrees laws plan ruled v node e (ap agreed.scans is ∙ scans) (ap agreed.normalizes is ∙ normalizes) (ap agreed.sinks is ∙ sinks) (proper_inputs laws plan ruled v node e) in
-      subst (λ (outs : List Output). Agrees plan.sources plan.sink o outs (output_at plan v)) (ap (map (output_at plan)) are)
-      (subst (λ (p : Op). Agrees plan.sources plan.sink p (map (output_at plan) node.inputs) (output_at plan v)) is agrees)
-
-  one_input : (v : ℕ) (node : Node) → numbered plan.nodes v ≡ Some node → (o : Op) → node.op ≡ o → ((n : ℕ) → ports_of o n ≡ (n == 1)) → (input : ℕ) × (node.inputs ≡ input ∷ [])
-  one_input v node e o is takes_one = agreed.one_input laws plan ruled v node e (λ n. ap (λ p. ports_of p n) is ∙ takes_one n)
-
-  normalizes : (v : ℕ) (node : Node) → numbered plan.nodes v ≡ Some node → (key : List ℕ) → node.op ≡ op.Normalize key → Suits (op.Normalize key) (around_of plan v node.inputs)
-  normalizes v node e key is =
-      let i = one_input v node e (op.Normalize key) is (λ n. refl) in
-      let agrees = agreed.normalize_agrees laws plan ruled v node key i.0 e is i.1 (proper_inputs laws plan ruled v node e) in
-      let fits = normalizes_fit plan.parallelism shape.parallel plan.sink key (output_at plan i.0) (output_at plan v) agrees in
-      suits_over v node (op.Normalize key) i.0 i.1 fits.0.tells
-
-  groups : (v : ℕ) (node : Node) → numbered plan.nodes v ≡ Some node → (keys : ℕ) (aggs : List Agg) → node.op ≡ op.Group keys aggs → Suits (op.Group keys aggs) (around_of plan v node.inputs)
-  groups v node e keys aggs is =
-      let i = one_input v node e (op.Group keys aggs) is (λ n. refl) in
-      let agrees = agrees_over v node e (op.Group keys aggs) i.0 is i.1 refl refl refl in
-      let fits = groups_fit plan.parallelism shape.parallel plan.sources plan.sink keys aggs (output_at plan i.0) (output_at plan v) agrees in
-      suits_over v node (op.Group keys aggs) i.0 i.1 fits.0.sound
-
-  ranks : (v : ℕ) (node : Node) → numbered plan.nodes v ≡ Some node → (partition : List ℕ) (order : List SortCol) (bound : ℕ) (ranked : Bool) → node.op ≡ op.TopN partition order bound ranked
-      → Suits (op.TopN partition order bound ranked) (around_of plan v node.inputs)
-  ranks v node e partition order bound ranked is =
-      let i = one_input v node e (op.TopN partition order bound ranked) is (λ n. refl) in
-      let agrees = agrees_over v node e (op.TopN partition order bound ranked) i.0 is i.1 refl refl refl in
-      let fits = topns_fit plan.parallelism shape.parallel plan.sources plan.sink partition order bound ranked (output_at plan i.0) (output_at plan v) agrees in
-      suits_over v node (op.TopN partition order bound ranked) i.0 i.1 fits.0.sound
-
-  suits_by : (v : ℕ) (node : Node) → numbered plan.nodes v ≡ Some node → (o : Op) → node.op ≡ o → Suits o (around_of plan v node.inputs)
-  suits_by v node e (op.Normalize key) is = normalizes v node e key is
-  suits_by v node e (op.Group keys aggs) is = groups v node e keys aggs is
-  suits_by v node e (op.TopN partition order bound ranked) is = ranks v node e partition order bound ranked is
-  suits_by v node e _ is = tt
-
-  pub suits : (v : ℕ) (node : Node) → numbered plan.nodes v ≡ Some node → Suits node.op (around_of plan v node.inputs)
-  suits v node e = suits_by v node e node.op refl
-
   -- ---- exchanges
 
   abbrev AreThere : ℕ → List ℕ → Type 0
@@ -209,7 +156,7 @@ module _ (types : ColumnsHaveTypes) (laws : Laws) (plan : Plan) (ruled : IsRuled
   is_only : (v : ℕ) (node : Node) (p input : ℕ) → numbered plan.nodes v ≡ Some node → slice_get node.inputs p ≡ Some input
       → (o : Op) → node.op ≡ o → ((n : ℕ) → ports_of o n ≡ (n == 1)) → node.inputs ≡ input ∷ []
   is_only v node p input e h o is takes_one =
-      let i = one_input v node e o is takes_one in
+      let i = suited.one_input laws plan ruled v node e o is takes_one in
       subst (λ (n : ℕ). node.inputs ≡ n ∷ []) (only_there i.0 input p (sym (ap (λ (inputs : List ℕ). slice_get inputs p) i.1) ∙ h)) i.1
 
   key_there : (v : ℕ) (node : Node) (p input : ℕ) → numbered plan.nodes v ≡ Some node → slice_get node.inputs p ≡ Some input → (key : List ℕ) → node.op ≡ op.Normalize key → AreThere input key
@@ -227,7 +174,7 @@ module _ (types : ColumnsHaveTypes) (laws : Laws) (plan : Plan) (ruled : IsRuled
       → (partition : List ℕ) (order : List SortCol) (bound : ℕ) (ranked : Bool) → node.op ≡ op.TopN partition order bound ranked → AreThere input partition
   partition_there v node p input e h partition order bound ranked is =
       let are = is_only v node p input e h (op.TopN partition order bound ranked) is (λ n. refl) in
-      subst (λ (inputs : List ℕ). AreThere (first_input inputs) partition) are (ranks v node e partition order bound ranked is).within
+      subst (λ (inputs : List ℕ). AreThere (first_input inputs) partition) are (suited.ranks laws plan ruled v node e partition order bound ranked is).within
 
   at_port : (left right input p : ℕ) (on : List Pair) → pairs_fit (columns_of left) (columns_of right) on ≡ true → slice_get (left ∷ (right ∷ [])) p ≡ Some input → AreThere input (side_columns on p)
   at_port left right input zero on fits h = subst (λ (n : ℕ). AreThere n (side_columns on zero)) (the_same left input h) (left_within (columns_of left) (columns_of right) on fits)
@@ -278,8 +225,8 @@ module _ (types : ColumnsHaveTypes) (laws : Laws) (plan : Plan) (ruled : IsRuled
 
 -- ---- the plan
 
-pub plans_open : ColumnsHaveTypes → Laws → SoundPlansAreWired → SoundPlansMeetFacts → SoundPortsTake → PlansOpen
-plans_open types laws wired facts takes plan columns ruled columns_are many =
+pub plans_open : ColumnsHaveTypes → Laws → SoundPlansAreWired → SoundPlansMeetFacts → SoundPortsTake → SoundPlansSuit → PlansOpen
+plans_open types laws wired facts takes suits plan columns ruled columns_are many =
     let plan_shape = shape types laws plan ruled in
     let nodes_few = few types laws plan ruled in
     let subtasks_few = narrow types laws plan ruled in
@@ -301,7 +248,7 @@ plans_open types laws wired facts takes plan columns ruled columns_are many =
           network_is = refl;
           columns_are = columns_are;
           nodes = λ v node there. record {
-            suits = suits types laws plan ruled v node there;
+            suits = suits plan ruled v node there;
             scans = λ source scans. (plan_shape.scans v source node there scans).0;
             ports = λ works. plan_shape.others v node there works;
             takes = λ works. takes plan ruled v node there works;

@@ -1,14 +1,15 @@
 -- The run of the machine that a session over a plan goes along.
 use Rattle.std.specs.Prelude.{◌≡◌, ℕ, true, List, [], slice_get, Some, option_map}
 use Rattle.ct_catalog.specs.declared.table.TableDef.{TableDef}
-use Rattle.ct_catalog.specs.Columns.{column_types}
+use Rattle.ct_catalog.specs.Columns.{column_types, table_mode}
 use Rattle.job_text.specs.declared.line.Line.{Line}
 use Rattle.job_text.specs.Lines.{Record, line_of}
-use Rattle.op_rules.specs.Values.{types_fit}
 use Rattle.phys_plan.specs.declared.plan.Plan.{Plan}
 use Rattle.plan_rules.specs.Doings.{network}
 use Rattle.plan_rules.specs.Plans.{table_of}
+use Rattle.stream_model.specs.KeysTold.{is_typed}
 use Rattle.stream_model.specs.declared.events.PrintItem.{PrintItem}
+use Rattle.stream_model.specs.KeysTold.{is_typed}
 use Rattle.stream_model.specs.Network.{Network}
 use Rattle.stream_model.specs.Machine.{State, opened}
 use Rattle.stream_model.specs.Runs.{Item}
@@ -34,7 +35,7 @@ pub record HasPrinted (ran : Ran) (items : List PrintItem) : Type 0 where
 pub record IsOfSource (sources : List TableDef) (line : Line) : Type 0 where
   pub table : TableDef
   pub is : slice_get sources line.table ≡ Some table
-  pub fits : types_fit (column_types table) line.change.row ≡ true
+  pub fits : is_typed (table_mode table) (column_types table) line.change ≡ true
 
 -- ---- a session that handed out nothing, along a run over a plan
 

@@ -16,7 +16,7 @@ use Rattle.phys_plan.specs.declared.node.Op.{Op}
 use Rattle.phys_plan.specs.declared.node.Op.TheVariants as op
 use Rattle.phys_plan.specs.declared.node.Node.{Node}
 use Rattle.phys_plan.specs.declared.plan.Plan.{Plan}
-use Rattle.plan_rules.specs.Plans.{inputs_in, scan_of, scan_in, bundle_of, bundle_in, port_of, feed_at, feed_from, exchange_in, route_by, meaning_in, kinds_in, keys_in, table_of, Doing, network_edge, network_of}
+use Rattle.plan_rules.specs.Plans.{inputs_in, scan_of, scan_in, bundle_of, bundle_in, port_of, feed_at, feed_from, exchange_in, route_by, meaning_in, change_fits, kinds_in, keys_in, table_of, Doing, network_edge, network_of}
 use Rattle.phys_plan.specs.Reading.{numbered, first_input}
 use Rattle.ct_catalog.specs.Columns.{table_mode}
 use Rattle.plan_rules.specs.Columns.{columns_as, columns_by, numbered_columns, next_columns, columns_after, columns_at}
@@ -72,6 +72,7 @@ module _ (plan : Plan) where
     others = map (λ input. record { kinds = kinds_in (numbered plan.edges input); input = update_in (numbered plan.edges input); columns = columns_seen plan.sources plan.nodes i input }) (other_inputs inputs);
     inputs = length inputs;
     declared = plan.sink.mode;
+    sink_key = unwrap_or plan.sink.key [];
   }
 
   doing_at : (v : ℕ) (node : Option Node) → doing_in (plan_as_seen plan) v (option_map node_as_seen node) ≡ doing_in plan v node
@@ -129,7 +130,7 @@ module _ (columns : ℕ → List ColTy) (doing : ℕ → Doing) (plan : Plan) wh
     exchange = exchange_in (numbered plan.edges e);
     route = route_by plan.parallelism (columns e) (exchange_in (numbered plan.edges e));
     kinds = kinds_in (numbered plan.edges e);
-    fits = λ change. row_fits (columns e) change.row;
+    fits = change_fits (cond (e == count_same i) (meaning_of (table_mode plan.sink)) (meaning_in (numbered plan.edges e))) (columns e);
     holds = λ row. row_fits (columns e) row;
     unique = keys_same (λ node. node.keys.unique) (λ node. refl) e i;
     local = keys_same (λ node. node.keys.local) (λ node. refl) e i;

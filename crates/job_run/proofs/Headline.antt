@@ -38,14 +38,14 @@ use Rattle.stream_model.specs.Machine.{State}
 use Rattle.stream_model.specs.Runs.{changes_in}
 use Rattle.ct_catalog.specs.Columns.{table_mode, column_types}
 use Rattle.plan_rules.specs.Doings.{network}
-use Rattle.run_laws.specs.Headline.{AreAnswered, EndsQuiet, IsAnswered, RunsCarryKinds, RunsEndQuiet, RunsPrintAnswers, with_rows as rows_in}
+use Rattle.run_laws.specs.Headline.{AreAnswered, EndsQuiet, IsAnswered, RunsCarryAdmitted, RunsEndQuiet, RunsPrintAnswers, with_rows as rows_in}
 use Rattle.run_laws.specs.Rows.{RunsPrintRows, SinksFit, sent_columns}
 use Rattle.job_judgement.specs.Judged.{IsJudged}
 use Rattle.job_judgement.specs.Judgement.{Accepted, judgement}
 use Rattle.job_batch.specs.Agree.{AnswersAgree, query_answer}
 use Rattle.job_batch.specs.Batch.{after_lines, answered, sink_types as answer_types, with_changes as batch_changes, with_rows}
 use Rattle.job_plan.specs.Shown.{shown}
-use Rattle.job_stream.specs.Stream.{most_sent, outcome_of, sink_types, streamed}
+use Rattle.job_stream.specs.Stream.{most_sent, outcome_of, sink_key, sink_types, streamed}
 use Rattle.laid_plans.specs.Erased.{InferredPlansAnswer}
 use Rattle.plan_rules.specs.Answers.{Answers}
 use Rattle.sound_plans.specs.Sound.{IsRuled}
@@ -125,7 +125,7 @@ loaded_short h name limit changes e = found_short limit (held_at h name) changes
 
 pub record Laws : Type 0 where
   pub prints : RunsPrintAnswers
-  pub carries : RunsCarryKinds
+  pub carries : RunsCarryAdmitted
   pub ends_quiet : RunsEndQuiet
   pub rows : RunsPrintRows
   pub sinks : SinksFit
@@ -136,10 +136,10 @@ pub record Laws : Type 0 where
   pub reads : Reads
   pub typed : TablesHaveTypes
 
-bytes_are : (tys : List Ty) (ran : Ran) → (outcome_of tys ran).bytes ≡ item_lines tys (printed_by ran)
-bytes_are tys (ended s) = refl
-bytes_are tys (refused line code) = refl
-bytes_are tys (stopped cause printed) = refl
+bytes_are : (tys : List Ty) (key : Option (List ℕ)) (ran : Ran) → (outcome_of tys key ran).bytes ≡ item_lines tys key (printed_by ran)
+bytes_are tys key (ended s) = refl
+bytes_are tys key (refused line code) = refl
+bytes_are tys key (stopped cause printed) = refl
 
 module _ (h : Holdings) (names : FileNames) (text : List ℕ) (script_held : loaded h names.script 262144 ≡ Whole text) (script : Accepted) (accepted : judgement text ≡ Ok script) where
   held_with : (changes : List ℕ) → loaded h names.changes 67108864 ≡ Whole changes → AreHeld names h script changes
@@ -182,15 +182,15 @@ module _ (h : Holdings) (names : FileNames) (text : List ℕ) (script_held : loa
           let few = (run_answered before after n is).within in
           omega (arith, few, few_records changes, loaded_short h names.changes 67108864 changes held)
 
-      run_typed : AreItemsOf (sink_types f.insert.sink) (printed_by ran)
+      run_typed : AreItemsOf (sink_types f.insert.sink) (sink_key f.insert.sink) (printed_by ran)
       run_typed =
-          subst (λ (sink : TableDef). AreItemsOf (sink_types sink) (printed_by ran)) sinks_same
-          (items_of_sink (sent_columns plan) plan.sink.cols (first_true (go_into (sent_columns plan) (column_types plan.sink)) (keep_nulls (sent_columns plan) (column_types plan.sink)) (laws.sinks plan of_plan.ruled))
+          subst (λ (sink : TableDef). AreItemsOf (sink_types sink) (sink_key sink) (printed_by ran)) sinks_same
+          (items_of_sink (sent_columns plan) plan.sink.cols (sink_key plan.sink) (first_true (go_into (sent_columns plan) (column_types plan.sink)) (keep_nulls (sent_columns plan) (column_types plan.sink)) (laws.sinks plan of_plan.ruled))
           (printed_by ran) 67108864 (omega arith) run_within (laws.rows plan of_plan.ruled most_sent changes))
 
-      has_answers : (written rest : List ℕ) → item_lines (sink_types plan.sink) (printed_by ran) ≡ written ++ rest → HasAnswers names h written
+      has_answers : (written rest : List ℕ) → item_lines (sink_types plan.sink) (sink_key plan.sink) (printed_by ran) ≡ written ++ rest → HasAnswers names h written
       has_answers written rest is =
-          let p = first_part (sink_types f.insert.sink) (printed_by ran) written rest run_typed (ap (λ (sink : TableDef). item_lines (sink_types sink) (printed_by ran)) (sym sinks_same) ∙ is) in
+          let p = first_part (sink_types f.insert.sink) (sink_key f.insert.sink) (printed_by ran) written rest run_typed (ap (λ (sink : TableDef). item_lines (sink_types sink) (sink_key sink) (printed_by ran)) (sym sinks_same) ∙ is) in
           record {
             text = text;
             script_held = script_held;
@@ -206,7 +206,7 @@ module _ (h : Holdings) (names : FileNames) (text : List ℕ) (script_held : loa
             answered = λ before after n cut. run_answered before (after ++ p.others) n (p.split ∙ ap (λ items. items ++ p.others) cut ∙ append_assoc before (Quiet n ∷ after) p.others);
           }
 
-      run_ended : (s : State) → ran ≡ ended s → HasRun names h (item_lines (sink_types plan.sink) s.printed)
+      run_ended : (s : State) → ran ≡ ended s → HasRun names h (item_lines (sink_types plan.sink) (sink_key plan.sink) s.printed)
       run_ended s is = record {
         answers = record {
           text = text;
@@ -216,17 +216,17 @@ module _ (h : Holdings) (names : FileNames) (text : List ℕ) (script_held : loa
           changes_held = held;
           items = s.printed;
           torn = [];
-          reads = ap (λ (sink : TableDef). item_lines (sink_types sink) s.printed) sinks_same ∙ sym (append-nil (item_lines (sink_types f.insert.sink) s.printed));
+          reads = ap (λ (sink : TableDef). item_lines (sink_types sink) (sink_key sink) s.printed) sinks_same ∙ sym (append-nil (item_lines (sink_types f.insert.sink) (sink_key f.insert.sink) s.printed));
           is_torn = inl refl;
           types = f.types;
-          typed = subst (λ r. AreItemsOf (sink_types f.insert.sink) (printed_by r)) is run_typed;
+          typed = subst (λ r. AreItemsOf (sink_types f.insert.sink) (sink_key f.insert.sink) (printed_by r)) is run_typed;
           answered = subst (λ r. AreAnswered (table_mode f.insert.sink) (sources_of f.insert) (answer_of f.insert) (records_of changes) (printed_by r)) is run_answered;
         };
         whole = refl;
         ends = laws.ends_quiet plan most_sent changes s is;
       }
 
-      run_well : (r : Ran) → ran ≡ r → (outcome_of (sink_types plan.sink) r).ending ≡ e.Done → HasRun names h (outcome_of (sink_types plan.sink) r).bytes
+      run_well : (r : Ran) → ran ≡ r → (outcome_of (sink_types plan.sink) (sink_key plan.sink) r).ending ≡ e.Done → HasRun names h (outcome_of (sink_types plan.sink) (sink_key plan.sink) r).bytes
       run_well (ended s) is done = run_ended s is
       run_well (refused line code) is done = absurd (cc (done))
       run_well (stopped (fault.Change code) printed) is done = absurd (cc (done))
@@ -240,7 +240,7 @@ module _ (h : Holdings) (names : FileNames) (text : List ℕ) (script_held : loa
 
     -- whatever its ending
     pub stream_answers : (written rest : List ℕ) → (streamed plan changes).bytes ≡ written ++ rest → HasAnswers names h written
-    stream_answers written rest is = has_answers is_found written rest (sym (bytes_are (sink_types plan.sink) ran) ∙ is)
+    stream_answers written rest is = has_answers is_found written rest (sym (bytes_are (sink_types plan.sink) (sink_key plan.sink) ran) ∙ is)
 
     pub stream_well : (streamed plan changes).ending ≡ e.Done → HasRun names h (streamed plan changes).bytes
     stream_well done = run_well is_found ran refl done
@@ -254,7 +254,7 @@ module _ (h : Holdings) (names : FileNames) (text : List ℕ) (script_held : loa
       runs = runs;
       sound = of_plan.ruled;
       rest = rest;
-      reads = sym (bytes_are (sink_types plan.sink) ran) ∙ is;
+      reads = sym (bytes_are (sink_types plan.sink) (sink_key plan.sink) ran) ∙ is;
       carried = run_carries plan of_plan.ruled changes (laws.carries plan of_plan.ruled most_sent changes);
     })
 

@@ -19,7 +19,7 @@ use Rattle.job_ending.specs.declared.ending.Ending.TheVariants as e
 use Rattle.job_ending.specs.declared.ending.LimitName.TheVariants.{Script as ScriptLimit, Changes as ChangesLimit}
 use Rattle.job_judgement.specs.Judged.{IsBound, IsJudged}
 use Rattle.job_judgement.specs.Judgement.{Accepted, accepted_of, at_statement, bound_insert, first_bound, judgement}
-use Rattle.job_stream.specs.Stream.{most_sent, sink_types, streamed}
+use Rattle.job_stream.specs.Stream.{most_sent, sink_key, sink_types, streamed}
 use Rattle.plan_rules.specs.Doings.{network}
 use Rattle.source_lines.specs.Run.{whole_run}
 use Rattle.range_rules.specs.Statement.{InsertsAreTame}
@@ -89,7 +89,7 @@ module _ (bound : (script : Accepted) → IsJudged script → IsBound script) (t
       let is : IsJudged script = record { text = script_text; judged = judged } in
       let b = bound script is in
       let calculates_nothing = tame script.catalogue.tables b.table script.query script.inserted b.bound (free_query script_text statements script read none judged) in
-      let ran = stopped_so (sink_types plan.sink) (whole_run (network plan) most_sent plan.sources changes) node subtask row columns out in
+      let ran = stopped_so (sink_types plan.sink) (sink_key plan.sink) (whole_run (network plan) most_sent plan.sources changes) node subtask row columns out in
       let of = can script is plan runs in
       let tame_plan : is_tame_plan plan ≡ true = ap is_tame_plan of.is ∙ trees (laid script) script.inserted.query.rel of.laid_well.laid_out calculates_nothing in
       stays plan of.ruled tame_plan most_sent (omega arith) changes node subtask row columns ran.0 ran.1

@@ -1,5 +1,5 @@
 -- Endings whose line can be written.
-use Rattle.std.proofs.Common.{◌≡◌, ℕ, suc, true, List, [], ◌∷◌, length, Result, Ok, Err, refl, ap}
+use Rattle.std.proofs.Common.{◌≡◌, ℕ, suc, true, Option, List, [], ◌∷◌, length, Result, Ok, Err, refl, ap}
 use Rattle.std.proofs.lemmas.Bool.{and_parts}
 use Rattle.ct_value.specs.declared.row.Row.{Row}
 use Rattle.ct_value.specs.declared.ty.ColTy.{ColTy}
@@ -22,7 +22,7 @@ use Rattle.job_ending.specs.Endings.{IsPrintable}
 use Rattle.job_ending.specs.Outcome.{Outcome}
 use Rattle.job_ending.specs.Runs.{IsCausedThere, ending_of, ending_of_halt}
 use Rattle.job_judgement.specs.Halts.{IsHalt}
-use Rattle.job_stream.specs.Stream.{most_sent, outcome_of, sink_types, streamed}
+use Rattle.job_stream.specs.Stream.{most_sent, outcome_of, sink_key, sink_types, streamed}
 
 -- a refusal by the judgement
 pub printable_halt : {A : Type 0} (halt : Halt) (judged : Judged A) → IsHalt halt judged → IsPrintable (ending_of_halt halt)
@@ -54,20 +54,20 @@ fits_length (col ∷ cols) [] e = absurd (cc (e))
 fits_length (col ∷ cols) (v ∷ vs) e = ap suc (fits_length cols vs (and_parts (col_fits col v) (row_fits cols vs) e).1)
 
 -- a run whose outcome is out of range has stopped so
-pub stopped_so : (tys : List Ty) (ran : Ran) (node subtask : ℕ) (row : Row) (types : List ColTy) → (outcome_of tys ran).ending ≡ e.Range node subtask row types → (printed : List PrintItem) × (ran ≡ stopped (fault.Range node subtask row types) printed)
-stopped_so tys (ended s) node subtask row types is = absurd (cc (is))
-stopped_so tys (refused line code) node subtask row types is = absurd (cc (is))
-stopped_so tys (stopped (fault.Change code) printed) node subtask row types is = absurd (cc (is))
-stopped_so tys (stopped (fault.Order code) printed) node subtask row types is = absurd (cc (is))
-stopped_so tys (stopped (fault.Range n s r c) printed) node subtask row types is =
+pub stopped_so : (tys : List Ty) (key : Option (List ℕ)) (ran : Ran) (node subtask : ℕ) (row : Row) (types : List ColTy) → (outcome_of tys key ran).ending ≡ e.Range node subtask row types → (printed : List PrintItem) × (ran ≡ stopped (fault.Range node subtask row types) printed)
+stopped_so tys key (ended s) node subtask row types is = absurd (cc (is))
+stopped_so tys key (refused line code) node subtask row types is = absurd (cc (is))
+stopped_so tys key (stopped (fault.Change code) printed) node subtask row types is = absurd (cc (is))
+stopped_so tys key (stopped (fault.Order code) printed) node subtask row types is = absurd (cc (is))
+stopped_so tys key (stopped (fault.Range n s r c) printed) node subtask row types is =
     let same : fault.Range n s r c ≡ fault.Range node subtask row types = cc (is) in (printed, ap (λ (cause : StepFault). stopped cause printed) same)
-stopped_so tys (stopped fault.Limit printed) node subtask row types is = absurd (cc (is))
-stopped_so tys (stopped fault.Memory printed) node subtask row types is = absurd (cc (is))
+stopped_so tys key (stopped fault.Limit printed) node subtask row types is = absurd (cc (is))
+stopped_so tys key (stopped fault.Memory printed) node subtask row types is = absurd (cc (is))
 
 module _ (at_rows : RunsStopAtRows) (have_types : StopsHaveTypes) (plan : Plan) (ruled : IsRuled plan) (bytes : List ℕ) where
   range_printable : (node subtask : ℕ) (row : Row) (types : List ColTy) → (streamed plan bytes).ending ≡ e.Range node subtask row types → IsPrintable (e.Range node subtask row types)
   range_printable node subtask row types is =
-      let ran = stopped_so (sink_types plan.sink) (whole_run (network plan) most_sent plan.sources bytes) node subtask row types is in (
+      let ran = stopped_so (sink_types plan.sink) (sink_key plan.sink) (whole_run (network plan) most_sent plan.sources bytes) node subtask row types is in (
         fits_length types row (at_rows plan ruled most_sent bytes node subtask row types ran.0 ran.1),
         have_types plan ruled most_sent bytes node subtask row types ran.0 ran.1,
       )

@@ -1,7 +1,7 @@
 -- What a run prints are items of its sink: the sink's columns are as wide as those that are sent, and no quiet moment has a number beyond the
 -- lines of the change file.
 use Rattle.std.specs.Prelude.{◌&&◌, ◌||◌, ◌+ℤ◌, ◌≤ℤ◌, ◌^◌, Bool, ℤ, int_le, int_lt, map, nat_le, nat_lt, neg_ℤ, pos, unsigned_abs}
-use Rattle.std.proofs.Common.{◌≡◌, ◌∙◌, ◌++◌, ◌<◌, ◌≤◌, ℕ, true, false, List, [], ◌∷◌, length, refl, sym, ap, subst, arith, append_assoc, lit<}
+use Rattle.std.proofs.Common.{◌≡◌, ◌∙◌, ◌++◌, ◌<◌, ◌≤◌, ℕ, true, false, Option, List, [], ◌∷◌, length, refl, sym, ap, subst, arith, append_assoc, lit<}
 use Rattle.std.specs.List.{AllByRecursion}
 use Rattle.std.proofs.lemmas.Bool.{leb-true, ltb-true, lt-ltb}
 use Rattle.std.proofs.lemmas.Int.{ints}
@@ -12,15 +12,18 @@ use Rattle.ct_value.specs.declared.ty.Ty.TheVariants.{Bool as Truths, Int, BigIn
 use Rattle.ct_value.specs.declared.value.Value.{Value}
 use Rattle.ct_value.specs.declared.value.Value.TheVariants.{Null, Bool as Truth, Num, Text}
 use Rattle.ct_field.specs.Numbers.{in_range}
-use Rattle.ct_field.specs.Typed.{col_fits, row_fits, value_fits}
+use Rattle.ct_field.specs.Typed.{value_fits}
 use Rattle.ct_field.proofs.laws.Numbers.{both_true, first_true, second_true}
 use Rattle.ct_expr.specs.Types.{same_ty}
+use Rattle.ct_change.specs.declared.change.Change.{Change}
 use Rattle.ct_catalog.specs.declared.table.ColDef.{ColDef}
-use Rattle.op_rules.specs.Values.{values_fit}
+use Rattle.op_rules.specs.Values.{types_fit, values_fit}
 use Rattle.rel_algebra.specs.GoesInto.{go_into, goes_into, widens}
 use Rattle.stream_model.specs.declared.events.PrintItem.{PrintItem}
 use Rattle.stream_model.specs.declared.events.PrintItem.TheVariants.{Change as Printed, Quiet}
+use Rattle.stream_model.specs.KeysTold.{told_by, told_fits}
 use Rattle.stream_model.specs.Runs.{changes_in}
+use Rattle.stream_model.proofs.laws.KeysTold.{told-is, told-types}
 use Rattle.job_text.specs.Told.{AreItemsOf}
 use Rattle.typing_laws.proofs.laws.Named.{same_types}
 
@@ -66,7 +69,7 @@ goes_value from into v true wider is may e h = subst (λ ty. value_fits ty v ≡
 goes_value from into v false true is may e h = wider_value from into v may h
 goes_value from into v false false is may e h = absurd (cc (e))
 
-pub goes_row : (columns : List ColTy) (cols : List ColDef) (row : List Value) → go_into columns (map (λ c. c.ty) cols) ≡ true → row_fits columns row ≡ true → values_fit (map (λ c. c.ty.ty) cols) row ≡ true
+pub goes_row : (columns : List ColTy) (cols : List ColDef) (row : List Value) → go_into columns (map (λ c. c.ty) cols) ≡ true → types_fit columns row ≡ true → values_fit (map (λ c. c.ty.ty) cols) row ≡ true
 goes_row [] [] [] e h = refl
 goes_row [] [] (v ∷ vs) e h = absurd (cc (h))
 goes_row [] (col ∷ cols) row e h = absurd (cc (e))
@@ -74,21 +77,26 @@ goes_row (column ∷ columns) [] row e h = absurd (cc (e))
 goes_row (column ∷ columns) (col ∷ cols) [] e h = absurd (cc (h))
 goes_row (column ∷ columns) (col ∷ cols) (v ∷ vs) e h =
     let one = first_true (goes_into column col.ty) (go_into columns (map (λ c. c.ty) cols)) e in
-    let fits = first_true (value_fits column.ty v) _ (first_true (col_fits column v) (row_fits columns vs) h) in
+    let fits = first_true (value_fits column.ty v) (types_fit columns vs) h in
     both_true (value_fits col.ty.ty v) (values_fit (map (λ c. c.ty.ty) cols) vs)
     (goes_value column.ty col.ty.ty v (same_ty column.ty col.ty.ty) (widens column.ty col.ty.ty) refl refl one fits)
-    (goes_row columns cols vs (second_true (goes_into column col.ty) (go_into columns (map (λ c. c.ty) cols)) e) (second_true (col_fits column v) (row_fits columns vs) h))
+    (goes_row columns cols vs (second_true (goes_into column col.ty) (go_into columns (map (λ c. c.ty) cols)) e) (second_true (value_fits column.ty v) (types_fit columns vs) h))
 
 -- ---- items
 
-module _ (columns : List ColTy) (cols : List ColDef) (goes : go_into columns (map (λ c. c.ty) cols) ≡ true) (all : List PrintItem) (most : ℕ) (few : most < 2 ^ 64)
+module _ (columns : List ColTy) (cols : List ColDef) (key : Option (List ℕ)) (goes : go_into columns (map (λ c. c.ty) cols) ≡ true) (all : List PrintItem) (most : ℕ) (few : most < 2 ^ 64)
     (within : (before after : List PrintItem) (n : ℕ) → all ≡ before ++ Quiet n ∷ after → n ≤ most) where
-  behind : (before items : List PrintItem) → all ≡ before ++ items → AllByRecursion (λ change. row_fits columns change.row ≡ true) (changes_in items) → AreItemsOf (map (λ c. c.ty.ty) cols) items
+  -- a change has the columns, and tells its key alone where it is a `-D` into an upsert sink
+  abbrev pub IsTold : Change → Type 0
+  IsTold change = told_fits (told_by key change.kind) columns change.row ≡ true
+
+  behind : (before items : List PrintItem) → all ≡ before ++ items → AllByRecursion IsTold (changes_in items) → AreItemsOf (map (λ c. c.ty.ty) cols) key items
   behind before [] is fit = tt
   behind before (Printed change ∷ items) is fit =
-      (goes_row columns cols change.row goes fit.0, behind (before ++ Printed change ∷ []) items (is ∙ sym (append_assoc before (Printed change ∷ []) items)) fit.1)
+      let told = told_by key change.kind in
+      ((goes_row columns cols change.row goes (told-types told columns change.row fit.0), told-is told columns change.row fit.0), behind (before ++ Printed change ∷ []) items (is ∙ sym (append_assoc before (Printed change ∷ []) items)) fit.1)
   behind before (Quiet n ∷ items) is fit =
       (omega (arith, few, within before items n is), behind (before ++ Quiet n ∷ []) items (is ∙ sym (append_assoc before (Quiet n ∷ []) items)) fit)
 
-  pub items_of_sink : AllByRecursion (λ change. row_fits columns change.row ≡ true) (changes_in all) → AreItemsOf (map (λ c. c.ty.ty) cols) all
+  pub items_of_sink : AllByRecursion IsTold (changes_in all) → AreItemsOf (map (λ c. c.ty.ty) cols) key all
   items_of_sink fit = behind [] all refl fit

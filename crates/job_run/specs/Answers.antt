@@ -10,13 +10,13 @@ use Rattle.job_text.specs.Lines.{records_of}
 use Rattle.job_text.specs.Printed.{item_line, item_lines}
 use Rattle.job_text.specs.Told.{AreItemsOf, AreTypes, IsItemOf}
 use Rattle.run_laws.specs.Headline.{AreAnswered, EndsQuiet}
-use Rattle.job_stream.specs.Stream.{sink_types}
+use Rattle.job_stream.specs.Stream.{sink_key, sink_types}
 use Rattle.job_run.specs.Insert.{Insert, answer_of, sources_of}
 use Rattle.job_run.specs.Outcome.{changes_limit, script_limit}
 
 -- nothing, or the line of an item without its end
-abbrev pub IsTorn : List Ty → List ℕ → Type 0
-IsTorn tys torn = (torn ≡ []) ⊎ ((item : PrintItem) × (rest : List ℕ) × IsItemOf tys item × (item_line tys item ≡ torn ++ rest) × (0 < length rest))
+abbrev pub IsTorn : List Ty → Option (List ℕ) → List ℕ → Type 0
+IsTorn tys key torn = (torn ≡ []) ⊎ ((item : PrintItem) × (rest : List ℕ) × IsItemOf tys key item × (item_line tys key item ≡ torn ++ rest) × (0 < length rest))
 
 pub record HasAnswers (names : FileNames) (holdings : Holdings) (written : List ℕ) : Type 0 where
   pub text : List ℕ
@@ -27,10 +27,10 @@ pub record HasAnswers (names : FileNames) (holdings : Holdings) (written : List 
   -- what is written, as it is read: the bytes are the lines of no other items
   pub items : List PrintItem
   pub torn : List ℕ
-  pub reads : written ≡ item_lines (sink_types insert.sink) items ++ torn
-  pub is_torn : IsTorn (sink_types insert.sink) torn
+  pub reads : written ≡ item_lines (sink_types insert.sink) (sink_key insert.sink) items ++ torn
+  pub is_torn : IsTorn (sink_types insert.sink) (sink_key insert.sink) torn
   pub types : AreTypes (sink_types insert.sink)
-  pub typed : AreItemsOf (sink_types insert.sink) items
+  pub typed : AreItemsOf (sink_types insert.sink) (sink_key insert.sink) items
   pub answered : AreAnswered (table_mode insert.sink) (sources_of insert) (answer_of insert) (records_of changes) items
 
 -- a run that ends well has written whole lines, the last of them that of a quiet moment after all lines of the change file

@@ -10,7 +10,6 @@ use Rattle.ct_value.specs.declared.ty.Ty.{Ty}
 use Rattle.ct_value.specs.declared.ty.ColTy.{ColTy}
 use Rattle.ct_value.specs.declared.value.Value.{Value}
 use Rattle.ct_field.specs.Numbers.{is_type}
-use Rattle.ct_field.specs.Typed.{col_fits, row_fits}
 use Rattle.ct_catalog.specs.declared.table.ColDef.{ColDef}
 use Rattle.ct_catalog.specs.declared.table.TableDef.{TableDef}
 use Rattle.rel_algebra.specs.GoesInto.{go_into, goes_into}
@@ -42,7 +41,10 @@ use Rattle.plan_check.specs.Sound.{IsSound}
 use Rattle.plan_check.specs.Types.{fit_sink, keep_nulls}
 use Rattle.sound_plans.proofs.laws.Lists.{both}
 use Rattle.job_ending.specs.declared.ending.LimitName.TheVariants.{Sent}
-use Rattle.job_stream.specs.Stream.{IsHaltOf, outcome_of, sink_types}
+use Rattle.job_stream.specs.Stream.{IsHaltOf, outcome_of, sink_key, sink_types}
+use Rattle.op_rules.proofs.laws.Values.{types-length}
+use Rattle.stream_model.specs.KeysTold.{told_by, told_fits}
+use Rattle.stream_model.proofs.laws.KeysTold.{told-types}
 use Rattle.job_stream.specs.Writing.{Finishes}
 use Rattle.job_stream.proofs.Items.{lines_both}
 
@@ -68,72 +70,72 @@ caused there write (Err (h.Range node subtask row tys)) e = e
 caused there write (Err (h.Limit name)) e = e
 
 -- all was put
-pub all_put : {T : Type 0} (tys : List Ty) (there : Outcome) (items : List PrintItem) (ran : Result T Halt) (write : Type 0) (a b : Option (List ℕ)) → Finishes tys there items ran → Appends a b (item_lines tys items) → RunsThere there write a b ran
-all_put tys there items ran write a b ends put = record {
+pub all_put : {T : Type 0} (tys : List Ty) (key : Option (List ℕ)) (there : Outcome) (items : List PrintItem) (ran : Result T Halt) (write : Type 0) (a b : Option (List ℕ)) → Finishes tys key there items ran → Appends a b (item_lines tys key items) → RunsThere there write a b ran
+all_put tys key there items ran write a b ends put = record {
   cause = caused there write ran ends.cause;
-  part = record { rest = ends.rest; up_to = record { part = item_lines tys items; split = ends.begins; appends = put } };
+  part = record { rest = ends.rest; up_to = record { part = item_lines tys key items; split = ends.begins; appends = put } };
   whole = λ free. subst (Appends a b) (sym (ends.whole free)) put;
 }
 
 -- the output failed, or memory was wanting
-pub not_put : {T : Type 0} (tys : List Ty) (there : Outcome) (items : List PrintItem) (ran : Result T Halt) (write : Type 0) (a b : Option (List ℕ)) → Finishes tys there items ran → AppendsPart a b (item_lines tys items) → AppendsPart a b there.bytes
-not_put tys there items ran write a b ends put = part_more a b (item_lines tys items) there.bytes ends.rest put ends.begins
+pub not_put : {T : Type 0} (tys : List Ty) (key : Option (List ℕ)) (there : Outcome) (items : List PrintItem) (ran : Result T Halt) (write : Type 0) (a b : Option (List ℕ)) → Finishes tys key there items ran → AppendsPart a b (item_lines tys key items) → AppendsPart a b there.bytes
+not_put tys key there items ran write a b ends put = part_more a b (item_lines tys key items) there.bytes ends.rest put ends.begins
 
 -- ---- how the run ends
 
-bytes_are : (tys : List Ty) (ran : Ran) → (outcome_of tys ran).bytes ≡ item_lines tys (printed_by ran)
-bytes_are tys (ended s) = refl
-bytes_are tys (refused line code) = refl
-bytes_are tys (stopped cause printed) = refl
+bytes_are : (tys : List Ty) (key : Option (List ℕ)) (ran : Ran) → (outcome_of tys key ran).bytes ≡ item_lines tys key (printed_by ran)
+bytes_are tys key (ended s) = refl
+bytes_are tys key (refused line code) = refl
+bytes_are tys key (stopped cause printed) = refl
 
-pub printed_finishes : {T : Type 0} (tys : List Ty) (ran : Ran) (items : List PrintItem) (x : T) → HasPrinted ran items → let r : Result T Halt = Ok x in Finishes tys (outcome_of tys ran) items r
-printed_finishes tys ran items x has =
-    let bytes : (outcome_of tys ran).bytes ≡ item_lines tys items = ap (λ r. (outcome_of tys r).bytes) has.ends ∙ ap (item_lines tys) (sym has.printed) in
+pub printed_finishes : {T : Type 0} (tys : List Ty) (key : Option (List ℕ)) (ran : Ran) (items : List PrintItem) (x : T) → HasPrinted ran items → let r : Result T Halt = Ok x in Finishes tys key (outcome_of tys key ran) items r
+printed_finishes tys key ran items x has =
+    let bytes : (outcome_of tys key ran).bytes ≡ item_lines tys key items = ap (λ r. (outcome_of tys key r).bytes) has.ends ∙ ap (item_lines tys key) (sym has.printed) in
     record {
-      cause = ap (λ r. (outcome_of tys r).ending) has.ends;
+      cause = ap (λ r. (outcome_of tys key r).ending) has.ends;
       rest = [];
-      begins = bytes ∙ sym (append-nil (item_lines tys items));
+      begins = bytes ∙ sym (append-nil (item_lines tys key items));
       whole = λ free. bytes;
     }
 
-stopped_finishes : {T : Type 0} (tys : List Ty) (ran : Ran) (cause : StepFault) (printed : List PrintItem) (halt : Halt) → ran ≡ stopped cause printed → (let r : Result T Halt = Err halt in IsCausedThere (outcome_of tys ran) ⊥ r) → let r : Result T Halt = Err halt in Finishes tys (outcome_of tys ran) printed r
-stopped_finishes tys ran cause printed halt is caused =
-    let bytes : (outcome_of tys ran).bytes ≡ item_lines tys printed = ap (λ r. (outcome_of tys r).bytes) is in
+stopped_finishes : {T : Type 0} (tys : List Ty) (key : Option (List ℕ)) (ran : Ran) (cause : StepFault) (printed : List PrintItem) (halt : Halt) → ran ≡ stopped cause printed → (let r : Result T Halt = Err halt in IsCausedThere (outcome_of tys key ran) ⊥ r) → let r : Result T Halt = Err halt in Finishes tys key (outcome_of tys key ran) printed r
+stopped_finishes tys key ran cause printed halt is caused =
+    let bytes : (outcome_of tys key ran).bytes ≡ item_lines tys key printed = ap (λ r. (outcome_of tys key r).bytes) is in
     record {
       cause = caused;
       rest = [];
-      begins = bytes ∙ sym (append-nil (item_lines tys printed));
+      begins = bytes ∙ sym (append-nil (item_lines tys key printed));
       whole = λ free. bytes;
     }
 
-memory_finishes : {T : Type 0} (tys : List Ty) (ran : Ran) (printed : List PrintItem) → IsStop fault.Memory printed ran → let r : Result T Halt = Err h.Memory in Finishes tys (outcome_of tys ran) printed r
-memory_finishes tys ran printed stop = record {
+memory_finishes : {T : Type 0} (tys : List Ty) (key : Option (List ℕ)) (ran : Ran) (printed : List PrintItem) → IsStop fault.Memory printed ran → let r : Result T Halt = Err h.Memory in Finishes tys key (outcome_of tys key ran) printed r
+memory_finishes tys key ran printed stop = record {
   cause = tt;
-  rest = item_lines tys stop.0;
-  begins = bytes_are tys ran ∙ ap (item_lines tys) stop.1 ∙ lines_both tys printed stop.0;
+  rest = item_lines tys key stop.0;
+  begins = bytes_are tys key ran ∙ ap (item_lines tys key) stop.1 ∙ lines_both tys key printed stop.0;
   whole = λ free. absurd (cc (free));
 }
 
-pub stop_finishes : {T : Type 0} (tys : List Ty) (ran : Ran) (cause : StepFault) (printed : List PrintItem) (halt : Halt) → IsHaltOf cause halt → IsStop cause printed ran → let r : Result T Halt = Err halt in Finishes tys (outcome_of tys ran) printed r
-stop_finishes tys ran (fault.Change code) printed halt is stop = absurd is
-stop_finishes tys ran (fault.Order code) printed halt is stop = absurd is
-stop_finishes {T} tys ran (fault.Range node subtask row types) printed halt is stop =
-    subst (λ (x : Halt). let r : Result T Halt = Err x in Finishes tys (outcome_of tys ran) printed r) (sym is)
-    (stopped_finishes tys ran (fault.Range node subtask row types) printed (h.Range node subtask row types) stop (ap (λ r. (outcome_of tys r).ending) stop))
-stop_finishes {T} tys ran fault.Limit printed halt is stop =
-    subst (λ (x : Halt). let r : Result T Halt = Err x in Finishes tys (outcome_of tys ran) printed r) (sym is)
-    (stopped_finishes tys ran fault.Limit printed (h.Limit Sent) stop (ap (λ r. (outcome_of tys r).ending) stop))
-stop_finishes {T} tys ran fault.Memory printed halt is stop =
-    subst (λ (x : Halt). let r : Result T Halt = Err x in Finishes tys (outcome_of tys ran) printed r) (sym is)
-    (memory_finishes tys ran printed stop)
+pub stop_finishes : {T : Type 0} (tys : List Ty) (key : Option (List ℕ)) (ran : Ran) (cause : StepFault) (printed : List PrintItem) (halt : Halt) → IsHaltOf cause halt → IsStop cause printed ran → let r : Result T Halt = Err halt in Finishes tys key (outcome_of tys key ran) printed r
+stop_finishes tys key ran (fault.Change code) printed halt is stop = absurd is
+stop_finishes tys key ran (fault.Order code) printed halt is stop = absurd is
+stop_finishes {T} tys key ran (fault.Range node subtask row types) printed halt is stop =
+    subst (λ (x : Halt). let r : Result T Halt = Err x in Finishes tys key (outcome_of tys key ran) printed r) (sym is)
+    (stopped_finishes tys key ran (fault.Range node subtask row types) printed (h.Range node subtask row types) stop (ap (λ r. (outcome_of tys key r).ending) stop))
+stop_finishes {T} tys key ran fault.Limit printed halt is stop =
+    subst (λ (x : Halt). let r : Result T Halt = Err x in Finishes tys key (outcome_of tys key ran) printed r) (sym is)
+    (stopped_finishes tys key ran fault.Limit printed (h.Limit Sent) stop (ap (λ r. (outcome_of tys key r).ending) stop))
+stop_finishes {T} tys key ran fault.Memory printed halt is stop =
+    subst (λ (x : Halt). let r : Result T Halt = Err x in Finishes tys key (outcome_of tys key ran) printed r) (sym is)
+    (memory_finishes tys key ran printed stop)
 
 -- a line is refused before anything is written
-pub refused_runs : {T : Type 0} (tys : List Ty) (ran : Ran) (line : ℕ) (code : ChangeCode) (write : Type 0) (o : Option (List ℕ)) → ran ≡ refused line code → let r : Result T Halt = Err (h.Change code line) in RunsThere (outcome_of tys ran) write o o r
-refused_runs tys ran line code write o is =
-    let bytes : (outcome_of tys ran).bytes ≡ [] = ap (λ r. (outcome_of tys r).bytes) is in
+pub refused_runs : {T : Type 0} (tys : List Ty) (key : Option (List ℕ)) (ran : Ran) (line : ℕ) (code : ChangeCode) (write : Type 0) (o : Option (List ℕ)) → ran ≡ refused line code → let r : Result T Halt = Err (h.Change code line) in RunsThere (outcome_of tys key ran) write o o r
+refused_runs tys key ran line code write o is =
+    let bytes : (outcome_of tys key ran).bytes ≡ [] = ap (λ r. (outcome_of tys key r).bytes) is in
     record {
-      cause = ap (λ r. (outcome_of tys r).ending) is;
-      part = part_none o (outcome_of tys ran).bytes;
+      cause = ap (λ r. (outcome_of tys key r).ending) is;
+      part = part_none o (outcome_of tys key ran).bytes;
       whole = λ free. subst (Appends o o) (sym bytes) (appends_nothing o);
     }
 
@@ -153,16 +155,11 @@ go_length [] (sink ∷ sinks) e = absurd (cc (e))
 go_length (column ∷ columns) [] e = absurd (cc (e))
 go_length (column ∷ columns) (sink ∷ sinks) e = ap suc (go_length columns sinks (both_right (goes_into column sink) (go_into columns sinks) e))
 
-fits_length : (columns : List ColTy) (row : List Value) → row_fits columns row ≡ true → length row ≡ length columns
-fits_length [] [] e = refl
-fits_length [] (v ∷ vs) e = absurd (cc (e))
-fits_length (col ∷ cols) [] e = absurd (cc (e))
-fits_length (col ∷ cols) (v ∷ vs) e = ap suc (fits_length cols vs (both_right (col_fits col v) (row_fits cols vs) e))
-
-items_wide : (columns : List ColTy) (width : ℕ) → length columns ≡ width → (items : List PrintItem) → AllByRecursion (λ change. row_fits columns change.row ≡ true) (changes_in items) → AllByRecursion (IsWide width) items
-items_wide columns width same [] h = tt
-items_wide columns width same (Printed change ∷ items) h = (fits_length columns change.row h.0 ∙ same, items_wide columns width same items h.1)
-items_wide columns width same (Quiet n ∷ items) h = (tt, items_wide columns width same items h)
+items_wide : (columns : List ColTy) (width : ℕ) (key : Option (List ℕ)) → length columns ≡ width → (items : List PrintItem) → AllByRecursion (λ change. told_fits (told_by key change.kind) columns change.row ≡ true) (changes_in items)
+    → AllByRecursion (IsWide width) items
+items_wide columns width key same [] h = tt
+items_wide columns width key same (Printed change ∷ items) h = (types-length columns change.row (told-types (told_by key change.kind) columns change.row h.0) ∙ same, items_wide columns width key same items h.1)
+items_wide columns width key same (Quiet n ∷ items) h = (tt, items_wide columns width key same items h)
 
 types_length : (cols : List ColDef) → length (map (λ c. c.ty) cols) ≡ length (map (λ c. c.ty.ty) cols)
 types_length [] = refl
@@ -172,8 +169,9 @@ front_wide : (width : ℕ) (items rest : List PrintItem) → AllByRecursion (IsW
 front_wide width [] rest h = tt
 front_wide width (item ∷ items) rest h = (h.0, front_wide width items rest h.1)
 
-pub ran_wide : (columns : List ColTy) (sink : TableDef) → fit_sink columns (column_types sink) ≡ true → (ran : Ran) → AllByRecursion (λ change. row_fits columns change.row ≡ true) (changes_in (printed_by ran)) → AllByRecursion (IsWide (length (sink_types sink))) (printed_by ran)
-ran_wide columns sink fits ran h = items_wide columns (length (sink_types sink)) (go_length columns (column_types sink) (both (go_into columns (column_types sink)) (keep_nulls columns (column_types sink)) fits).0 ∙ types_length sink.cols) (printed_by ran) h
+pub ran_wide : (columns : List ColTy) (sink : TableDef) → fit_sink columns (column_types sink) ≡ true → (ran : Ran) → AllByRecursion (λ change. told_fits (told_by (sink_key sink) change.kind) columns change.row ≡ true) (changes_in (printed_by ran))
+    → AllByRecursion (IsWide (length (sink_types sink))) (printed_by ran)
+ran_wide columns sink fits ran h = items_wide columns (length (sink_types sink)) (sink_key sink) (go_length columns (column_types sink) (both (go_into columns (column_types sink)) (keep_nulls columns (column_types sink)) fits).0 ∙ types_length sink.cols) (printed_by ran) h
 
 pub printed_wide : (width : ℕ) (ran : Ran) (items : List PrintItem) → HasPrinted ran items → AllByRecursion (IsWide width) (printed_by ran) → AllByRecursion (IsWide width) items
 printed_wide width ran items has h = subst (AllByRecursion (IsWide width)) (ap printed_by has.ends ∙ sym has.printed) h
@@ -213,9 +211,9 @@ pub whole_too_many : (g : Network) (limit : ℕ) (sources : List TableDef) (byte
 whole_too_many g limit sources bytes many = ap (λ b. and_then (cond b (ended (opened g)) (stopped fault.Limit [])) (λ s. and_then (take_lines g limit sources 1 s (records_of bytes)) (drained g limit sources))) (not_within (opened g).sends limit (nat_le (opened g).sends limit) refl many)
 
 -- the output failed
-pub failed_put : {T : Type 0} (tys : List Ty) (there : Outcome) (items : List PrintItem) (ran : Result T Halt) (write : Type 0) (a b : Option (List ℕ)) → Finishes tys there items ran → write → AppendsPart a b (item_lines tys items) → let r : Result T Halt = Err h.WriteFault in RunsThere there write a b r
-failed_put tys there items ran write a b ends failed part = record { cause = failed; part = not_put tys there items ran write a b ends part; whole = λ free. absurd (cc (free)) }
+pub failed_put : {T : Type 0} (tys : List Ty) (key : Option (List ℕ)) (there : Outcome) (items : List PrintItem) (ran : Result T Halt) (write : Type 0) (a b : Option (List ℕ)) → Finishes tys key there items ran → write → AppendsPart a b (item_lines tys key items) → let r : Result T Halt = Err h.WriteFault in RunsThere there write a b r
+failed_put tys key there items ran write a b ends failed part = record { cause = failed; part = not_put tys key there items ran write a b ends part; whole = λ free. absurd (cc (free)) }
 
 -- memory was wanting
-pub memory_put : {T : Type 0} (tys : List Ty) (there : Outcome) (items : List PrintItem) (ran : Result T Halt) (write : Type 0) (a b : Option (List ℕ)) → Finishes tys there items ran → AppendsPart a b (item_lines tys items) → let r : Result T Halt = Err h.Memory in RunsThere there write a b r
-memory_put tys there items ran write a b ends part = record { cause = tt; part = not_put tys there items ran write a b ends part; whole = λ free. absurd (cc (free)) }
+pub memory_put : {T : Type 0} (tys : List Ty) (key : Option (List ℕ)) (there : Outcome) (items : List PrintItem) (ran : Result T Halt) (write : Type 0) (a b : Option (List ℕ)) → Finishes tys key there items ran → AppendsPart a b (item_lines tys key items) → let r : Result T Halt = Err h.Memory in RunsThere there write a b r
+memory_put tys key there items ran write a b ends part = record { cause = tt; part = not_put tys key there items ran write a b ends part; whole = λ free. absurd (cc (free)) }

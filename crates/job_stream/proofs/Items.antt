@@ -7,20 +7,20 @@ use Rattle.ct_io.proofs.laws.Pieces.{part_in_piece, up_to_piece, whole_at_end}
 use Rattle.stream_model.specs.declared.events.PrintItem.{PrintItem}
 use Rattle.job_text.specs.Printed.{IsWide, item_line, item_lines}
 
-module _ (tys : List Ty) (a b c : Option (List ℕ)) (whole : List ℕ) (old left : List PrintItem) (item : PrintItem) (is : old ≡ item ∷ left) (so_far : AppendsUpTo a b whole (item_lines tys old)) where
-  pub item_more : Appends b c (item_line tys item) → AppendsUpTo a c whole (item_lines tys left)
-  item_more more = up_to_piece a b c whole (item_lines tys old) (item_line tys item) (item_lines tys left) so_far (ap (item_lines tys) is) more
+module _ (tys : List Ty) (key : Option (List ℕ)) (a b c : Option (List ℕ)) (whole : List ℕ) (old left : List PrintItem) (item : PrintItem) (is : old ≡ item ∷ left) (so_far : AppendsUpTo a b whole (item_lines tys key old)) where
+  pub item_more : Appends b c (item_line tys key item) → AppendsUpTo a c whole (item_lines tys key left)
+  item_more more = up_to_piece a b c whole (item_lines tys key old) (item_line tys key item) (item_lines tys key left) so_far (ap (item_lines tys key) is) more
 
-  pub item_part : AppendsPart b c (item_line tys item) → AppendsPart a c whole
-  item_part more = part_in_piece a b c whole (item_lines tys old) (item_line tys item) (item_lines tys left) so_far (ap (item_lines tys) is) more
+  pub item_part : AppendsPart b c (item_line tys key item) → AppendsPart a c whole
+  item_part more = part_in_piece a b c whole (item_lines tys key old) (item_line tys key item) (item_lines tys key left) so_far (ap (item_lines tys key) is) more
 
-pub items_end : (tys : List Ty) (a b : Option (List ℕ)) (whole : List ℕ) (left : List PrintItem) → left ≡ [] → AppendsUpTo a b whole (item_lines tys left) → Appends a b whole
-items_end tys a b whole left is so_far = whole_at_end a b whole (item_lines tys left) so_far (ap (item_lines tys) is)
+pub items_end : (tys : List Ty) (key : Option (List ℕ)) (a b : Option (List ℕ)) (whole : List ℕ) (left : List PrintItem) → left ≡ [] → AppendsUpTo a b whole (item_lines tys key left) → Appends a b whole
+items_end tys key a b whole left is so_far = whole_at_end a b whole (item_lines tys key left) so_far (ap (item_lines tys key) is)
 
 pub item_wide : (width : ℕ) (old left : List PrintItem) (item : PrintItem) → old ≡ item ∷ left → AllByRecursion (IsWide width) old → IsWide width item × AllByRecursion (IsWide width) left
 item_wide width old left item is wide = subst (AllByRecursion (IsWide width)) is wide
 
 -- lines of more items
-pub lines_both : (tys : List Ty) (xs ys : List PrintItem) → item_lines tys (xs ++ ys) ≡ item_lines tys xs ++ item_lines tys ys
-lines_both tys [] ys = refl
-lines_both tys (x ∷ xs) ys = ap (λ l. item_line tys x ++ l) (lines_both tys xs ys) ∙ sym (append_assoc (item_line tys x) (item_lines tys xs) (item_lines tys ys))
+pub lines_both : (tys : List Ty) (key : Option (List ℕ)) (xs ys : List PrintItem) → item_lines tys key (xs ++ ys) ≡ item_lines tys key xs ++ item_lines tys key ys
+lines_both tys key [] ys = refl
+lines_both tys key (x ∷ xs) ys = ap (λ l. item_line tys key x ++ l) (lines_both tys key xs ys) ∙ sym (append_assoc (item_line tys key x) (item_lines tys key xs) (item_lines tys key ys))

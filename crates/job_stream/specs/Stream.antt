@@ -1,11 +1,13 @@
 -- What a run over a plan and a change file answers and writes: it is composed of the machine's run.
-use Rattle.std.specs.Prelude.{◌≡◌, ℕ, List, map}
+use Rattle.std.specs.Prelude.{◌≡◌, ℕ, List, map, Option}
 use Rattle.ct_value.specs.declared.ty.Ty.{Ty}
 use Rattle.ct_catalog.specs.declared.table.TableDef.{TableDef}
 use Rattle.phys_plan.specs.declared.plan.Plan.{Plan}
 use Rattle.plan_rules.specs.Doings.{network}
 use Rattle.stream_model.specs.declared.events.StepFault.{StepFault}
 use Rattle.stream_model.specs.declared.events.StepFault.TheVariants as fault
+use Rattle.ct_catalog.specs.Columns.{table_mode}
+use Rattle.stream_model.specs.KeysTold.{upsert_key}
 use Rattle.job_text.specs.Printed.{item_lines}
 use Rattle.source_lines.specs.Run.{Ran, ended, refused, stopped, whole_run}
 use Rattle.job_ending.specs.declared.ending.Ending.{Ending}
@@ -34,19 +36,24 @@ IsHaltOf (fault.Range node subtask row types) halt = halt ≡ h.Range node subta
 IsHaltOf fault.Limit halt = halt ≡ h.Limit Sent
 IsHaltOf fault.Memory halt = halt ≡ h.Memory
 
--- what was printed is written, each item as a line by the types of the sink's columns; a line is refused before anything is printed
-abbrev pub outcome_of : List Ty → Ran → Outcome
-outcome_of tys (ended s) = record { ending = Done; bytes = item_lines tys s.printed }
-outcome_of tys (refused line code) = ends (Change code line)
-outcome_of tys (stopped cause printed) = record { ending = ending_of_stop cause; bytes = item_lines tys printed }
+-- what was printed is written, each item as a line by the types of the sink's columns and its key, where it is an upsert table; a line is
+-- refused before anything is printed
+abbrev pub outcome_of : List Ty → Option (List ℕ) → Ran → Outcome
+outcome_of tys key (ended s) = record { ending = Done; bytes = item_lines tys key s.printed }
+outcome_of tys key (refused line code) = ends (Change code line)
+outcome_of tys key (stopped cause printed) = record { ending = ending_of_stop cause; bytes = item_lines tys key printed }
 
 -- the types of the sink's columns
 abbrev pub sink_types : TableDef → List Ty
 sink_types sink = map (λ c. c.ty.ty) sink.cols
 
+-- the key of an upsert sink, of which a `-D` tells that alone
+abbrev pub sink_key : TableDef → Option (List ℕ)
+sink_key sink = upsert_key (table_mode sink)
+
 -- what a run over a plan makes of a change file, where so many changes are sent at most
 abbrev pub streamed_within : ℕ → Plan → List ℕ → Outcome
-streamed_within limit plan bytes = outcome_of (sink_types plan.sink) (whole_run (network plan) limit plan.sources bytes)
+streamed_within limit plan bytes = outcome_of (sink_types plan.sink) (sink_key plan.sink) (whole_run (network plan) limit plan.sources bytes)
 
 -- with the limit of the program
 abbrev pub streamed : Plan → List ℕ → Outcome

@@ -1,5 +1,5 @@
 //! Items as lines.
-ghost use Rattle.std.specs.Prelude.{◌≡◌, ◌≤◌, IsTrue, length, OnOk, IsErrOf};
+ghost use Rattle.std.specs.Prelude.{◌≡◌, ◌≤◌, IsTrue, length, OnOk, IsErrOf, option_copied};
 ghost use Rattle.std.specs.List.{AllByRecursion};
 ghost use Rattle.ct_io.specs.Counts.{Rose};
 ghost use Rattle.ct_io.specs.Written.{Appends, AppendsPart};
@@ -7,7 +7,7 @@ ghost use Rattle.ct_field.specs.Numbers.{is_type};
 ghost use Rattle.job_text.specs.Printed.{IsWide, item_line, item_lines};
 
 use ct_io::{Sink, put_all};
-use ct_value::{Memory, Ty};
+use ct_value::{Cols, Memory, Ty};
 use job_text::item_line;
 use std::alloc::Global;
 use stream_model::{PrintItem, PrintList};
@@ -30,21 +30,22 @@ impl From<Memory> for PutFault {
     }
 }
 
-/// Puts the lines of items whose changes have columns of these types.
+/// Puts the lines of items whose changes have columns of these types. The key is that of an upsert sink.
 pub(crate) fn put_items<K: Sink>(
     alloc: Global,
     items: PrintList,
     tys: &[Ty],
+    key: Option<&Cols>,
     out: &mut K,
 ) -> Result<(), PutFault>
     requires wide { AllByRecursion (IsWide (length tys.now)) items }
     requires types { AllByRecursion (λ ty. IsTrue (is_type ty)) tys.now }
-    ensures whole { OnOk result (Appends (K.written out.old) (K.written out.new) (item_lines tys.now items)) }
-    ensures part { AppendsPart (K.written out.old) (K.written out.new) (item_lines tys.now items) }
+    ensures whole { OnOk result (Appends (K.written out.old) (K.written out.new) (item_lines tys.now (option_copied key.entry) items)) }
+    ensures part { AppendsPart (K.written out.old) (K.written out.new) (item_lines tys.now (option_copied key.entry) items) }
     ensures failed { IsErrOf result PutFault.Failed → Rose (K.faults out.old) (K.faults out.new) }
 {
     for item in items.into_vec() {
-        put_item(alloc, &item, tys, out)?;
+        put_item(alloc, &item, tys, key, out)?;
     }
     Ok(())
 }
@@ -54,16 +55,17 @@ fn put_item<K: Sink>(
     alloc: Global,
     item: &PrintItem,
     tys: &[Ty],
+    key: Option<&Cols>,
     out: &mut K,
 ) -> Result<(), PutFault>
     requires wide { IsWide (length tys.now) item.now }
     requires types { AllByRecursion (λ ty. IsTrue (is_type ty)) tys.now }
-    ensures whole { OnOk result (Appends (K.written out.old) (K.written out.new) (item_line tys.now item.now)) }
-    ensures part { AppendsPart (K.written out.old) (K.written out.new) (item_line tys.now item.now) }
+    ensures whole { OnOk result (Appends (K.written out.old) (K.written out.new) (item_line tys.now (option_copied key.entry) item.now)) }
+    ensures part { AppendsPart (K.written out.old) (K.written out.new) (item_line tys.now (option_copied key.entry) item.now) }
     ensures later { K.faults out.old ≤ K.faults out.new }
     ensures failed { IsErrOf result PutFault.Failed → Rose (K.faults out.old) (K.faults out.new) }
 {
-    let line = item_line(alloc, item, tys)?;
+    let line = item_line(alloc, item, tys, key)?;
     match put_all(out, line.as_slice()) {
         Ok(()) => Ok(()),
         Err(_) => Err(PutFault::Failed),

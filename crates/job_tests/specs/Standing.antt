@@ -2,6 +2,7 @@
 use Rattle.std.specs.Prelude.{◌≡◌, ℕ, Bool, true, false, List, [], ◌∷◌}
 use Rattle.ct_value.specs.declared.ty.Ty.TheVariants.{Text as Texts}
 use Rattle.ct_change.specs.declared.change.Change.{Change}
+use Rattle.ct_change.specs.Changelog.{adds}
 use Rattle.ct_catalog.specs.declared.table.TableDef.{TableDef}
 use Rattle.op_rules.specs.History.{Arrival}
 use Rattle.op_rules.specs.Rules.{Rule}
@@ -18,9 +19,9 @@ use Rattle.stream_model.specs.Runs.{Item, IsTyped, happens}
 use Rattle.session_core.specs.declared.session.Session.{Session}
 use Rattle.session_core.specs.Stands.{StandsFor}
 
--- a row of one word, or of NULL
+-- a row of one word, or of NULL, that comes
 abbrev pub IsWord : Change → Type 0
-IsWord change = values_fit (Texts ∷ []) change.row ≡ true
+IsWord change = (adds change.kind ≡ true) × (values_fit (Texts ∷ []) change.row ≡ true)
 
 -- words, and NULL, may come to the first table
 abbrev pub TakesWords : Network → Type 0

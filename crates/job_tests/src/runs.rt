@@ -2,11 +2,12 @@
 use crate::files::{calls, files, files_of, filled, texts, usual_words};
 use crate::scripts::{
     ANY_SPELLING, BAD_TOKEN_LATER, BATCHES_WITHOUT_GROUP, BEHIND_INSERT, COUNT_ALL, COUNT_APPEND,
-    COUNT_INTO_APPEND, COUNT_RETRACT, COUNT_SECOND, COUNT_UPSERT, COUNTS_JOINED, DISTINCT_OF_TWO,
-    EXISTS_RETRACT, FIRST_OF_EQUALS, FULL_JOIN, GROUP_IN_BATCHES, IN_QUERY, INTO_APPEND, LEFT_JOIN,
-    MAX_BY_WORD, MEAN_BY_WORD, MORE_TABLES, NO_INSERT, NO_SINK_KEY, NOT_EXISTS, NULL_INTO_KEY,
-    ONE_HOUR, OPEN_END, RIGHT_JOIN, SELECT_APPEND, SELECT_NULLABLE, SELECT_RETRACT, SELECT_TWO,
-    SELECT_UPSERT, SUM_BY_WORD, THIRTY_TWO_DEEP, TOO_DEEP, WITH_CONDITION,
+    COUNT_BY_KEY, COUNT_INTO_APPEND, COUNT_RETRACT, COUNT_SECOND, COUNT_UPSERT, COUNTS_JOINED,
+    DISTINCT_OF_TWO, EXISTS_RETRACT, FIRST_OF_EQUALS, FULL_JOIN, GROUP_IN_BATCHES, IN_QUERY,
+    INTO_APPEND, LEFT_JOIN, MAX_BY_WORD, MEAN_BY_WORD, MORE_TABLES, NO_INSERT, NO_SINK_KEY,
+    NOT_EXISTS, NULL_INTO_KEY, ONE_HOUR, OPEN_END, RIGHT_JOIN, SELECT_APPEND, SELECT_NULLABLE,
+    SELECT_RETRACT, SELECT_TWO, SELECT_UPSERT, SUM_BY_WORD, THIRTY_TWO_DEEP, TOO_DEEP,
+    WITH_CONDITION,
 };
 use ct_io::{Calls, Files, MemShelf, MemSink, SureShelf, SureSink};
 use ct_value::{Memory, Text};
@@ -60,7 +61,7 @@ fn usually_leaves(alloc: Global, files: Files, left: &Left) -> bool {
 type Run = (&'static str, &'static str, Left);
 
 // Of rows, one by one.
-const SELECTIONS: [Run; 14] = [
+const SELECTIONS: [Run; 18] = [
     (SELECT_APPEND, "", ("=,0\n", "", 0)),
     (
         SELECT_APPEND,
@@ -107,10 +108,30 @@ const SELECTIONS: [Run; 14] = [
         "c,+I,1,Rome\nc,+I,\\N,Rome\n",
         ("", "change C6 NullNotAllowed line 2 column 1\n", 3),
     ),
+    (
+        SELECT_UPSERT,
+        "c,+I,1,Rome\nc,-D,1\n",
+        ("+I,1,Rome\n-D,1,Rome\n=,2\n", "", 0),
+    ),
+    (
+        SELECT_UPSERT,
+        "c,+I,1,Rome\nc,-D,\\N\n",
+        ("", "change C6 NullNotAllowed line 2 column 1\n", 3),
+    ),
+    (
+        SELECT_UPSERT,
+        "c,+I,1,Rome\nc,-D,x\n",
+        ("", "change C5 BadField line 2 column 1\n", 3),
+    ),
+    (
+        SELECT_UPSERT,
+        "c,+I,1,Rome\nc,-D,1,Rome,x\n",
+        ("", "change C1 FieldCount line 2\n", 3),
+    ),
 ];
 
 // Of groups.
-const GROUPS: [Run; 14] = [
+const GROUPS: [Run; 15] = [
     (COUNT_APPEND, "", ("=,0\n", "", 0)),
     (
         COUNT_APPEND,
@@ -121,6 +142,11 @@ const GROUPS: [Run; 14] = [
         COUNT_RETRACT,
         "t,+I,a\nt,-D,a\n",
         ("+I,a,1\n-D,a,1\n=,2\n", "", 0),
+    ),
+    (
+        COUNT_BY_KEY,
+        "t,+I,a\nt,-D,a\n",
+        ("+I,a,1\n-D,a\n=,2\n", "", 0),
     ),
     (
         COUNT_RETRACT,

@@ -203,6 +203,12 @@ pub const COUNT_INTO_APPEND: &str = "CREATE TABLE t (word STRING NOT NULL);\
     CREATE TABLE out_t (word STRING, n BIGINT);\
     INSERT INTO out_t SELECT word, COUNT(*) FROM t GROUP BY word;";
 
+/// Counts the rows of each word of a retract table, into an upsert table.
+pub const COUNT_BY_KEY: &str =
+    "CREATE TABLE t (word STRING NOT NULL) WITH ('changelog' = 'retract');\
+    CREATE TABLE out_t (word STRING PRIMARY KEY NOT ENFORCED, n BIGINT) WITH ('changelog' = 'upsert');\
+    INSERT INTO out_t SELECT word, COUNT(*) FROM t GROUP BY word;";
+
 /// Words into an upsert table, of which each may come twice.
 pub const NO_SINK_KEY: &str = "CREATE TABLE t (word STRING NOT NULL);\
     CREATE TABLE out_t (word STRING PRIMARY KEY NOT ENFORCED) WITH ('changelog' = 'upsert');\

@@ -46,6 +46,7 @@ fn taken_twice(alloc: Global, table: &TableDef, change: &Change) -> Result<(), S
 }
 
 // Takes a word twice.
+#[tactic(auto, using(crate::proofs::Opening::word_taken))]
 fn word_twice(alloc: Global) -> Result<(), SourceFault> {
     let table = words(alloc)?;
     let change = comes(alloc, "a")?;

@@ -6,12 +6,12 @@ use Rattle.ct_catalog.specs.declared.table.TableDef.{TableDef}
 use Rattle.job_text.specs.declared.line.Line.{Line}
 use Rattle.job_text.specs.Lines.{Record, line_of}
 use Rattle.ct_catalog.specs.Columns.{table_mode, column_types}
-use Rattle.op_rules.specs.Values.{types_fit}
+use Rattle.stream_model.specs.KeysTold.{is_typed}
 
--- the table takes changes of its kind, and its row has values of the table's columns
+-- the table takes changes of its kind, and its row has values of the table's columns, of those of its key where it tells that alone
 pub record IsOfTable (table : TableDef) (change : Change) : Type 0 where
   pub admitted : admits (table_mode table) change.kind ≡ true
-  pub fits : types_fit (column_types table) change.row ≡ true
+  pub fits : is_typed (table_mode table) (column_types table) change ≡ true
 
 -- a line's table is one of the sources, and its change is one of the table
 abbrev pub LinesFit : Type 0

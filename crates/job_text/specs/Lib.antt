@@ -1,3 +1,4 @@
+pub mod AtKey
 pub mod Fitting
 pub mod Lines
 pub mod Names

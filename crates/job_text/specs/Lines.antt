@@ -1,9 +1,10 @@
 -- Change lines: the records of a change file, and the change that a record is, or the code by which it is refused.
-use Rattle.std.specs.Prelude.{ℕ, ◌+◌, ◌==◌, cond, List, [], ◌∷◌, length, map, position, slice_get, Option, Some, None, unwrap_or, Result, Ok, Err, if◌then◌else◌, codes}
+use Rattle.std.specs.Prelude.{ℕ, suc, ◌+◌, ◌==◌, ◌||◌, Bool, true, false, cond, List, [], ◌∷◌, length, map, drop, position, slice_get, slice_index_or, Option, Some, None, Result, Ok, Err, if◌then◌else◌, codes}
 use Rattle.std.specs.Str.{bytes_eq}
 use Rattle.csv.specs.Reading.{default_config, records, strip_bom}
 use Rattle.ct_value.specs.declared.ty.Ty.{Ty}
 use Rattle.ct_value.specs.declared.value.Value.{Value}
+use Rattle.ct_value.specs.declared.value.Value.TheVariants.{Null}
 use Rattle.ct_value.specs.declared.codes.ChangeCode.{ChangeCode}
 use Rattle.ct_value.specs.declared.codes.ChangeCode.TheVariants.{FieldCount, UnknownTable, BadKind, KindNotDeclared, BadField}
 use Rattle.ct_field.specs.Fields.{field_value}
@@ -11,13 +12,16 @@ use Rattle.ct_field.specs.Numbers.{is_type}
 use Rattle.ct_change.specs.declared.kind.Kind.{Kind}
 use Rattle.ct_change.specs.declared.kind.Kind.TheVariants.{I, UB, UA, D}
 use Rattle.ct_change.specs.declared.change.Change.{Change}
-use Rattle.ct_change.specs.Changelog.{Mode, mode_of, admits}
+use Rattle.ct_change.specs.Changelog.{admits}
+use Rattle.ct_change.specs.KeyRows.{is_among}
 use Rattle.ct_catalog.specs.declared.table.ColDef.{ColDef}
 use Rattle.ct_catalog.specs.declared.table.TableDef.{TableDef}
 use Rattle.job_text.specs.declared.line.Line.{Line}
 use Rattle.job_text.specs.declared.line.LineFault.{LineFault}
 use Rattle.job_text.specs.declared.line.LineFault.TheVariants.{Change as Refused}
+use Rattle.job_text.specs.AtKey.{at_key}
 use Rattle.ct_catalog.specs.Columns.{table_mode}
+use Rattle.stream_model.specs.KeysTold.{told_key}
 
 -- a field is a list of bytes, and a record a list of fields
 abbrev pub Field : Type 0
@@ -56,17 +60,52 @@ values_from column [] fields = Ok []
 values_from column (col ∷ cols) [] = Ok []
 values_from column (col ∷ cols) (field ∷ fields) = value_before column (spelled col.ty.ty field) (values_from (column + 1) cols fields)
 
+-- the fields of a key's columns: all that there are, or where there is one for each column, those at the key
+abbrev pub key_fields : List ℕ → ℕ → List Field → List Field
+key_fields key columns fields = if length fields == columns then at_key key 0 fields else fields
+
+-- the value of a column in a key row: what its field spells, and NULL outside the key
+abbrev pub key_cell : Bool → Ty → Field → Option Value
+key_cell true ty field = spelled ty field
+key_cell false ty field = Some Null
+
+-- the key's fields without that of a column, where this is one of the key's
+abbrev pub fields_left : Bool → List Field → List Field
+fields_left true fields = drop 1 fields
+fields_left false fields = fields
+
+-- the values of the key row that the key's fields spell, from this column on
+abbrev pub key_values : List ℕ → ℕ → List ColDef → List Field → Result (List Value) ChangeCode
+key_values key column [] fields = Ok []
+key_values key column (col ∷ cols) fields =
+    value_before (suc column) (key_cell (is_among key column) col.ty.ty (slice_index_or fields 0 [])) (key_values key (suc column) cols (fields_left (is_among key column) fields))
+
+-- the key that a record of this kind tells alone, where it is a `-D` of an upsert table
+abbrev pub key_told : TableDef → Option Kind → Option (List ℕ)
+key_told table None = None
+key_told table (Some kind) = told_key (table_mode table) kind
+
+-- whether so many fields are one for each column, or for each of a key that is told alone
+abbrev pub is_field_count : TableDef → Option (List ℕ) → ℕ → Bool
+is_field_count table None count = count == length table.cols
+is_field_count table (Some key) count = (count == length table.cols) || (count == length key)
+
+-- the values of a row, which all fields spell, or those of a key that is told alone
+abbrev pub row_values : TableDef → Option (List ℕ) → List Field → Result (List Value) ChangeCode
+row_values table None fields = values_from 1 table.cols fields
+row_values table (Some key) fields = key_values key 0 table.cols (key_fields key (length table.cols) fields)
+
 abbrev pub change_of_row : Kind → Result (List Value) ChangeCode → Result Change ChangeCode
 change_of_row kind (Err code) = Err code
 change_of_row kind (Ok row) = Ok (record { kind = kind; row = row })
 
 abbrev pub change_of_kind : TableDef → List Field → Option Kind → Result Change ChangeCode
 change_of_kind table fields None = Err BadKind
-change_of_kind table fields (Some kind) = if admits (table_mode table) kind then change_of_row kind (values_from 1 table.cols fields) else Err KindNotDeclared
+change_of_kind table fields (Some kind) = if admits (table_mode table) kind then change_of_row kind (row_values table (key_told table (Some kind)) fields) else Err KindNotDeclared
 
 -- the change of a table that a kind and these fields are
 abbrev pub change_of : TableDef → Field → List Field → Result Change ChangeCode
-change_of table kind fields = if length fields == length table.cols then change_of_kind table fields (kind_of kind) else Err FieldCount
+change_of table kind fields = if is_field_count table (key_told table (kind_of kind)) (length fields) then change_of_kind table fields (kind_of kind) else Err FieldCount
 
 abbrev pub change_at : Option TableDef → Field → List Field → Result Change ChangeCode
 change_at None kind fields = Err UnknownTable
@@ -84,7 +123,8 @@ line_at sources kind fields (Some place) = line_of_change place (change_at (slic
 abbrev pub source_named : List TableDef → Field → Option ℕ
 source_named sources name = position (λ table. bytes_eq table.name name) sources
 
--- the line that a record is: a source's name, a kind and one field for each column; or why it is refused
+-- the line that a record is: a source's name, a kind and one field for each column, or for each of a key that is told alone; or
+-- why it is refused
 abbrev pub line_of : List TableDef → Record → Result Line ChangeCode
 line_of sources [] = Err FieldCount
 line_of sources (name ∷ []) = Err FieldCount

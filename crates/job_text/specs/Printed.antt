@@ -1,5 +1,5 @@
 -- What is printed: the one line of a change, of a row of an answer, and of a quiet moment.
-use Rattle.std.specs.Prelude.{◌≡◌, ℕ, List, [], ◌∷◌, ◌++◌, pred, length, take, codes}
+use Rattle.std.specs.Prelude.{◌≡◌, ℕ, List, [], ◌∷◌, ◌++◌, pred, length, take, Option, Some, None, codes}
 use Rattle.std.specs.Fmt.{decimal}
 use Rattle.csv.specs.Writing as csv
 use Rattle.ct_value.specs.declared.ty.Ty.{Ty}
@@ -7,8 +7,10 @@ use Rattle.ct_value.specs.declared.value.Value.{Value}
 use Rattle.ct_field.specs.Fields.{field_text}
 use Rattle.ct_change.specs.declared.kind.Kind.{Kind}
 use Rattle.ct_change.specs.declared.kind.Kind.TheVariants.{I, UB, UA, D}
+use Rattle.stream_model.specs.KeysTold.{told_by}
 use Rattle.stream_model.specs.declared.events.PrintItem.{PrintItem}
 use Rattle.stream_model.specs.declared.events.PrintItem.TheVariants.{Change, Quiet}
+use Rattle.job_text.specs.AtKey.{at_key}
 
 -- the line of a record: a field is quoted where it holds a comma, a quote or the end of a line, and LF is behind the last
 abbrev pub record_line : List (List ℕ) → List ℕ
@@ -47,15 +49,20 @@ abbrev pub IsWide : ℕ → PrintItem → Type 0
 IsWide width (Change change) = length change.row ≡ width
 IsWide width (Quiet taken) = Unit {0}
 
--- the line of an item, whose change has columns of these types
-abbrev pub item_line : List Ty → PrintItem → List ℕ
-item_line tys (Change change) = record_line (kind_text change.kind ∷ field_texts tys change.row)
-item_line tys (Quiet taken) = quiet_line taken
+-- of the texts of a row all, or those of a key that is told alone
+abbrev pub told_texts : Option (List ℕ) → List (List ℕ) → List (List ℕ)
+told_texts None texts = texts
+told_texts (Some key) texts = at_key key 0 texts
+
+-- the line of an item, whose change has columns of these types, into a sink that has this key where it is an upsert table
+abbrev pub item_line : List Ty → Option (List ℕ) → PrintItem → List ℕ
+item_line tys key (Change change) = record_line (kind_text change.kind ∷ told_texts (told_by key change.kind) (field_texts tys change.row))
+item_line tys key (Quiet taken) = quiet_line taken
 
 -- the lines of items
-abbrev pub item_lines : List Ty → List PrintItem → List ℕ
-item_lines tys [] = []
-item_lines tys (item ∷ items) = item_line tys item ++ item_lines tys items
+abbrev pub item_lines : List Ty → Option (List ℕ) → List PrintItem → List ℕ
+item_lines tys key [] = []
+item_lines tys key (item ∷ items) = item_line tys key item ++ item_lines tys key items
 
 -- the lines of rows
 abbrev pub row_lines : List Ty → List (List Value) → List ℕ

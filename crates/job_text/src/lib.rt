@@ -1,10 +1,10 @@
 //! The texts of a job: the lines of a change file, read one by one, and the lines of what is printed.
 //!
 //! Promised: the records are those that CSV's own reading gives for the bytes of the file, and each is answered as the change of a
-//! source that it is, or refused by the code that `specs/Lines` says; `NamedSources` find the source by its name in a tree. A printed
-//! change, a row of an answer and a quiet moment each have the one line that `specs/Printed` says, in the bytes that the library `csv`
-//! writes by its defaults; a line tells its item (`specs/Told`). It stands on fields, changes, declared tables and the machine's printed
-//! items.
+//! source that it is, or refused by the code that `specs/Lines` says; `NamedSources` find the source by its name in a tree, and a `-D` of an
+//! upsert table is read and printed by its key alone. A printed change, a row of an answer and a quiet moment each have the one line that
+//! `specs/Printed` says, in the bytes that the library `csv` writes by its defaults; a line tells its item (`specs/Told`). It stands on
+//! fields, changes, declared tables and the machine's printed items.
 #![tactic(auto)]
 
 mod fields;
@@ -14,7 +14,7 @@ mod named;
 mod promises;
 mod read;
 
-pub use line::{Line, LineFault};
+pub use line::{Line, LineFault, key_columns, tells_key};
 pub use lines::{item_line, row_line, row_text};
 pub use named::NamedSources;
 pub use promises::lines_tell_items;

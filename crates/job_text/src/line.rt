@@ -1,14 +1,16 @@
-ghost use Rattle.std.specs.Prelude.{◌≡◌, ◌+◌, ◌<◌, ◌≤◌, ◌∷◌, ◌⊎◌, [], length, drop, slice_index_or, unwrap_or, Ok, Err, IfOk, IsErrOf};
+ghost use Rattle.std.specs.Prelude.{◌≡◌, ◌+◌, ◌-◌, ◌<◌, ◌≤◌, ◌^◌, ◌∷◌, ◌⊎◌, ◌||◌, [], length, drop, slice_index_or, unwrap_or, true, cond, Some, None, Ok, Err, IfOk, IsErrOf};
 ghost use Rattle.csv.specs.Records.{fields_of};
 ghost use Rattle.ct_value.specs.declared.codes.ChangeCode.{ChangeCode};
 ghost use Rattle.ct_value.specs.declared.codes.ChangeCode.TheVariants.{BadField};
 ghost use Rattle.job_text.specs.declared.line.LineFault.TheVariants.{Change as Refused};
-ghost use Rattle.job_text.specs.Lines.{change_of, change_of_kind, kind_of, line_of, spelled, values_from};
+ghost use Rattle.ct_catalog.specs.Columns.{table_mode};
+ghost use Rattle.stream_model.specs.KeysTold.{told_key};
+ghost use Rattle.job_text.specs.Lines.{change_of, change_of_kind, is_field_count, key_cell, key_fields, key_told, key_values, kind_of, line_of, row_values, spelled, values_from};
 
 use crate::named::NamedSources;
 use csv::ByteRecord;
 use ct_catalog::{ColDef, TableDef};
-use ct_change::{Change, Kind};
+use ct_change::{Change, Declared, Kind, among};
 use ct_field::{FieldFault, is_type, read_field};
 use ct_value::{ChangeCode, Memory, Row, Ty, Value, Values};
 use std::alloc::Global;
@@ -67,17 +69,78 @@ fn change_of(alloc: Global, table: &TableDef, fields: &ByteRecord) -> Result<Cha
     ensures change { IfOk result (λ change. change_of table.now (slice_index_or (fields_of fields.now) 1 []) (drop 2 (fields_of fields.now)) ≡ Ok change) }
     ensures refused { (code : ChangeCode) → IsErrOf result (Refused code) → change_of table.now (slice_index_or (fields_of fields.now) 1 []) (drop 2 (fields_of fields.now)) ≡ Err code }
 {
-    if fields.len() - 2 != table.cols.len() {
+    let kind = kind_of(field(fields, 1));
+    let by_key = is_keyed(table, kind);
+    if !is_field_count(table, by_key, fields.len() - 2) {
         return Err(LineFault::Change(ChangeCode::FieldCount));
     }
-    let Some(kind) = kind_of(field(fields, 1)) else {
+    let Some(kind) = kind else {
         return Err(LineFault::Change(ChangeCode::BadKind));
     };
     if !table.mode.admits(kind) {
         return Err(LineFault::Change(ChangeCode::KindNotDeclared));
     }
-    let row = row_of(alloc, table.cols.as_slice(), fields)?;
+    let row = told_row(alloc, table, by_key, fields)?;
     Ok(Change::new(kind, row))
+}
+
+/// Whether a change of this kind tells the table's key alone: it is a `-D` of an upsert table.
+pub fn tells_key(table: &TableDef, kind: Kind) -> bool
+    ensures { told_key (table_mode table.now) kind ≡ cond result (Some (unwrap_or table.now.key [])) None }
+{
+    match table.mode {
+        Declared::Append | Declared::Retract => false,
+        Declared::Upsert => kind == Kind::D,
+    }
+}
+
+/// The columns of a table's key, none where it has no key.
+pub fn key_columns(table: &TableDef) -> &[u32]
+    ensures { result.now ≡ unwrap_or table.now.key [] }
+{
+    match &table.key {
+        Some(key) => key.as_slice(),
+        None => &[],
+    }
+}
+
+// Whether a record of this kind tells the table's key alone.
+fn is_keyed(table: &TableDef, kind: Option<Kind>) -> bool
+    ensures { key_told table.now kind ≡ cond result (Some (unwrap_or table.now.key [])) None }
+{
+    match kind {
+        Some(kind) => tells_key(table, kind),
+        None => false,
+    }
+}
+
+// Whether so many fields are one for each column, or for each of the key where that is told alone.
+fn is_field_count(table: &TableDef, is_keyed: bool, count: usize) -> bool
+    ensures { result ≡ is_field_count table.now (cond is_keyed (Some (unwrap_or table.now.key [])) None) count }
+{
+    if count == table.cols.len() {
+        return true;
+    }
+    is_keyed && count == key_columns(table).len()
+}
+
+// The row that the fields behind the first two spell.
+fn told_row(
+    alloc: Global,
+    table: &TableDef,
+    is_keyed: bool,
+    fields: &ByteRecord,
+) -> Result<Row, LineFault>
+    requires two { 2 ≤ length (fields_of fields.now) }
+    requires counted { is_field_count table.now (cond is_keyed (Some (unwrap_or table.now.key [])) None) (length (fields_of fields.now) - 2) ≡ true }
+    ensures row { IfOk result (λ row. row_values table.now (cond is_keyed (Some (unwrap_or table.now.key [])) None) (drop 2 (fields_of fields.now)) ≡ Ok row) }
+    ensures refused { (code : ChangeCode) → IsErrOf result (Refused code) → row_values table.now (cond is_keyed (Some (unwrap_or table.now.key [])) None) (drop 2 (fields_of fields.now)) ≡ Err code }
+{
+    if is_keyed {
+        key_row_of(alloc, table.cols.as_slice(), key_columns(table), fields)
+    } else {
+        row_of(alloc, table.cols.as_slice(), fields)
+    }
 }
 
 fn kind_of(word: &[u8]) -> Option<Kind>
@@ -116,6 +179,59 @@ fn row_of(alloc: Global, cols: &[ColDef], fields: &ByteRecord) -> Result<Row, Li
     Ok(Row::from_values(values))
 }
 
+// The key row that the key's fields spell.
+fn key_row_of(
+    alloc: Global,
+    cols: &[ColDef],
+    key: &[u32],
+    fields: &ByteRecord,
+) -> Result<Row, LineFault>
+    requires { 2 ≤ length (fields_of fields.now) }
+    ensures row { IfOk result (λ row. key_values key.now 0 cols.now (key_fields key.now (length cols.now) (drop 2 (fields_of fields.now))) ≡ Ok row) }
+    ensures refused { (code : ChangeCode) → IsErrOf result (Refused code) → key_values key.now 0 cols.now (key_fields key.now (length cols.now) (drop 2 (fields_of fields.now))) ≡ Err code }
+{
+    let in_key = among(alloc, cols.len(), key)?;
+    let whole = fields.len() - 2 == cols.len();
+    let mut values = Values::with_capacity(alloc, cols.len())?;
+    let mut place: usize = 2;
+    'column: for i in 0..cols.len() {
+        let is_key = in_key[i];
+        let value = key_value(alloc, cols[i].ty.ty, is_key, field(fields, place), i)?;
+        values.push(value)?;
+        place = place_behind(place, is_key, whole);
+    }
+    Ok(Row::from_values(values))
+}
+
+// The value of a column in a key row, counted from 0.
+fn key_value(
+    alloc: Global,
+    ty: Ty,
+    is_key: bool,
+    field: &[u8],
+    column: usize,
+) -> Result<Value, LineFault>
+    ensures value { IfOk result (λ value. key_cell is_key ty field.now ≡ Some value) }
+    ensures refused { (code : ChangeCode) → IsErrOf result (Refused code) → (key_cell is_key ty field.now ≡ None) × (code ≡ BadField (column + 1)) }
+{
+    if !is_key {
+        return Ok(Value::Null);
+    }
+    match spelled(alloc, ty, field) {
+        Ok(value) => Ok(value),
+        Err(FieldFault::BadField) => Err(bad_field(column)),
+        Err(FieldFault::Memory) => Err(LineFault::Memory),
+    }
+}
+
+// The place of the field behind that of a column: where there is a field for each column, each has one, else those of the key.
+fn place_behind(place: usize, is_key: bool, whole: bool) -> usize
+    requires { place + 1 < 2 ^ 64 }
+    ensures { result ≡ cond (is_key || whole) (place + 1) place }
+{
+    if is_key || whole { place + 1 } else { place }
+}
+
 // The refusal of the field of a column, counted from 0.
 fn bad_field(column: usize) -> LineFault
     ensures { (result ≡ LineFault.Memory) ⊎ (result ≡ Refused (BadField (column + 1))) }
@@ -137,14 +253,13 @@ fn spelled(alloc: Global, ty: Ty, field: &[u8]) -> Result<Value, FieldFault>
     read_field(alloc, ty, field)
 }
 
-// The field at a place, from 0.
-#[tactic(auto, using(crate::proofs::Values::field_at_index))]
+// The field at a place, from 0, and an empty one past the last.
+#[tactic(auto, using(crate::proofs::Values::field_there, crate::proofs::Values::field_past))]
 fn field(fields: &ByteRecord, place: usize) -> &[u8]
-    requires { place < length (fields_of fields.now) }
     ensures { result.now ≡ slice_index_or (fields_of fields.now) place [] }
 {
     match fields.get(place) {
         Some(field) => field,
-        None => unreachable!(),
+        None => &[],
     }
 }

@@ -1,28 +1,37 @@
-ghost use Rattle.std.specs.Prelude.{◌≡◌, ◌++◌, ◌∷◌, [], length, IsTrue, OnOk, IfOk, codes};
+ghost use Rattle.std.specs.Prelude.{◌≡◌, ◌++◌, ◌∷◌, [], length, cond, IsTrue, OnOk, IfOk, codes, option_copied};
 ghost use Rattle.std.specs.List.{AllByRecursion};
 ghost use Rattle.csv.specs.Records.{fields_of, partial_of};
 ghost use Rattle.ct_field.specs.Numbers.{is_type};
 ghost use Rattle.ct_field.specs.Fields.{field_text};
-ghost use Rattle.job_text.specs.Printed.{IsWide, field_texts, item_line, kind_text, quiet_line, record_line, row_line, row_text};
+ghost use Rattle.stream_model.specs.KeysTold.{told_by};
+ghost use Rattle.job_text.specs.AtKey.{at_key};
+ghost use Rattle.job_text.specs.Printed.{IsWide, field_texts, item_line, kind_text, quiet_line, record_line, row_line, row_text, told_texts};
 
 use csv::{ByteRecord, WriterBuilder};
-use ct_change::Kind;
+use ct_change::{Kind, among};
 use ct_field::push_field;
-use ct_value::{Bytes, Memory, Row, Ty, Value};
+use ct_value::{Bytes, Cols, Memory, Row, Ty, Value};
 use std::alloc::Global;
 use stream_model::PrintItem;
 
-/// The line of an item, whose change has columns of these types.
-pub fn item_line(alloc: Global, item: &PrintItem, tys: &[Ty]) -> Result<Vec<u8>, Memory>
+/// The line of an item, whose change has columns of these types. The key is that of the sink where this is an upsert table: of a `-D` into
+/// that the key's texts are printed alone.
+pub fn item_line(
+    alloc: Global,
+    item: &PrintItem,
+    tys: &[Ty],
+    key: Option<&Cols>,
+) -> Result<Vec<u8>, Memory>
     requires wide { IsWide (length tys.now) item.now }
     requires types { AllByRecursion (λ ty. IsTrue (is_type ty)) tys.now }
-    ensures { IfOk result (λ line. line.items ≡ item_line tys.now item.now) }
+    ensures { IfOk result (λ line. line.items ≡ item_line tys.now (option_copied key.entry) item.now) }
 {
     match item {
         PrintItem::Change(change) => {
             let mut record = ByteRecord::new(alloc);
             record.push_field(kind_text(change.kind).as_bytes())?;
-            push_values(alloc, &mut record, tys, change.row.as_slice())?;
+            let told = told_key(key, change.kind);
+            push_row(alloc, &mut record, tys, change.row.as_slice(), told)?;
             record_line(alloc, &record)
         }
         PrintItem::Quiet(taken) => quiet_line(alloc, *taken),
@@ -54,6 +63,36 @@ pub fn row_text(alloc: Global, row: &Row, tys: &[Ty]) -> Result<Vec<u8>, Memory>
     Ok(line)
 }
 
+// The key that a change of this kind tells alone, into a sink with this key.
+fn told_key(key: Option<&Cols>, kind: Kind) -> Option<&Cols>
+    ensures { option_copied result ≡ told_by (option_copied key.entry) kind }
+{
+    let key = key?;
+    match kind {
+        Kind::D => Some(key),
+        Kind::I | Kind::UB | Kind::UA => None,
+    }
+}
+
+// Puts the texts of a row behind the fields of a record, or those of a key that is told alone.
+fn push_row(
+    alloc: Global,
+    fields: &mut ByteRecord,
+    tys: &[Ty],
+    values: &[Value],
+    key: Option<&Cols>,
+) -> Result<(), Memory>
+    requires types { AllByRecursion (λ ty. IsTrue (is_type ty)) tys.now }
+    requires wide { length values.now ≡ length tys.now }
+    requires whole { partial_of fields.old ≡ [] }
+    ensures { OnOk result (fields_of fields.new ≡ fields_of fields.old ++ told_texts (option_copied key.entry) (field_texts tys.now values.now)) }
+{
+    match key {
+        None => push_values(alloc, fields, tys, values),
+        Some(key) => push_key_values(alloc, fields, tys, values, key.as_slice()),
+    }
+}
+
 // Puts the texts of values behind the fields of a record.
 #[tactic(auto, using(crate::proofs::Texts::texts_none, crate::proofs::Texts::type_at))]
 fn push_values(
@@ -70,6 +109,49 @@ fn push_values(
     let mut text = Bytes::new(alloc);
     for i in 0..values.len() {
         push_value(alloc, fields, &mut text, tys[i], &values[i])?;
+    }
+    Ok(())
+}
+
+// Puts the texts of the values in a key's columns behind the fields of a record.
+#[tactic(auto, using(crate::proofs::Texts::key_texts_none, crate::proofs::Texts::type_at))]
+fn push_key_values(
+    alloc: Global,
+    fields: &mut ByteRecord,
+    tys: &[Ty],
+    values: &[Value],
+    key: &[u32],
+) -> Result<(), Memory>
+    requires types { AllByRecursion (λ ty. IsTrue (is_type ty)) tys.now }
+    requires wide { length values.now ≡ length tys.now }
+    requires whole { partial_of fields.old ≡ [] }
+    ensures { OnOk result (fields_of fields.new ≡ fields_of fields.old ++ at_key key.now 0 (field_texts tys.now values.now)) }
+{
+    let in_key = among(alloc, values.len(), key)?;
+    let mut text = Bytes::new(alloc);
+    for i in 0..values.len() {
+        push_at_key(alloc, fields, &mut text, tys[i], &values[i], in_key[i])?;
+    }
+    Ok(())
+}
+
+// Puts the text of a value behind the fields of a record where its column is one of the key's.
+#[tactic(auto, using(crate::proofs::Texts::texts_same))]
+fn push_at_key(
+    alloc: Global,
+    fields: &mut ByteRecord,
+    text: &mut Bytes,
+    ty: Ty,
+    value: &Value,
+    is_key: bool,
+) -> Result<(), Memory>
+    requires ty { IsTrue (is_type ty) }
+    requires whole { partial_of fields.old ≡ [] }
+    ensures field { OnOk result (fields_of fields.new ≡ fields_of fields.old ++ cond is_key (field_text ty value.now ∷ []) []) }
+    ensures whole { OnOk result (partial_of fields.new ≡ []) }
+{
+    if is_key {
+        return push_value(alloc, fields, text, ty, value);
     }
     Ok(())
 }

@@ -1,3 +1,4 @@
 pub mod Answers
+pub mod Sent
 pub mod Values
 pub mod Normal

@@ -6,6 +6,7 @@
 
 mod change;
 mod filter;
+mod gone;
 mod normalize;
 mod project;
 mod union;

@@ -1,11 +1,13 @@
-ghost use Rattle.std.specs.Prelude.{◌≡◌, [], ◌∷◌, false, map, IfOk, IsErrOf, Some, None, Ok, Err};
+ghost use Rattle.std.specs.Prelude.{◌≡◌, [], ◌∷◌, false, map, option_map, IfOk, IsErrOf, Some, None, Ok, Err};
 ghost use Rattle.ct_expr.specs.Eval as e;
 ghost use Rattle.ct_expr.specs.View.{exprs_view};
 ghost use Rattle.rel_algebra.specs.Clauses.{row_of};
 ghost use Rattle.op_rules.specs.Faults.{IfRange};
-ghost use Rattle.emission_rules.specs.Project.{with_row};
+ghost use Rattle.emission_rules.specs.Project.{with_row, project_change};
+ghost use Rattle.op_row.specs.Gone.{TellsGone, key_of};
 
 use crate::change::alone;
+use crate::gone::{Gone, gone_by};
 use ct_change::{Change, Changes, Steps};
 use ct_expr::{EvalFault, Exprs, eval};
 use ct_value::{Cols, Memory, Row, Values};
@@ -13,42 +15,44 @@ use op_rules::{OpFault, Operator};
 use std::alloc::Global;
 use std::sync::ledger::Ledger;
 
-/// The operator that makes a row of the values of its items at each row (Flink documentation, "SELECT clause"). It keeps no rows.
+/// The operator that makes a row of the values of its items at each row (Flink documentation, "SELECT clause"). Over an edge that
+/// is after-only by a key, a row that goes becomes the key row of the key's columns among the items, and no item is evaluated.
+/// It keeps no rows.
 #[derive(Drop)]
 pub struct ProjectOp {
     alloc: Global,
     items: Exprs,
-    after: Option<Cols>,
+    after: Option<Gone>,
     broken: bool,
 }
 
 impl ProjectOp {
     ghost use Rattle.emission_rules.specs.Project.{project_rule};
 
-    /// The project of these items, over an edge that is after-only by the key `after`, or over one that isn't after-only. It
-    /// takes no memory.
-    pub fn new(alloc: Global, items: Exprs, after: Option<Cols>) -> ProjectOp
-        ensures rule { ⟦<ProjectOp as Operator>⟧.rule result ≡ project_rule (record { items = exprs_view items; after = after }) }
-        ensures stands { ⟦<ProjectOp as Operator>⟧.stands_for result [] }
-        ensures whole { ⟦<ProjectOp as Operator>⟧.broken result ≡ false }
+    /// The project of these items, over an edge that is after-only by the key `after`, or over one that isn't after-only.
+    pub fn new(alloc: Global, items: Exprs, after: Option<Cols>) -> Result<ProjectOp, Memory>
+        ensures rule { IfOk result (λ made. ⟦<ProjectOp as Operator>⟧.rule made ≡ project_rule (record { items = exprs_view items; after = after })) }
+        ensures stands { IfOk result (λ made. ⟦<ProjectOp as Operator>⟧.stands_for made []) }
+        ensures whole { IfOk result (λ made. ⟦<ProjectOp as Operator>⟧.broken made ≡ false) }
     {
-        ProjectOp {
+        let after = gone_by(alloc, &items, after)?;
+        Ok(ProjectOp {
             alloc,
             items,
             after,
             broken: false,
-        }
+        })
     }
 }
 
 impl Operator for ProjectOp {
     ghost use Rattle.emission_rules.specs.Project.{project_rule};
 
-    ghost rule = { λ s. project_rule (record { items = exprs_view s.items; after = s.after }) };
+    ghost rule = { λ s. project_rule (record { items = exprs_view s.items; after = option_map key_of s.after }) };
 
     ghost broken = { λ s. s.broken };
 
-    ghost stands_for = { λ s before. Unit {0} };
+    ghost stands_for = { λ s before. TellsGone (exprs_view s.items) s.after };
 
     fn opening(&mut self, _subtask: u32) -> Result<Changes, Memory> {
         Ok(Changes::new(self.alloc))
@@ -62,13 +66,50 @@ impl Operator for ProjectOp {
         _steps: &mut Steps<L>,
     ) -> Result<Changes, OpFault> {
         self.broken = true;
-        let sent = projected(self.alloc, &self.items, change)?;
+        let sent = sent_for(self.alloc, &self.items, &self.after, change)?;
         self.broken = false;
         Ok(sent)
     }
 
     fn is_broken(&self) -> bool {
         self.broken
+    }
+}
+
+// What is sent for a change.
+fn sent_for(
+    alloc: Global,
+    items: &Exprs,
+    after: &Option<Gone>,
+    change: Change,
+) -> Result<Changes, OpFault>
+    requires tells { TellsGone (exprs_view items.now) after.now }
+    ensures ok { IfOk result (λ sent. project_change (record { items = exprs_view items.now; after = option_map key_of after.now }) change ≡ Ok sent) }
+    ensures range { IfRange result (λ row. project_change (record { items = exprs_view items.now; after = option_map key_of after.now }) change ≡ Err row) }
+{
+    match after {
+        None => projected(alloc, items, change),
+        Some(gone) => sent_by_key(alloc, items, gone, change),
+    }
+}
+
+// The same over an edge that is after-only by a key.
+#[tactic(auto, using(crate::proofs::Sent::comes, crate::proofs::Sent::goes))]
+fn sent_by_key(
+    alloc: Global,
+    items: &Exprs,
+    gone: &Gone,
+    change: Change,
+) -> Result<Changes, OpFault>
+    requires tells { TellsGone (exprs_view items.now) (Some gone.now) }
+    ensures ok { IfOk result (λ sent. project_change (record { items = exprs_view items.now; after = Some gone.now.key }) change ≡ Ok sent) }
+    ensures range { IfRange result (λ row. project_change (record { items = exprs_view items.now; after = Some gone.now.key }) change ≡ Err row) }
+{
+    if change.kind.is_addition() {
+        projected(alloc, items, change)
+    } else {
+        let row = gone.row(alloc, &change.row)?;
+        Ok(alone(alloc, Change::new(change.kind, row))?)
     }
 }
 

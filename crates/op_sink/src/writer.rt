@@ -1,40 +1,51 @@
-ghost use Rattle.std.specs.Prelude.{◌≡◌, [], ◌∷◌, false, IfOk, option_map};
+ghost use Rattle.std.specs.Prelude.{◌≡◌, [], ◌∷◌, false, IfOk};
+ghost use Rattle.ct_change.specs.Changelog.{adds, mode_of};
+ghost use Rattle.ct_change.specs.KeyRows.{row_told};
+ghost use Rattle.emission_rules.specs.Changes.{after_key};
 ghost use Rattle.emission_rules.specs.Sink as r;
 
-use ct_change::{Change, Changes, Declared, Kind, Steps};
-use ct_value::{Cols, Memory};
+use ct_change::{Change, Changes, Declared, Kind, Steps, Update, key_row};
+use ct_value::{Cols, Memory, Row};
 use op_rules::{OpFault, Operator};
 use std::alloc::Global;
 use std::sync::ledger::Ledger;
 
-/// The operator that prints the changes of the sink's table (Flink documentation, "Table to Stream Conversion"). It keeps no rows.
+/// The operator that prints the changes of the sink's table (Flink documentation, "Table to Stream Conversion"): into an upsert
+/// table, a row that goes by its key alone. It keeps no rows.
 #[derive(Drop)]
 pub struct SinkWriter {
     alloc: Global,
     declared: Declared,
-    after: Option<Cols>,
+    update: Update,
+    key: Cols,
     broken: bool,
 }
 
 impl SinkWriter {
-    /// The writer of a sink that is declared so, over an edge that is after-only by the key `after`, or over one that isn't
-    /// after-only. It takes no memory.
-    pub fn new(alloc: Global, declared: Declared, after: Option<Cols>) -> SinkWriter
-        ensures rule { ⟦<SinkWriter as Operator>⟧.rule result ≡ r.sink_rule (record { declared = declared; after = after }) }
-        ensures stands { ⟦<SinkWriter as Operator>⟧.stands_for result [] }
-        ensures whole { ⟦<SinkWriter as Operator>⟧.broken result ≡ false }
+    /// The writer of a sink that is declared so, over an edge that tells updates so. The key is that of an upsert table; for the
+    /// other modes it is not looked at.
+    pub fn new(
+        alloc: Global,
+        declared: Declared,
+        update: Update,
+        key: Cols,
+    ) -> Result<SinkWriter, Memory>
+        ensures rule { IfOk result (λ made. ⟦<SinkWriter as Operator>⟧.rule made ≡ r.sink_rule (record { declared = declared; key = key; after = after_key update })) }
+        ensures stands { IfOk result (λ made. ⟦<SinkWriter as Operator>⟧.stands_for made []) }
+        ensures whole { IfOk result (λ made. ⟦<SinkWriter as Operator>⟧.broken made ≡ false) }
     {
-        SinkWriter {
+        Ok(SinkWriter {
             alloc,
             declared,
-            after,
+            update,
+            key,
             broken: false,
-        }
+        })
     }
 }
 
 impl Operator for SinkWriter {
-    ghost rule = { λ s. r.sink_rule (record { declared = s.declared; after = s.after }) };
+    ghost rule = { λ s. r.sink_rule (record { declared = s.declared; key = s.key; after = after_key s.update }) };
 
     ghost broken = { λ s. s.broken };
 
@@ -51,8 +62,8 @@ impl Operator for SinkWriter {
         _steps: &mut Steps<L>,
     ) -> Result<Changes, OpFault> {
         self.broken = true;
-        let split = splits(self.declared, &self.after);
-        let sent = printed(self.alloc, split, change)?;
+        let split = splits(self.declared, &self.update);
+        let sent = printed(self.alloc, self.declared, &self.key, split, change)?;
         self.broken = false;
         Ok(sent)
     }
@@ -63,14 +74,15 @@ impl Operator for SinkWriter {
 }
 
 // Whether an update is printed as a row that goes and a row that comes: an upsert sink takes an edge that isn't after-only.
-fn splits(declared: Declared, after: &Option<Cols>) -> bool
-    ensures { result ≡ r.splits declared after.now }
+fn splits(declared: Declared, update: &Update) -> bool
+    ensures { result ≡ r.splits declared (after_key update.now) }
 {
-    match (declared, after) {
+    match (declared, update) {
         (Declared::Append, _) => false,
         (Declared::Retract, _) => false,
-        (Declared::Upsert, None) => true,
-        (Declared::Upsert, Some(_)) => false,
+        (Declared::Upsert, Update::Absent) => true,
+        (Declared::Upsert, Update::After(_)) => false,
+        (Declared::Upsert, Update::Both) => true,
     }
 }
 
@@ -89,11 +101,39 @@ fn kind_printed(split: bool, kind: Kind) -> Kind
     }
 }
 
-// The change as it is printed.
-fn printed(alloc: Global, split: bool, change: Change) -> Result<Changes, Memory>
-    ensures { IfOk result (λ sent. sent ≡ record { kind = r.kind_printed split change.kind; row = change.row } ∷ []) }
+// The row that is printed for one that comes or goes.
+fn row_printed(
+    alloc: Global,
+    declared: Declared,
+    key: &Cols,
+    comes: bool,
+    row: Row,
+) -> Result<Row, Memory>
+    ensures { IfOk result (λ made. made ≡ row_told (mode_of declared key.now) comes row) }
 {
+    if comes {
+        return Ok(row);
+    }
+    match declared {
+        Declared::Append => Ok(row),
+        Declared::Retract => Ok(row),
+        Declared::Upsert => key_row(alloc, &row, key),
+    }
+}
+
+// The change as it is printed.
+fn printed(
+    alloc: Global,
+    declared: Declared,
+    key: &Cols,
+    split: bool,
+    change: Change,
+) -> Result<Changes, Memory>
+    ensures { IfOk result (λ sent. sent ≡ record { kind = r.kind_printed split change.kind; row = row_told (mode_of declared key.now) (adds change.kind) change.row } ∷ []) }
+{
+    let Change { kind, row } = change;
+    let row = row_printed(alloc, declared, key, kind.is_addition(), row)?;
     let mut sent = Changes::new(alloc);
-    sent.push(Change::new(kind_printed(split, change.kind), change.row))?;
+    sent.push(Change::new(kind_printed(split, kind), row))?;
     Ok(sent)
 }

@@ -1,6 +1,6 @@
 -- A row may come to an operator that took nothing.
-use Rattle.std.proofs.Common.{◌≡◌, ℕ, ◌<◌, true, [], ◌∷◌, length, refl, sym, ap, subst, arith}
-use Rattle.ct_change.specs.declared.kind.Kind.TheVariants.{I}
+use Rattle.std.proofs.Common.{◌≡◌, ℕ, ◌<◌, List, true, [], ◌∷◌, length, refl, sym, ap, subst, arith}
+use Rattle.ct_change.specs.declared.kind.Kind.TheVariants.{I, D}
 use Rattle.ct_change.specs.declared.change.Change.{Change}
 use Rattle.std.specs.List.{AllByRecursion}
 use Rattle.ct_change.specs.Changelog.{retract, upsert, adds, admits}
@@ -26,4 +26,13 @@ keyed_may normalize change is wide e = record {
   change = subst (λ kind. admits (upsert normalize.key) kind ≡ true) (sym e) refl;
   fits = refl;
   key = subst (λ key. AllByRecursion (λ column. column < length change.row) key) (sym is) (omega arith, tt);
+}
+
+-- a row that goes, over an edge that is after-only by its second column
+pub gone_may : (answer : Change → Answer) (key : List ℕ) (change : Change) → key ≡ 1 ∷ [] → length change.row ≡ 3 → change.kind ≡ D → MayArrive (row_rule 1 (upsert key) answer) [] (arrival 0 0 change)
+gone_may answer key change is wide e = record {
+  port = omega arith;
+  change = subst (λ kind. admits (upsert key) kind ≡ true) (sym e) refl;
+  fits = refl;
+  key = subst (λ columns. AllByRecursion (λ column. column < length change.row) columns) (sym is) (omega (arith, wide), tt);
 }

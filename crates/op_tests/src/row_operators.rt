@@ -3,7 +3,7 @@ ghost use Rattle.op_rules.specs.History.{arrival};
 ghost use Rattle.op_rules.specs.Rules.{MayArrive};
 
 use crate::rows::row;
-use ct_change::{Change, Changes, Declared, Kind, Retract, Steps};
+use ct_change::{Change, Changes, Declared, Kind, Retract, Steps, Update};
 use ct_expr::{Expr, Exprs};
 use ct_value::{Cols, Memory, Ty};
 use op_row::{FilterOp, NormalizeOp, ProjectOp, UnionOp};
@@ -33,7 +33,7 @@ fn one<O: Operator, L: Ledger>(
 }
 
 // The same with steps that nobody reads.
-fn sent<O: Operator>(operator: &mut O, change: Change) -> Result<Changes, OpFault>
+pub(crate) fn sent<O: Operator>(operator: &mut O, change: Change) -> Result<Changes, OpFault>
     requires whole { O.broken operator.old ≡ false }
     requires stands { O.stands_for operator.old [] }
     requires may { MayArrive (O.rule operator.old) [] (arrival 0 0 change) }
@@ -67,7 +67,7 @@ fn filtered(alloc: Global) -> Result<Changes, OpFault> {
 fn projected(alloc: Global) -> Result<Changes, OpFault> {
     let mut items = Exprs::new(alloc);
     items.push(Expr::CharLength(word(alloc)?))?;
-    let mut project = ProjectOp::new(alloc, items, None);
+    let mut project = ProjectOp::new(alloc, items, None)?;
     sent(&mut project, insertion(alloc)?)
 }
 
@@ -90,7 +90,8 @@ fn normalized(alloc: Global) -> Result<Changes, OpFault> {
 }
 
 fn printed(alloc: Global) -> Result<Changes, OpFault> {
-    let mut sink = SinkWriter::new(alloc, Declared::Upsert, None);
+    let key = first_column(alloc)?;
+    let mut sink = SinkWriter::new(alloc, Declared::Upsert, Update::Both, key)?;
     sent(&mut sink, insertion(alloc)?)
 }
 

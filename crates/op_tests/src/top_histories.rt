@@ -184,7 +184,7 @@ fn the_first_row_alone_is_updated(rt: HostRuntime) -> Result<(), Fail> {
     Ok(())
 }
 
-// From a changelog by id to one by rank: an update is compared once, round the whole of it.
+// From a changelog by id to one by rank: an update is compared once, round the whole of it, and the rank that went is told alone.
 #[test]
 fn last_rows_are_compared_once(rt: HostRuntime) -> Result<(), Fail> {
     let changes = [
@@ -206,7 +206,7 @@ fn last_rows_are_compared_once(rt: HostRuntime) -> Result<(), Fail> {
 +U 3 1 7 1
 +U 2 1 5 2
 +U 2 1 5 1
--D 2 1 5 2
+-D N N N 2
 ";
     let told = all_tell(rt.alloc(), &changes)?;
     assert_eq!(rt; shown(rt.alloc(), &told)?.as_str(), want);

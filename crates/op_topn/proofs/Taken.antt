@@ -101,7 +101,7 @@ module _ (r : Ranking) (rows : Rows) (partitions : BTreeMap Row RankedRows) (hel
       le_by e l = omega (arith, e, l)
 
   fits_after : (row : Row) → 0 < copies after row → types_fit r.columns row ≡ true
-  fits_after = all_after r rows change m.sound.keeps m.may (λ row. types_fit r.columns row ≡ true) m.is_held.fits m.fits
+  fits_after = all_after r rows change m.sound.keeps m.may (λ row. types_fit r.columns row ≡ true) m.is_held.fits (λ adding. m.fits)
 
   turned : IsTurned key (λ k. members r k rows) (λ k. members r k after) gone_row come_row
   turned = record {

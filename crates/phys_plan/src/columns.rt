@@ -1,6 +1,7 @@
 //! The columns of which operators speak.
 ghost use Rattle.std.specs.Prelude.{◌≡◌, map, IfOk};
 ghost use Rattle.ct_expr.specs.View.{expr_view};
+ghost use Rattle.rel_algebra.specs.Items as i;
 ghost use Rattle.phys_plan.specs.Columns as c;
 
 use ct_expr::Expr;
@@ -21,7 +22,7 @@ pub fn plain_columns(alloc: Global, items: &[Expr]) -> Result<List<Option<u32>>,
 
 #[tactic(auto, unfolding(ct_expr::specs::View::expr_view))]
 fn plain_column(item: &Expr) -> Option<u32>
-    ensures { result ≡ c.plain_column (expr_view item.now) }
+    ensures { result ≡ i.plain_column (expr_view item.now) }
 {
     match item {
         Expr::Column { col, .. } => Some(*col),

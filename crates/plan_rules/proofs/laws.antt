@@ -1,5 +1,6 @@
 pub mod Answering
 pub mod Behaviours
+pub mod ChangeFits
 pub mod Columns
 pub mod Erasing
 pub mod Numbers

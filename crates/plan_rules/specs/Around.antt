@@ -1,5 +1,5 @@
 -- What is around a node of a plan, and what its operator's rule reads of it.
-use Rattle.std.specs.Prelude.{ℕ, Bool, cond, List, [], ◌∷◌, Option, Some, None}
+use Rattle.std.specs.Prelude.{ℕ, Bool, cond, List, [], ◌∷◌, Option}
 use Rattle.ct_value.specs.declared.ty.ColTy.{ColTy}
 use Rattle.ct_change.specs.Changelog.{Mode, append, retract, upsert}
 use Rattle.ct_change.specs.Kinds.{has_more_than_inserts}
@@ -11,6 +11,7 @@ use Rattle.ct_expr.specs.Expr.{Expr}
 use Rattle.rel_algebra.specs.declared.agg.Agg.{Agg}
 use Rattle.rel_algebra.specs.declared.join.Pair.{Pair}
 use Rattle.rel_algebra.specs.declared.sort.SortCol.{SortCol}
+use Rattle.emission_rules.specs.Changes.{after_key}
 use Rattle.emission_rules.specs.Filter.{Filter}
 use Rattle.emission_rules.specs.Project.{Project}
 use Rattle.emission_rules.specs.Union.{Union}
@@ -28,7 +29,8 @@ pub record Side : Type 0 where
   pub columns : List ColTy
 
 -- what is around a node: the kinds that its first input carries, how that tells updates and how the node does itself, the columns
--- of its first input, its other inputs, how many inputs it has, and what the sink's table is declared as
+-- of its first input, its other inputs, how many inputs it has, and what the sink's table is declared as,
+-- with its key
 pub record Around : Type 0 where
   pub kinds : KindSet
   pub input : Update
@@ -37,6 +39,7 @@ pub record Around : Type 0 where
   pub others : List Side
   pub inputs : ℕ
   pub declared : Declared
+  pub sink_key : List ℕ
 
 -- the second input; one that isn't there has no columns
 abbrev pub first_side : List Side → Side
@@ -47,12 +50,6 @@ abbrev pub second : Around → Side
 second around = first_side around.others
 
 -- ---- edges
-
--- the key of an after-only edge
-abbrev pub after_key : Update → Option (List ℕ)
-after_key Absent = None
-after_key (After columns) = Some columns
-after_key Both = None
 
 -- the mode in which a node writes the changes of its edge
 abbrev pub mode_told : Update → Mode
@@ -106,4 +103,4 @@ ranking_of partition order bound ranked around = record {
 }
 
 abbrev pub sink_of : Around → Sink
-sink_of around = record { declared = around.declared; after = after_key around.input }
+sink_of around = record { declared = around.declared; after = after_key around.input; key = around.sink_key }

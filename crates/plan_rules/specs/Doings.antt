@@ -1,5 +1,5 @@
 -- What each node of a plan does, by its operator among what is around it.
-use Rattle.std.specs.Prelude.{ℕ, List, [], ◌∷◌, length, map, Option, Some, None}
+use Rattle.std.specs.Prelude.{ℕ, List, [], ◌∷◌, length, map, Option, Some, None, unwrap_or}
 use Rattle.ct_change.specs.declared.update.Update.{Update}
 use Rattle.ct_change.specs.declared.update.Update.TheVariants.{Both}
 use Rattle.phys_plan.specs.Reading.{numbered, first_input}
@@ -33,6 +33,7 @@ around_of plan v inputs = record {
   others = map (side_of plan) (other_inputs inputs);
   inputs = length inputs;
   declared = plan.sink.mode;
+  sink_key = unwrap_or plan.sink.key [];
 }
 
 -- what a node does, by its operator

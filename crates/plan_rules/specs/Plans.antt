@@ -1,11 +1,11 @@
 -- A plan read as a network: its wiring by numbers, its edges and its tables.
-use Rattle.std.specs.Prelude.{◌≡◌, ℕ, zero, suc, ◌<◌, ◌≤◌, ◌==◌, false, cond, List, [], ◌∷◌, length, map, slice_get, slice_index_or, Option, Some, None, option_map, unwrap_or}
+use Rattle.std.specs.Prelude.{◌≡◌, ℕ, zero, suc, ◌<◌, ◌≤◌, ◌==◌, Bool, true, false, cond, List, [], ◌∷◌, length, map, slice_get, slice_index_or, Option, Some, None, option_map, unwrap_or}
 use Rattle.ct_value.specs.declared.ty.ColTy.{ColTy}
 use Rattle.ct_value.specs.declared.row.Row.{Row}
 use Rattle.ct_field.specs.Typed.{row_fits}
 use Rattle.ct_change.specs.declared.kind.KindSet.{KindSet}
 use Rattle.ct_change.specs.declared.change.Change.{Change}
-use Rattle.ct_change.specs.Changelog.{Mode, mode_of, Rows}
+use Rattle.ct_change.specs.Changelog.{Mode, mode_of, Rows, adds}
 use Rattle.ct_catalog.specs.declared.table.TableDef.{TableDef}
 use Rattle.ct_catalog.specs.Columns.{column_types, table_mode}
 use Rattle.phys_plan.specs.declared.edge.Edge.{Edge as PlanEdge}
@@ -19,9 +19,9 @@ use Rattle.phys_plan.specs.declared.node.Node.{Node}
 use Rattle.phys_plan.specs.declared.plan.Plan.{Plan}
 use Rattle.op_rules.specs.History.{Arrival}
 use Rattle.op_rules.specs.Rules.{Answer}
-use Rattle.op_rules.specs.Values.{types_fit}
-use Rattle.op_rules.specs.Edges.{Meaning, bag, last_rows, meaning_of, Exchange, forward, hash, Edge, IsKeyedBy}
+use Rattle.op_rules.specs.Edges.{Meaning, bag, last_rows, partials, meaning_of, Exchange, forward, hash, Edge, IsKeyedBy}
 use Rattle.route.specs.Routing.{route_of, types_at}
+use Rattle.stream_model.specs.KeysTold.{is_typed, told_fits}
 use Rattle.stream_model.specs.Tables.{Table}
 use Rattle.stream_model.specs.Network.{Feed, Network, IsWired}
 use Rattle.phys_plan.specs.Reading.{numbered}
@@ -88,6 +88,22 @@ abbrev pub meaning_in : Option PlanEdge → Meaning
 meaning_in None = bag
 meaning_in (Some edge) = meaning_by edge.update
 
+-- the key by which changes that are read so are last rows
+abbrev pub key_read : Meaning → Option (List ℕ)
+key_read bag = None
+key_read (last_rows key) = Some key
+key_read (partials p) = None
+
+-- where there is such a key, a removal tells that alone
+abbrev pub key_alone : Option (List ℕ) → Bool → Option (List ℕ)
+key_alone None comes = None
+key_alone (Some key) true = None
+key_alone (Some key) false = Some key
+
+-- whether the row of a change that is read so has these columns; where a removal tells its key alone, the columns of that
+abbrev pub change_fits : Meaning → List ColTy → Change → Bool
+change_fits meaning columns change = told_fits (key_alone (key_read meaning) (adds change.kind)) columns change.row
+
 abbrev pub no_kinds : KindSet
 no_kinds = record { i = false; ub = false; ua = false; d = false }
 
@@ -122,7 +138,7 @@ table_of parallelism table = record {
   required = required_from 0 (column_types table);
   spread = spread_of table;
   route = route_of parallelism (types_at (spread_of table) (column_types table));
-  fits = λ change. types_fit (column_types table) change.row;
+  fits = λ change. is_typed (table_mode table) (column_types table) change;
 }
 
 -- ---- the network
@@ -144,13 +160,16 @@ module _ (columns : ℕ → List ColTy) (doing : ℕ → Doing) (plan : Plan) wh
   edge_at e = numbered plan.edges e
 
   -- the sink's changes are read as its table declares
+  abbrev pub network_meaning : ℕ → Meaning
+  network_meaning e = cond (e == length plan.nodes) (meaning_of (table_mode plan.sink)) (meaning_in (edge_at e))
+
   abbrev pub network_edge : ℕ → Edge
   network_edge e = record {
-    meaning = cond (e == length plan.nodes) (meaning_of (table_mode plan.sink)) (meaning_in (edge_at e));
+    meaning = network_meaning e;
     exchange = exchange_in (edge_at e);
     route = route_by plan.parallelism (columns e) (exchange_in (edge_at e));
     kinds = kinds_in (edge_at e);
-    fits = λ change. row_fits (columns e) change.row;
+    fits = change_fits (network_meaning e) (columns e);
     holds = λ row. row_fits (columns e) row;
     unique = keys_in (λ node. node.keys.unique) (node_at e);
     local = keys_in (λ node. node.keys.local) (node_at e);

@@ -5,6 +5,7 @@ pub mod Clauses
 pub mod GoesInto
 pub mod GroupedCounts
 pub mod Groups
+pub mod Items
 pub mod Joins
 pub mod Keys
 pub mod Ranks

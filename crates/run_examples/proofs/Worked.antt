@@ -7,6 +7,7 @@ use Rattle.ct_value.proofs.laws.Bags.{items-none, items-add, items-remove, copie
 use Rattle.ct_value.specs.Order.{row_cmp, row_total}
 use Rattle.ct_value.specs.Rows.{project}
 use Rattle.ct_value.specs.declared.row.Row.{Row}
+use Rattle.ct_value.specs.declared.value.Value.TheVariants.{Null}
 use Rattle.ct_value.specs.declared.codes.ChangeCode.{ChangeCode}
 use Rattle.ct_value.specs.declared.codes.ChangeCode.TheVariants.{RowAbsent, KeyPresent}
 use Rattle.ct_change.specs.declared.kind.Kind.TheVariants.{I, UB, UA, D}
@@ -123,7 +124,7 @@ ends_as moved =
 new_first : printed_by join_network new_row_first ≡ result I rome ∷ Quiet 3 ∷ result UA oslo ∷ Quiet 5 ∷ []
 new_first = ends_as (move 1 1 0 ∷ move 3 0 0 ∷ move 4 0 1 ∷ move 5 1 1 ∷ [])
 
-old_first : printed_by join_network old_row_first ≡ result I rome ∷ Quiet 3 ∷ result D rome ∷ result I oslo ∷ Quiet 5 ∷ []
+old_first : printed_by join_network old_row_first ≡ result I rome ∷ Quiet 3 ∷ result D Null ∷ result I oslo ∷ Quiet 5 ∷ []
 old_first = ends_as (move 1 1 1 ∷ move 3 1 1 ∷ move 4 1 1 ∷ move 5 1 1 ∷ [])
 
 -- ---- a word that doesn't stand

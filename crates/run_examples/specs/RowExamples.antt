@@ -100,8 +100,14 @@ projects =
     -- on an edge that is after-only, a change whose image stays is handed on too
     ∷ record {
       rule = project_rule (record { items = Column 0 Int ∷ []; after = Some (0 ∷ []) });
-      came = at I (n 1 ∷ t (codes "a") ∷ []) ∷ at UA (n 1 ∷ t (codes "b") ∷ []) ∷ at D (n 1 ∷ t (codes "b") ∷ []) ∷ [];
+      came = at I (n 1 ∷ t (codes "a") ∷ []) ∷ at UA (n 1 ∷ t (codes "b") ∷ []) ∷ at D (n 1 ∷ Null ∷ []) ∷ [];
       sends = Ok (change I (n 1 ∷ []) ∷ change UA (n 1 ∷ []) ∷ change D (n 1 ∷ []) ∷ []);
+    }
+    -- there a row that goes has its key at the first place of each column, and no item is evaluated
+    ∷ record {
+      rule = project_rule (record { items = Arith Add (Column 1 Int) (Literal (n 1) Int) ∷ Column 0 Int ∷ Column 1 Int ∷ Column 0 Int ∷ []; after = Some (0 ∷ []) });
+      came = at I (n 1 ∷ n 5 ∷ []) ∷ at D (n 1 ∷ Null ∷ []) ∷ at D (n 2 ∷ n largest ∷ []) ∷ [];
+      sends = Ok (change I (n 6 ∷ n 1 ∷ n 5 ∷ n 1 ∷ []) ∷ change D (Null ∷ n 1 ∷ Null ∷ Null ∷ []) ∷ change D (Null ∷ n 2 ∷ Null ∷ Null ∷ []) ∷ []);
     }
     -- no items
     ∷ record {
@@ -137,27 +143,27 @@ abbrev pub sinks : List Example
 sinks =
     -- rows of an append sink
     record {
-      rule = sink_rule (record { declared = Append; after = None });
+      rule = sink_rule (record { declared = Append; after = None; key = [] });
       came = at I (t (codes "a,b") ∷ []) ∷ at I (Null ∷ []) ∷ at I (t (codes "\\N") ∷ []) ∷ at I (t [] ∷ []) ∷ [];
       sends = Ok (change I (t (codes "a,b") ∷ []) ∷ change I (Null ∷ []) ∷ change I (t (codes "\\N") ∷ []) ∷ change I (t [] ∷ []) ∷ []);
     }
     -- a retract sink prints both rows of an update
     ∷ record {
-      rule = sink_rule (record { declared = Retract; after = None });
+      rule = sink_rule (record { declared = Retract; after = None; key = [] });
       came = updated;
       sends = Ok (change I (n 1 ∷ t (codes "a") ∷ []) ∷ change UB (n 1 ∷ t (codes "a") ∷ []) ∷ change UA (n 1 ∷ t (codes "b") ∷ []) ∷ change D (n 1 ∷ t (codes "b") ∷ []) ∷ []);
     }
-    -- an upsert sink prints them as a row that goes and a row that comes
+    -- an upsert sink prints them as a row that goes, by its key alone, and a row that comes
     ∷ record {
-      rule = sink_rule (record { declared = Upsert; after = None });
+      rule = sink_rule (record { declared = Upsert; after = None; key = 0 ∷ [] });
       came = updated;
-      sends = Ok (change I (n 1 ∷ t (codes "a") ∷ []) ∷ change D (n 1 ∷ t (codes "a") ∷ []) ∷ change I (n 1 ∷ t (codes "b") ∷ []) ∷ change D (n 1 ∷ t (codes "b") ∷ []) ∷ []);
+      sends = Ok (change I (n 1 ∷ t (codes "a") ∷ []) ∷ change D (n 1 ∷ Null ∷ []) ∷ change I (n 1 ∷ t (codes "b") ∷ []) ∷ change D (n 1 ∷ Null ∷ []) ∷ []);
     }
     -- and what comes after-only as it is
     ∷ record {
-      rule = sink_rule (record { declared = Upsert; after = Some (0 ∷ []) });
-      came = at I (n 1 ∷ t (codes "a") ∷ []) ∷ at UA (n 1 ∷ t (codes "b") ∷ []) ∷ at D (n 1 ∷ t (codes "b") ∷ []) ∷ [];
-      sends = Ok (change I (n 1 ∷ t (codes "a") ∷ []) ∷ change UA (n 1 ∷ t (codes "b") ∷ []) ∷ change D (n 1 ∷ t (codes "b") ∷ []) ∷ []);
+      rule = sink_rule (record { declared = Upsert; after = Some (0 ∷ []); key = 0 ∷ [] });
+      came = at I (n 1 ∷ t (codes "a") ∷ []) ∷ at UA (n 1 ∷ t (codes "b") ∷ []) ∷ at D (n 1 ∷ Null ∷ []) ∷ [];
+      sends = Ok (change I (n 1 ∷ t (codes "a") ∷ []) ∷ change UA (n 1 ∷ t (codes "b") ∷ []) ∷ change D (n 1 ∷ Null ∷ []) ∷ []);
     }
     ∷ []
 
@@ -187,6 +193,12 @@ normalized_examples =
       normalize = record { key = 0 ∷ []; output = upsert (0 ∷ []) };
       came = cities;
       sends = change I (n 1 ∷ t (codes "Rome") ∷ []) ∷ change UA (n 1 ∷ t (codes "Oslo") ∷ []) ∷ [];
+    }
+    -- a key that goes is told alone there
+    ∷ record {
+      normalize = record { key = 0 ∷ []; output = upsert (0 ∷ []) };
+      came = at I (n 1 ∷ t (codes "Rome") ∷ []) ∷ at D (n 1 ∷ Null ∷ []) ∷ at D (n 1 ∷ Null ∷ []) ∷ [];
+      sends = change I (n 1 ∷ t (codes "Rome") ∷ []) ∷ change D (n 1 ∷ Null ∷ []) ∷ [];
     }
     -- a key that goes takes its own last row with it, and keys stand apart
     ∷ record {

@@ -4,7 +4,7 @@ use Rattle.ct_value.specs.Bag.{drop_one}
 use Rattle.ct_value.specs.Order.{row_cmp}
 use Rattle.ct_value.specs.Rows.{project}
 use Rattle.ct_value.specs.declared.value.Value.{Value}
-use Rattle.ct_value.specs.declared.value.Value.TheVariants.{Num, Text}
+use Rattle.ct_value.specs.declared.value.Value.TheVariants.{Null, Num, Text}
 use Rattle.ct_value.specs.declared.row.Row.{Row}
 use Rattle.ct_value.specs.declared.codes.ChangeCode.TheVariants.{RowAbsent}
 use Rattle.ct_value.specs.declared.codes.OrderCode.TheVariants.{NoSuchPlace, TooFew, NoBuffer}
@@ -12,7 +12,8 @@ use Rattle.ct_change.specs.declared.kind.Kind.{Kind}
 use Rattle.ct_change.specs.declared.kind.Kind.TheVariants.{I, UB, UA, D}
 use Rattle.ct_change.specs.declared.kind.KindSet.{KindSet}
 use Rattle.ct_change.specs.declared.change.Change.{Change}
-use Rattle.ct_change.specs.Changelog.{append, retract, same_row, adds}
+use Rattle.ct_change.specs.Changelog.{append, retract, upsert, same_row, adds}
+use Rattle.ct_change.specs.KeyRows.{deleted}
 use Rattle.op_rules.specs.History.{Arrival, at_port}
 use Rattle.op_rules.specs.Rules.{Answer}
 use Rattle.op_rules.specs.Edges.{bag, last_rows, Meaning, Exchange, forward, hash, Edge}
@@ -104,11 +105,11 @@ last_row [] = None
 last_row (row ∷ []) = Some row
 last_row (row ∷ other ∷ rows) = last_row (other ∷ rows)
 
--- a row shown is replaced by another
+-- a row shown is replaced by another; one that goes is told by its key
 abbrev pub shown_change : Option Row → Option Row → List Change
 shown_change None None = []
 shown_change None (Some fresh) = record { kind = I; row = fresh } ∷ []
-shown_change (Some old) None = record { kind = D; row = old } ∷ []
+shown_change (Some old) None = record { kind = D; row = deleted (upsert (0 ∷ [])) old } ∷ []
 shown_change (Some old) (Some fresh) = cond (same_row old fresh) [] (record { kind = UA; row = fresh } ∷ [])
 
 -- the changes of one key
@@ -329,7 +330,7 @@ tallied kind n = Printed (record { kind = kind; row = tally n })
 
 pub record RunsAsWorked : Type 0 where
   pub new_first : printed_by join_network new_row_first ≡ result I rome ∷ Quiet 3 ∷ result UA oslo ∷ Quiet 5 ∷ []
-  pub old_first : printed_by join_network old_row_first ≡ result I rome ∷ Quiet 3 ∷ result D rome ∷ result I oslo ∷ Quiet 5 ∷ []
+  pub old_first : printed_by join_network old_row_first ≡ result I rome ∷ Quiet 3 ∷ result D Null ∷ result I oslo ∷ Quiet 5 ∷ []
   pub words_printed : printed_by word_network two_words ≡ Printed (word I 97) ∷ Printed (word I 98) ∷ Quiet 2 ∷ []
   -- the removal of a word that doesn't stand is refused
   pub absent : step word_network 100 (run_order word_network 100 (opened word_network) two_words) (Take 0 (word D 99)) ≡ Err (Refused RowAbsent)

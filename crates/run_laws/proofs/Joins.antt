@@ -10,8 +10,6 @@ use Rattle.ct_value.proofs.laws.Bags.{items-remove}
 use Rattle.ct_value.specs.Order.{row_cmp, row_total, row_exact}
 use Rattle.ct_value.specs.Rows.{project}
 use Rattle.ct_value.specs.declared.row.Row.{Row}
-use Rattle.ct_value.specs.declared.ty.ColTy.{ColTy}
-use Rattle.ct_field.specs.Typed.{row_fits}
 use Rattle.ct_change.specs.declared.change.Change.{Change}
 use Rattle.ct_change.specs.Changelog.{Mode, append, retract, upsert, Rows, adds, apply, fold, fold_from, row_at, same_row, without}
 use Rattle.ct_change.specs.Emission.{as_it_is, put_in, put_over, replaced_by, difference, row_of}
@@ -20,9 +18,11 @@ use Rattle.rel_algebra.specs.Sums.{Each}
 use Rattle.rel_algebra.proofs.laws.Bags.{each-none, each-add}
 use Rattle.rel_algebra.proofs.laws.Fits.{fits-append}
 use Rattle.op_rules.specs.History.{Arrival, at_port}
+use Rattle.emission_rules.specs.Arriving.{is_whole}
 use Rattle.emission_rules.specs.Joins.{Join, turned, told_of, pair_with, first_out, unless, join_emits}
 use Rattle.emission_rules.specs.Joining.{Shape, joins, matched, Joining, match_of, join_by, join_of, left_rows, right_rows, emits_one, emits}
 use Rattle.run_laws.proofs.Answers.{OutsAt, outs_both, not_err, err_same}
+use Rattle.run_laws.proofs.Whole.{Fit}
 
 -- ---- rows that stand
 
@@ -38,22 +38,26 @@ module _ (P : Row → Type 0) where
   each_without rows None h = h
   each_without rows (Some row) h = each_remove rows row h
 
-  each_if : (b : Bool) (rows others : Rows) (row : Row) → P row → Each P rows → Each P others → Each P (cond b (add rows row) others)
-  each_if true rows others row p h k = each-add row_total row_exact P rows row p h
+  -- the row of a change has the property, where it is told whole
+  abbrev pub IsTold : Mode → Change → Type 0
+  IsTold mode change = is_whole mode change.kind ≡ true → P change.row
+
+  each_if : (b : Bool) (rows others : Rows) (row : Row) → (b ≡ true → P row) → Each P rows → Each P others → Each P (cond b (add rows row) others)
+  each_if true rows others row p h k = each-add row_total row_exact P rows row (p refl) h
   each_if false rows others row p h k = k
 
-  each_after : (mode : Mode) (rows : Rows) (change : Change) → P change.row → Each P rows → Each P (apply mode rows change)
-  each_after append rows change p h = each-add row_total row_exact P rows change.row p h
-  each_after retract rows change p h = each_if (adds change.kind) rows (remove rows change.row) change.row p h (each_remove rows change.row h)
+  each_after : (mode : Mode) (rows : Rows) (change : Change) → IsTold mode change → Each P rows → Each P (apply mode rows change)
+  each_after append rows change p h = each-add row_total row_exact P rows change.row (p refl) h
+  each_after retract rows change p h = each_if (adds change.kind) rows (remove rows change.row) change.row (λ e. p refl) h (each_remove rows change.row h)
   each_after (upsert key) rows change p h =
       let k = each_without rows (row_at rows key change.row) h in
       each_if (adds change.kind) (without rows (row_at rows key change.row)) (without rows (row_at rows key change.row)) change.row p k k
 
-  each_fold : (mode : Mode) (rows : Rows) (changes : List Change) → AllByRecursion (λ change. P change.row) changes → Each P rows → Each P (fold_from mode rows changes)
+  each_fold : (mode : Mode) (rows : Rows) (changes : List Change) → AllByRecursion (IsTold mode) changes → Each P rows → Each P (fold_from mode rows changes)
   each_fold mode rows [] all h = h
   each_fold mode rows (change ∷ changes) all h = each_fold mode (apply mode rows change) changes all.1 (each_after mode rows change all.0 h)
 
-  rows_stand : (mode : Mode) (changes : List Change) → AllByRecursion (λ change. P change.row) changes → Each P (fold mode changes)
+  rows_stand : (mode : Mode) (changes : List Change) → AllByRecursion (IsTold mode) changes → Each P (fold mode changes)
   rows_stand mode changes all = each_fold mode none changes all (each-none row_total row_exact P)
 
   -- the row, if there is one, has the property
@@ -78,15 +82,15 @@ module _ (P : Row → Type 0) where
   as_it_goes true change p = (tt, p)
   as_it_goes false change p = (p, tt)
 
-  replaced_goes : (o : Option Row) (b : Bool) (change : Change) → adds change.kind ≡ b → If o → P change.row → IfChange (replaced_by o change).gone × IfChange (replaced_by o change).come
-  replaced_goes None true change e h p = subst (λ b. IfChange (put_in b change).gone × IfChange (put_in b change).come) (sym e) (tt, p)
+  replaced_goes : (o : Option Row) (b : Bool) (change : Change) → adds change.kind ≡ b → If o → (b ≡ true → P change.row) → IfChange (replaced_by o change).gone × IfChange (replaced_by o change).come
+  replaced_goes None true change e h p = subst (λ b. IfChange (put_in b change).gone × IfChange (put_in b change).come) (sym e) (tt, p refl)
   replaced_goes None false change e h p = subst (λ b. IfChange (put_in b change).gone × IfChange (put_in b change).come) (sym e) (tt, tt)
-  replaced_goes (Some old) true change e h p = subst (λ b. IfChange (put_over old b change).gone × IfChange (put_over old b change).come) (sym e) (h, p)
+  replaced_goes (Some old) true change e h p = subst (λ b. IfChange (put_over old b change).gone × IfChange (put_over old b change).come) (sym e) (h, p refl)
   replaced_goes (Some old) false change e h p = subst (λ b. IfChange (put_over old b change).gone × IfChange (put_over old b change).come) (sym e) (h, tt)
 
-  difference_goes : (mode : Mode) (rows : Rows) (change : Change) → Each P rows → P change.row → IfChange (difference mode rows change).gone × IfChange (difference mode rows change).come
-  difference_goes append rows change each p = as_it_goes (adds change.kind) change p
-  difference_goes retract rows change each p = as_it_goes (adds change.kind) change p
+  difference_goes : (mode : Mode) (rows : Rows) (change : Change) → Each P rows → IsTold mode change → IfChange (difference mode rows change).gone × IfChange (difference mode rows change).come
+  difference_goes append rows change each p = as_it_goes (adds change.kind) change (p refl)
+  difference_goes retract rows change each p = as_it_goes (adds change.kind) change (p refl)
   difference_goes (upsert key) rows change each p =
       replaced_goes (row_at rows key change.row) (adds change.kind) change refl (found (λ other. same_row (project key change.row) (project key other)) (items rows) each) p
 
@@ -106,7 +110,7 @@ module _ (join : Join) (Own Other Whole : Row → Type 0) (whole : (row match : 
   first_is others None each h = tt
   first_is others (Some change) each h = pair_is change.row (find (join.outs change.row) (items others)) h (found Other (join.outs change.row) (items others) each)
 
-  join_outs : (mode : Mode) (rows others : Rows) (change : Change) → Each Own rows → Each Other others → Own change.row → OutsAt Whole (join_emits join mode rows others change)
+  join_outs : (mode : Mode) (rows others : Rows) (change : Change) → Each Own rows → Each Other others → IsTold Own mode change → OutsAt Whole (join_emits join mode rows others change)
   join_outs mode rows others change stand each p =
       let diff = difference mode rows change in
       let beside = without rows (row_of diff.gone) in
@@ -116,22 +120,22 @@ module _ (join : Join) (Own Other Whole : Row → Type 0) (whole : (row match : 
 
 -- ---- along a history
 
-module _ (Left Right : Row → Type 0) where
-  -- a row of the left, or of the right
-  abbrev IsOf : Bool → Row → Type 0
-  IsOf true row = Left row
-  IsOf false row = Right row
+module _ (Left Right : Change → Type 0) where
+  -- a change of the left, or of the right
+  abbrev IsOf : Bool → Change → Type 0
+  IsOf true change = Left change
+  IsOf false change = Right change
 
   abbrev pub Arrives : Arrival → Type 0
-  Arrives a = IsOf (a.port == 0) a.change.row
+  Arrives a = IsOf (a.port == 0) a.change
 
   abbrev AllLeft : List Change → Type 0
-  AllLeft changes = AllByRecursion (λ change. Left change.row) changes
+  AllLeft changes = AllByRecursion Left changes
 
   abbrev AllRight : List Change → Type 0
-  AllRight changes = AllByRecursion (λ change. Right change.row) changes
+  AllRight changes = AllByRecursion Right changes
 
-  one_arrives : (p : ℕ) (change : Change) (xs ys : List Change) → p < 2 → AllLeft (cond (p == 0) (change ∷ xs) xs) → AllRight (cond (p == 1) (change ∷ ys) ys) → IsOf (p == 0) change.row × AllLeft xs × AllRight ys
+  one_arrives : (p : ℕ) (change : Change) (xs ys : List Change) → p < 2 → AllLeft (cond (p == 0) (change ∷ xs) xs) → AllRight (cond (p == 1) (change ∷ ys) ys) → IsOf (p == 0) change × AllLeft xs × AllRight ys
   one_arrives zero change xs ys l h k = (h.0, h.1, k)
   one_arrives (suc zero) change xs ys l h k = (k.0, h, k.1)
   one_arrives (suc (suc p)) change xs ys l h k = absurd (omega (arith, l))
@@ -142,15 +146,15 @@ module _ (Left Right : Row → Type 0) where
       let one = one_arrives a.port a.change (at_port 0 history) (at_port 1 history) w.0 h k in
       (one.0, all_arrive history w.1 one.1 one.2)
 
-  left_one : (b : Bool) (change : Change) (xs : List Change) → IsOf b change.row → AllLeft xs → AllLeft (cond b (change ∷ xs) xs)
+  left_one : (b : Bool) (change : Change) (xs : List Change) → IsOf b change → AllLeft xs → AllLeft (cond b (change ∷ xs) xs)
   left_one true change xs h k = (h, k)
   left_one false change xs h k = k
 
-  right_one : (p : ℕ) (change : Change) (xs : List Change) → IsOf (p == 0) change.row → AllRight xs → AllRight (cond (p == 1) (change ∷ xs) xs)
+  right_one : (p : ℕ) (change : Change) (xs : List Change) → IsOf (p == 0) change → AllRight xs → AllRight (cond (p == 1) (change ∷ xs) xs)
   right_one p change xs h k = go (p == 1) refl
     where
       go : (b : Bool) → (p == 1) ≡ b → AllRight (cond b (change ∷ xs) xs)
-      go true e = (subst (λ n. IsOf (n == 0) change.row) (eqb-true p 1 e) h, k)
+      go true e = (subst (λ n. IsOf (n == 0) change) (eqb-true p 1 e) h, k)
       go false e = k
 
   all_left : (history : List Arrival) → AllByRecursion Arrives history → AllLeft (at_port 0 history)
@@ -165,37 +169,35 @@ all_both : {A : Type 0} (P : A → Type 0) (xs ys : List A) → AllByRecursion P
 all_both P [] ys h k = k
 all_both P (x ∷ xs) ys h k = (h.0, all_both P xs ys h.1 k)
 
-abbrev Fit : List ColTy → Row → Type 0
-Fit columns row = row_fits columns row ≡ true
-
 -- what both sides of a join make of a pair that is out of range is the joined row
 joined_pair : (shape : Shape) (left_width right_width : ℕ) (match : Matching) (W : Row → Type 0) (left right : Row) → W (left ++ right) → W ((join_by shape left_width right_width match).pair left right)
 joined_pair (joins kind) left_width right_width match W left right h = h
 joined_pair (matched anti) left_width right_width match W left right h = h
 
 module _ (j : Joining) where
-  abbrev Left : Row → Type 0
-  Left = Fit j.left_columns
+  -- a change of a side has its columns, where its row is told whole
+  abbrev pub Left : Change → Type 0
+  Left = IsTold (Fit j.left_columns) j.left
 
-  abbrev Right : Row → Type 0
-  Right = Fit j.right_columns
+  abbrev pub Right : Change → Type 0
+  Right = IsTold (Fit j.right_columns) j.right
 
   abbrev Whole : Row → Type 0
   Whole = Fit (j.left_columns ++ j.right_columns)
 
-  whole : (left right : Row) → Left left → Right right → Whole ((join_of j).pair left right)
+  whole : (left right : Row) → Fit j.left_columns left → Fit j.right_columns right → Whole ((join_of j).pair left right)
   whole left right h k = joined_pair j.shape _ _ (match_of j) Whole left right (fits-append j.left_columns j.right_columns left right h k)
 
   one_out : (before : List Arrival) (a : Arrival) → AllByRecursion (Arrives Left Right) before → Arrives Left Right a → OutsAt Whole (emits_one j before a)
   one_out before a h k =
-      let left = rows_stand Left j.left (at_port 0 before) (all_left Left Right before h) in
-      let right = rows_stand Right j.right (at_port 1 before) (all_right Left Right before h) in
+      let left = rows_stand (Fit j.left_columns) j.left (at_port 0 before) (all_left Left Right before h) in
+      let right = rows_stand (Fit j.right_columns) j.right (at_port 1 before) (all_right Left Right before h) in
       go (a.port == 0) k left right
     where
-      go : (b : Bool) → IsOf Left Right b a.change.row → Each Left (left_rows j before) → Each Right (right_rows j before)
+      go : (b : Bool) → IsOf Left Right b a.change → Each (Fit j.left_columns) (left_rows j before) → Each (Fit j.right_columns) (right_rows j before)
           → OutsAt Whole (cond b (join_emits (join_of j) j.left (left_rows j before) (right_rows j before) a.change) (join_emits (turned (join_of j)) j.right (right_rows j before) (left_rows j before) a.change))
-      go true k left right = join_outs (join_of j) Left Right Whole whole j.left (left_rows j before) (right_rows j before) a.change left right k
-      go false k left right = join_outs (turned (join_of j)) Right Left Whole (λ row match p q. whole match row q p) j.right (right_rows j before) (left_rows j before) a.change right left k
+      go true k left right = join_outs (join_of j) (Fit j.left_columns) (Fit j.right_columns) Whole whole j.left (left_rows j before) (right_rows j before) a.change left right k
+      go false k left right = join_outs (turned (join_of j)) (Fit j.right_columns) (Fit j.left_columns) Whole (λ row match p q. whole match row q p) j.right (right_rows j before) (left_rows j before) a.change right left k
 
   pub joins_out : (before piece : List Arrival) → AllByRecursion (Arrives Left Right) before → AllByRecursion (Arrives Left Right) piece → OutsAt Whole (emits j before piece)
   joins_out before [] h k = λ row e. not_err [] row e

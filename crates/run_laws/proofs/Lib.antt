@@ -3,4 +3,5 @@ mod Joins
 mod Outs
 mod Rows
 mod Types
+mod Whole
 pub mod laws

@@ -2,10 +2,10 @@
 use Rattle.std.specs.Prelude.{◌≡◌, ℕ, true, List, length}
 use Rattle.std.specs.List.{AllByRecursion}
 use Rattle.ct_value.specs.declared.ty.ColTy.{ColTy}
-use Rattle.ct_field.specs.Typed.{row_fits}
 use Rattle.phys_plan.specs.declared.plan.Plan.{Plan}
 use Rattle.stream_model.specs.Runs.{changes_in}
-use Rattle.ct_catalog.specs.Columns.{column_types}
+use Rattle.stream_model.specs.KeysTold.{told_fits, told_key}
+use Rattle.ct_catalog.specs.Columns.{column_types, table_mode}
 use Rattle.plan_rules.specs.Columns.{columns_at}
 use Rattle.plan_rules.specs.Doings.{network}
 use Rattle.plan_check.specs.Types.{fit_sink}
@@ -20,7 +20,8 @@ sent_columns plan = columns_at plan.sources plan.nodes (length plan.nodes)
 abbrev pub SinksFit : Type 0
 SinksFit = (plan : Plan) → IsRuled plan → fit_sink (sent_columns plan) (column_types plan.sink) ≡ true
 
--- each row that a run over a sound plan has printed has these columns
+-- each row that a run over a sound plan has printed has these columns; where a `-D` into an upsert sink tells its key alone, those of the key
 abbrev pub RunsPrintRows : Type 0
 RunsPrintRows = (plan : Plan) → IsRuled plan → (limit : ℕ) (bytes : List ℕ)
-    → AllByRecursion (λ change. row_fits (sent_columns plan) change.row ≡ true) (changes_in (printed_by (whole_run (network plan) limit plan.sources bytes)))
+    → AllByRecursion (λ change. told_fits (told_key (table_mode plan.sink) change.kind) (sent_columns plan) change.row ≡ true)
+    (changes_in (printed_by (whole_run (network plan) limit plan.sources bytes)))

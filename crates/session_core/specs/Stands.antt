@@ -2,7 +2,8 @@
 use Rattle.std.specs.Prelude.{◌≡◌, ℕ, ◌+◌, Bool, cond, List, [], ◌∷◌, ◌++◌, length, take, true, Option, Some, None, Result, Ok}
 use Rattle.ct_change.specs.declared.change.Change.{Change}
 use Rattle.ct_change.specs.declared.kind.Kind.{Kind}
-use Rattle.ct_change.specs.Changelog.{Mode, admits, fold, has, IsValid}
+use Rattle.ct_change.specs.Changelog.{Mode, admits, fold, has}
+use Rattle.ct_change.specs.KeyRows.{IsChangelog, IsKeyed}
 use Rattle.op_rules.specs.Edges.{meaning_of}
 use Rattle.op_rules.specs.History.{Arrival}
 use Rattle.op_rules.specs.Rules.{Rule}
@@ -30,14 +31,15 @@ use Rattle.session_core.specs.Sources.{AllCheck}
 abbrev pub reached : Network → ℕ → List Item → State
 reached g limit items = after g limit (opened g) items
 
--- what the sink prints is read as this mode says, and is of the mode's kinds
+-- what the sink prints is read as this mode says, is of the mode's kinds, and tells no more than the mode does
 pub record PrintsIn (g : Network) (mode : Mode) : Type 0 where
   pub meaning : (g.edge g.count).meaning ≡ meaning_of mode
   pub kinds : (kind : Kind) → has (g.edge g.count).kinds kind ≡ true → admits mode kind ≡ true
+  pub keyed : (change : Change) → admits mode change.kind ≡ true → (g.edge g.count).fits change ≡ true → IsKeyed mode change
 
--- of what was printed each prefix is a valid changelog of the mode, and all of it folds to the sink's batch answer over what was taken
+-- each prefix of what was printed is a changelog of the mode, and all of it folds to the sink's batch answer over what was taken
 pub record HasAnswered (g : Network) (mode : Mode) (s : State) : Type 0 where
-  pub valid : (n : ℕ) → IsValid mode (take n (changes_in s.printed))
+  pub valid : (n : ℕ) → IsChangelog mode (take n (changes_in s.printed))
   pub answer : IsAnswer g (table_rows g s) g.count (fold mode (changes_in s.printed))
 
 -- in each state that items lead to, the front of each channel may be consumed, and what was sent has its edge's columns

@@ -63,7 +63,7 @@ impl<O: Operator + Drop, S: SourceCheck> Session<O, S> {
     }
 
     /// The session after one event. A change that is taken has to fit its table: as many values as columns, each NULL or of
-    /// its column's type. A stop comes exactly where the machine stops, with its cause, NULL where none may stand among them,
+    /// its column's type, and a `-D` of an upsert table NULL outside the key. A stop comes exactly where the machine stops, with its cause, NULL where none may stand among them,
     /// or for want of memory; it consumes the session, adds nothing to what was printed, and hands back what was printed and
     /// not yet handed out.
     pub fn step<L: Ledger>(

@@ -30,8 +30,9 @@ pub trait SourceCheck: Drop {
     /// Whether what it keeps is what it needs of these changes of the table.
     ghost stands_for: { Self → Table → List Change → Type 0 };
 
-    /// Tests a change and takes it: its kind, then NULL where none may stand, then the rows that stand. It has to have as
-    /// many values as the table has columns, each NULL or of its column's type. After an error nothing more is promised of it.
+    /// Tests a change and takes it: its kind, then NULL where none may stand, which of a `-D` of an upsert table is asked of the
+    /// key's columns alone, then the rows that stand. It has to have as many values as the table has columns, each NULL or of
+    /// its column's type, and such a `-D` NULL outside the key. After an error nothing more is promised of it.
     fn check(&mut self, change: &Change) -> Result<(), SourceFault>
         requires { (table : Table) × (before : List Change) × stands_for self.old table before × (table.fits change.now ≡ true) }
         ensures ok { OnOk result ((table : Table) (before : List Change) → stands_for self.old table before → table.fits change.now ≡ true → (refusal table (fold table.mode before) change.now ≡ None) × stands_for self.new table (before ++ change.now ∷ [])) }

@@ -1,34 +1,35 @@
 -- What is laid out for look-ups, item by item.
 use Rattle.std.proofs.Common.{◌≡◌, ℕ, zero, suc, ◌+◌, ◌<◌, true, false, ◌&&◌, Bool, cond, List, [], ◌∷◌, ◌++◌, length, get_or, slice_get, Option, Some, None, refl, sym, ap, subst, ◌∙◌, arith, inl, inr}
-use Rattle.std.proofs.lemmas.Bool.{and_parts, cases_lt, false≢true}
+use Rattle.std.proofs.lemmas.Bool.{and_parts, cases_lt}
 use Rattle.std.specs.List.{All}
 use Rattle.std.specs.Option.{option_map}
 use Rattle.std.proofs.lemmas.List.{get_or_past}
 use Rattle.std.proofs.lemmas.Option.{none-some, same_Some, slice_get_cases, slice_get_within}
 use Rattle.ct_catalog.specs.declared.table.TableDef.{TableDef}
 use Rattle.phys_plan.specs.declared.node.Node.{Node}
+use Rattle.stream_model.specs.KeysTold.{is_told, told_key}
 use Rattle.stream_model.specs.Network.{Feed, Network, IsWired}
 use Rattle.session_core.specs.declared.wiring.Feed as kept
 use Rattle.session_core.specs.declared.wiring.TableWiring.{TableWiring}
 use Rattle.session_core.specs.LaidOut.{IsTableIn, feed_of, scans_below}
 use Rattle.op_rules.specs.Edges.{hash}
+use Rattle.op_rules.specs.Values.{types_fit}
 use Rattle.op_rules.proofs.laws.Values.{types-length}
 use Rattle.ct_value.specs.declared.ty.ColTy.{ColTy}
-use Rattle.ct_value.specs.declared.value.Value.{Value}
-use Rattle.ct_field.specs.Typed.{row_fits, col_fits}
 use Rattle.route.specs.Routing.{route_of, types_at}
 use Rattle.phys_plan.specs.declared.edge.Edge.{Edge as PlanEdge}
 use Rattle.phys_plan.specs.declared.edge.Exchange.{Exchange as PlanExchange}
 use Rattle.phys_plan.specs.declared.edge.Exchange.TheVariants.{Forward, Hash}
 use Rattle.phys_plan.specs.declared.plan.Plan.{Plan}
-use Rattle.plan_rules.specs.Plans.{Doing, bundle_in, bundle_of, columns_from, exchange_in, exchange_of, network_edge, network_of, route_by, spread_of, table_of}
+use Rattle.plan_rules.specs.Plans.{Doing, bundle_in, bundle_of, columns_from, exchange_in, exchange_of, network_edge, network_meaning, network_of, route_by, spread_of, table_of}
 use Rattle.phys_plan.specs.Reading.{numbered}
-use Rattle.ct_catalog.specs.Columns.{column_types}
+use Rattle.ct_catalog.specs.Columns.{column_types, table_mode}
 use Rattle.session_core.specs.declared.exchange.Route.{Route}
 use Rattle.session_core.specs.declared.exchange.Route.TheVariants as r
 use Rattle.session_core.specs.Routes.{RoutesFor}
 use Rattle.session_open.specs.Opening.{IsKeyRoute, IsRouteIn, IsRouteOf}
 use Rattle.plan_rules.specs.Columns.{AreColumns}
+use Rattle.plan_rules.proofs.laws.ChangeFits.{fits_width}
 
 -- ---- lists to which an item is put
 
@@ -47,12 +48,6 @@ module _ {A : Type 0} where
   each_push P (z ∷ xs) y h p (suc n) x is = each_push (λ m. P (suc m)) xs y (λ m. h (suc m)) p n x is
 
 -- ---- routes
-
-fits_length : (types : List ColTy) (row : List Value) → row_fits types row ≡ true → length row ≡ length types
-fits_length [] [] h = refl
-fits_length [] (v ∷ row) h = absurd (false≢true h)
-fits_length (c ∷ types) [] h = absurd (false≢true h)
-fits_length (c ∷ types) (v ∷ row) h = let e = fits_length types row (and_parts (col_fits c v) (row_fits types row) h).1 in omega (arith, e)
 
 -- a route as the network has it
 routed_by : (of : ℕ → List ColTy) (doing : ℕ → Doing) (plan : Plan) (e : ℕ) (types : List ColTy) (found : Option PlanEdge) (route : Route)
@@ -73,7 +68,7 @@ routed_by of doing plan e types (Some edge) route is same kept = by_exchange edg
             ∙ (ap (λ (c : List ℕ). route_of plan.parallelism (types_at c (of e)) row) (sym kept.columns_are)
             ∙ ap (λ (t : List ColTy). route_of plan.parallelism (types_at key.columns t) row) (sym same ∙ sym kept.types_are));
       };
-      wide = λ change fits. fits_length (of e) change.row fits ∙ ap length (sym same ∙ sym kept.types_are);
+      wide = λ change fits. fits_width (network_meaning of doing plan e) (of e) change fits ∙ ap length (sym same ∙ sym kept.types_are);
     }
 
 pub routed : (of : ℕ → List ColTy) (doing : ℕ → Doing) (plan : Plan) (columns : List (List ColTy)) (e : ℕ) (route : Route)
@@ -122,7 +117,7 @@ tables_laid of doing plan tables many each number = cases (slice_get tables numb
                 ap (λ (c : List ℕ). route_of plan.parallelism (types_at c (column_types table)) row) (sym key.columns_are)
                 ∙ ap (λ (t : List ColTy). route_of plan.parallelism (types_at kept.spread.columns t) row) (sym key.types_are);
           };
-          wide = λ change fits. types-length (column_types table) change.row fits ∙ ap length (sym key.types_are);
+          wide = λ change fits. types-length (column_types table) change.row (and_parts (types_fit (column_types table) change.row) (is_told (told_key (table_mode table) change.kind) change.row) fits).0 ∙ ap length (sym key.types_are);
           scans = r.1 of doing;
         }
 

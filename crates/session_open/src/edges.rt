@@ -1,9 +1,10 @@
-ghost use Rattle.std.specs.Prelude.{◌≡◌, IfOk, option_copied};
+ghost use Rattle.std.specs.Prelude.{◌≡◌, [], IfOk, option_copied, unwrap_or};
 ghost use Rattle.ct_change.specs.Changelog.{upsert};
 ghost use Rattle.plan_rules.specs.Plans.{kinds_in};
 ghost use Rattle.phys_plan.specs.Reading.{numbered, first_input};
 ghost use Rattle.ct_change.specs.declared.update.Update.TheVariants.{Absent};
-ghost use Rattle.plan_rules.specs.Around.{after_key, mode_read, mode_told};
+ghost use Rattle.emission_rules.specs.Changes.{after_key};
+ghost use Rattle.plan_rules.specs.Around.{mode_read, mode_told};
 ghost use Rattle.plan_rules.specs.Doings.{update_in};
 ghost use Rattle.session_open.specs.Modes.{mode_in};
 
@@ -42,6 +43,36 @@ fn key_of(update: &Update) -> Result<Option<Cols>, Memory>
         Update::Absent => Ok(None),
         Update::After(columns) => Ok(Some(columns.dup()?)),
         Update::Both => Ok(None),
+    }
+}
+
+// How the edge of the first input tells updates.
+pub(crate) fn told_to(plan: &Plan, inputs: &Numbers) -> Result<Update, Memory>
+    ensures { IfOk result (λ update. update ≡ update_in (numbered plan.now.edges (first_input inputs.now))) }
+{
+    match edge_at(plan, first_of(inputs)) {
+        None => Ok(Update::Both),
+        Some(edge) => same_update(&edge.update),
+    }
+}
+
+fn same_update(update: &Update) -> Result<Update, Memory>
+    ensures { IfOk result (λ copy. copy ≡ update.now) }
+{
+    match update {
+        Update::Absent => Ok(Update::Absent),
+        Update::After(columns) => Ok(Update::After(columns.dup()?)),
+        Update::Both => Ok(Update::Both),
+    }
+}
+
+// The key of the sink, none where it has no key.
+pub(crate) fn sink_key(alloc: Global, plan: &Plan) -> Result<Cols, Memory>
+    ensures { IfOk result (λ key. key ≡ unwrap_or plan.now.sink.key []) }
+{
+    match &plan.sink.key {
+        None => Ok(Cols::new(alloc)),
+        Some(key) => key.dup(),
     }
 }
 

@@ -1,5 +1,6 @@
-ghost use Rattle.std.specs.Prelude.{◌≡◌, [], get_or, length, option_map, IfOk};
+ghost use Rattle.std.specs.Prelude.{◌≡◌, [], get_or, length, option_map, unwrap_or, IfOk};
 ghost use Rattle.ct_expr.specs.View.{expr_view, exprs_view};
+ghost use Rattle.emission_rules.specs.Changes.{after_key};
 ghost use Rattle.emission_rules.specs.Filter.{filter_rule};
 ghost use Rattle.emission_rules.specs.Project.{project_rule};
 ghost use Rattle.emission_rules.specs.Union.{union_rule};
@@ -9,13 +10,13 @@ ghost use Rattle.emission_rules.specs.Grouping.{group_rule, IsSound as GroupsWel
 ghost use Rattle.emission_rules.specs.Joining.{joins, matched, join_rule};
 ghost use Rattle.emission_rules.specs.Ranking.{topn_rule, IsSound as RanksWell};
 ghost use Rattle.phys_plan.specs.Reading.{numbered, first_input};
-ghost use Rattle.plan_rules.specs.Around.{after_key, second};
+ghost use Rattle.plan_rules.specs.Around.{second};
 ghost use Rattle.plan_rules.specs.Behaviours.{behaviour, Suits};
 ghost use Rattle.plan_rules.specs.Doings.{around_of, update_in};
 ghost use Rattle.session_open.specs.Modes.{mode_in};
 ghost use Rattle.session_open.specs.Running.{IsBuiltPlan, IsNew, IsOperatorBy, second_input};
 
-use crate::edges::{after_of, written_at};
+use crate::edges::{after_of, sink_key, told_to, written_at};
 use crate::inputs::{Input, both_inputs, only_input};
 use crate::numbers::{count_of, node_at};
 use crate::types::range_types_of;
@@ -127,7 +128,7 @@ fn project_to(
 {
     let items = dup_exprs(items)?;
     let after = after_of(plan, inputs)?;
-    Ok(AnyOperator::Project(ProjectOp::new(alloc, items, after)))
+    Ok(AnyOperator::Project(ProjectOp::new(alloc, items, after)?))
 }
 
 fn union_of(alloc: Global, inputs: &Numbers) -> Result<AnyOperator, Memory>
@@ -236,8 +237,9 @@ fn dup_rest(rest: &Option<Expr>) -> Result<Option<Expr>, Memory>
 }
 
 fn sink_of(alloc: Global, plan: &Plan, inputs: &Numbers) -> Result<AnyOperator, Memory>
-    ensures { IfOk result (λ made. IsNew ⟦<AnyOperator as Operator>⟧.rule ⟦<AnyOperator as Operator>⟧.broken ⟦<AnyOperator as Operator>⟧.stands_for made (sink_rule (record { declared = plan.now.sink.mode; after = after_key (update_in (numbered plan.now.edges (first_input inputs.now))) }))) }
+    ensures { IfOk result (λ made. IsNew ⟦<AnyOperator as Operator>⟧.rule ⟦<AnyOperator as Operator>⟧.broken ⟦<AnyOperator as Operator>⟧.stands_for made (sink_rule (record { declared = plan.now.sink.mode; after = after_key (update_in (numbered plan.now.edges (first_input inputs.now))); key = unwrap_or plan.now.sink.key [] }))) }
 {
-    let after = after_of(plan, inputs)?;
-    Ok(AnyOperator::Sink(SinkWriter::new(alloc, plan.sink.mode, after)))
+    let (update, key) = (told_to(plan, inputs)?, sink_key(alloc, plan)?);
+    let made = SinkWriter::new(alloc, plan.sink.mode, update, key)?;
+    Ok(AnyOperator::Sink(made))
 }

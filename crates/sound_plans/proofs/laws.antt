@@ -2,6 +2,7 @@ pub mod Agreed
 pub mod Columns
 pub mod Consumers
 pub mod Filters
+pub mod Gone
 pub mod Groups
 pub mod Images
 pub mod Inferred
@@ -32,8 +33,10 @@ pub mod Shapes
 pub mod Sinks
 pub mod Stands
 pub mod States
+pub mod Suits
 pub mod Tables
 pub mod Theorems
+pub mod Told
 pub mod TopN
 pub mod Unions
 pub mod Updates

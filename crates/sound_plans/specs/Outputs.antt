@@ -1,5 +1,5 @@
 -- What a node of a plan sends, and the edge of the network that carries it.
-use Rattle.std.specs.Prelude.{◌≡◌, ℕ, ◌<◌, true, List, [], ◌∷◌, length, map, slice_index_or, Option, None, Some}
+use Rattle.std.specs.Prelude.{◌≡◌, ℕ, ◌<◌, true, List, [], ◌∷◌, length, map, slice_index_or, Option, None, Some, unwrap_or}
 use Rattle.std.specs.List.{AllByRecursion}
 use Rattle.ct_value.specs.declared.ty.ColTy.{ColTy}
 use Rattle.ct_field.specs.Typed.{row_fits}
@@ -8,10 +8,11 @@ use Rattle.ct_catalog.specs.declared.table.TableDef.{TableDef}
 use Rattle.phys_plan.specs.declared.edge.Edge.{Edge as PlanEdge}
 use Rattle.ct_change.specs.declared.update.Update.{Update}
 use Rattle.phys_plan.specs.declared.edge.Exchange.TheVariants.{Forward}
-use Rattle.ct_change.specs.declared.update.Update.TheVariants.{Absent, Both}
+use Rattle.ct_change.specs.declared.update.Update.TheVariants.{Absent, After, Both}
 use Rattle.phys_plan.specs.declared.node.KeyInfo.{KeyInfo}
 use Rattle.op_rules.specs.Edges.{meaning_of, Edge}
-use Rattle.plan_rules.specs.Plans.{exchange_of, route_by, meaning_by, no_kinds}
+use Rattle.column_sets.specs.Sets.{is_within}
+use Rattle.plan_rules.specs.Plans.{exchange_of, route_by, meaning_by, change_fits, no_kinds}
 use Rattle.ct_catalog.specs.Columns.{table_mode}
 use Rattle.plan_rules.specs.Around.{Around, Side}
 use Rattle.upsert_keys.specs.Seen.{seen_over}
@@ -34,7 +35,7 @@ edge_of many out = record {
   exchange = exchange_of out.edge.exchange;
   route = route_by many out.columns (exchange_of out.edge.exchange);
   kinds = out.edge.kinds;
-  fits = λ change. row_fits out.columns change.row;
+  fits = change_fits (meaning_by out.edge.update) out.columns;
   holds = λ row. row_fits out.columns row;
   unique = out.keys.unique;
   local = out.keys.local;
@@ -48,7 +49,7 @@ printed_edge many sink out = record {
   exchange = exchange_of out.edge.exchange;
   route = route_by many out.columns (exchange_of out.edge.exchange);
   kinds = out.edge.kinds;
-  fits = λ change. row_fits out.columns change.row;
+  fits = change_fits (meaning_of (table_mode sink)) out.columns;
   holds = λ row. row_fits out.columns row;
   unique = out.keys.unique;
   local = out.keys.local;
@@ -72,12 +73,20 @@ seen out = seen_over out.edge.exchange out.columns out.keys
 abbrev pub AreWithin : ℕ → List ℕ → Type 0
 AreWithin width columns = AllByRecursion (λ column. column < width) columns
 
--- the columns of its keys and of its update key are among those that it sends; rows come, and where old rows go new ones come
+-- where an edge tells of a row that went its key alone, that tells the sets which fix a row's subtask
+abbrev pub AreTold : Update → List (List ℕ) → Type 0
+AreTold Absent sets = Unit {0}
+AreTold (After key) sets = AllByRecursion (λ set. is_within set key ≡ true) sets
+AreTold Both sets = Unit {0}
+
+-- the columns of its keys and of its update key are among those that it sends, and a key that is told alone tells the subtask; rows
+-- come, and where old rows go new ones come
 pub record IsProper (out : Output) : Type 0 where
   pub unique : AllByRecursion (AreWithin (length out.columns)) out.keys.unique
   pub local : AllByRecursion (AreWithin (length out.columns)) out.keys.local
   pub fixing : AllByRecursion (AreWithin (length out.columns)) out.keys.fixing
   pub update_key : (key : List ℕ) → out.update_key ≡ Some key → AreWithin (length out.columns) key
+  pub told : AreTold out.edge.update out.keys.fixing
   pub inserts : out.sent.i ≡ true
   pub replaces : out.sent.ub ≡ true → out.sent.ua ≡ true
 
@@ -111,4 +120,5 @@ around_by sink inputs own = record {
   others = others_of inputs;
   inputs = length inputs;
   declared = sink.mode;
+  sink_key = unwrap_or sink.key [];
 }

@@ -14,7 +14,7 @@ use Rattle.phys_plan.specs.Reading.{numbered}
 use Rattle.ct_catalog.specs.Columns.{table_mode}
 use Rattle.plan_rules.specs.Columns.{node_columns}
 use Rattle.plan_rules.specs.Answers.{tables_with}
-use Rattle.plan_rules.specs.Behaviours.{behaviour, has_rule, TakesBy}
+use Rattle.plan_rules.specs.Behaviours.{behaviour, has_rule, Suits, TakesBy}
 use Rattle.plan_rules.specs.Doings.{around_of, network}
 use Rattle.plan_rules.specs.Erased.{erased_at}
 use Rattle.plan_check.specs.Sound.{IsSound}
@@ -37,11 +37,15 @@ abbrev pub SoundPortsTake : Type 0
 SoundPortsTake = (plan : Plan) → IsRuled plan → (v : ℕ) (node : Node) → numbered plan.nodes v ≡ Some node → scan_of node.op ≡ None
     → TakesBy (behaviour node.op (around_of plan v node.inputs)) (task (network plan) v)
 
+-- what its operators ask of what is around them holds
+abbrev pub SoundPlansSuit : Type 0
+SoundPlansSuit = (plan : Plan) → IsRuled plan → (v : ℕ) (node : Node) → numbered plan.nodes v ≡ Some node → Suits node.op (around_of plan v node.inputs)
+
 -- each node answers as its tree does, over whatever rows the tables have
 abbrev pub SoundPlansAnswer : Type 0
 SoundPlansAnswer = (plan : Plan) → IsRuled plan → (rows : ℕ → Rows) (v : ℕ) (result : Rows) → IsAnswer (network plan) rows v result → answer (tables_with plan.sources rows) (erased_at plan v) ≡ Some result
 
--- so of what a run printed each prefix is a valid changelog of the sink's mode, and at a quiet moment it folds to the sink's batch answer
+-- so of what a run printed each prefix is a changelog as it is written in the sink's mode, and at a quiet moment it folds to the sink's batch answer
 abbrev pub SoundPlansPrint : Type 0
 SoundPlansPrint = (plan : Plan) → IsRuled plan → (limit : ℕ) (items : List Item) → AreTyped (network plan) items
     → PrintsAnswer (network plan) (table_mode plan.sink) (after (network plan) limit (opened (network plan)) items)

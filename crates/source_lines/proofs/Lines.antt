@@ -4,7 +4,7 @@ use Rattle.std.proofs.lemmas.Bool.{eqb-true}
 use Rattle.ct_value.specs.Order.{row_total, row_exact}
 use Rattle.ct_value.specs.declared.codes.ChangeCode.{ChangeCode}
 use Rattle.ct_change.specs.declared.change.Change.{Change}
-use Rattle.ct_change.specs.Changelog.{fold}
+use Rattle.ct_change.specs.Changelog.{Rows, adds, fold}
 use Rattle.ct_change.proofs.laws.Folds.{fold-push}
 use Rattle.ct_catalog.specs.declared.table.TableDef.{TableDef}
 use Rattle.job_text.specs.declared.line.Line.{Line}
@@ -14,22 +14,41 @@ use Rattle.ct_catalog.specs.Columns.{table_mode, column_types}
 use Rattle.rel_algebra.specs.Clauses.{Fits}
 use Rattle.rel_algebra.specs.Sums.{Each}
 use Rattle.rel_algebra.proofs.laws.Bags.{each-none}
-use Rattle.plan_rules.proofs.laws.Columns.{row_of_types}
+use Rattle.op_rules.specs.Values.{types_fit}
+use Rattle.ct_field.proofs.laws.Numbers.{first_true, second_true}
+use Rattle.stream_model.specs.KeysTold.{is_told, told_fits, told_key, upsert_key}
+use Rattle.stream_model.specs.Tables.{refusal}
+use Rattle.stream_model.proofs.laws.KeysTold.{told-added}
+use Rattle.plan_rules.proofs.laws.Columns.{told_of_types}
 use Rattle.source_lines.specs.Kept.{refusal_after, taker_of}
 use Rattle.source_lines.specs.Taken.{RefusedLine, Taken, and_then, first_of, line_refusal, nothing_taken, refusal_in, rows_of, take_line, take_records, taken_of, unless_refused, with_line}
-use Rattle.source_lines.specs.Fitting.{LinesFitColumns, RowsFit}
+use Rattle.source_lines.specs.Fitting.{FitsTable, LinesFitColumns, RowsFit}
 use Rattle.source_lines.proofs.LineFolds.{each_after, unrefused}
 
 -- the rows of each source have its columns
 abbrev Fit : List TableDef → Taken → Type 0
 Fit sources taken = (k : ℕ) (table : TableDef) → slice_get sources k ≡ Some table → Each (Fits (column_types table)) (fold (table_mode table) (taken k))
 
+-- a change that isn't refused fits its table, and a row that comes has all of its columns
+fits_table : (table : TableDef) (rows : Rows) (change : Change) → IsOfTable table change → refusal (taker_of table) rows change ≡ None → FitsTable table change
+fits_table table rows change of free =
+    let types = types_fit (column_types table) change.row in
+    let told = told_key (table_mode table) change.kind in
+    record {
+      is = of;
+      fits = told_of_types (column_types table) told change.row (first_true types (is_told told change.row) of.fits) (second_true types (is_told told change.row) of.fits) (unrefused (taker_of table) rows change free).0;
+    }
+
+comes : (table : TableDef) (rows : Rows) (change : Change) → IsOfTable table change → refusal (taker_of table) rows change ≡ None → adds change.kind ≡ true → Fits (column_types table) change.row
+comes table rows change of free a =
+    subst (λ key. told_fits key (column_types table) change.row ≡ true) (told-added (upsert_key (table_mode table)) change.kind a) (fits_table table rows change of free).fits
+
 -- with one change more
 fit_with : (table : TableDef) (changes : List Change) (change : Change) → IsOfTable table change → refusal_after table changes change ≡ None → Each (Fits (column_types table)) (fold (table_mode table) changes)
     → Each (Fits (column_types table)) (fold (table_mode table) (changes ++ change ∷ []))
 fit_with table changes change of free h =
     subst (Each (Fits (column_types table))) (sym (fold-push (table_mode table) changes change))
-    (each_after (Fits (column_types table)) (taker_of table) (fold (table_mode table) changes) change (row_of_types (column_types table) change.row of.fits (unrefused (taker_of table) (fold (table_mode table) changes) change free).0) free h)
+    (each_after (Fits (column_types table)) (taker_of table) (fold (table_mode table) changes) change of.admitted (comes table (fold (table_mode table) changes) change of free) free h)
 
 some_same : {A : Type 0} (o : Option A) (a b : A) → o ≡ Some a → o ≡ Some b → a ≡ b
 some_same o a b p q = cc (p, q)
@@ -81,4 +100,4 @@ pub lines_have_columns : LinesFit → LinesFitColumns
 lines_have_columns lines_fit sources fields line taken is free =
     let one = lines_fit sources fields line is in
     let refused : refusal_after one.0 (taken line.table) line.change ≡ None = sym (ap (λ (o : Option TableDef). refusal_in o (taken line.table) line.change) one.1) ∙ free in
-    (one.0, one.1, row_of_types (column_types one.0) line.change.row one.2.fits (unrefused (taker_of one.0) (fold (table_mode one.0) (taken line.table)) line.change refused).0)
+    (one.0, one.1, fits_table one.0 (fold (table_mode one.0) (taken line.table)) line.change one.2 refused)

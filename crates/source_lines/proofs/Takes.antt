@@ -13,10 +13,9 @@ use Rattle.ct_change.specs.Changelog.{Rows, append, retract, admits, apply, fold
 use Rattle.ct_change.specs.LastRows.{AreLast, Lasts}
 use Rattle.ct_change.proofs.laws.Folds.{append_only, fold-push}
 use Rattle.ct_change.proofs.laws.Lasts.{last-after}
-use Rattle.stream_model.specs.Tables.{key_refusal_by, null_refusal, or_else, refusal, row_refusal}
+use Rattle.stream_model.specs.Tables.{asked, key_refusal_by, null_refusal, or_else, refusal, row_refusal}
 use Rattle.ct_catalog.specs.declared.table.TableDef.{TableDef}
-use Rattle.plan_rules.specs.Plans.{required_from}
-use Rattle.ct_catalog.specs.Columns.{table_mode, column_types}
+use Rattle.ct_catalog.specs.Columns.{table_mode}
 use Rattle.source_lines.specs.declared.kept.Kept.{Kept}
 use Rattle.source_lines.specs.declared.kept.Kept.TheVariants.{Nothing, Rows as Standing, Keyed}
 use Rattle.source_lines.specs.Kept.{HasKey, HasNoKey, HasRoom, IsKept, refusal_after, rows_refusal, taker_of, NeedsNothing, keyed_after, keyed_refusal}
@@ -98,7 +97,7 @@ room_left table (Keyed lasts) changes k h = tt
 
 -- a change that isn't refused by its kind or its values is refused by the rows that stand
 pub by_rows : (table : TableDef) (rows : Rows) (change : Change) (refused : Option ChangeCode) → admits (table_mode table) change.kind ≡ true
-    → null_refusal (required_from 0 (column_types table)) change.row ≡ None → rows_refusal table rows change ≡ refused → refusal (taker_of table) rows change ≡ refused
+    → null_refusal (asked (taker_of table) change) change.row ≡ None → rows_refusal table rows change ≡ refused → refusal (taker_of table) rows change ≡ refused
 by_rows table rows change refused a n r = rw a (rw n r)
 
 -- one change more

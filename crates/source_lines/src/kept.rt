@@ -68,7 +68,7 @@ pub(crate) fn take(table: &TableDef, kept: &mut Kept, change: &Change) -> Result
     if !table.mode.admits(change.kind) {
         return Err(SourceFault::Refused(ChangeCode::KindNotDeclared));
     }
-    check_nulls(table.cols.as_slice(), &change.row)?;
+    check_nulls(table, change)?;
     take_kept(table, kept, change)
 }
 

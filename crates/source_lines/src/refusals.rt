@@ -1,13 +1,17 @@
-ghost use Rattle.std.specs.Prelude.{◌≡◌, ◌+◌, ◌⊎◌, Some, None, map, OnOk, IsErrOf};
+ghost use Rattle.std.specs.Prelude.{◌≡◌, ◌+◌, ◌⊎◌, Some, None, map, filter, OnOk, IsErrOf};
 ghost use Rattle.ct_value.specs.declared.codes.ChangeCode.{ChangeCode};
 ghost use Rattle.ct_value.specs.declared.codes.ChangeCode.TheVariants.{NullNotAllowed};
 ghost use Rattle.ct_field.specs.Typed.{is_null, cell};
-ghost use Rattle.stream_model.specs.Tables.{null_refusal};
+ghost use Rattle.ct_change.specs.KeyRows.{is_among};
+ghost use Rattle.stream_model.specs.Tables.{asked, null_refusal};
 ghost use Rattle.plan_rules.specs.Plans.{required_from};
+ghost use Rattle.source_lines.specs.Kept.{taker_of};
 ghost use Rattle.source_lines.specs.declared.refusals.SourceFault.TheVariants.{Refused};
 
-use ct_catalog::ColDef;
+use ct_catalog::{ColDef, TableDef};
+use ct_change::Change;
 use ct_value::{ChangeCode, Memory, Row, Value};
+use job_text::{key_columns, tells_key};
 
 /// Why a change isn't taken.
 #[derive(Clone, Copy, Debug, PartialEq, Eq)]
@@ -28,9 +32,22 @@ impl From<Memory> for SourceFault {
     }
 }
 
-// Refuses a row that has NULL in a column that may not hold it, by the first such column, from 1.
+// Refuses a change that has NULL in a column that may not hold it, by the first such column, from 1. Of a change that tells its key alone
+// only the key's columns are looked at.
+pub(crate) fn check_nulls(table: &TableDef, change: &Change) -> Result<(), SourceFault>
+    ensures ok { OnOk result (null_refusal (asked (taker_of table.now) change.now) change.now.row ≡ None) }
+    ensures refused { (code : ChangeCode) → IsErrOf result (Refused code) → null_refusal (asked (taker_of table.now) change.now) change.now.row ≡ Some code }
+{
+    if tells_key(table, change.kind) {
+        check_key(table.cols.as_slice(), key_columns(table), &change.row)
+    } else {
+        check_row(table.cols.as_slice(), &change.row)
+    }
+}
+
+// Refuses a row by all columns.
 #[tactic(auto, using(crate::proofs::Nulls::null_allowed, crate::proofs::Nulls::null_absent, crate::proofs::Nulls::null_found, crate::proofs::Nulls::null_none))]
-pub(crate) fn check_nulls(cols: &[ColDef], row: &Row) -> Result<(), SourceFault>
+fn check_row(cols: &[ColDef], row: &Row) -> Result<(), SourceFault>
     ensures ok { OnOk result (null_refusal (required_from 0 (map (λ c. c.ty) cols.now)) row.now ≡ None) }
     ensures refused { (code : ChangeCode) → IsErrOf result (Refused code) → null_refusal (required_from 0 (map (λ c. c.ty) cols.now)) row.now ≡ Some code }
 {
@@ -40,6 +57,31 @@ pub(crate) fn check_nulls(cols: &[ColDef], row: &Row) -> Result<(), SourceFault>
         }
     }
     Ok(())
+}
+
+// Refuses a row by the columns of a key.
+#[tactic(auto, using(crate::proofs::Nulls::asked_allowed, crate::proofs::Nulls::asked_absent, crate::proofs::Nulls::asked_stops, crate::proofs::Nulls::asked_none))]
+fn check_key(cols: &[ColDef], key: &[u32], row: &Row) -> Result<(), SourceFault>
+    ensures ok { OnOk result (null_refusal (filter (is_among (required_from 0 (map (λ c. c.ty) cols.now))) key.now) row.now ≡ None) }
+    ensures refused { (code : ChangeCode) → IsErrOf result (Refused code) → null_refusal (filter (is_among (required_from 0 (map (λ c. c.ty) cols.now))) key.now) row.now ≡ Some code }
+{
+    for i in 0..key.len() {
+        let column = key[i] as usize;
+        if is_required(cols, column) && has_null(row, column) {
+            return Err(null_fault(column));
+        }
+    }
+    Ok(())
+}
+
+// Whether NULL may not stand in a column, from 0.
+fn is_required(cols: &[ColDef], column: usize) -> bool
+    ensures { result ≡ is_among (required_from 0 (map (λ c. c.ty) cols.now)) column }
+{
+    match cols.get(column) {
+        Some(col) => !col.ty.nullable,
+        None => false,
+    }
 }
 
 // Whether NULL stands in a column, from 0.

@@ -17,10 +17,12 @@ use Rattle.ct_change.proofs.laws.Folds.{fold-push, append_only}
 use Rattle.ct_change.proofs.laws.Meanings.{means_fold}
 use Rattle.op_rules.specs.Edges.{meaning_of, KeepsKeys, bag, IsPartial, ReadsAs, Edge, IsUnique, IsApart, AreApartBy, LiesIn}
 use Rattle.op_rules.specs.Tasks.{IsFine}
-use Rattle.stream_model.specs.Tables.{Table, scanned_at, kind_refusal, null_refusal, row_refusal, key_refusal_by, is_there, or_else, refusal, AllTaken}
+use Rattle.stream_model.specs.KeysTold.{upsert_key}
+use Rattle.stream_model.specs.Tables.{Table, scanned_at, kind_refusal, null_refusal, row_refusal, key_refusal_by, is_there, or_else, asked, refusal, AllTaken}
 use Rattle.stream_model.specs.Network.{IsAnswered, scanned_by}
 use Rattle.stream_model.specs.Scans.{IsKeyBy, IsKeyOf, CarriesTable, ScansStand}
 use Rattle.op_rules.proofs.laws.LastRows.{added, last_unique}
+use Rattle.stream_model.proofs.laws.KeysTold.{asked-added}
 use Rattle.stream_model.proofs.Sums.{reach, take-filter, total-same, total_one, all-filter, all-weaker, filter_passes, cond_sum, cond_below}
 use Rattle.stream_model.proofs.Bags.{same-true, agree, agree_from, weigh-rows, about_addition, about_removal, restricted, copies-restricted}
 use Rattle.stream_model.proofs.Exchange.{shown-filter, means_same, IsUnique-below}
@@ -47,7 +49,7 @@ pub record IsTaken (mode : Mode) (key : Option (List ℕ)) (rows : Rows) (change
 is_taken : (t : Table) (rows : Rows) (change : Change) → refusal t rows change ≡ None → IsTaken t.mode t.key rows change
 is_taken t rows change e =
     let a = or_none (kind_refusal t.mode change) _ e in
-    let b = or_none (null_refusal t.required change.row) _ a.1 in
+    let b = or_none (null_refusal (asked t change) change.row) _ a.1 in
     let c = or_none (row_refusal t.mode rows change) (key_refusal_by t.mode t.key rows change) b.1 in
     record { kind = passes (admits t.mode change.kind) KindNotDeclared a.0; row = c.0; unseen = c.1 }
 
@@ -220,16 +222,23 @@ kinds_taken t before [] h = tt
 kinds_taken t before (change ∷ changes) h = ((is_taken t (fold t.mode before) change h.0).kind, kinds_taken t (before ++ change ∷ []) changes h.1)
 
 -- NULL stands nowhere that the table refuses it
-no_null : (t : Table) (rows : Rows) (change : Change) → refusal t rows change ≡ None → null_refusal t.required change.row ≡ None
-no_null t rows change e = (or_none (null_refusal t.required change.row) _ (or_none (kind_refusal t.mode change) _ e).1).0
+no_null : (t : Table) (rows : Rows) (change : Change) → refusal t rows change ≡ None → null_refusal (asked t change) change.row ≡ None
+no_null t rows change e = (or_none (null_refusal (asked t change) change.row) _ (or_none (kind_refusal t.mode change) _ e).1).0
 
--- a change fits the table, and has no NULL where it is refused
-abbrev IsWhole : Table → Change → Type 0
-IsWhole t change = (t.fits change ≡ true) × (null_refusal t.required change.row ≡ None)
+-- a change is of a kind that the table takes, fits the table, and has no NULL where it is refused
+pub record IsWhole (t : Table) (change : Change) : Type 0 where
+  pub kind : admits t.mode change.kind ≡ true
+  pub fits : t.fits change ≡ true
+  pub known : null_refusal (asked t change) change.row ≡ None
+
+-- of a row that comes, NULL is asked for in each column in which it may not stand
+known-added : (t : Table) (change : Change) → IsWhole t change → adds change.kind ≡ true → null_refusal t.required change.row ≡ None
+known-added t change whole a = subst (λ columns. null_refusal columns change.row ≡ None) (asked-added t.required (upsert_key t.mode) change.kind a) whole.known
 
 whole_taken : (t : Table) (before changes : List Change) → AllTaken t before changes → AllByRecursion (λ c. t.fits c ≡ true) changes → AllByRecursion (IsWhole t) changes
 whole_taken t before [] h typed = tt
-whole_taken t before (change ∷ changes) h typed = ((typed.0, no_null t (fold t.mode before) change h.0), whole_taken t (before ++ change ∷ []) changes h.1 typed.1)
+whole_taken t before (change ∷ changes) h typed =
+    (record { kind = (is_taken t (fold t.mode before) change h.0).kind; fits = typed.0; known = no_null t (fold t.mode before) change h.0 }, whole_taken t (before ++ change ∷ []) changes h.1 typed.1)
 
 no_partial : (mode : Mode) → IsPartial (meaning_of mode) → ⊥
 no_partial append z = z
@@ -279,7 +288,7 @@ module _ (many : ℕ) (table : Table) (edge : Edge) (carries : CarriesTable many
     valid = λ i il n. (restricted (goes_to i) (fold table.mode (take (so_far i n) taken)), part_front i n);
     apart = subst (λ m. AreApartBy m many (scanned_by table taken)) (sym carries.meaning) (apart_by table.mode carries.spread);
     kinds = λ i il. all-filter _ _ taken (all-weaker _ _ (λ c e. carries.kinds c.kind e) taken (kinds_taken table [] taken all));
-    types = λ i il. all-filter _ _ taken (all-weaker (IsWhole table) _ (λ c e. carries.fits c e.0 e.1) taken wholes);
+    types = λ i il. all-filter _ _ taken (all-weaker (IsWhole table) _ (λ c e. carries.fits c e.kind e.fits e.known) taken wholes);
     keys = λ key c i il n rows reads.
         ⊎_elim
         (λ same. IsUnique-below key (copies rows) (copies (fold table.mode (take (so_far i n) taken)))
@@ -299,7 +308,7 @@ module _ (many : ℕ) (table : Table) (edge : Edge) (carries : CarriesTable many
       keys = λ key. ⊎_elim
           (λ c. key_whole table taken all key (carries.unique key c))
           (λ o. λ a b e. key_whole table taken all o.local (carries.local o.local o.is_local) a b (o.has_local a b e));
-      types = stands_row table.mode (λ row. edge.holds row ≡ true) taken (fold table.mode taken) (means_whole table taken all) (all-weaker (IsWhole table) _ (λ c e. carries.holds c e.0 e.1) taken wholes);
+      types = stands_row table.mode (λ row. edge.holds row ≡ true) taken (fold table.mode taken) (means_whole table taken all) (all-weaker (IsWhole table) _ (λ c e a. carries.holds c e.fits (known-added table c e a) a) taken wholes);
     };
   }
 

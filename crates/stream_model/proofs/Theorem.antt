@@ -9,7 +9,8 @@ use Rattle.ct_value.proofs.laws.Bags.{same_bag}
 use Rattle.ct_value.specs.Order.{row_total, row_exact}
 use Rattle.ct_value.specs.declared.row.Row.{Row}
 use Rattle.ct_change.specs.declared.change.Change.{Change}
-use Rattle.ct_change.specs.Changelog.{Mode, append, retract, upsert, Rows, has, fold, IsValid, Means}
+use Rattle.ct_change.specs.Changelog.{Mode, append, retract, upsert, Rows, admits, has, fold, IsValid, Means}
+use Rattle.ct_change.specs.KeyRows.{AreKeyed, IsKeyed}
 use Rattle.ct_change.proofs.laws.Meanings.{fold_means, valid_where_means, IsValidFrom-take}
 use Rattle.op_rules.specs.History.{Arrival, arrival, at_port, from_port, joined}
 use Rattle.op_rules.specs.Edges.{Meaning, meaning_of, bag, last_rows, partials, IsPartial, ReadsAs, hash, goes_by, goes, belongs_by, AreApartBy, IsKeyedBy}
@@ -157,6 +158,11 @@ module _ (g : Network) (wired : IsWired g) where
           (all-at (λ change. has (g.edge g.count).kinds change.kind ≡ true) 0 g.subtasks h.prints h.printed_within
           (λ i l. subst (AllByRecursion (λ change. has (g.edge g.count).kinds change.kind ≡ true)) (sym (h.printed_from i)) (sink_fine.kinds i l)))
 
+      printed_fits : AllByRecursion (λ change. (g.edge g.count).fits change ≡ true) (changes_in s.printed)
+      printed_fits = subst (AllByRecursion (λ change. (g.edge g.count).fits change ≡ true)) (sym h.printed)
+          (all-at (λ change. (g.edge g.count).fits change ≡ true) 0 g.subtasks h.prints h.printed_within
+          (λ i l. subst (AllByRecursion (λ change. (g.edge g.count).fits change ≡ true)) (sym (h.printed_from i)) (sink_fine.types i l)))
+
       -- ---- quiet
 
       module _ (still : IsQuiet g s) where
@@ -205,6 +211,7 @@ module _ (g : Network) (wired : IsWired g) where
     answered = λ still. answers s h facts still;
     printed_stands = printed_stands s h facts;
     printed_kinds = printed_kinds s h facts;
+    printed_fits = printed_fits s h facts;
     printed_answers = λ still. printed_answers s h facts still;
   }
 
@@ -213,14 +220,20 @@ composes g wired facts limit items typed = holds g wired facts (after g limit (o
 
 -- ---- in the words of changelogs
 
+of_both : {A : Type 0} (P Q R : A → Type 0) → ((x : A) → P x → Q x → R x) → (xs : List A) → AllByRecursion P xs → AllByRecursion Q xs → AllByRecursion R xs
+of_both P Q R w [] h k = tt
+of_both P Q R w (x ∷ xs) h k = (w x h.0 k.0, of_both P Q R w xs h.1 k.1)
+
 pub printed_folds : PrintedFolds
-printed_folds g wired facts mode is within limit items typed =
+printed_folds g wired facts mode is within keyed limit items typed =
     let s : State = after g limit (opened g) items in
     let h : Holds g s = composes g wired facts limit items typed in
     let means : (n : ℕ) → (rows : Rows) × Means mode (take n (changes_in s.printed)) rows = λ n. let r = h.printed_stands n in (r.0, means_in mode (take n (changes_in s.printed)) r.0 (subst (λ m. ReadsAs m (take n (changes_in s.printed)) r.0) is r.1)) in
-    let valid : IsValid mode (changes_in s.printed) = valid_where_means mode (changes_in s.printed) (all-weaker _ _ (λ change e. within change.kind e) (changes_in s.printed) h.printed_kinds) means in
+    let admitted : AllByRecursion (λ change. admits mode change.kind ≡ true) (changes_in s.printed) = all-weaker _ _ (λ change e. within change.kind e) (changes_in s.printed) h.printed_kinds in
+    let valid : IsValid mode (changes_in s.printed) = valid_where_means mode (changes_in s.printed) admitted means in
+    let told : AreKeyed mode (changes_in s.printed) = of_both _ _ (IsKeyed mode) keyed (changes_in s.printed) admitted h.printed_fits in
     record {
-      valid = λ n. IsValidFrom-take mode none n (changes_in s.printed) valid;
+      valid = λ n. record { valid = IsValidFrom-take mode none n (changes_in s.printed) valid; keyed = all-take (IsKeyed mode) n (changes_in s.printed) told };
       folds = λ still.
           let a = h.printed_answers still in
           subst (IsAnswer g (table_rows g s) g.count) (fold_means mode (changes_in s.printed) a.0 valid (means_in mode (changes_in s.printed) a.0 (subst (λ m. ReadsAs m (changes_in s.printed) a.0) is a.2))) a.1;

@@ -1,1 +1,2 @@
+pub mod KeysTold
 pub mod Theorems

@@ -1,4 +1,5 @@
 pub mod Drain
+pub mod KeysTold
 pub mod Machine
 pub mod Network
 pub mod Runs

@@ -6,7 +6,7 @@ use Rattle.ct_change.specs.declared.kind.Kind.{Kind}
 use Rattle.ct_change.specs.declared.change.Change.{Change}
 use Rattle.ct_change.specs.Changelog.{Mode, append, retract, upsert, adds, admits, has}
 use Rattle.op_rules.specs.Edges.{meaning_of, Edge, LiesIn, KeepsKeys}
-use Rattle.stream_model.specs.Tables.{Table, null_refusal}
+use Rattle.stream_model.specs.Tables.{Table, asked, null_refusal}
 use Rattle.stream_model.specs.Network.{ScanFacts}
 
 abbrev pub IsKeyBy : Mode → Option (List ℕ) → List ℕ → Type 0
@@ -25,7 +25,7 @@ pub record CarriesTable (many : ℕ) (table : Table) (edge : Edge) : Type 0 wher
   pub meaning : edge.meaning ≡ meaning_of table.mode
   pub kinds : (kind : Kind) → admits table.mode kind ≡ true → has edge.kinds kind ≡ true
   -- with no NULL where the table refuses it, a change has the edge's columns
-  pub fits : (change : Change) → table.fits change ≡ true → null_refusal table.required change.row ≡ None → edge.fits change ≡ true
+  pub fits : (change : Change) → admits table.mode change.kind ≡ true → table.fits change ≡ true → null_refusal (asked table change) change.row ≡ None → edge.fits change ≡ true
   pub holds : (change : Change) → table.fits change ≡ true → null_refusal table.required change.row ≡ None → adds change.kind ≡ true → edge.holds change.row ≡ true
   -- its keys are the table's, and its fixing sets have the columns by which the table's changes are spread
   pub unique : (key : List ℕ) → Contains edge.unique key → IsKeyOf table key

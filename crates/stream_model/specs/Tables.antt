@@ -1,5 +1,6 @@
 -- A source table: which changes it takes, and to which subtask of a scan they go.
 use Rattle.std.specs.Prelude.{◌≡◌, ℕ, ◌+◌, ◌==◌, Bool, true, false, ◌&&◌, ◌||◌, not, cond, List, [], ◌∷◌, ◌++◌, Option, Some, None}
+use Rattle.std.specs.List.{filter}
 use Rattle.ct_value.specs.Bag.{copies}
 use Rattle.ct_value.specs.Rows.{project}
 use Rattle.ct_value.specs.declared.row.Row.{Row}
@@ -8,6 +9,8 @@ use Rattle.ct_value.specs.declared.codes.ChangeCode.TheVariants.{KindNotDeclared
 use Rattle.ct_field.specs.Typed.{is_null, cell}
 use Rattle.ct_change.specs.declared.change.Change.{Change}
 use Rattle.ct_change.specs.Changelog.{Mode, append, retract, upsert, Rows, adds, admits, row_at, fold}
+use Rattle.ct_change.specs.KeyRows.{is_among}
+use Rattle.stream_model.specs.KeysTold.{told_key}
 
 pub record Table : Type 0 where
   -- the mode of its changes, and the columns of its key, where it has one
@@ -19,7 +22,8 @@ pub record Table : Type 0 where
   -- their values
   pub spread : List ℕ
   pub route : Row → ℕ
-  -- whether a change has as many values as the table has columns, each NULL or of its column's type
+  -- whether a change has as many values as the table has columns, each NULL or of its column's type, and tells no more than its
+  -- key where it tells that alone
   pub fits : Change → Bool
 
 -- the subtask of a scan that sends a change
@@ -38,6 +42,15 @@ kind_refusal mode change = cond (admits mode change.kind) None (Some KindNotDecl
 abbrev pub null_refusal : List ℕ → Row → Option ChangeCode
 null_refusal [] row = None
 null_refusal (column ∷ columns) row = cond (is_null (cell column row)) (Some (NullNotAllowed (column + 1))) (null_refusal columns row)
+
+-- the columns in which NULL is asked for: those in which it may not stand, and where a change tells its key alone, the key's among
+-- them, in the key's order
+abbrev pub asked_of : List ℕ → Option (List ℕ) → List ℕ
+asked_of required None = required
+asked_of required (Some key) = filter (is_among required) key
+
+abbrev pub asked : Table → Change → List ℕ
+asked table change = asked_of table.required (told_key table.mode change.kind)
 
 -- the row that it removes doesn't stand
 abbrev pub row_refusal : Mode → Rows → Change → Option ChangeCode
@@ -60,7 +73,7 @@ or_else (Some code) later = Some code
 
 -- why a change can't be taken where these rows stand: by its kind, then by its values, then by the rows
 abbrev pub refusal : Table → Rows → Change → Option ChangeCode
-refusal table rows change = or_else (kind_refusal table.mode change) (or_else (null_refusal table.required change.row)
+refusal table rows change = or_else (kind_refusal table.mode change) (or_else (null_refusal (asked table change) change.row)
     (or_else (row_refusal table.mode rows change) (key_refusal_by table.mode table.key rows change)))
 
 -- each change can be taken after those before it

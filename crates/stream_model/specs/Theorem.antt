@@ -1,9 +1,11 @@
 -- The composition theorem: what holds in every state of every run over a network whose nodes meet their facts.
 use Rattle.std.specs.Prelude.{◌≡◌, ℕ, ◌+◌, ◌<◌, ◌≤◌, List, [], ◌∷◌, ◌++◌, length, take, true, Option, Some, None}
+use Rattle.std.specs.List.{AllByRecursion}
 use Rattle.ct_value.specs.Bag.{copies, none}
 use Rattle.ct_change.specs.declared.change.Change.{Change}
 use Rattle.ct_change.specs.declared.kind.Kind.{Kind}
-use Rattle.ct_change.specs.Changelog.{Mode, Rows, AreOf, has, admits, fold, IsValid}
+use Rattle.ct_change.specs.Changelog.{Mode, Rows, AreOf, has, admits, fold}
+use Rattle.ct_change.specs.KeyRows.{IsKeyed, IsChangelog}
 use Rattle.op_rules.specs.History.{arrival}
 use Rattle.op_rules.specs.Edges.{meaning_of, ReadsAs, IsUnique, HoldsOver}
 use Rattle.op_rules.specs.Tasks.{total, IsFine, IsReady}
@@ -40,9 +42,10 @@ pub record Holds (g : Network) (s : State) : Type 0 where
       → s.flight e i j ≡ change ∷ rest → MayArrive g s e i j feed change
   -- at a quiet moment what each node's subtasks sent stands for the node's batch answer
   pub answered : IsQuiet g s → (v : ℕ) → IsNode g v → (answer : Rows) × IsAnswer g (table_rows g s) v answer × IsAnswered g.subtasks (g.edge v) (s.sent v) answer
-  -- each prefix of what was printed stands for some rows, and it has the sink's kinds
+  -- each prefix of what was printed stands for some rows, and it has the sink's kinds and columns
   pub printed_stands : (n : ℕ) → (rows : Rows) × ReadsAs (g.edge g.count).meaning (take n (changes_in s.printed)) rows
   pub printed_kinds : AreOf (g.edge g.count).kinds (changes_in s.printed)
+  pub printed_fits : AllByRecursion (λ change. (g.edge g.count).fits change ≡ true) (changes_in s.printed)
   -- at a quiet moment what was printed stands for the sink's batch answer
   pub printed_answers : IsQuiet g s → (answer : Rows) × IsAnswer g (table_rows g s) g.count answer × ReadsAs (g.edge g.count).meaning (changes_in s.printed) answer
 
@@ -51,12 +54,13 @@ pub record Holds (g : Network) (s : State) : Type 0 where
 abbrev pub Composes : Type 0
 Composes = (g : Network) → IsWired g → MeetsFacts g → (limit : ℕ) (items : List Item) → AreTyped g items → Holds g (after g limit (opened g) items)
 
--- of what was printed each prefix is a valid changelog of the mode, and at a quiet moment it folds to the sink's batch answer
+-- each prefix of what was printed is a changelog of the mode, and at a quiet moment it folds to the sink's batch answer
 pub record PrintsAnswer (g : Network) (mode : Mode) (s : State) : Type 0 where
-  pub valid : (n : ℕ) → IsValid mode (take n (changes_in s.printed))
+  pub valid : (n : ℕ) → IsChangelog mode (take n (changes_in s.printed))
   pub folds : IsQuiet g s → IsAnswer g (table_rows g s) g.count (fold mode (changes_in s.printed))
 
--- where the sink's changes are read as its mode says, and are of the mode's kinds
+-- where the sink's changes are read as its mode says, are of the mode's kinds, and tell no more than the mode does
 abbrev pub PrintedFolds : Type 0
 PrintedFolds = (g : Network) → IsWired g → MeetsFacts g → (mode : Mode) → (g.edge g.count).meaning ≡ meaning_of mode → ((kind : Kind) → has (g.edge g.count).kinds kind ≡ true → admits mode kind ≡ true)
+    → ((change : Change) → admits mode change.kind ≡ true → (g.edge g.count).fits change ≡ true → IsKeyed mode change)
     → (limit : ℕ) (items : List Item) → AreTyped g items → PrintsAnswer g mode (after g limit (opened g) items)

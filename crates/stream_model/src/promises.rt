@@ -9,8 +9,8 @@ pub fn plans_compose()
     ensures { Composes }
 {}
 
-/// In every such state each prefix of what was printed is a valid changelog of the sink's mode, and at every quiet moment
-/// it folds to the batch answer.
+/// In every such state each prefix of what was printed is a valid changelog of the sink's mode, each removal of an upsert
+/// changelog its key row, and at every quiet moment it folds to the batch answer.
 pub fn printed_folds_to_answer()
     ensures { PrintedFolds }
 {}

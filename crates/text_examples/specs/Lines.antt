@@ -24,13 +24,16 @@ worked file lines = record { file = file; lines = lines }
 abbrev column : List ℕ → Ty → ColDef
 column name ty = record { name = name; ty = record { ty = ty; nullable = true } }
 
--- `t` takes words and `d` amounts and truths, `n` takes counted words with their retractions, `u` sets a word by its number
+-- `t` takes words and `d` amounts and truths, `n` takes counted words with their retractions, `u` sets a word by its number, `w` has
+-- each word with a number once, `v` sets a number by its word
 abbrev pub sources : List TableDef
 sources =
     record { name = codes "t"; cols = column (codes "word") Texts ∷ []; key = None; mode = Append } ∷
     record { name = codes "n"; cols = column (codes "word") Texts ∷ column (codes "n") BigInt ∷ []; key = None; mode = Retract } ∷
     record { name = codes "u"; cols = column (codes "id") Int ∷ column (codes "word") Texts ∷ []; key = Some (0 ∷ []); mode = Upsert } ∷
-    record { name = codes "d"; cols = column (codes "amount") (Decimal 10 2) ∷ column (codes "paid") Truths ∷ []; key = None; mode = Append } ∷ []
+    record { name = codes "d"; cols = column (codes "amount") (Decimal 10 2) ∷ column (codes "paid") Truths ∷ []; key = None; mode = Append } ∷
+    record { name = codes "w"; cols = column (codes "id") Int ∷ column (codes "word") Texts ∷ []; key = Some (0 ∷ 1 ∷ []); mode = Upsert } ∷
+    record { name = codes "v"; cols = column (codes "id") Int ∷ column (codes "word") Texts ∷ []; key = Some (1 ∷ []); mode = Upsert } ∷ []
 
 abbrev line : ℕ → Kind → List Value → Result Line ChangeCode
 line table kind row = Ok (record { table = table; change = record { kind = kind; row = row } })
@@ -69,6 +72,9 @@ changes =
     ∷ line 1 UA (Null ∷ Num (negsuc 9223372036854775807) ∷ []) ∷ line 1 D (Text [] ∷ Null ∷ []) ∷ []) ∷
     worked (codes "u,+I,1,a\nu,+U,1,b\nu,-D,1,\\N")
     (line 2 I (Num (pos 1) ∷ Text (codes "a") ∷ []) ∷ line 2 UA (Num (pos 1) ∷ Text (codes "b") ∷ []) ∷ line 2 D (Num (pos 1) ∷ Null ∷ []) ∷ []) ∷
+    worked (codes "u,-D,1\nu,-D,1,a\nu,-D,1,\\x\nw,-D,1,a\nv,-D,a\nv,-D,x,a\nu,-D,\\N")
+    (line 2 D (Num (pos 1) ∷ Null ∷ []) ∷ line 2 D (Num (pos 1) ∷ Null ∷ []) ∷ line 2 D (Num (pos 1) ∷ Null ∷ []) ∷ line 4 D (Num (pos 1) ∷ Text (codes "a") ∷ [])
+    ∷ line 5 D (Null ∷ Text (codes "a") ∷ []) ∷ line 5 D (Null ∷ Text (codes "a") ∷ []) ∷ line 2 D (Null ∷ Null ∷ []) ∷ []) ∷
     worked (codes "d,+I,12.5,TRUE\nd,+I,-3,false") (line 3 I (Num (pos 1250) ∷ Truth true ∷ []) ∷ line 3 I (Num (negsuc 299) ∷ Truth false ∷ []) ∷ []) ∷ []
 
 -- records that are refused: by their number of fields, by the table, by the kind, by the table's mode, by a field; each by the
@@ -83,4 +89,6 @@ refusals =
     worked (codes "t,+I,\\x\nt,+I,\\\nn,+I,a,x\nn,+I,\\x,x\nn,+I,a,9223372036854775808\nn,+I,a,\nu,+I, 1,a") (Err (BadField 1) ∷ Err (BadField 1) ∷ Err (BadField 2) ∷ Err (BadField 1)
     ∷ Err (BadField 2) ∷ Err (BadField 2) ∷ Err (BadField 1) ∷ []) ∷
     worked (codes "d,+I,1.234,TRUE\nd,+I,.5,TRUE\nd,+I,5.,TRUE\nd,+I,1,True") (Err (BadField 1) ∷ Err (BadField 1) ∷ Err (BadField 1) ∷ Err (BadField 2) ∷ []) ∷
+    worked (codes "u,-D\nu,-D,1,a,x\nu,+U,1\nw,-D,1\nu,-D,x\nu,-D,x,a\nv,-D,\\x\nw,-D,x,\\x\nw,-D,1,\\x\nn,-D,a") (Err FieldCount ∷ Err FieldCount ∷ Err FieldCount ∷ Err FieldCount
+    ∷ Err (BadField 1) ∷ Err (BadField 1) ∷ Err (BadField 2) ∷ Err (BadField 1) ∷ Err (BadField 2) ∷ Err FieldCount ∷ []) ∷
     worked (codes "t,+I," ++ 0xFF ∷ codes "\nt,+I,a") (Err (BadField 1) ∷ word (codes "a") ∷ []) ∷ []

@@ -1,5 +1,5 @@
 -- The rows of a difference: what comes is the change's own row, and what goes is that row or one with its key.
-use Rattle.std.proofs.Common.{◌≡◌, Bool, true, false, Option, Some, None, refl, sym, ap, subst}
+use Rattle.std.proofs.Common.{◌≡◌, Bool, true, false, Option, Some, None, is_some, refl, sym, ap, subst}
 use Rattle.ct_value.specs.declared.row.Row.{Row}
 use Rattle.ct_change.specs.declared.change.Change.{Change}
 use Rattle.ct_change.specs.Changelog.{Mode, append, retract, upsert, Rows, adds, row_at}
@@ -44,3 +44,26 @@ gone_put_in false change g e = cc
 pub gone_replaced_by : (P : Row → Type 0) (o : Option Row) (change g : Change) → (replaced_by o change).gone ≡ Some g → ((old : Row) → o ≡ Some old → P old) → P g.row
 gone_replaced_by P None change g e h = absurd (gone_put_in (adds change.kind) change g e)
 gone_replaced_by P (Some old) change g e h = subst P (sym (gone_put_over old (adds change.kind) change g e)) (h old refl)
+
+-- ---- a row comes where the change adds
+
+comes_as_it_is : (b : Bool) (change : Change) → is_some (as_it_is b change).come ≡ b
+comes_as_it_is true change = refl
+comes_as_it_is false change = refl
+
+comes_put_in : (b : Bool) (change : Change) → is_some (put_in b change).come ≡ b
+comes_put_in true change = refl
+comes_put_in false change = refl
+
+comes_put_over : (old : Row) (b : Bool) (change : Change) → is_some (put_over old b change).come ≡ b
+comes_put_over old true change = refl
+comes_put_over old false change = refl
+
+comes_replaced_by : (o : Option Row) (change : Change) → is_some (replaced_by o change).come ≡ adds change.kind
+comes_replaced_by None change = comes_put_in (adds change.kind) change
+comes_replaced_by (Some old) change = comes_put_over old (adds change.kind) change
+
+pub comes-adds : (mode : Mode) (rows : Rows) (change : Change) → is_some (difference mode rows change).come ≡ adds change.kind
+comes-adds append rows change = comes_as_it_is (adds change.kind) change
+comes-adds retract rows change = comes_as_it_is (adds change.kind) change
+comes-adds (upsert key) rows change = comes_replaced_by (row_at rows key change.row) change

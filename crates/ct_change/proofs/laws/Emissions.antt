@@ -1,16 +1,21 @@
 -- What is emitted for a row that is replaced: folded, it replaces it; it is of the mode's kinds, and nothing where the row stays.
 use Rattle.std.proofs.Common.{◌≡◌, ℕ, ◌<◌, Bool, true, false, cond, List, [], Option, Some, None, refl, sym, ap, ◌∙◌}
 use Rattle.std.specs.Cmp.{Equal-is}
-use Rattle.std.specs.List.{find}
+use Rattle.std.specs.List.{find, AllByRecursion}
 use Rattle.ct_value.specs.Bag.{items, copies, add, remove}
 use Rattle.ct_value.proofs.laws.Bags.{add-remove}
 use Rattle.ct_value.specs.Order.{row_cmp, row_total, row_exact}
 use Rattle.ct_value.specs.Rows.{project}
 use Rattle.ct_value.specs.declared.row.Row.{Row}
-use Rattle.ct_change.specs.Changelog.{Mode, append, retract, upsert, Rows, kinds_of, AreOf, row_at, without, same_row}
+use Rattle.ct_change.specs.declared.kind.Kind.{Kind}
+use Rattle.ct_change.specs.declared.kind.Kind.TheVariants.{I, UB, UA, D}
+use Rattle.ct_change.specs.declared.change.Change.{Change}
+use Rattle.ct_change.specs.Changelog.{Mode, append, retract, upsert, Rows, adds, kinds_of, AreOf, row_at, without, same_row}
 use Rattle.ct_change.specs.Emission.{emission, update, CanTell, Tells, Replaces}
 use Rattle.ct_change.proofs.laws.Folds.{row_at-stands}
+use Rattle.ct_change.specs.KeyRows.{deleted, row_told, IsKeyed, AreKeyed}
 use Rattle.ct_change.proofs.laws.Meanings.{same_row-itself}
+use Rattle.ct_change.proofs.laws.KeyRows.{row_at-key_row, is_key_row}
 
 nothing : (mode : Mode) (rows : Rows) (old fresh : Row) → same_row old fresh ≡ true → 0 < copies rows old → Replaces mode rows (Some old) (Some fresh) []
 nothing mode rows old fresh e stands =
@@ -34,7 +39,7 @@ emission_replaces retract rows (Some old) None t = record { folds = refl; valid 
 emission_replaces retract rows (Some old) (Some fresh) t = both_rows retract rows old fresh (same_row old fresh) refl t (λ _. record { folds = refl; valid = (λ e. t, (λ e. absurd (cc), tt)) })
 emission_replaces (upsert key) rows None None t = record { folds = refl; valid = tt }
 emission_replaces (upsert key) rows None (Some fresh) t = record { folds = ap (λ o. add (without rows o) fresh) t; valid = (refl, tt) }
-emission_replaces (upsert key) rows (Some old) None t = record { folds = ap (without rows) t; valid = (refl, tt) }
+emission_replaces (upsert key) rows (Some old) None t = record { folds = ap (without rows) (row_at-key_row rows key old ∙ t); valid = (refl, tt) }
 emission_replaces (upsert key) rows (Some old) (Some fresh) t =
     both_rows (upsert key) rows old fresh (same_row old fresh) refl (row_at-stands rows key old old t.0)
     (λ _. record { folds = ap (λ o. add (without rows o) fresh) (row_at-same rows key old fresh t.1 ∙ t.0); valid = (refl, tt) })
@@ -68,3 +73,41 @@ emission_admitted append (Some old) None can = absurd (cc)
 emission_admitted retract (Some old) None can = (refl, tt)
 emission_admitted (upsert key) (Some old) None can = (refl, tt)
 emission_admitted mode (Some old) (Some fresh) can = update_admitted mode old fresh (same_row old fresh) can
+
+-- and each removal in it is told by the key alone, where the mode has one
+update_keyed : (mode : Mode) (old fresh : Row) (b : Bool) → AreKeyed mode (cond b [] (update mode old fresh))
+update_keyed mode old fresh true = tt
+update_keyed append old fresh false = tt
+update_keyed retract old fresh false = (tt, (tt, tt))
+update_keyed (upsert key) old fresh false = (λ e. absurd (cc), tt)
+
+pub emission_keyed : (mode : Mode) (old fresh : Option Row) → AreKeyed mode (emission mode old fresh)
+emission_keyed mode None None = tt
+emission_keyed append None (Some fresh) = (tt, tt)
+emission_keyed retract None (Some fresh) = (tt, tt)
+emission_keyed (upsert key) None (Some fresh) = (λ e. absurd (cc), tt)
+emission_keyed append (Some old) None = (tt, tt)
+emission_keyed retract (Some old) None = (tt, tt)
+emission_keyed (upsert key) (Some old) None = (λ e. is_key_row key old, tt)
+emission_keyed mode (Some old) (Some fresh) = update_keyed mode old fresh (same_row old fresh)
+
+-- ---- what holds of each change that is emitted, where it holds of each row that is told
+
+-- Q holds of a change of each kind by which a mode tells a row of which P holds
+abbrev pub Tell : (Row → Type 0) → (Change → Type 0) → Mode → Type 0
+Tell P Q mode = (kind : Kind) (row : Row) → P row → Q (record { kind = kind; row = row_told mode (adds kind) row })
+
+module _ (P : Row → Type 0) (Q : Change → Type 0) where
+  rows-update : (mode : Mode) → Tell P Q mode → (old fresh : Row) → P old → P fresh → AllByRecursion Q (update mode old fresh)
+  rows-update append tell old fresh p q = tt
+  rows-update retract tell old fresh p q = (tell UB old p, (tell UA fresh q, tt))
+  rows-update (upsert key) tell old fresh p q = (tell UA fresh q, tt)
+
+  pub both-emission : (mode : Mode) → Tell P Q mode → (old fresh : Row) → P old → P fresh → AllByRecursion Q (emission mode (Some old) (Some fresh))
+  both-emission mode tell old fresh p q = elim (same_row old fresh) as (λ b. AllByRecursion Q (cond b [] (update mode old fresh))) [ true ↦ tt | false ↦ rows-update mode tell old fresh p q ]
+
+  pub rows-emission : (mode : Mode) → Tell P Q mode → (o f : Option Row) → ((old : Row) → o ≡ Some old → P old) → ((fresh : Row) → f ≡ Some fresh → P fresh) → AllByRecursion Q (emission mode o f)
+  rows-emission mode tell None None p q = tt
+  rows-emission mode tell None (Some fresh) p q = (tell I fresh (q fresh refl), tt)
+  rows-emission mode tell (Some old) None p q = (tell D old (p old refl), tt)
+  rows-emission mode tell (Some old) (Some fresh) p q = both-emission mode tell old fresh (p old refl) (q fresh refl)

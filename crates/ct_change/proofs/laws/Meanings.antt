@@ -223,19 +223,26 @@ valid_where_means append changes kinds stand = valid-append none changes kinds
 valid_where_means retract changes kinds stand = valid_where_prefixes_mean changes stand
 valid_where_means (upsert key) changes kinds stand = valid-upsert key none changes kinds
 
--- ---- what holds of each row of a list holds of each row that the list means
+-- ---- what holds of each row that comes in a list holds of each row that the list means
 
-addition-row : (P : Row → Type 0) (row : Row) (change : Change) → P change.row → 0 < addition row change → P row
+addition-row : (P : Row → Type 0) (row : Row) (change : Change) → (adds change.kind ≡ true → P change.row) → 0 < addition row change → P row
 addition-row P row change p some =
     elim (same_row row change.row) as (λ t. same_row row change.row ≡ t → P row) [
-      | true ↦ λ e. subst P (sym (same_row-true row change.row e)) p
+      | true ↦ λ e. elim (adds change.kind) as (λ b. adds change.kind ≡ b → 0 < cond b (one_at row_cmp row change.row) 0 → P row) [
+        | true ↦ λ a h. subst P (sym (same_row-true row change.row e)) (p a)
+        | false ↦ λ a h. absurd (omega arith)
+      ] refl some
       | false ↦ λ e. absurd (
           let nothing : one_at row_cmp row change.row ≡ 0 = ap (λ b. cond b 1 0) e in
           let none_ : addition row change ≡ 0 = rw nothing (elim (adds change.kind) as (λ b. ◌≡◌ {A = ℕ} (cond b 0 0) 0) [ true ↦ refl | false ↦ refl ]) in
           omega arith)
     ] refl
 
-additions-row : (P : Row → Type 0) (row : Row) (changes : List Change) → AllByRecursion (λ change. P change.row) changes → 0 < additions row changes → P row
+-- what holds of the rows of the changes that add
+abbrev pub Come : (Row → Type 0) → List Change → Type 0
+Come P changes = AllByRecursion (λ change. adds change.kind ≡ true → P change.row) changes
+
+additions-row : (P : Row → Type 0) (row : Row) (changes : List Change) → Come P changes → 0 < additions row changes → P row
 additions-row P row [] all some = absurd (omega arith)
 additions-row P row (change ∷ changes) all some =
     elim (addition row change == 0) as (λ b. (addition row change == 0) ≡ b → P row) [
@@ -243,14 +250,21 @@ additions-row P row (change ∷ changes) all some =
       | false ↦ λ e. addition-row P row change all.0 (let apart = eqb-false (addition row change) 0 e in omega arith)
     ] refl
 
-last_shown-row : (P : Row → Type 0) (key : List ℕ) (row : Row) (start : ℕ) (changes : List Change) → (0 < start → P row) → AllByRecursion (λ change. P change.row) changes → 0 < last_shown key row start changes → P row
+last_shown-row : (P : Row → Type 0) (key : List ℕ) (row : Row) (start : ℕ) (changes : List Change) → (0 < start → P row) → Come P changes → 0 < last_shown key row start changes → P row
 last_shown-row P key row start [] first all some = first some
 last_shown-row P key row start (change ∷ changes) first all some =
     last_shown-row P key row (cond (same_row (project key change.row) (project key row)) (addition row change) start) changes
     (elim (same_row (project key change.row) (project key row)) as (λ b. 0 < cond b (addition row change) start → P row) [ true ↦ addition-row P row change all.0 | false ↦ first ])
     all.1 some
 
+pub means_come : (P : Row → Type 0) (mode : Mode) (changes : List Change) (rows : Rows) → Means mode changes rows → Come P changes → (row : Row) → 0 < copies rows row → P row
+means_come P append changes rows means all = λ row some. additions-row P row changes all (let e = means row in omega arith)
+means_come P retract changes rows means all = λ row some. additions-row P row changes all (let e = means row in omega arith)
+means_come P (upsert key) changes rows means all = λ row some. last_shown-row P key row 0 changes (λ z. absurd (omega arith)) all (let e = means row in omega arith)
+
+all_come : (P : Row → Type 0) (changes : List Change) → AllByRecursion (λ change. P change.row) changes → Come P changes
+all_come P [] all = tt
+all_come P (change ∷ changes) all = (λ e. all.0, all_come P changes all.1)
+
 pub means_rows : (P : Row → Type 0) (mode : Mode) (changes : List Change) (rows : Rows) → Means mode changes rows → AllByRecursion (λ change. P change.row) changes → (row : Row) → 0 < copies rows row → P row
-means_rows P append changes rows means all = λ row some. additions-row P row changes all (let e = means row in omega arith)
-means_rows P retract changes rows means all = λ row some. additions-row P row changes all (let e = means row in omega arith)
-means_rows P (upsert key) changes rows means all = λ row some. last_shown-row P key row 0 changes (λ z. absurd (omega arith)) all (let e = means row in omega arith)
+means_rows P mode changes rows means all = means_come P mode changes rows means (all_come P changes all)

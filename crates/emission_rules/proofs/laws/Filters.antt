@@ -53,8 +53,9 @@ pub from_first : (P : ℕ → Type 0) → P 0 → (p : ℕ) → p < 1 → P p
 from_first P at p l = let is : 0 ≡ p = omega arith in subst P is at
 
 module _ (filter : Filter) where
-  abbrev fate : Row → Fate
-  fate row = passing row (holds (eval filter.condition) row)
+  -- whether it comes or goes
+  abbrev fate : Bool → Row → Fate
+  fate comes row = passing row (holds (eval filter.condition) row)
 
   abbrev turn : Kind → Kind
   turn kind = kind
@@ -66,11 +67,11 @@ module _ (filter : Filter) where
   batch_is rows = ap (λ (f : Row → Option Rows). sum_over f rows) (λ i row. same_rows row (holds (eval filter.condition) row) i)
 
   keeps : (set : List ℕ) → Carries fate turn stays set set
-  keeps set a b fa fb is_a is_b same =
+  keeps set x y a b fa fb is_a is_b same =
       ap (project set) (same_row a fa (holds (eval filter.condition) a) is_a) ∙ same ∙ ap (project set) (sym (same_row b fb (holds (eval filter.condition) b) is_b))
 
   module _ (many : ℕ) (from : ℕ → Edge) (to : Edge) (fits : FilterFits (from 0) to) where
-    is : (change : Change) → filter_change filter change ≡ moved (turn change.kind) change.row (fate change.row)
+    is : (change : Change) → filter_change filter change ≡ moved (turn change.kind) change.row (fate (adds change.kind) change.row)
     is change = same_answer change (holds (eval filter.condition) change.row)
 
     leaves : (m : Meaning) → m ≡ bag → LeavesOne fate turn stays (filter_change filter) is (filter_answer filter.condition) batch_is retract many from to m
@@ -79,7 +80,7 @@ module _ (filter : Filter) where
     moves : Moves fate turn stays (filter_change filter) is (filter_answer filter.condition) batch_is retract many from to
     moves = record {
       forwards = fits.forwards;
-      reads = λ j history ready known n. reads_bag fate turn stays (filter_answer filter.condition) batch_is (from 0) to fits.reads fits.writes _ known n;
+      reads = λ j history ready known n. reads_bag fate turn stays (filter_answer filter.condition) batch_is (from 0) to (λ row. refl) fits.reads fits.writes _ known n;
       whole = bag_whole to.meaning fits.writes;
       leaves = leaves to.meaning fits.writes;
       kinds = fits.kinds;
@@ -87,8 +88,8 @@ module _ (filter : Filter) where
           fits.fits (record { kind = change.kind; row = row })
           (subst (λ r. (from 0).fits (record { kind = change.kind; row = r }) ≡ true) (same_row change.row row (holds (eval filter.condition) change.row) is_row) h);
       holds = λ row made h is_row. fits.holds made (subst (λ r. (from 0).holds r ≡ true) (same_row row made (holds (eval filter.condition) row) is_row) h);
-      unique = λ key has. (key, inl (fits.unique key has), keeps key);
-      local = λ key has. (key, fits.local key has, keeps key);
+      unique = λ key has. (key, inl (fits.unique key has), keeps key true true);
+      local = λ key has. (key, fits.local key has, keeps key true true);
       fixing = λ set has. (set, fits.fixing set has, keeps set);
     }
 

@@ -26,7 +26,8 @@ use Rattle.emission_rules.specs.GroupFits.{first_columns, batch, part, is_home, 
 use Rattle.emission_rules.specs.Grouping.{Grouping, results, group_row, TellsGroups, IsSound}
 use Rattle.emission_rules.proofs.laws.GroupAnswers.{shown_by, answer_shown, counted_answer, row_of_group}
 use Rattle.emission_rules.proofs.laws.Columns.{project-first, project-taken}
-use Rattle.emission_rules.proofs.laws.Pieces.{IsTold, IsTaken, fits_wide, rows_wide, stands_whole, nothing_whole}
+use Rattle.emission_rules.specs.Arriving.{FitsIn}
+use Rattle.emission_rules.proofs.laws.Pieces.{IsTold, IsTaken, fits_wide, types_wide, rows_wide, stands_whole, nothing_whole}
 use Rattle.emission_rules.proofs.laws.Turns.{Shown, nothing_shown, Turns, Names, AreNamed, shown_in, is_shown_row, one_of-le, turns_read, prefix_shown, prefix_stands}
 
 means_in : (mode : Mode) (changes : List Change) (rows : Rows) → ReadsAs (meaning_of mode) changes rows → Means mode changes rows
@@ -64,8 +65,8 @@ module _ (many : ℕ) (g : Grouping) (from to : Edge) (fits : GroupFits many g f
     abbrev took : List Change
     took = at_port 0 (joined pieces)
 
-    fitting : AllByRecursion (λ change. Fits g.columns change.row) took
-    fitting = all-each (λ change. from.fits change ≡ true) (λ change. Fits g.columns change.row) (λ change t. fits.fits change t) took (e.ready.types 0 (omega arith))
+    fitting : AllByRecursion (FitsIn g.input g.columns) took
+    fitting = all-each (λ change. from.fits change ≡ true) (FitsIn g.input g.columns) (λ change t. fits.fits change t) took (e.ready.types 0 (omega arith))
 
     placed : AllByRecursion (λ change. from.route (project (first_columns g.keys) change.row) ≡ j) took
     placed = subst (λ x. IsRoutedBy x from.route j took) fits.hashed (e.ready.placed 0 (omega arith))
@@ -73,9 +74,9 @@ module _ (many : ℕ) (g : Grouping) (from to : Edge) (fits : GroupFits many g f
     taken : AllByRecursion (IsTaken g sound (Here j) from.kinds) took
     taken = go took fitting placed (e.ready.kinds 0 (omega arith))
       where
-        go : (xs : List Change) → AllByRecursion (λ change. Fits g.columns change.row) xs → AllByRecursion (λ change. from.route (project (first_columns g.keys) change.row) ≡ j) xs → AreOf from.kinds xs → AllByRecursion (IsTaken g sound (Here j) from.kinds) xs
+        go : (xs : List Change) → AllByRecursion (FitsIn g.input g.columns) xs → AllByRecursion (λ change. from.route (project (first_columns g.keys) change.row) ≡ j) xs → AreOf from.kinds xs → AllByRecursion (IsTaken g sound (Here j) from.kinds) xs
         go [] f p k = tt
-        go (change ∷ xs) f p k = (record { fits = f.0; here = ap from.route (sym (key_of change.row (fits_wide g sound (Here j) from.kinds change.row f.0))) ∙ p.0; kind = k.0 }, go xs f.1 p.1 k.1)
+        go (change ∷ xs) f p k = (record { fits = f.0; here = ap from.route (sym (key_of change.row (types_wide g sound (Here j) from.kinds change.row f.0.types))) ∙ p.0; kind = k.0 }, go xs f.1 p.1 k.1)
 
     valid : IsValid g.input took
     valid = valid_where_means g.input took (all-each (λ change. has from.kinds change.kind ≡ true) (λ change. admits g.input change.kind ≡ true) (λ change k. fits.kinds change.kind k) took (e.ready.kinds 0 (omega arith)))
@@ -321,7 +322,7 @@ module _ (many : ℕ) (g : Grouping) (from to : Edge) (fits : GroupFits many g f
         let rows = prefix_stands g.keys g.output k.last sent k.turns n in
         (rows.0, subst (λ m. ReadsAs m (take n sent) rows.0) (sym fits.writes) rows.1);
     kinds_stay = λ j pieces sent e. all-each (IsTold g sound (Here j) from.kinds) (λ change. has to.kinds change.kind ≡ true) (λ change t. fits.out_kinds change.kind t.kind) sent (known j pieces sent e).told;
-    types_stay = λ j pieces sent e. all-each (IsTold g sound (Here j) from.kinds) (λ change. to.fits change ≡ true) (λ change t. fits.out_fits change t.fits) sent (known j pieces sent e).told;
+    types_stay = λ j pieces sent e. all-each (IsTold g sound (Here j) from.kinds) (λ change. to.fits change ≡ true) (λ change t. subst (λ row. to.fits (record { kind = change.kind; row = row }) ≡ true) (sym t.tells) (fits.out_fits change.kind t.whole t.fits)) sent (known j pieces sent e).told;
     parts_add_up = parts_add_up;
     local_keys = local_keys;
     fixing_sets = λ pieces sent all come set has_set. groups_apart pieces sent all set (λ a b wide_a wide_b same. sym (key_of a wide_a) ∙ (fits.fixing set has_set a b same ∙ key_of b wide_b));

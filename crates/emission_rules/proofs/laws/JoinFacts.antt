@@ -26,6 +26,7 @@ use Rattle.op_rules.specs.Rules.{appended}
 use Rattle.op_rules.specs.Edges.{meaning_of, ReadsAs, hash, Edge, IsRoutedBy, AreApartBy, LiesIn}
 use Rattle.op_rules.specs.Tasks.{Task, IsSplitBy, Emitted, FoldsToAnswer, PrefixesStand, KindsStay, TypesStay, PartsAddUp, FixingSetsHold, LastRowsLeaveApart, AnswersFit}
 use Rattle.op_rules.proofs.laws.Histories.{prefix_at, all-each, appended-nothing}
+use Rattle.emission_rules.specs.Arriving.{is_whole}
 use Rattle.emission_rules.specs.Joins.{turned}
 use Rattle.emission_rules.specs.Joining.{Shape, joins, matched, Joining, match_of, join_of, answer_by, joined_answer, left_rows, right_rows, emits}
 use Rattle.emission_rules.specs.JoinFits.{join_task, left_pairs, right_pairs, columns_by, behind, FixesBy, SideFits, JoinFits}
@@ -113,16 +114,16 @@ module _ (many : ℕ) (j : Joining) (from : ℕ → Edge) (to : Edge) (fits : Jo
         (stands.0, means_in mode (take n (at_port p took)) stands.0 (subst (λ meaning. ReadsAs meaning (take n (at_port p took)) stands.0) side.reads (subst (λ xs. ReadsAs (from p).meaning xs stands.0) m.1 stands.1))))
 
     -- each change of a side has its columns, routes here, and is of its kinds
-    record Came (p : ℕ) (columns : List ColTy) (pairs : List ℕ) (change : Change) : Type 0 where
-      pub own : IsOwn (from p) columns pairs s change.row
+    record Came (p : ℕ) (mode : Mode) (columns : List ColTy) (pairs : List ℕ) (change : Change) : Type 0 where
+      pub own : is_whole mode change.kind ≡ true → IsOwn (from p) columns pairs s change.row
       pub kind : has (from p).kinds change.kind ≡ true
 
-    side_came : (p : ℕ) → p < 2 → (mode : Mode) (columns : List ColTy) (pairs : List ℕ) → SideFits many mode columns pairs (from p) → AllByRecursion (Came p columns pairs) (at_port p took)
+    side_came : (p : ℕ) → p < 2 → (mode : Mode) (columns : List ColTy) (pairs : List ℕ) → SideFits many mode columns pairs (from p) → AllByRecursion (Came p mode columns pairs) (at_port p took)
     side_came p l mode columns pairs side = go (at_port p took) (e.ready.types p l) (subst (λ x. IsRoutedBy x (from p).route s (at_port p took)) side.hashed (e.ready.placed p l)) (e.ready.kinds p l)
       where
-        go : (xs : List Change) → AllByRecursion (λ change. (from p).fits change ≡ true) xs → AllByRecursion (λ change. (from p).route (project pairs change.row) ≡ s) xs → AreOf (from p).kinds xs → AllByRecursion (Came p columns pairs) xs
+        go : (xs : List Change) → AllByRecursion (λ change. (from p).fits change ≡ true) xs → AllByRecursion (λ change. (from p).route (project pairs change.row) ≡ s) xs → AreOf (from p).kinds xs → AllByRecursion (Came p mode columns pairs) xs
         go [] f r k = tt
-        go (change ∷ xs) f r k = (record { own = record { fits = side.fits change f.0; here = r.0 }; kind = k.0 }, go xs f.1 r.1 k.1)
+        go (change ∷ xs) f r k = (record { own = λ w. record { fits = (side.fits change f.0).whole w; here = r.0 }; kind = k.0 }, go xs f.1 r.1 k.1)
 
     pub run : Run j took sent
     run = record {
@@ -136,11 +137,11 @@ module _ (many : ℕ) (j : Joining) (from : ℕ → Edge) (to : Edge) (fits : Jo
     pub all_sent : AllByRecursion (SentFrom s) sent
     all_sent =
         all_said j took sent run (SentFrom s) (Left s) (Right s)
-        (all-each (Came 0 j.left_columns (left_pairs j.on)) _ (λ change c. record {
+        (all-each (Came 0 j.left j.left_columns (left_pairs j.on)) _ (λ change c. record {
           own = c.own;
           gives = gives_in (SentFrom s) (join_of j) (Left s) (Right s) j.left (from 0).kinds (gives_left (Left s) (Right s) lw rw (from 0).kinds (from 1).kinds (match_of j) j.shape) fits.left.updates change.kind c.kind (fits.left.kinds change.kind c.kind);
         }) (at_port 0 took) (side_came 0 (omega arith) j.left j.left_columns (left_pairs j.on) fits.left))
-        (all-each (Came 1 j.right_columns (right_pairs j.on)) _ (λ change c. record {
+        (all-each (Came 1 j.right j.right_columns (right_pairs j.on)) _ (λ change c. record {
           own = c.own;
           gives = gives_in (SentFrom s) (turned (join_of j)) (Right s) (Left s) j.right (from 1).kinds (gives_right (Left s) (Right s) lw rw (from 0).kinds (from 1).kinds (match_of j) j.shape) fits.right.updates change.kind c.kind (fits.right.kinds change.kind c.kind);
         }) (at_port 1 took) (side_came 1 (omega arith) j.right j.right_columns (right_pairs j.on) fits.right))

@@ -7,13 +7,15 @@ use Rattle.ct_value.proofs.laws.Bags.{copies-none, total-none}
 use Rattle.ct_value.specs.Order.{row_cmp, row_total, row_exact}
 use Rattle.ct_value.specs.declared.row.Row.{Row}
 use Rattle.ct_change.specs.declared.change.Change.{Change}
-use Rattle.ct_change.specs.Changelog.{Mode, retract, Rows, apply, fold, IsValid, Means}
+use Rattle.ct_change.specs.Changelog.{Mode, retract, Rows, adds, apply, fold, IsValid, Means}
 use Rattle.ct_change.proofs.laws.Folds.{IsValidFrom-front}
-use Rattle.ct_change.proofs.laws.Meanings.{means_fold, means_rows, prefixes_mean}
+use Rattle.ct_change.proofs.laws.Meanings.{means_fold, means_come, prefixes_mean}
 use Rattle.rel_algebra.specs.Sums.{Each}
 use Rattle.rel_algebra.proofs.laws.Bags.{copies-each}
 use Rattle.op_rules.specs.History.{Arrival, at_port}
 use Rattle.op_rules.proofs.laws.Histories.{all-append, all-front, at_port-append}
+use Rattle.emission_rules.specs.Arriving.{is_whole}
+use Rattle.emission_rules.proofs.laws.Arriving.{whole-adds}
 use Rattle.emission_rules.specs.Joins.{Join, turned, match_count, join_tells}
 use Rattle.emission_rules.specs.Joining.{Joining, join_of, left_rows, right_rows, emits}
 use Rattle.emission_rules.proofs.laws.JoinStanding.{standing-turned, shown_at, alone_at}
@@ -96,21 +98,21 @@ module _ (j : Joining) where
     -- ---- what is said of each change
 
     -- the rows that stand after a front of a history
-    rows_of : (P : Row → Type 0) (mode : Mode) (port : ℕ) → IsValid mode (at_port port history) → AllByRecursion (λ change. P change.row) (at_port port history)
+    rows_of : (P : Row → Type 0) (mode : Mode) (port : ℕ) → IsValid mode (at_port port history) → AllByRecursion (λ change. adds change.kind ≡ true → P change.row) (at_port port history)
         → (front back : List Arrival) → front ++ back ≡ history → Each P (fold mode (at_port port front))
     rows_of P mode port valid all front back e =
         let split : at_port port history ≡ at_port port front ++ at_port port back = sym (ap (at_port port) e) ∙ at_port-append port front back in
         let valid_front = IsValidFrom-front mode none (at_port port front) (at_port port back) (subst (IsValid mode) split valid) in
-        let all_front_ = all-front (λ change. P change.row) (at_port port front) (at_port port back) (subst (AllByRecursion (λ change. P change.row)) split all) in
-        copies-each row_total row_exact P (fold mode (at_port port front)) (means_rows P mode (at_port port front) (fold mode (at_port port front)) (means_fold mode (at_port port front) valid_front) all_front_)
+        let all_front_ = all-front (λ change. adds change.kind ≡ true → P change.row) (at_port port front) (at_port port back) (subst (AllByRecursion (λ change. adds change.kind ≡ true → P change.row)) split all) in
+        copies-each row_total row_exact P (fold mode (at_port port front)) (means_come P mode (at_port port front) (fold mode (at_port port front)) (means_fold mode (at_port port front) valid_front) all_front_)
 
     module _ (P : Change → Type 0) (Left Right : Row → Type 0) where
       pub record FromLeft (change : Change) : Type 0 where
-        pub own : Left change.row
+        pub own : is_whole j.left change.kind ≡ true → Left change.row
         pub gives : GivesIn P join Left Right j.left change.kind
 
       pub record FromRight (change : Change) : Type 0 where
-        pub own : Right change.row
+        pub own : is_whole j.right change.kind ≡ true → Right change.row
         pub gives : GivesIn P (turned join) Right Left j.right change.kind
 
       abbrev FromEither : Arrival → Type 0
@@ -130,12 +132,12 @@ module _ (j : Joining) where
           (λ b a others s t step f g each rest. all-append P s t (step_said b a s step f each) rest)
           [] history sent left_now
           (λ front back e. (
-            rows_of Left j.left 0 run.left_valid (owns FromLeft Left (λ c f. f.own) (at_port 0 history) left) front back e,
-            rows_of Right j.right 1 run.right_valid (owns FromRight Right (λ c f. f.own) (at_port 1 history) right) front back e,
+            rows_of Left j.left 0 run.left_valid (owns FromLeft Left (λ c f e. f.own (whole-adds j.left c.kind e)) (at_port 0 history) left) front back e,
+            rows_of Right j.right 1 run.right_valid (owns FromRight Right (λ c f e. f.own (whole-adds j.right c.kind e)) (at_port 1 history) right) front back e,
           ))
           (of_ports history left right) run.emitted (none_at_first j)).0
         where
-          owns : (Q : Change → Type 0) (R : Row → Type 0) → ((c : Change) → Q c → R c.row) → (xs : List Change) → AllByRecursion Q xs → AllByRecursion (λ c. R c.row) xs
+          owns : (Q : Change → Type 0) (R : Row → Type 0) → ((c : Change) → Q c → adds c.kind ≡ true → R c.row) → (xs : List Change) → AllByRecursion Q xs → AllByRecursion (λ c. adds c.kind ≡ true → R c.row) xs
           owns Q R h [] q = tt
           owns Q R h (x ∷ xs) q = (h x q.0, owns Q R h xs q.1)
 

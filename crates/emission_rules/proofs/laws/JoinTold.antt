@@ -13,6 +13,7 @@ use Rattle.ct_change.proofs.laws.Folds.{row_at-stands}
 use Rattle.rel_algebra.specs.Sums.{Each}
 use Rattle.rel_algebra.proofs.laws.Bags.{each-copies}
 use Rattle.op_rules.proofs.laws.Histories.{all-append}
+use Rattle.emission_rules.specs.Arriving.{is_whole}
 use Rattle.emission_rules.specs.Joins.{Join, match_count, is_alone, told_if, told_kind, told_match, told_row, told_of, join_tells}
 
 abbrev pub told : Kind → Row → Change
@@ -93,20 +94,20 @@ module _ (P : Change → Type 0) (join : Join) (Own Other : Row → Type 0) wher
     taken_as_is rows true change k = both_said rows None (Some change) not_there (λ c e. is change c e k)
     taken_as_is rows false change k = both_said rows (Some change) None (λ c e. is change c e k) not_there
 
-    replaced : (rows : Rows) (o : Option Row) (change : Change) → (b : Bool) → adds change.kind ≡ b → IsSaid change → ((old : Row) → o ≡ Some old → Own old) → (b ≡ true → Gives UB × Gives UA) → (b ≡ false → Gives D)
+    replaced : (rows : Rows) (o : Option Row) (change : Change) → (b : Bool) → adds change.kind ≡ b → (b ≡ true → IsSaid change) → ((old : Row) → o ≡ Some old → Own old) → (b ≡ true → Gives UB × Gives UA) → (b ≡ false → Gives D)
         → All (let diff = replaced_by o change in told_of join (without rows (row_of diff.gone)) others diff.gone ++ told_of join (without rows (row_of diff.gone)) others diff.come)
-    replaced rows None change true e k old u d = subst (λ b. All (let diff = put_in b change in told_of join (without rows (row_of diff.gone)) others diff.gone ++ told_of join (without rows (row_of diff.gone)) others diff.come)) (sym e) (both_said rows None (Some change) not_there (λ c q. is change c q k))
+    replaced rows None change true e k old u d = subst (λ b. All (let diff = put_in b change in told_of join (without rows (row_of diff.gone)) others diff.gone ++ told_of join (without rows (row_of diff.gone)) others diff.come)) (sym e) (both_said rows None (Some change) not_there (λ c q. is change c q (k refl)))
     replaced rows None change false e k old u d = subst (λ b. All (let diff = put_in b change in told_of join (without rows (row_of diff.gone)) others diff.gone ++ told_of join (without rows (row_of diff.gone)) others diff.come)) (sym e) tt
     replaced rows (Some old) change true e k own u d = subst (λ b. All (let diff = put_over old b change in told_of join (without rows (row_of diff.gone)) others diff.gone ++ told_of join (without rows (row_of diff.gone)) others diff.come)) (sym e)
-        (both_said rows (Some (told UB old)) (Some (told UA change.row)) (λ c q. is (told UB old) c q (record { own = own old refl; gives = (u refl).0 })) (λ c q. is (told UA change.row) c q (record { own = k.own; gives = (u refl).1 })))
+        (both_said rows (Some (told UB old)) (Some (told UA change.row)) (λ c q. is (told UB old) c q (record { own = own old refl; gives = (u refl).0 })) (λ c q. is (told UA change.row) c q (record { own = (k refl).own; gives = (u refl).1 })))
     replaced rows (Some old) change false e k own u d = subst (λ b. All (let diff = put_over old b change in told_of join (without rows (row_of diff.gone)) others diff.gone ++ told_of join (without rows (row_of diff.gone)) others diff.come)) (sym e)
         (both_said rows (Some (told D old)) None (λ c q. is (told D old) c q (record { own = own old refl; gives = d refl })) not_there)
 
     -- of each change that is told where these rows stand
-    pub tells_all : (mode : Mode) (rows : Rows) (change : Change) → Each Own rows → Own change.row → GivesIn mode change.kind → All (join_tells join mode rows others change)
-    tells_all append rows change stand own k = taken_as_is rows (adds change.kind) change (record { own = own; gives = k.itself })
-    tells_all retract rows change stand own k = taken_as_is rows (adds change.kind) change (record { own = own; gives = k.itself })
+    pub tells_all : (mode : Mode) (rows : Rows) (change : Change) → Each Own rows → (is_whole mode change.kind ≡ true → Own change.row) → GivesIn mode change.kind → All (join_tells join mode rows others change)
+    tells_all append rows change stand own k = taken_as_is rows (adds change.kind) change (record { own = own refl; gives = k.itself })
+    tells_all retract rows change stand own k = taken_as_is rows (adds change.kind) change (record { own = own refl; gives = k.itself })
     tells_all (upsert key) rows change stand own k =
-        replaced rows (row_at rows key change.row) change (adds change.kind) refl (record { own = own; gives = k.itself })
+        replaced rows (row_at rows key change.row) change (adds change.kind) refl (λ e. record { own = own e; gives = k.itself })
         (λ old e. each-copies row_total row_exact Own rows stand old (row_at-stands rows key change.row old e))
         (λ e. k.update e key refl) (λ e. k.removal e key refl)

@@ -8,7 +8,8 @@ use Rattle.ct_value.specs.Order.{row_cmp, row_total, row_exact}
 use Rattle.ct_value.specs.declared.row.Row.{Row}
 use Rattle.ct_change.specs.declared.change.Change.{Change}
 use Rattle.ct_change.specs.Changelog.{Mode, append, retract, upsert, Rows, apply, fold_from, adds, MayCome, IsValidFrom, same_row, row_at}
-use Rattle.ct_change.specs.Emission.{difference, as_it_is, put_in, put_over, replaced_by, IsSame}
+use Rattle.ct_change.specs.Emission.{difference, IsSame}
+use Rattle.ct_change.proofs.laws.Differences.{comes-adds}
 use Rattle.ct_change.proofs.laws.Folds.{total-apply, weight-gone, weight-come, row_at-key, row_at-stands}
 use Rattle.ct_change.proofs.laws.Meanings.{same_row-true}
 use Rattle.rel_algebra.specs.GroupedCounts.{in_group, in_it, group_size, AreWide}
@@ -44,26 +45,8 @@ cond-le true n = omega arith
 cond-le false n = omega arith
 
 -- where a change adds, something comes
-come_as_it_is : (b : Bool) (change : Change) → b ≡ true → is_some (as_it_is b change).come ≡ true
-come_as_it_is true change e = refl
-come_as_it_is false change e = absurd (cc)
-
-come_put_in : (b : Bool) (change : Change) → b ≡ true → is_some (put_in b change).come ≡ true
-come_put_in true change e = refl
-come_put_in false change e = absurd (cc)
-
-come_put_over : (old : Row) (b : Bool) (change : Change) → b ≡ true → is_some (put_over old b change).come ≡ true
-come_put_over old true change e = refl
-come_put_over old false change e = absurd (cc)
-
-come_replaced_by : (o : Option Row) (change : Change) → adds change.kind ≡ true → is_some (replaced_by o change).come ≡ true
-come_replaced_by None change e = come_put_in (adds change.kind) change e
-come_replaced_by (Some old) change e = come_put_over old (adds change.kind) change e
-
 pub comes : (mode : Mode) (rows : Rows) (change : Change) → adds change.kind ≡ true → is_some (difference mode rows change).come ≡ true
-comes append rows change e = come_as_it_is (adds change.kind) change e
-comes retract rows change e = come_as_it_is (adds change.kind) change e
-comes (upsert key) rows change e = come_replaced_by (row_at rows key change.row) change e
+comes mode rows change e = comes-adds mode rows change ∙ e
 
 module _ (mode : Mode) (keys : ℕ) (rows : Rows) (change : Change) (keeps : KeepsGroups keys mode) (wide : AreWide keys rows) (fits : keys ≤ length change.row) (may : MayCome mode rows change) where
   abbrev pub goes : Bool
@@ -98,15 +81,20 @@ module _ (mode : Mode) (keys : ℕ) (rows : Rows) (change : Change) (keeps : Kee
       let d : cond does_come (f change.row) 0 ≡ 0 = rw none (cond-nothing does_come) in
       omega (arith, e, a, b, c, d)
 
-  -- what holds of each row that stands and of the change's holds of each row after it
-  pub all_after : (P : Row → Type 0) → ((row : Row) → 0 < copies rows row → P row) → P change.row → (row : Row) → 0 < copies (apply mode rows change) row → P row
+  -- what holds of each row that stands, and of the change's where it adds, holds of each row after it
+  pub all_after : (P : Row → Type 0) → ((row : Row) → 0 < copies rows row → P row) → (adds change.kind ≡ true → P change.row) → (row : Row) → 0 < copies (apply mode rows change) row → P row
   all_after P all fine row there =
       let e = total-apply (one_at row_cmp row) mode rows change may in
       let b = weight-come (one_at row_cmp row) mode rows change in
       let now = copies-occurs (apply mode rows change) row in
       let before = copies-occurs rows row in
       elim (same_row row change.row) as (λ t. same_row row change.row ≡ t → P row) [
-        | true ↦ λ t. subst P (sym (same_row-true row change.row t)) fine
+        | true ↦ λ t. elim (adds change.kind) as (λ b. adds change.kind ≡ b → P row) [
+          | true ↦ λ a. subst P (sym (same_row-true row change.row t)) (fine a)
+          | false ↦ λ a.
+              let nothing : cond does_come (one_at row_cmp row change.row) 0 ≡ 0 = ap (λ b. cond b (one_at row_cmp row change.row) 0) (comes-adds mode rows change ∙ a) in
+              all row (omega arith)
+        ] refl
         | false ↦ λ t.
             let none : one_at row_cmp row change.row ≡ 0 = ap (λ b. cond b 1 0) t in
             let nothing : cond does_come (one_at row_cmp row change.row) 0 ≡ 0 = rw none (cond-nothing does_come) in
@@ -114,7 +102,7 @@ module _ (mode : Mode) (keys : ℕ) (rows : Rows) (change : Change) (keeps : Kee
       ] refl
 
   pub wide_after : AreWide keys (apply mode rows change)
-  wide_after = all_after (λ row. keys ≤ length row) wide fits
+  wide_after = all_after (λ row. keys ≤ length row) wide (λ a. fits)
 
 -- ---- after a piece
 
@@ -124,7 +112,7 @@ module _ (mode : Mode) (keys : ℕ) (keeps : KeepsGroups keys mode) where
   wide_from rows (change ∷ changes) wide fits valid =
       wide_from (apply mode rows change) changes (wide_after mode keys rows change keeps wide fits.0 valid.0) fits.1 valid.1
 
-  pub all_from : (P : Row → Type 0) (rows : Rows) (changes : List Change) → ((row : Row) → 0 < copies rows row → P row) → AllByRecursion (λ change. P change.row) changes → AreWide keys rows → AllByRecursion (λ change. keys ≤ length change.row) changes → IsValidFrom mode rows changes
+  pub all_from : (P : Row → Type 0) (rows : Rows) (changes : List Change) → ((row : Row) → 0 < copies rows row → P row) → AllByRecursion (λ change. adds change.kind ≡ true → P change.row) changes → AreWide keys rows → AllByRecursion (λ change. keys ≤ length change.row) changes → IsValidFrom mode rows changes
       → (row : Row) → 0 < copies (fold_from mode rows changes) row → P row
   all_from P rows [] all fine wide fits valid = all
   all_from P rows (change ∷ changes) all fine wide fits valid =

@@ -6,9 +6,9 @@ use Rattle.ct_value.specs.Order.{row_total, row_exact}
 use Rattle.ct_value.specs.declared.row.Row.{Row}
 use Rattle.ct_value.specs.declared.ty.ColTy.{ColTy}
 use Rattle.ct_change.specs.declared.change.Change.{Change}
-use Rattle.ct_change.specs.Changelog.{Mode, append, retract, upsert, Rows, fold, IsValid, Means}
+use Rattle.ct_change.specs.Changelog.{Mode, append, retract, upsert, Rows, adds, fold, IsValid, Means}
 use Rattle.ct_change.proofs.laws.Folds.{IsValidFrom-front}
-use Rattle.ct_change.proofs.laws.Meanings.{means_fold, means_rows}
+use Rattle.ct_change.proofs.laws.Meanings.{means_fold, means_come}
 use Rattle.rel_algebra.specs.Clauses.{Fits}
 use Rattle.rel_algebra.specs.Sums.{Each}
 use Rattle.rel_algebra.proofs.laws.Bags.{copies-each}
@@ -17,7 +17,7 @@ use Rattle.op_rules.specs.Edges.{Meaning, meaning_of, ReadsAs, Edge, IsUnique, I
 use Rattle.op_rules.specs.Ports.{IsReadIn, Takes}
 use Rattle.op_rules.specs.Tasks.{Facts, LocalKeysHold, UniqueKeysHold}
 use Rattle.op_rules.proofs.laws.Histories.{at_port-append, all-front, all-each}
-use Rattle.op_rules.proofs.laws.Values.{types_of_row}
+use Rattle.emission_rules.proofs.laws.Arriving.{come-fit}
 use Rattle.emission_rules.proofs.laws.Weights.{means_weighs}
 use Rattle.emission_rules.specs.Joining.{Joining, left_rows, right_rows, join_rule}
 use Rattle.emission_rules.specs.JoinFits.{SideFits, JoinFits, JoinsStand, JoinsTake, left_pairs, right_pairs}
@@ -61,11 +61,11 @@ module _ (many : ℕ) (j : Joining) (from : ℕ → Edge) (to : Edge) (fits : Jo
           let split : at_port p history ≡ at_port p front ++ at_port p back = sym (ap (at_port p) is) ∙ at_port-append p front back in
           let valid : IsValid mode (at_port p front) = IsValidFrom-front mode none (at_port p front) (at_port p back) (subst (IsValid mode) split (side_valid many j from to fits s pieces sent e p l mode columns pairs fit)) in
           let means = means_fold mode (at_port p front) valid in
-          let typed = all-each (λ change. (from p).fits change ≡ true) (λ change. Fits columns change.row) (λ change t. fit.fits change t) (at_port p front) (all-front (λ change. (from p).fits change ≡ true) (at_port p front) (at_port p back) (subst (AllByRecursion (λ change. (from p).fits change ≡ true)) split (e.ready.types p l))) in
+          let typed = all-each (λ change. (from p).fits change ≡ true) (λ change. adds change.kind ≡ true → Fits columns change.row) (λ change t. come-fit mode columns change (fit.fits change t)) (at_port p front) (all-front (λ change. (from p).fits change ≡ true) (at_port p front) (at_port p back) (subst (AllByRecursion (λ change. (from p).fits change ≡ true)) split (e.ready.types p l))) in
           let here : take (length front) history ≡ front = ap (take (length front)) (sym is) ∙ take-front front back in
           let reading : ReadsAs (from p).meaning (at_port p (take (length front) history)) (fold mode (at_port p front)) =
           subst (λ (h : List Arrival). ReadsAs (from p).meaning (at_port p h) (fold mode (at_port p front))) (sym here) (subst (λ m. ReadsAs m (at_port p front) (fold mode (at_port p front))) (sym fit.reads) (reads_in mode (at_port p front) (fold mode (at_port p front)) means)) in (
-            copies-each row_total row_exact (Fits columns) (fold mode (at_port p front)) (means_rows (Fits columns) mode (at_port p front) (fold mode (at_port p front)) means typed),
+            copies-each row_total row_exact (Fits columns) (fold mode (at_port p front)) (means_come (Fits columns) mode (at_port p front) (fold mode (at_port p front)) means typed),
             λ k seen. e.ready.keys p l k seen (length front) (fold mode (at_port p front)) reading,
           )
 
@@ -129,6 +129,6 @@ pub joins_take : JoinsTake
 joins_take many j from to fits = (refl, λ p l. side p l)
   where
     side : (p : ℕ) → p < 2 → Takes (join_rule j) p (from p)
-    side zero l = record { reads = takes_side (from 0).meaning j.left fits.left.reads; kinds = fits.left.kinds; fits = λ change h. types_of_row j.left_columns change.row (fits.left.fits change h); keyed = fits.left.keyed }
-    side (suc zero) l = record { reads = takes_side (from 1).meaning j.right fits.right.reads; kinds = fits.right.kinds; fits = λ change h. types_of_row j.right_columns change.row (fits.right.fits change h); keyed = fits.right.keyed }
+    side zero l = record { reads = takes_side (from 0).meaning j.left fits.left.reads; kinds = fits.left.kinds; fits = λ change h. (fits.left.fits change h).types; keyed = fits.left.keyed }
+    side (suc zero) l = record { reads = takes_side (from 1).meaning j.right fits.right.reads; kinds = fits.right.kinds; fits = λ change h. (fits.right.fits change h).types; keyed = fits.right.keyed }
     side (suc (suc p)) l = absurd (omega arith)

@@ -1,5 +1,5 @@
 -- A normalize meets its facts.
-use Rattle.std.proofs.Common.{◌≡◌, ℕ, ◌<◌, ◌==◌, true, cond, List, [], ◌∷◌, ◌++◌, take, Some, Ok, refl, sym, ap, subst, ◌∙◌, arith}
+use Rattle.std.proofs.Common.{◌≡◌, ℕ, ◌<◌, ◌==◌, Bool, true, false, cond, List, [], ◌∷◌, ◌++◌, take, Some, Ok, refl, sym, ap, subst, ◌∙◌, arith}
 use Rattle.std.specs.List.{AllByRecursion}
 use Rattle.ct_value.specs.Bag.{copies, none}
 use Rattle.ct_value.proofs.laws.Bags.{total-none, copies-none}
@@ -7,7 +7,10 @@ use Rattle.ct_value.specs.Order.{row_total}
 use Rattle.ct_value.specs.Rows.{project}
 use Rattle.ct_value.specs.declared.row.Row.{Row}
 use Rattle.ct_change.specs.declared.change.Change.{Change}
-use Rattle.ct_change.specs.Changelog.{Mode, append, retract, upsert, Rows, AreOf, fold, fold_from, IsValid, Means}
+use Rattle.ct_change.specs.KeyRows.{key_row, row_told}
+use Rattle.ct_change.proofs.laws.KeyRows.{key_stays}
+use Rattle.ct_change.specs.Changelog.{Mode, append, retract, upsert, Rows, adds, AreOf, fold, fold_from, IsValid, Means}
+use Rattle.ct_change.proofs.laws.Emissions.{Tell}
 use Rattle.ct_change.proofs.laws.Folds.{fold_from-append}
 use Rattle.ct_change.proofs.laws.Meanings.{in_key, IsOnce, means_fold, fold_means, prefixes_mean, valid-upsert, IsValidFrom-take}
 use Rattle.op_rules.specs.History.{Arrival, at_port, joined}
@@ -44,6 +47,13 @@ along-normalize normalize before (piece ∷ pieces) =
 nothing_once : (key : List ℕ) → IsOnce key none
 nothing_once key row = let e = total-none row_total (in_key key row) in omega arith
 
+-- a row keeps its key where a mode that can tell it tells it
+key_told : (key : List ℕ) (mode : Mode) → TellsKey key mode → (b : Bool) (row : Row) → project key (row_told mode b row) ≡ project key row
+key_told key mode can true row = refl
+key_told key append can false row = absurd can
+key_told key retract can false row = refl
+key_told key (upsert columns) can false row = subst (λ k. project k (key_row columns row) ≡ project k row) can (key_stays columns row)
+
 -- rows that agree on a set agree on the columns, so what fixes the columns fixes the set
 apart-lists : (columns set : List ℕ) (many : ℕ) (lists : ℕ → List Change) → LiesIn columns set → IsApart columns many lists → IsApart set many lists
 apart-lists columns set many lists lies apart i j il jl =
@@ -68,11 +78,11 @@ module _ (normalize : Normalize) (many : ℕ) (from : ℕ → Edge) (to : Edge) 
     folds : fold normalize.output sent ≡ fold (upsert normalize.key) (at_port 0 (joined pieces))
     folds = ap (fold normalize.output) sent_is ∙ folds-normalized normalize fits.tells none (at_port 0 (joined pieces))
 
-    -- the rows that were emitted are rows that came
-    rows_sent : (P : Row → Type 0) → AllByRecursion (λ change. P change.row) (at_port 0 (joined pieces)) → AllByRecursion (λ change. P change.row) sent
-    rows_sent P all =
-        subst (AllByRecursion (λ change. P change.row)) (sym sent_is)
-        (rows-normalized P normalize none (λ row some. absurd (let z = copies-none row_total row in omega arith)) (at_port 0 (joined pieces)) all)
+    -- the rows that are told are rows that came
+    rows_sent : (P : Row → Type 0) (Q : Change → Type 0) → Tell P Q normalize.output → AllByRecursion (λ change. adds change.kind ≡ true → P change.row) (at_port 0 (joined pieces)) → AllByRecursion Q sent
+    rows_sent P Q tell all =
+        subst (AllByRecursion Q) (sym sent_is)
+        (rows-normalized P Q normalize tell none (λ row some. absurd (let z = copies-none row_total row in omega arith)) (at_port 0 (joined pieces)) all)
 
     came_valid : IsValid (upsert normalize.key) (at_port 0 (joined pieces))
     came_valid = valid-upsert normalize.key none (at_port 0 (joined pieces)) (all-each _ _ (λ change h. fits.admitted change.kind h) (at_port 0 (joined pieces)) (e.ready.kinds 0 (omega arith)))
@@ -85,8 +95,10 @@ module _ (normalize : Normalize) (many : ℕ) (from : ℕ → Edge) (to : Edge) 
 
     -- they are rows that route here
     here : AllByRecursion (λ change. (from 0).route (project normalize.key change.row) ≡ j) sent
-    here = rows_sent (λ row. (from 0).route (project normalize.key row) ≡ j)
-        (let placed : IsRoutedBy (hash normalize.key) (from 0).route j (at_port 0 (joined pieces)) = subst (λ x. IsRoutedBy x (from 0).route j (at_port 0 (joined pieces))) fits.hashed (e.ready.placed 0 (omega arith)) in placed)
+    here = rows_sent (λ row. (from 0).route (project normalize.key row) ≡ j) (λ change. (from 0).route (project normalize.key change.row) ≡ j)
+        (λ kind row is. ap (from 0).route (key_told normalize.key normalize.output fits.tells (adds kind) row) ∙ is)
+        (all-each (λ change. (from 0).route (project normalize.key change.row) ≡ j) _ (λ change is a. is) (at_port 0 (joined pieces))
+        (let placed : IsRoutedBy (hash normalize.key) (from 0).route j (at_port 0 (joined pieces)) = subst (λ x. IsRoutedBy x (from 0).route j (at_port 0 (joined pieces))) fits.hashed (e.ready.placed 0 (omega arith)) in placed))
 
     unique_by : (mode : Mode) → normalize.output ≡ mode → (n : ℕ) (rows : Rows) → ReadsAs (meaning_of mode) (take n sent) rows → IsUnique normalize.key (copies rows)
     unique_by append is n rows reads = absurd (subst (TellsKey normalize.key) is fits.tells)
@@ -128,9 +140,9 @@ module _ (normalize : Normalize) (many : ℕ) (from : ℕ → Edge) (to : Edge) 
         subst (AreOf to.kinds) (sym (sent_is j pieces sent e))
         (all-each _ _ (λ change h. fits.kinds change.kind h) (normalized_all normalize none (at_port 0 (joined pieces))) (kinds-normalized normalize fits.tells none (at_port 0 (joined pieces))));
     types_stay = λ j pieces sent e.
-        all-each (λ change. (came : Change) × ((from 0).fits came ≡ true) × (came.row ≡ change.row)) (λ change. to.fits change ≡ true) (λ change h. fits.fits h.0 change h.1 h.2) sent
-        (rows_sent j pieces sent e (λ row. (came : Change) × ((from 0).fits came ≡ true) × (came.row ≡ row))
-        (all-each _ _ (λ change h. (change, h, refl)) (at_port 0 (joined pieces)) (e.ready.types 0 (omega arith))));
+        rows_sent j pieces sent e (λ row. (came : Change) × ((from 0).fits came ≡ true) × (adds came.kind ≡ true) × (came.row ≡ row)) (λ change. to.fits change ≡ true)
+        (λ kind row h. subst (λ r. to.fits (record { kind = kind; row = row_told normalize.output (adds kind) r }) ≡ true) h.3 (fits.fits h.0 kind h.1 h.2))
+        (all-each (λ change. (from 0).fits change ≡ true) _ (λ change h a. (change, h, a, refl)) (at_port 0 (joined pieces)) (e.ready.types 0 (omega arith)));
     parts_add_up = λ parts whole answers split made. (
       whole 0,
       refl,

@@ -9,7 +9,7 @@ use Rattle.ct_value.specs.declared.row.Row.{Row}
 use Rattle.ct_change.specs.declared.change.Change.{Change}
 use Rattle.ct_change.specs.Changelog.{Mode, append, retract, upsert, Rows, same_row, adds, kinds_of, AreOf, row_at, without, with, apply, fold_from, IsValidFrom}
 use Rattle.ct_change.specs.Emission.{emission, update, replaced, CanTell, Tells, Replaces}
-use Rattle.ct_change.proofs.laws.Emissions.{emission_replaces, emission_admitted, tells-can}
+use Rattle.ct_change.proofs.laws.Emissions.{emission_replaces, emission_admitted, tells-can, Tell, rows-emission}
 use Rattle.ct_change.proofs.laws.Folds.{fold_from-append, IsValidFrom-append, row_at-stands, row_at-key}
 use Rattle.ct_change.proofs.laws.Meanings.{same_row-true, same_row-itself, in_key, IsOnce, once_after}
 use Rattle.op_rules.specs.Edges.{IsUnique}
@@ -157,19 +157,8 @@ normalized-append normalize rows (x ∷ xs) ys =
 
 -- ---- its rows are rows that came
 
-rows-update : (P : Row → Type 0) (mode : Mode) (old fresh : Row) → P old → P fresh → AllByRecursion (λ change. P change.row) (update mode old fresh)
-rows-update P append old fresh p q = tt
-rows-update P retract old fresh p q = (p, (q, tt))
-rows-update P (upsert key) old fresh p q = (q, tt)
-
-rows-emission : (P : Row → Type 0) (mode : Mode) (o f : Option Row) → ((old : Row) → o ≡ Some old → P old) → ((fresh : Row) → f ≡ Some fresh → P fresh) → AllByRecursion (λ change. P change.row) (emission mode o f)
-rows-emission P mode None None p q = tt
-rows-emission P mode None (Some fresh) p q = (q fresh refl, tt)
-rows-emission P mode (Some old) None p q = (p old refl, tt)
-rows-emission P mode (Some old) (Some fresh) p q = elim (same_row old fresh) as (λ b. AllByRecursion (λ change. P change.row) (cond b [] (update mode old fresh))) [ true ↦ tt | false ↦ rows-update P mode old fresh (p old refl) (q fresh refl) ]
-
-left_row : (b : Bool) (row fresh : Row) → row_left b row ≡ Some fresh → row ≡ fresh
-left_row true row fresh e = cc
+left_row : (b : Bool) (row fresh : Row) → row_left b row ≡ Some fresh → (row ≡ fresh) × (b ≡ true)
+left_row true row fresh e = (cc, refl)
 left_row false row fresh e = absurd (cc)
 
 without_of : (P : Row → Type 0) (rows : Rows) → ((row : Row) → 0 < copies rows row → P row) → (o : Option Row) → ((old : Row) → o ≡ Some old → 0 < copies rows old) → (row : Row) → 0 < copies (without rows o) row → P row
@@ -183,19 +172,21 @@ added_of P rows fresh h p row some =
       | false ↦ λ t. let z : one_at row_cmp row fresh ≡ 0 = ap (λ b. cond {A = ℕ} b 1 0) t in h row (omega (arith, copies-add row_total rows fresh row))
     ] refl
 
-pub rows-normalized : (P : Row → Type 0) (normalize : Normalize) (rows : Rows) → ((row : Row) → 0 < copies rows row → P row) → (changes : List Change) → AllByRecursion (λ change. P change.row) changes → AllByRecursion (λ change. P change.row) (normalized_all normalize rows changes)
-rows-normalized P normalize rows h [] all = tt
-rows-normalized P normalize rows h (change ∷ changes) all =
+pub rows-normalized : (P : Row → Type 0) (Q : Change → Type 0) (normalize : Normalize) → Tell P Q normalize.output → (rows : Rows) → ((row : Row) → 0 < copies rows row → P row)
+    → (changes : List Change) → AllByRecursion (λ change. adds change.kind ≡ true → P change.row) changes → AllByRecursion Q (normalized_all normalize rows changes)
+rows-normalized P Q normalize tell rows h [] all = tt
+rows-normalized P Q normalize tell rows h (change ∷ changes) all =
     let o = row_at rows normalize.key change.row in
     let stands : (old : Row) → row_at rows normalize.key change.row ≡ Some old → 0 < copies rows old = λ old e. row_at-stands rows normalize.key change.row old e in
     let left : (row : Row) → 0 < copies (without rows (row_at rows normalize.key change.row)) row → P row = without_of P rows h (row_at rows normalize.key change.row) stands in
-    all-append (λ c. P c.row) (normalized normalize rows change) (normalized_all normalize (apply (upsert normalize.key) rows change) changes)
-    (rows-emission P normalize.output (row_at rows normalize.key change.row) (row_left (adds change.kind) change.row) (λ old e. h old (stands old e)) (λ fresh e. subst P (left_row (adds change.kind) change.row fresh e) all.0))
-    (rows-normalized P normalize (apply (upsert normalize.key) rows change)
-    (elim (adds change.kind) as (λ b. (row : Row) → 0 < copies (cond b (add (without rows (row_at rows normalize.key change.row)) change.row) (without rows (row_at rows normalize.key change.row))) row → P row) [
-      | true ↦ added_of P (without rows (row_at rows normalize.key change.row)) change.row left all.0
-      | false ↦ left
-    ]) changes all.1)
+    all-append Q (normalized normalize rows change) (normalized_all normalize (apply (upsert normalize.key) rows change) changes)
+    (rows-emission P Q normalize.output tell (row_at rows normalize.key change.row) (row_left (adds change.kind) change.row) (λ old e. h old (stands old e))
+    (λ fresh e. let is = left_row (adds change.kind) change.row fresh e in subst P is.0 (all.0 is.1)))
+    (rows-normalized P Q normalize tell (apply (upsert normalize.key) rows change)
+    (elim (adds change.kind) as (λ b. adds change.kind ≡ b → (row : Row) → 0 < copies (cond b (add (without rows (row_at rows normalize.key change.row)) change.row) (without rows (row_at rows normalize.key change.row))) row → P row) [
+      | true ↦ λ a. added_of P (without rows (row_at rows normalize.key change.row)) change.row left (all.0 a)
+      | false ↦ λ a. left
+    ] refl) changes all.1)
 
 -- ---- its key holds after each change that it emits
 

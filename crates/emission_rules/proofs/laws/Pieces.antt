@@ -21,6 +21,7 @@ use Rattle.ct_change.specs.declared.kind.KindSet.{KindSet}
 use Rattle.ct_change.specs.declared.change.Change.{Change}
 use Rattle.ct_change.specs.Changelog.{Mode, append, retract, upsert, Rows, same_row, admits, adds, has, fold, fold_from, apply, IsValidFrom}
 use Rattle.ct_change.specs.Emission.{emission, update}
+use Rattle.ct_change.specs.KeyRows.{deleted, row_told}
 use Rattle.ct_change.proofs.laws.Folds.{IsValidFrom-front, IsValidFrom-back, append_only}
 use Rattle.ct_change.proofs.laws.Meanings.{same_row-true, same_row-itself}
 use Rattle.rel_algebra.specs.declared.agg.Agg.{Agg}
@@ -39,9 +40,13 @@ use Rattle.op_rules.proofs.laws.Histories.{at_port-append, rows_after, all-appen
 use Rattle.emission_rules.specs.GroupFits.{has_calls, output_kinds, is_home}
 use Rattle.ct_change.specs.Kinds.{has_more_than_inserts}
 use Rattle.emission_rules.specs.Grouping.{Grouping, members, row_count, is_shown, results, row_of, group_row, fits_along, is_counted, groups_of, answers, group_emits, emits, opening, TellsGroups, IsSound}
+use Rattle.op_rules.specs.Values.{types_fit}
+use Rattle.op_rules.proofs.laws.Values.{types-length}
+use Rattle.emission_rules.specs.Arriving.{FitsIn}
+use Rattle.emission_rules.proofs.laws.Arriving.{come-fit}
 use Rattle.emission_rules.proofs.laws.GroupAnswers.{shown_by, AreCounted, row_fits_made, row_of_group}
 use Rattle.emission_rules.proofs.laws.Members.{row_count-members, other_members_from, all_from, grows_from}
-use Rattle.emission_rules.proofs.laws.Turns.{Shown, nothing_shown, Turns, turns-append, CanShow, IsOf, shown_at, same_shown, turns_emission}
+use Rattle.emission_rules.proofs.laws.Turns.{Shown, nothing_shown, Turns, turns-append, Names, CanShow, IsOf, is_told, shown_at, same_shown, turns_emission}
 
 -- ---- groups of no rows
 
@@ -89,7 +94,7 @@ all_update P (upsert key) old fresh before after = (after refl, tt)
 
 pub all_emission : (P : Change → Type 0) (output : Mode) (old fresh : Option Row)
     → ((row : Row) → fresh ≡ Some row → P (record { kind = I; row = row }))
-    → ((row : Row) → old ≡ Some row → fresh ≡ None → P (record { kind = D; row = row }))
+    → ((row : Row) → old ≡ Some row → fresh ≡ None → P (record { kind = D; row = deleted output row }))
     → ((a b : Row) → old ≡ Some a → fresh ≡ Some b → same_row a b ≡ false → (admits output UB ≡ true → P (record { kind = UB; row = a })) × (admits output UA ≡ true → P (record { kind = UA; row = b })))
     → AllByRecursion P (emission output old fresh)
 all_emission P output None None comes goes turns = tt
@@ -132,16 +137,34 @@ module _ (g : Grouping) (sound : IsSound g) (Here : Row → Type 0) (kinds : Kin
   pub record IsTold (change : Change) : Type 0 where
     pub named : length (take g.keys change.row) ≡ g.keys
     pub here : Here (take g.keys change.row)
-    pub fits : Fits sound.made change.row
+    -- the group's row
+    pub whole : Row
+    pub fits : Fits sound.made whole
+    pub tells : change.row ≡ row_told g.output (adds change.kind) whole
     pub kind : has (output_kinds g kinds) change.kind ≡ true
 
-  told : (kind : Kind) (row key : Row) → length key ≡ g.keys → Here key → take g.keys row ≡ key → Fits sound.made row → has (output_kinds g kinds) kind ≡ true → IsTold (record { kind = kind; row = row })
-  told kind row key named here is fits allowed = record {
+  told : (kind : Kind) (row whole key : Row) → row ≡ row_told g.output (adds kind) whole → length key ≡ g.keys → Here key → take g.keys row ≡ key → Fits sound.made whole → has (output_kinds g kinds) kind ≡ true
+      → IsTold (record { kind = kind; row = row })
+  told kind row whole key told_so named here is fits allowed = record {
     named = ap length is ∙ named;
     here = subst Here (sym is) here;
+    whole = whole;
     fits = fits;
+    tells = told_so;
     kind = allowed;
   }
+
+  -- the key of an upsert changelog names the group
+  names : (mode : Mode) → TellsGroups g mode → Names g.keys mode
+  names append tells = tt
+  names retract tells = tt
+  names (upsert columns) tells = tells
+
+  -- where old rows are told, they are told as they are
+  old_as_it_is : (mode : Mode) (row : Row) → admits mode UB ≡ true → row ≡ deleted mode row
+  old_as_it_is append row allowed = absurd (cc)
+  old_as_it_is retract row allowed = refl
+  old_as_it_is (upsert columns) row allowed = absurd (cc)
 
   -- ---- one group
 
@@ -187,9 +210,14 @@ module _ (g : Grouping) (sound : IsSound g) (Here : Row → Type 0) (kinds : Kin
       (grows : has_more_than_inserts kinds ≡ false → (key : Row) → group_size g.keys rows key ≤ group_size g.keys new key)
       (grows_append : g.input ≡ append → (key : Row) → group_size g.keys rows key ≤ group_size g.keys new key)
       (key : Row) (named : length key ≡ g.keys) (here : Here key) (counted : is_counted g new key ≡ true) where
-    told_as : (kind : Kind) (m : Rows) → Each (Fits g.columns) m → (row : Row) → group_row g m key ≡ Some row → has (output_kinds g kinds) kind ≡ true → IsTold (record { kind = kind; row = row })
-    told_as kind m fits row e allowed =
-        told kind row key named here (row_of_group g key (members g key m) row named e).0 (row_fits_made g sound.made sound.typed key m named fits row e) allowed
+    told_as : (kind : Kind) (m : Rows) → Each (Fits g.columns) m → (row : Row) → group_row g m key ≡ Some row → row ≡ row_told g.output (adds kind) row → has (output_kinds g kinds) kind ≡ true → IsTold (record { kind = kind; row = row })
+    told_as kind m fits row e is allowed =
+        told kind row row key is named here (row_of_group g key (members g key m) row named e).0 (row_fits_made g sound.made sound.typed key m named fits row e) allowed
+
+    told_gone : (m : Rows) → Each (Fits g.columns) m → (row : Row) → group_row g m key ≡ Some row → has (output_kinds g kinds) D ≡ true → IsTold (record { kind = D; row = deleted g.output row })
+    told_gone m fits row e allowed =
+        told D (deleted g.output row) row key refl named here (is_told g.keys g.output (names g.output sound.tells) key row (row_of_group g key (members g key m) row named e)).0
+        (row_fits_made g sound.made sound.typed key m named fits row e) allowed
 
     goes_kind : (row : Row) → group_row g rows key ≡ Some row → group_row g new key ≡ None → (not (g.keys == 0) && has_more_than_inserts kinds) ≡ true
     goes_kind row was gone =
@@ -215,9 +243,12 @@ module _ (g : Grouping) (sound : IsSound g) (Here : Row → Type 0) (kinds : Kin
 
     told_group : AllByRecursion IsTold (emission g.output (group_row g rows key) (group_row g new key))
     told_group = all_emission IsTold g.output (group_row g rows key) (group_row g new key)
-        (λ row is. told_as I new fits_new row is refl)
-        (λ row was gone. told_as D rows fits_old row was (goes_kind row was gone))
-        (λ a b was is apart. (λ allowed. told_as UB rows fits_old a was (calls a b was is apart (admits g.output UB) allowed), λ allowed. told_as UA new fits_new b is (calls a b was is apart (admits g.output UA) allowed)))
+        (λ row is. told_as I new fits_new row is refl refl)
+        (λ row was gone. told_gone rows fits_old row was (goes_kind row was gone))
+        (λ a b was is apart. (
+          λ allowed. told_as UB rows fits_old a was (old_as_it_is g.output a allowed) (calls a b was is apart (admits g.output UB) allowed),
+          λ allowed. told_as UA new fits_new b is refl (calls a b was is apart (admits g.output UA) allowed),
+        ))
 
     can_show : (mode : Mode) → TellsGroups g mode → CanShow g.keys mode (group_row g rows key) (group_row g new key)
     can_show append tells = λ row was.
@@ -230,7 +261,7 @@ module _ (g : Grouping) (sound : IsSound g) (Here : Row → Type 0) (kinds : Kin
     pub one_group : (shown : Shown) → shown key ≡ group_row g rows key
         → Turns g.keys g.output shown (emission g.output (group_row g rows key) (group_row g new key)) (shown_at g.keys shown key (group_row g new key)) × AllByRecursion IsTold (emission g.output (group_row g rows key) (group_row g new key))
     one_group shown e = (
-      turns_emission g.keys g.output shown key (group_row g rows key) (group_row g new key)
+      turns_emission g.keys g.output (names g.output sound.tells) shown key (group_row g rows key) (group_row g new key)
           (is_of (group_row g rows key) (λ row q. row_of_group g key (members g key rows) row named q)) (is_of (group_row g new key) (λ row q. row_of_group g key (members g key new) row named q))
           (can_show g.output sound.tells) e,
       told_group,
@@ -292,9 +323,9 @@ module _ (g : Grouping) (sound : IsSound g) (Here : Row → Type 0) (kinds : Kin
 
   -- ---- along a history
 
-  -- a change that is taken: its row has the columns, its group is here, and its kind is one of the edge's
+  -- a change that is taken: its row fits the columns as far as it is told, its group is here, and its kind is one of the edge's
   pub record IsTaken (change : Change) : Type 0 where
-    pub fits : Fits g.columns change.row
+    pub fits : FitsIn g.input g.columns change
     pub here : Here (take g.keys change.row)
     pub kind : has kinds change.kind ≡ true
 
@@ -318,6 +349,9 @@ module _ (g : Grouping) (sound : IsSound g) (Here : Row → Type 0) (kinds : Kin
   pub fits_wide : (row : Row) → Fits g.columns row → g.keys ≤ length row
   fits_wide row fits = long_wide row (fits-length g.columns row fits)
 
+  pub types_wide : (row : Row) → types_fit g.columns row ≡ true → g.keys ≤ length row
+  types_wide row fits = long_wide row (types-length g.columns row fits)
+
   pub rows_wide : (rows : Rows) → Each (Fits g.columns) rows → AreWide g.keys rows
   rows_wide rows fits row there = fits_wide row (each-copies row_total row_exact (Fits g.columns) rows fits row there)
 
@@ -327,7 +361,7 @@ module _ (g : Grouping) (sound : IsSound g) (Here : Row → Type 0) (kinds : Kin
       go : (xs : List Change) → AllByRecursion IsTaken xs → AllByRecursion (IsNext rows changes (shown_by g rows)) (map (λ change. take g.keys change.row) xs)
       go [] h = tt
       go (change ∷ xs) h =
-          let named = length-take-le g.keys change.row (fits_wide change.row h.0.fits) in
+          let named = length-take-le g.keys change.row (types_wide change.row h.0.fits.types) in
           ((named, h.0.here, ap (λ b. cond b (group_row g rows (take g.keys change.row)) None) (eq-eqb (length (take g.keys change.row)) g.keys named)), go xs h.1)
 
   -- after one more piece
@@ -337,10 +371,10 @@ module _ (g : Grouping) (sound : IsSound g) (Here : Row → Type 0) (kinds : Kin
       let fresh = fold_from g.input rows changes in
       let groups = map (λ change. take g.keys change.row) changes in
       let wide = rows_wide rows stands.fits in
-      let wide_changes = all-each IsTaken (λ change. g.keys ≤ length change.row) (λ change t. fits_wide change.row t.fits) changes taken in
+      let wide_changes = all-each IsTaken (λ change. g.keys ≤ length change.row) (λ change t. types_wide change.row t.fits.types) changes taken in
       let fits_fresh : Each (Fits g.columns) fresh =
       copies-each row_total row_exact (Fits g.columns) fresh (all_from g.input g.keys sound.keeps (Fits g.columns) rows changes (each-copies row_total row_exact (Fits g.columns) rows stands.fits)
-      (all-each IsTaken (λ change. Fits g.columns change.row) (λ change t. t.fits) changes taken) wide wide_changes valid) in
+      (all-each IsTaken (λ change. adds change.kind ≡ true → Fits g.columns change.row) (λ change t. come-fit g.input g.columns change t.fits) changes taken) wide wide_changes valid) in
       let adding : AllByRecursion (λ change. adds change.kind ≡ true) changes → (key : Row) → group_size g.keys rows key ≤ group_size g.keys fresh key = λ all key. grows_from g.input g.keys sound.keeps key rows changes wide wide_changes valid all in
       let next : AllByRecursion (IsNext rows changes (shown_by g rows)) (first_seen groups) = all-first_seen (IsNext rows changes (shown_by g rows)) groups (all_next rows changes taken) in
       let turn = in_turn rows changes stands.fits fits_fresh
@@ -413,9 +447,9 @@ module _ (g : Grouping) (sound : IsSound g) (Here : Row → Type 0) (kinds : Kin
         fits = fits_none;
         counted = none_counted;
         turns = subst (λ s. Turns g.keys g.output nothing_shown (emission g.output None (group_row g none [])) s) (same_shown g.keys _ _ shows)
-            (turns_emission g.keys g.output nothing_shown [] None (group_row g none []) tt (is_of (group_row g none []) (λ row e. row_of_group g [] (members g [] none) row named e)) (can g.output) refl);
+            (turns_emission g.keys g.output (names g.output sound.tells) nothing_shown [] None (group_row g none []) tt (is_of (group_row g none []) (λ row e. row_of_group g [] (members g [] none) row named e)) (can g.output) refl);
         told = all_emission IsTold g.output None (group_row g none [])
-            (λ row e. told I row [] named here (row_of_group g [] (members g [] none) row named e).0 (row_fits_made g sound.made sound.typed [] none named fits_none row e) refl)
+            (λ row e. told I row row [] refl named here (row_of_group g [] (members g [] none) row named e).0 (row_fits_made g sound.made sound.typed [] none named fits_none row e) refl)
             (λ row e. absurd (cc)) (λ a b e. absurd (cc));
       }
     where

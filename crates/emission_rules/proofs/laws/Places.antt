@@ -12,6 +12,8 @@ use Rattle.ct_change.specs.declared.kind.Kind.{Kind}
 use Rattle.ct_change.specs.declared.kind.Kind.TheVariants.{I, UA, D}
 use Rattle.ct_change.specs.Changelog.{Mode, append, retract, upsert, same_row, admits, addition}
 use Rattle.ct_change.specs.Emission.{emission, update}
+use Rattle.ct_change.specs.KeyRows.{key_row}
+use Rattle.ct_change.proofs.laws.KeyRows.{key_stays}
 use Rattle.ct_change.proofs.laws.Meanings.{same_row-true, same_row-itself}
 use Rattle.rel_algebra.specs.Ranks.{ranked_from, shown}
 use Rattle.op_rules.specs.Edges.{LiesIn, IsUnique}
@@ -244,17 +246,20 @@ module _ (r : Ranking) (within : AllByRecursion (λ column. column < length r.co
             ] refl
           ] refl
 
-      step_to : (kind : Kind) (places : Places) (rank : ℕ) (x : Row) (new : Option Row) → 0 < rank → admits (upsert columns) kind ≡ true → IsIn x
-          → ((row : Row) → addition row (record { kind = kind; row = entry x rank }) ≡ one_of (entries rank new) row)
-          → Leads Ok (upsert columns) (standing_at places) (record { kind = kind; row = entry x rank } ∷ []) (standing_at (with_at places key rank new))
-      step_to kind places rank x new some fine is e = (
+      -- by a row that agrees on the key with the place's
+      step_to : (kind : Kind) (places : Places) (rank : ℕ) (x told : Row) (new : Option Row) → 0 < rank → admits (upsert columns) kind ≡ true → IsIn x → project columns told ≡ project columns (entry x rank)
+          → ((row : Row) → addition row (record { kind = kind; row = told }) ≡ one_of (entries rank new) row)
+          → Leads Ok (upsert columns) (standing_at places) (record { kind = kind; row = told } ∷ []) (standing_at (with_at places key rank new))
+      step_to kind places rank x told new some fine is same e = (
         standing_at (with_at places key rank new),
         (
           fine,
-          λ row. elim (hits rank row) as (λ c. hits rank row ≡ c → standing_at (with_at places key rank new) row ≡ cond (same_row (project columns (entry x rank)) (project columns row)) (addition row (record { kind = kind; row = entry x rank })) (standing_at places row)) [
-            | true ↦ λ h. there places rank new row h ∙ (sym (e row) ∙ sym (ap (λ c. cond c (addition row (record { kind = kind; row = entry x rank })) (standing_at places row)) (named_by rank x row some is ∙ h)))
-            | false ↦ λ h. away places rank new row h ∙ sym (ap (λ c. cond c (addition row (record { kind = kind; row = entry x rank })) (standing_at places row)) (named_by rank x row some is ∙ h))
-          ] refl,
+          λ row.
+              let is_hit : same_row (project columns told) (project columns row) ≡ hits rank row = ap (λ k. same_row k (project columns row)) same ∙ named_by rank x row some is in
+              elim (hits rank row) as (λ c. hits rank row ≡ c → standing_at (with_at places key rank new) row ≡ cond (same_row (project columns told) (project columns row)) (addition row (record { kind = kind; row = told })) (standing_at places row)) [
+                | true ↦ λ h. there places rank new row h ∙ (sym (e row) ∙ sym (ap (λ c. cond c (addition row (record { kind = kind; row = told })) (standing_at places row)) (is_hit ∙ h)))
+                | false ↦ λ h. away places rank new row h ∙ sym (ap (λ c. cond c (addition row (record { kind = kind; row = told })) (standing_at places row)) (is_hit ∙ h))
+              ] refl,
         ),
         ok (with_at places key rank new),
         λ row. refl,
@@ -263,15 +268,15 @@ module _ (r : Ranking) (within : AllByRecursion (λ column. column < length r.co
       last_emission : (places : Places) (rank : ℕ) (old new : Option Row) → 0 < rank → IsInto old → IsInto new → places key rank ≡ old
           → Leads Ok (upsert columns) (standing_at places) (emission (upsert columns) (entries rank old) (entries rank new)) (standing_at (with_at places key rank new))
       last_emission places rank None None some p q e = λ row. let s = swapped places rank None None p q e row in omega arith
-      last_emission places rank None (Some b) some p q e = step_to I places rank b (Some b) some refl q (λ row. refl)
-      last_emission places rank (Some a) None some p q e = step_to D places rank a None some refl p (λ row. refl)
+      last_emission places rank None (Some b) some p q e = step_to I places rank b (entry b rank) (Some b) some refl q refl (λ row. refl)
+      last_emission places rank (Some a) None some p q e = step_to D places rank a (key_row columns (entry a rank)) None some refl p (key_stays columns (entry a rank)) (λ row. refl)
       last_emission places rank (Some a) (Some b) some p q e =
           elim (same_row (entry a rank) (entry b rank)) as (λ c. same_row (entry a rank) (entry b rank) ≡ c → Leads Ok (upsert columns) (standing_at places) (cond c [] (update (upsert columns) (entry a rank) (entry b rank))) (standing_at (with_at places key rank (Some b)))) [
             | true ↦ λ f row.
                 let s = swapped places rank (Some a) (Some b) p q e row in
                 let same : one_at row_cmp row (entry a rank) ≡ one_at row_cmp row (entry b rank) = ap (one_at row_cmp row) (same_row-true _ _ f) in
                 omega arith
-            | false ↦ λ f. step_to UA places rank b (Some b) some refl q (λ row. refl)
+            | false ↦ λ f. step_to UA places rank b (entry b rank) (Some b) some refl q refl (λ row. refl)
           ] refl
 
     -- ---- rank by rank

@@ -8,6 +8,7 @@ use Rattle.ct_value.specs.declared.row.Row.{Row}
 use Rattle.ct_change.specs.declared.change.Change.{Change}
 use Rattle.ct_change.specs.Changelog.{Mode, append, retract, upsert, Rows, same_row, adds, apply, row_at, MayCome}
 use Rattle.ct_change.specs.Emission.{difference, as_it_is, put_in, put_over, replaced_by, weight_of, IsSame}
+use Rattle.ct_change.proofs.laws.Differences.{comes-adds}
 use Rattle.ct_change.proofs.laws.Folds.{total-apply, weight-gone, weight-come, row_at-key}
 use Rattle.ct_change.proofs.laws.Meanings.{same_row-true}
 use Rattle.rel_algebra.specs.declared.sort.SortCol.{SortCol}
@@ -88,15 +89,20 @@ module _ (r : Ranking) where
             let d : cond (is_some (difference r.input rows change).come) (f change.row) 0 ≡ 0 = rw here (cond-nothing (is_some (difference r.input rows change).come)) in
             omega (arith, e, a, b, c, d)
 
-    -- what holds of each row that stands and of the change's holds of each row after it
-    pub all_after : (P : Row → Type 0) → ((row : Row) → 0 < copies rows row → P row) → P change.row → (row : Row) → 0 < copies (apply r.input rows change) row → P row
+    -- what holds of each row that stands, and of the change's where it adds, holds of each row after it
+    pub all_after : (P : Row → Type 0) → ((row : Row) → 0 < copies rows row → P row) → (adds change.kind ≡ true → P change.row) → (row : Row) → 0 < copies (apply r.input rows change) row → P row
     all_after P all fine row there =
         let e = total-apply (one_at row_cmp row) r.input rows change may in
         let b = weight-come (one_at row_cmp row) r.input rows change in
         let now = copies-occurs (apply r.input rows change) row in
         let before = copies-occurs rows row in
         elim (same_row row change.row) as (λ t. same_row row change.row ≡ t → P row) [
-          | true ↦ λ t. subst P (sym (same_row-true row change.row t)) fine
+          | true ↦ λ t. elim (adds change.kind) as (λ b. adds change.kind ≡ b → P row) [
+            | true ↦ λ a. subst P (sym (same_row-true row change.row t)) (fine a)
+            | false ↦ λ a.
+                let nothing : cond (is_some (difference r.input rows change).come) (one_at row_cmp row change.row) 0 ≡ 0 = ap (λ b. cond b (one_at row_cmp row change.row) 0) (comes-adds r.input rows change ∙ a) in
+                all row (omega arith)
+          ] refl
           | false ↦ λ t.
               let none : one_at row_cmp row change.row ≡ 0 = ap (λ b. cond b 1 0) t in
               let nothing : cond (is_some (difference r.input rows change).come) (one_at row_cmp row change.row) 0 ≡ 0 = rw none (cond-nothing (is_some (difference r.input rows change).come)) in

@@ -1,5 +1,5 @@
 -- The facts of a node with one port that answers each change by itself.
-use Rattle.std.proofs.Common.{◌≡◌, ℕ, ◌<◌, ◌⊎◌, true, List, [], ◌∷◌, ◌++◌, length, take, Option, Some, Ok, Err, refl, sym, ap, subst, ◌∙◌, arith, inl, inr, append_assoc, cond}
+use Rattle.std.proofs.Common.{◌≡◌, ℕ, ◌<◌, ◌⊎◌, Bool, true, List, [], ◌∷◌, ◌++◌, length, take, Option, Some, Ok, Err, refl, sym, ap, subst, ◌∙◌, arith, inl, inr, append_assoc, cond}
 use Rattle.std.specs.List.{Contains, AllByRecursion}
 use Rattle.std.proofs.lemmas.List.{take_all}
 use Rattle.std.proofs.lemmas.Bool.{eq-eqb}
@@ -19,7 +19,7 @@ use Rattle.op_rules.specs.Tasks.{Task, total, IsReady, IsSplitBy, ComeFixedBy, C
 use Rattle.op_rules.specs.Ports.{task_of}
 use Rattle.op_rules.proofs.laws.Histories.{appended-nothing, prefix_at}
 use Rattle.emission_rules.specs.Changes.{changes_of, each_change, row_rule}
-use Rattle.emission_rules.proofs.laws.Moved.{Fate, moved, sum_of, copies-sum_of, sent_of, AreInRange, answered, take-sent, all-sent, image, came_from, image-sum, Carries, image_unique}
+use Rattle.emission_rules.proofs.laws.Moved.{Fate, moved, sum_of, copies-sum_of, fate_of, sent_of, AreInRange, answered, take-sent, all-sent, image, came_from, image-sum, CarriesRows, Carries, image_unique}
 
 -- ---- answers along the pieces
 
@@ -57,8 +57,8 @@ reads_one bag whole changes a b m n = means_one retract changes a b m n
 reads_one (last_rows key) whole changes a b m n = means_one (upsert key) changes a b m n
 reads_one (partials p) whole changes a b m n = absurd (whole tt)
 
-module _ (fate : Row → Fate) (turn : Kind → Kind) (stays : (kind : Kind) → adds (turn kind) ≡ adds kind)
-    (answer : Change → Answer) (is : (change : Change) → answer change ≡ moved (turn change.kind) change.row (fate change.row))
+module _ (fate : Bool → Row → Fate) (turn : Kind → Kind) (stays : (kind : Kind) → adds (turn kind) ≡ adds kind)
+    (answer : Change → Answer) (is : (change : Change) → answer change ≡ moved (turn change.kind) change.row (fate_of fate turn stays change))
     (batch : Rows → Option Rows) (batch_is : (rows : Rows) → batch rows ≡ image fate turn stays rows)
     (mode : Mode) (many : ℕ) (from : ℕ → Edge) (to : Edge) where
   abbrev rule : Rule
@@ -73,8 +73,12 @@ module _ (fate : Row → Fate) (turn : Kind → Kind) (stays : (kind : Kind) →
   abbrev pub InRange : List Change → Type 0
   InRange changes = AreInRange fate turn stays changes
 
+  -- which sets rows keep as they come or go, and as they stand
   abbrev pub Keeps : List ℕ → List ℕ → Type 0
   Keeps set own = Carries fate turn stays set own
+
+  abbrev pub KeepsRows : List ℕ → List ℕ → Type 0
+  KeepsRows set own = CarriesRows fate turn stays set own
 
   -- why what leaves as last rows of a key leaves one subtask: a set that fixes the subtask is kept in the key, or what comes is last rows of such a set
   abbrev pub LeavesOne : Meaning → Type 0
@@ -92,10 +96,10 @@ module _ (fate : Row → Fate) (turn : Kind → Kind) (stays : (kind : Kind) →
     pub whole : IsPartial to.meaning → ⊥
     pub leaves : LeavesOne to.meaning
     pub kinds : (kind : Kind) → has (from 0).kinds kind ≡ true → has to.kinds (turn kind) ≡ true
-    pub fits : (change : Change) (row : Row) → (from 0).fits change ≡ true → fate change.row ≡ Some (Some row) → to.fits (record { kind = turn change.kind; row = row }) ≡ true
-    pub holds : (row made : Row) → (from 0).holds row ≡ true → fate row ≡ Some (Some made) → to.holds made ≡ true
-    pub unique : (key : List ℕ) → Contains to.unique key → (own : List ℕ) × (Contains (from 0).unique own ⊎ HoldsOver (from 0) own) × Keeps key own
-    pub local : (key : List ℕ) → Contains to.local key → (own : List ℕ) × Contains (from 0).local own × Keeps key own
+    pub fits : (change : Change) (row : Row) → (from 0).fits change ≡ true → fate (adds change.kind) change.row ≡ Some (Some row) → to.fits (record { kind = turn change.kind; row = row }) ≡ true
+    pub holds : (row made : Row) → (from 0).holds row ≡ true → fate true row ≡ Some (Some made) → to.holds made ≡ true
+    pub unique : (key : List ℕ) → Contains to.unique key → (own : List ℕ) × (Contains (from 0).unique own ⊎ HoldsOver (from 0) own) × KeepsRows key own
+    pub local : (key : List ℕ) → Contains to.local key → (own : List ℕ) × Contains (from 0).local own × KeepsRows key own
     pub fixing : (set : List ℕ) → Contains to.fixing set → (own : List ℕ) × Contains (from 0).fixing own × Keeps set own
 
   module _ (moves : Moves) where
@@ -149,7 +153,7 @@ module _ (fate : Row → Fate) (turn : Kind → Kind) (stays : (kind : Kind) →
             means = subst (λ l. ReadsAs to.meaning l r.0) (sym sends) r.2;
           }
 
-      all_sent : (P Q : Change → Type 0) → ((change : Change) (row : Row) → P change → fate change.row ≡ Some (Some row) → Q (record { kind = turn change.kind; row = row }))
+      all_sent : (P Q : Change → Type 0) → ((change : Change) (row : Row) → P change → fate (adds change.kind) change.row ≡ Some (Some row) → Q (record { kind = turn change.kind; row = row }))
           → AllByRecursion P (at_port 0 (joined pieces)) → AllByRecursion Q sent
       all_sent P Q h all = subst (AllByRecursion Q) (sym told.1) (all-sent fate turn stays P Q h (at_port 0 (joined pieces)) all)
 
@@ -168,7 +172,7 @@ module _ (fate : Row → Fate) (turn : Kind → Kind) (stays : (kind : Kind) →
         (λ a. AllByRecursion (λ b. project set a.row ≡ project set b.row → i ≡ j) (sent j))
         (λ a fa h is_a.
         all_sent j (pieces j) (sent j) (all j jl) (λ b. project own a.row ≡ project own b.row → i ≡ j) (λ b. project set fa ≡ project set b.row → i ≡ j)
-        (λ b fb k is_b same. k (keeps a.row b.row fa fb is_a is_b same)) h)
+        (λ b fb k is_b same. k (keeps (adds a.kind) (adds b.kind) a.row b.row fa fb is_a is_b same)) h)
         (apart i j il jl)
 
     came_fixed : (pieces : ℕ → List (List Arrival)) → ComeFixedBy (from 0).exchange many (from 0) (λ j. at_port 0 (joined (pieces j)))

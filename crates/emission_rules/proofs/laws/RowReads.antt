@@ -1,5 +1,5 @@
 -- What is sent for changes of a bag, or for changes of last rows, stands for the batch answer.
-use Rattle.std.proofs.Common.{◌≡◌, ℕ, zero, suc, true, List, [], ◌∷◌, take, Option, Some, None, sym, subst, ◌∙◌}
+use Rattle.std.proofs.Common.{◌≡◌, ℕ, zero, suc, Bool, true, false, List, [], ◌∷◌, take, Option, Some, None, sym, subst, ◌∙◌}
 use Rattle.std.specs.List.{AllByRecursion}
 use Rattle.ct_value.specs.Rows.{project}
 use Rattle.ct_value.specs.declared.row.Row.{Row}
@@ -21,21 +21,21 @@ bag_whole m is p = subst IsPartial is p
 pub last_whole : (m : Meaning) (key : List ℕ) → m ≡ last_rows key → IsPartial m → ⊥
 last_whole m key is p = subst IsPartial is p
 
-module _ (fate : Row → Fate) (turn : Kind → Kind) (stays : (kind : Kind) → adds (turn kind) ≡ adds kind)
+module _ (fate : Bool → Row → Fate) (turn : Kind → Kind) (stays : (kind : Kind) → adds (turn kind) ≡ adds kind)
     (batch : Rows → Option Rows) (batch_is : (rows : Rows) → batch rows ≡ image fate turn stays rows)
     (from to : Edge) where
   -- what is sent for a prefix of what came stands for the batch answer of what that stands for
   abbrev pub ReadsFront : List Change → ℕ → Type 0
   ReadsFront took n = (rows : Rows) → ReadsAs from.meaning (take n took) rows → (answer : Rows) × (batch rows ≡ Some answer) × ReadsAs to.meaning (sent_of fate turn stays (take n took)) answer
 
-  pub reads_bag : from.meaning ≡ bag → to.meaning ≡ bag → (took : List Change) → AreInRange fate turn stays took → (n : ℕ) → ReadsFront took n
-  reads_bag reads writes took known n rows means =
-      let r = moved_means fate turn stays (take n took) rows (all-take _ n took known) (subst (λ m. ReadsAs m (take n took) rows) reads means) in
+  pub reads_bag : ((row : Row) → fate false row ≡ fate true row) → from.meaning ≡ bag → to.meaning ≡ bag → (took : List Change) → AreInRange fate turn stays took → (n : ℕ) → ReadsFront took n
+  reads_bag same reads writes took known n rows means =
+      let r = moved_means fate turn stays same (take n took) rows (all-take _ n took known) (subst (λ m. ReadsAs m (take n took) rows) reads means) in
       (r.0, batch_is rows ∙ r.1, subst (λ m. ReadsAs m (sent_of fate turn stays (take n took)) r.0) (sym writes) r.2)
 
   pub reads_last : (own key : List ℕ) → from.meaning ≡ last_rows own → to.meaning ≡ last_rows key
-      → ((row : Row) → fate row ≡ Some None → ⊥) → Carries fate turn stays key own
-      → ((a b : Row) (fa fb : Row) → fate a ≡ Some (Some fa) → fate b ≡ Some (Some fb) → project own a ≡ project own b → project key fa ≡ project key fb)
+      → ((x : Bool) (row : Row) → fate x row ≡ Some None → ⊥) → Carries fate turn stays key own
+      → ((x y : Bool) (a b : Row) (fa fb : Row) → fate x a ≡ Some (Some fa) → fate y b ≡ Some (Some fb) → project own a ≡ project own b → project key fa ≡ project key fb)
       → ((kind : Kind) → has from.kinds kind ≡ true → admits (upsert own) kind ≡ true)
       → (took : List Change) → AllByRecursion (λ change. has from.kinds change.kind ≡ true) took → AreInRange fate turn stays took → (n : ℕ) → ReadsFront took n
   reads_last own key reads writes never back forth admitted took kinds known n rows means =

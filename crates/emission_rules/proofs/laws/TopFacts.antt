@@ -9,7 +9,7 @@ use Rattle.ct_value.specs.Rows.{project}
 use Rattle.ct_value.specs.declared.row.Row.{Row}
 use Rattle.ct_change.specs.declared.change.Change.{Change}
 use Rattle.ct_change.specs.Changelog.{Mode, append, retract, upsert, Rows, has, admits, AreOf, fold, IsValid, Means}
-use Rattle.ct_change.proofs.laws.Meanings.{valid_where_means, fold_means, means_fold, means_rows, IsValidFrom-take}
+use Rattle.ct_change.proofs.laws.Meanings.{valid_where_means, fold_means, means_fold, means_come, IsValidFrom-take}
 use Rattle.rel_algebra.specs.Clauses.{Fits}
 use Rattle.rel_algebra.specs.Ranks.{rank_rows, rank_columns}
 use Rattle.rel_algebra.specs.Sums.{together, plus}
@@ -24,7 +24,8 @@ use Rattle.op_rules.specs.Ports.{IsReadIn}
 use Rattle.op_rules.specs.Tasks.{Task, total, IsSettled, IsSplitBy, Emitted, AllEmitted, Facts, PartsAddUp, LocalKeysHold, AnswersFit, UniqueKeysHold}
 use Rattle.op_rules.proofs.laws.Histories.{prefix_at, all-each, ok-same}
 use Rattle.op_rules.proofs.laws.Totals.{total-same, total_one}
-use Rattle.op_rules.proofs.laws.Values.{types_of_row}
+use Rattle.emission_rules.specs.Arriving.{FitsIn}
+use Rattle.emission_rules.proofs.laws.Arriving.{all-come-fit}
 use Rattle.emission_rules.specs.TopFits.{topn_task, IsLocalKeyBy, TopNFits, TopNStands, TopNTakes}
 use Rattle.emission_rules.specs.Ranking.{Ranking, key_of, names, tells_all, TellsRanks, IsSound}
 use Rattle.emission_rules.proofs.laws.TopAnswers.{standing, answer_shown}
@@ -80,8 +81,8 @@ module _ (many : ℕ) (r : Ranking) (from to : Edge) (fits : TopNFits many r fro
     abbrev took : List Change
     took = at_port 0 (joined pieces)
 
-    fitting : AllByRecursion (λ change. Fits r.columns change.row) took
-    fitting = all-each (λ change. from.fits change ≡ true) (λ change. Fits r.columns change.row) (λ change t. fits.fits change t) took (e.ready.types 0 (omega arith))
+    fitting : AllByRecursion (FitsIn r.input r.columns) took
+    fitting = all-each (λ change. from.fits change ≡ true) (FitsIn r.input r.columns) (λ change t. fits.fits change t) took (e.ready.types 0 (omega arith))
 
     placed : AllByRecursion (λ change. from.route (key_of r change.row) ≡ j) took
     placed = subst (λ x. IsRoutedBy x from.route j took) fits.hashed (e.ready.placed 0 (omega arith))
@@ -89,7 +90,7 @@ module _ (many : ℕ) (r : Ranking) (from to : Edge) (fits : TopNFits many r fro
     taken : AllByRecursion (IsTaken r sound (Here j) from.kinds IsKeyed) took
     taken = go took fitting placed (e.ready.kinds 0 (omega arith))
       where
-        go : (xs : List Change) → AllByRecursion (λ change. Fits r.columns change.row) xs → AllByRecursion (λ change. from.route (key_of r change.row) ≡ j) xs → AreOf from.kinds xs → AllByRecursion (IsTaken r sound (Here j) from.kinds IsKeyed) xs
+        go : (xs : List Change) → AllByRecursion (FitsIn r.input r.columns) xs → AllByRecursion (λ change. from.route (key_of r change.row) ≡ j) xs → AreOf from.kinds xs → AllByRecursion (IsTaken r sound (Here j) from.kinds IsKeyed) xs
         go [] f p k = tt
         go (change ∷ xs) f p k = (record { fits = f.0; here = p.0; kind = k.0 }, go xs f.1 p.1 k.1)
 
@@ -107,7 +108,7 @@ module _ (many : ℕ) (r : Ranking) (from to : Edge) (fits : TopNFits many r fro
     means_after n = means_fold r.input (take n took) (IsValidFrom-take r.input none n took valid)
 
     fit_after : (n : ℕ) (row : Row) → 0 < copies (rows_after n) row → Fits r.columns row
-    fit_after n row there = means_rows (Fits r.columns) r.input (take n took) (rows_after n) (means_after n) (all-take (λ change. Fits r.columns change.row) n took fitting) row there
+    fit_after n row there = means_come (Fits r.columns) r.input (take n took) (rows_after n) (means_after n) (all-come-fit r.input r.columns (take n took) (all-take (FitsIn r.input r.columns) n took fitting)) row there
 
     keyed_after : (n : ℕ) → AreKeyed (rows_after n)
     keyed_after n key seen =
@@ -270,7 +271,7 @@ module _ (many : ℕ) (r : Ranking) (from to : Edge) (fits : TopNFits many r fro
         let rows = prefix_stands IsKeyed r.output (standing r (fold r.input (at_port 0 (joined pieces)))) sent (leads j pieces sent e) n in
         (rows.0, subst (λ m. ReadsAs m (take n sent) rows.0) (sym fits.writes) rows.1);
     kinds_stay = λ j pieces sent e. all-each (IsTold r sound (Here j) from.kinds IsKeyed) (λ change. has to.kinds change.kind ≡ true) (λ change t. fits.out_kinds change.kind t.kind) sent (told j pieces sent e);
-    types_stay = λ j pieces sent e. all-each (IsTold r sound (Here j) from.kinds IsKeyed) (λ change. to.fits change ≡ true) (λ change t. fits.out_fits change t.fits) sent (told j pieces sent e);
+    types_stay = λ j pieces sent e. all-each (IsTold r sound (Here j) from.kinds IsKeyed) (λ change. to.fits change ≡ true) (λ change t. subst (λ row. to.fits (record { kind = change.kind; row = row }) ≡ true) (sym t.tells) (fits.out_fits change.kind t.whole t.fits)) sent (told j pieces sent e);
     parts_add_up = parts_add_up;
     local_keys = local_keys;
     fixing_sets = λ pieces sent all come set has_set. partitions_apart pieces sent all set (fits.fixing set has_set);
@@ -293,4 +294,4 @@ takes_edge meaning mode is = subst (λ m. IsReadIn m mode) (sym is) (go mode)
     go (upsert key) = refl
 
 pub topn_takes : TopNTakes
-topn_takes many r from to fits = (refl, λ p l. record { reads = takes_edge from.meaning r.input fits.reads; kinds = fits.kinds; fits = λ change h. types_of_row r.columns change.row (fits.fits change h); keyed = fits.keyed })
+topn_takes many r from to fits = (refl, λ p l. record { reads = takes_edge from.meaning r.input fits.reads; kinds = fits.kinds; fits = λ change h. (fits.fits change h).types; keyed = fits.keyed })

@@ -7,7 +7,9 @@ use Rattle.ct_value.specs.Order.{row_cmp}
 use Rattle.ct_value.specs.declared.row.Row.{Row}
 use Rattle.ct_change.specs.declared.kind.KindSet.{KindSet}
 use Rattle.ct_change.specs.declared.change.Change.{Change}
-use Rattle.ct_change.specs.Changelog.{Mode, append, retract, upsert, Rows, same_row, has, apply, fold, fold_from, MayCome, IsValidFrom}
+use Rattle.ct_change.specs.KeyRows.{key_row, deleted, row_told}
+use Rattle.ct_change.proofs.laws.KeyRows.{key_stays}
+use Rattle.ct_change.specs.Changelog.{Mode, append, retract, upsert, Rows, same_row, adds, has, apply, fold, fold_from, MayCome, IsValidFrom}
 use Rattle.ct_change.proofs.laws.Meanings.{same_row-true, same_row-itself}
 use Rattle.rel_algebra.specs.Clauses.{Fits}
 use Rattle.rel_algebra.specs.Ranks.{in_rank_order, ranked_from, shown, rank_columns}
@@ -17,10 +19,12 @@ use Rattle.op_rules.specs.Rules.{Answer, appended, along}
 use Rattle.op_rules.specs.Edges.{LiesIn}
 use Rattle.op_rules.proofs.laws.Histories.{at_port-append, rows_after, all-append, all-each}
 use Rattle.emission_rules.specs.TopFits.{output_kinds}
-use Rattle.emission_rules.specs.Ranking.{Ranking, key_of, first, told_by_rank, told_by_row, tells, tells_all, topn_rule, TellsRanks, IsSound}
+use Rattle.emission_rules.specs.Ranking.{Ranking, key_of, by_rank, first, told_by_rank, told_by_row, tells, tells_all, topn_rule, TellsRanks, IsSound}
 use Rattle.emission_rules.proofs.laws.TopAnswers.{IsWide, standing, keys-shown}
 use Rattle.emission_rules.proofs.laws.TopMessages.{Turns, by_row_leads, one_leads_bag, one_leads_last}
-use Rattle.emission_rules.proofs.laws.Places.{Places, at_rank, at_rank-below, standing_at, places_of, occurs-shown, Tells, TurnFrom, by_rank_leads}
+use Rattle.emission_rules.proofs.laws.Places.{Places, at_rank, at_rank-below, standing_at, places_of, occurs-shown, same_place, Tells, TurnFrom, by_rank_leads}
+use Rattle.emission_rules.specs.Arriving.{FitsIn}
+use Rattle.emission_rules.proofs.laws.Arriving.{come-fit}
 use Rattle.emission_rules.proofs.laws.Ranked.{all-first, other_members, all_after, first_grow}
 use Rattle.emission_rules.proofs.laws.TopStanding.{Standing, Leads, leads-from, leads-to, leads-append}
 use Rattle.emission_rules.proofs.laws.TopTold.{all_fit, shown_plain, rows_told, only_inserts, kinds_told}
@@ -33,13 +37,16 @@ length-take (suc n) (x ∷ xs) = let h = length-take n xs in omega arith
 -- a Top-N that is sound, whose partitions are of this subtask, and whose input has these kinds
 module _ (r : Ranking) (sound : IsSound r) (Here : Row → Type 0) (kinds : KindSet) (Ok : Standing → Type 0) where
   pub record IsTaken (change : Change) : Type 0 where
-    pub fits : Fits r.columns change.row
+    pub fits : FitsIn r.input r.columns change
     pub here : Here (key_of r change.row)
     pub kind : has kinds change.kind ≡ true
 
   pub record IsTold (change : Change) : Type 0 where
     pub here : Here (key_of r change.row)
-    pub fits : Fits (rank_columns r.ranked r.columns) change.row
+    -- the row that is shown
+    pub whole : Row
+    pub fits : Fits (rank_columns r.ranked r.columns) whole
+    pub tells : change.row ≡ row_told r.output (adds change.kind) whole
     pub kind : has (output_kinds r kinds) change.kind ≡ true
 
   abbrev pub AllFit : Rows → Type 0
@@ -72,7 +79,7 @@ module _ (r : Ranking) (sound : IsSound r) (Here : Row → Type 0) (kinds : Kind
     news = first r (key_of r change.row) (apply r.input rows change)
 
     pub fits_after : AllFit (apply r.input rows change)
-    fits_after = all_after r rows change sound.keeps may (Fits r.columns) fits_rows taken.fits
+    fits_after = all_after r rows change sound.keeps may (Fits r.columns) fits_rows (come-fit r.input r.columns change taken.fits)
 
     stays : (k : Row) → same_row k (key_of r change.row) ≡ false → first r k (apply r.input rows change) ≡ first r k rows
     stays k apart = ap (λ (m : Rows). take r.bound (in_rank_order r.order m)) (other_members r rows change sound.keeps may k apart)
@@ -188,14 +195,35 @@ module _ (r : Ranking) (sound : IsSound r) (Here : Row → Type 0) (kinds : Kind
         both_of [] p q = tt
         both_of (x ∷ xs) p q = ((p.0, q.0), both_of xs p.1 q.1)
 
+    -- the row by which a mode tells another is of its partition
+    key_told : (mode : Mode) → TellsRanks r mode → (b : Bool) (row : Row) → key_of r (row_told mode b row) ≡ key_of r row
+    key_told mode t true row = refl
+    key_told append t false row = absurd t
+    key_told retract t false row = refl
+    key_told (upsert columns) t false row = elim r.ranked as (λ b. LiesIn (cond b (r.partition ++ length r.columns ∷ []) r.partition) columns → key_of r (key_row columns row) ≡ key_of r row) [
+      | true ↦ λ named. (same_place r sound.within (key_row columns row) row (named (key_row columns row) row (key_stays columns row))).0
+      | false ↦ λ named. named (key_row columns row) row (key_stays columns row)
+    ] t.1
+
+    -- row by row a row is told as it is
+    whole_told : (mode : Mode) → TellsRanks r mode → by_rank r ≡ false → (row : Row) → deleted mode row ≡ row
+    whole_told append t e row = absurd t
+    whole_told retract t e row = refl
+    whole_told (upsert columns) t e row = absurd (let no : true ≡ false = sym t.0 ∙ e in cc)
+
+    abbrev IsShown : Change → Type 0
+    IsShown change = Here (key_of r change.row) × ((whole : Row) × Fits (rank_columns r.ranked r.columns) whole × (change.row ≡ row_told r.output (adds change.kind) whole))
+
     pub tells_told : AllByRecursion IsTold (tells r rows change)
     tells_told = joined_facts (tells r rows change)
-        (rows_told (λ row. Here (key_of r row) × Fits (rank_columns r.ranked r.columns) row) r olds news (shown_here rows fits_rows) (shown_here fresh fits_after))
+        (rows_told (λ row. Here (key_of r row) × Fits (rank_columns r.ranked r.columns) row) IsShown r
+        (λ kind row p. (subst Here (sym (key_told r.output sound.tells (adds kind) row)) p.0, (row, p.1, refl))) (λ e row p. (p.0, (row, p.1, sym (whole_told r.output sound.tells e row))))
+        olds news (shown_here rows fits_rows) (shown_here fresh fits_after))
         (kinds_told r kinds olds news (λ e. first_grow r rows change sound.keeps may (only_inserts kinds change.kind e taken.kind) key))
       where
-        joined_facts : (xs : List Change) → AllByRecursion (λ change. Here (key_of r change.row) × Fits (rank_columns r.ranked r.columns) change.row) xs → AllByRecursion (λ change. has (output_kinds r kinds) change.kind ≡ true) xs → AllByRecursion IsTold xs
+        joined_facts : (xs : List Change) → AllByRecursion IsShown xs → AllByRecursion (λ change. has (output_kinds r kinds) change.kind ≡ true) xs → AllByRecursion IsTold xs
         joined_facts [] p q = tt
-        joined_facts (x ∷ xs) p q = (record { here = p.0.0; fits = p.0.1; kind = q.0 }, joined_facts xs p.1 q.1)
+        joined_facts (x ∷ xs) p q = (record { here = p.0.0; whole = p.0.1.0; fits = p.0.1.1; tells = p.0.1.2; kind = q.0 }, joined_facts xs p.1 q.1)
 
   -- ---- along a history
 

@@ -9,6 +9,8 @@ use Rattle.ct_change.specs.declared.kind.Kind.{Kind}
 use Rattle.ct_change.specs.declared.kind.Kind.TheVariants.{I, UB, UA, D}
 use Rattle.ct_change.specs.Changelog.{retract, upsert, same_row, admits, addition}
 use Rattle.ct_change.specs.Emission.{update}
+use Rattle.ct_change.specs.KeyRows.{key_row}
+use Rattle.ct_change.proofs.laws.KeyRows.{key_stays}
 use Rattle.ct_change.proofs.laws.Meanings.{same_row-true, same_row-itself}
 use Rattle.op_rules.specs.Edges.{LiesIn}
 use Rattle.emission_rules.specs.Ranking.{Ranking, key_of, told_by_rank, beyond, told_by_row}
@@ -118,7 +120,7 @@ module _ (r : Ranking) (Ok : Standing → Type 0) (key : Row) where
       pub one_leads_last : (olds news : List Row) → length olds ≤ 1 → length news ≤ 1 → Turns olds news a b → Leads Ok (upsert columns) a (told_by_rank false (upsert columns) 1 olds news) b
       one_leads_last [] [] p q t = same_rows [] [] t (λ row. refl)
       one_leads_last [] (y ∷ []) p q t = step_to I y [] (y ∷ []) refl t.new_in.0 t (λ row. omega arith)
-      one_leads_last (x ∷ []) [] p q t = step_to D x (x ∷ []) [] refl t.old_in.0 t (λ row. refl)
+      one_leads_last (x ∷ []) [] p q t = step_to D (key_row columns x) (x ∷ []) [] refl (t.old_in.0 ∙ sym (named (key_row columns x) x (key_stays columns x))) t (λ row. refl)
       one_leads_last (x ∷ []) (y ∷ []) p q t =
           elim (same_row x y) as (λ c. same_row x y ≡ c → Leads Ok (upsert columns) a (cond c [] (update (upsert columns) x y) ++ []) b) [
             | true ↦ λ e. same_rows (x ∷ []) (y ∷ []) t (λ row. ap (λ z. occurs row_cmp row (z ∷ [])) (same_row-true x y e))

@@ -14,6 +14,7 @@ use Rattle.ct_change.specs.declared.kind.KindSet.{KindSet}
 use Rattle.ct_change.specs.declared.change.Change.{Change}
 use Rattle.ct_change.specs.Changelog.{Mode, append, retract, upsert, same_row, adds, has, admits, AreOf}
 use Rattle.ct_change.specs.Emission.{emission, update}
+use Rattle.ct_change.proofs.laws.Emissions.{Tell, both-emission}
 use Rattle.rel_algebra.specs.Clauses.{Fits}
 use Rattle.rel_algebra.specs.Ranks.{ranked_from, shown, rank_column, rank_columns}
 use Rattle.rel_algebra.proofs.laws.Averages.{within_pos}
@@ -36,21 +37,14 @@ all_fit r rank (row ∷ rows) fits few = (shown_fits r.ranked r row rank fits.0 
 
 -- ---- rows
 
-rows_update : (P : Row → Type 0) (output : Mode) (old new : Row) → P old → P new → AllByRecursion (λ change. P change.row) (update output old new)
-rows_update P append old new p q = tt
-rows_update P retract old new p q = (p, (q, tt))
-rows_update P (upsert key) old new p q = (q, tt)
-
-rows_emission : (P : Row → Type 0) (output : Mode) (old new : Row) → P old → P new → AllByRecursion (λ change. P change.row) (emission output (Some old) (Some new))
-rows_emission P output old new p q = elim (same_row old new) as (λ b. AllByRecursion (λ change. P change.row) (cond b [] (update output old new))) [ true ↦ tt | false ↦ rows_update P output old new p q ]
-
-rows_by_rank : (P : Row → Type 0) (ranked : Bool) (output : Mode) (rank : ℕ) (olds news : List Row) → AllByRecursion P (map (shown ranked) (ranked_from rank olds)) → AllByRecursion P (map (shown ranked) (ranked_from rank news)) → AllByRecursion (λ change. P change.row) (told_by_rank ranked output rank olds news)
-rows_by_rank P ranked output rank [] [] p q = tt
-rows_by_rank P ranked output rank [] (new ∷ news) p q = (q.0, rows_by_rank P ranked output (suc rank) [] news tt q.1)
-rows_by_rank P ranked output rank (old ∷ olds) [] p q = (p.0, rows_by_rank P ranked output (suc rank) olds [] p.1 tt)
-rows_by_rank P ranked output rank (old ∷ olds) (new ∷ news) p q =
-    all-append (λ change. P change.row) (emission output (Some (shown ranked (old, rank))) (Some (shown ranked (new, rank)))) (told_by_rank ranked output (suc rank) olds news)
-    (rows_emission P output (shown ranked (old, rank)) (shown ranked (new, rank)) p.0 q.0) (rows_by_rank P ranked output (suc rank) olds news p.1 q.1)
+module _ (P : Row → Type 0) (Q : Change → Type 0) where
+  rows_by_rank : (ranked : Bool) (output : Mode) → Tell P Q output → (rank : ℕ) (olds news : List Row) → AllByRecursion P (map (shown ranked) (ranked_from rank olds)) → AllByRecursion P (map (shown ranked) (ranked_from rank news)) → AllByRecursion Q (told_by_rank ranked output rank olds news)
+  rows_by_rank ranked output to rank [] [] p q = tt
+  rows_by_rank ranked output to rank [] (new ∷ news) p q = (to I (shown ranked (new, rank)) q.0, rows_by_rank ranked output to (suc rank) [] news tt q.1)
+  rows_by_rank ranked output to rank (old ∷ olds) [] p q = (to D (shown ranked (old, rank)) p.0, rows_by_rank ranked output to (suc rank) olds [] p.1 tt)
+  rows_by_rank ranked output to rank (old ∷ olds) (new ∷ news) p q =
+      all-append Q (emission output (Some (shown ranked (old, rank))) (Some (shown ranked (new, rank)))) (told_by_rank ranked output (suc rank) olds news)
+      (both-emission P Q output to (shown ranked (old, rank)) (shown ranked (new, rank)) p.0 q.0) (rows_by_rank ranked output to (suc rank) olds news p.1 q.1)
 
 all-beyond : (P : Row → Type 0) (rows others : List Row) → AllByRecursion P rows → AllByRecursion P (beyond rows others)
 all-beyond P [] others p = tt
@@ -60,26 +54,29 @@ all-beyond P (row ∷ rows) others p =
       | false ↦ all-beyond P rows (drop_one row_cmp row others) p.1
     ]
 
-rows_of_kind : (P : Row → Type 0) (kind : Kind) (rows : List Row) → AllByRecursion P rows → AllByRecursion (λ (change : Change). P change.row) (map (λ row. record { kind = kind; row = row }) rows)
-rows_of_kind P kind [] p = tt
-rows_of_kind P kind (row ∷ rows) p = (p.0, rows_of_kind P kind rows p.1)
+rows_of_kind : (P : Row → Type 0) (Q : Change → Type 0) (kind : Kind) → ((row : Row) → P row → Q (record { kind = kind; row = row })) → (rows : List Row) → AllByRecursion P rows → AllByRecursion Q (map (λ row. record { kind = kind; row = row }) rows)
+rows_of_kind P Q kind to [] p = tt
+rows_of_kind P Q kind to (row ∷ rows) p = (to row p.0, rows_of_kind P Q kind to rows p.1)
 
 -- without ranks rows are shown as they are
 pub shown_plain : (rank : ℕ) (rows : List Row) → map (shown false) (ranked_from rank rows) ≡ rows
 shown_plain rank [] = refl
 shown_plain rank (row ∷ rows) = ap (λ xs. row ∷ xs) (shown_plain (suc rank) rows)
 
--- what holds of all rows that are shown before and after holds of all rows that are told
-pub rows_told : (P : Row → Type 0) (r : Ranking) (olds news : List Row) → AllByRecursion P (map (shown r.ranked) (ranked_from 1 olds)) → AllByRecursion P (map (shown r.ranked) (ranked_from 1 news)) → AllByRecursion (λ change. P change.row) (told r olds news)
-rows_told P r olds news =
-    elim r.ranked as (λ b. AllByRecursion P (map (shown b) (ranked_from 1 olds)) → AllByRecursion P (map (shown b) (ranked_from 1 news)) → AllByRecursion (λ change. P change.row) (cond (b || (r.bound == 1)) (told_by_rank b r.output 1 olds news) (told_by_row olds news))) [
-      | true ↦ λ p q. rows_by_rank P true r.output 1 olds news p q
-      | false ↦ λ p q. elim (r.bound == 1) as (λ b. AllByRecursion (λ change. P change.row) (cond b (told_by_rank false r.output 1 olds news) (told_by_row olds news))) [
-        | true ↦ rows_by_rank P false r.output 1 olds news p q
-        | false ↦ all-append (λ change. P change.row) (map (λ row. record { kind = D; row = row }) (beyond olds news)) (map (λ row. record { kind = I; row = row }) (beyond news olds))
-            (rows_of_kind P D (beyond olds news) (all-beyond P olds news (plain olds p))) (rows_of_kind P I (beyond news olds) (all-beyond P news olds (plain news q)))
-      ]
-    ]
+-- what holds of all rows that are shown before and after holds of all changes that tell them; row by row they are told as they are
+pub rows_told : (P : Row → Type 0) (Q : Change → Type 0) (r : Ranking) → Tell P Q r.output → (by_rank r ≡ false → (row : Row) → P row → Q (record { kind = D; row = row })) → (olds news : List Row)
+    → AllByRecursion P (map (shown r.ranked) (ranked_from 1 olds)) → AllByRecursion P (map (shown r.ranked) (ranked_from 1 news)) → AllByRecursion Q (told r olds news)
+rows_told P Q r to goes olds news =
+    elim r.ranked as (λ b. r.ranked ≡ b → AllByRecursion P (map (shown b) (ranked_from 1 olds)) → AllByRecursion P (map (shown b) (ranked_from 1 news)) → AllByRecursion Q (cond (b || (r.bound == 1)) (told_by_rank b r.output 1 olds news) (told_by_row olds news))) [
+      | true ↦ λ e p q. rows_by_rank P Q true r.output to 1 olds news p q
+      | false ↦ λ e p q. elim (r.bound == 1) as (λ b. (r.bound == 1) ≡ b → AllByRecursion Q (cond b (told_by_rank false r.output 1 olds news) (told_by_row olds news))) [
+        | true ↦ λ f. rows_by_rank P Q false r.output to 1 olds news p q
+        | false ↦ λ f.
+            all-append Q (map (λ row. record { kind = D; row = row }) (beyond olds news)) (map (λ row. record { kind = I; row = row }) (beyond news olds))
+            (rows_of_kind P Q D (goes (λ i. e i || f i)) (beyond olds news) (all-beyond P olds news (plain olds p)))
+            (rows_of_kind P Q I (to I) (beyond news olds) (all-beyond P news olds (plain news q)))
+      ] refl
+    ] refl
   where
     plain : (rows : List Row) → AllByRecursion P (map (shown false) (ranked_from 1 rows)) → AllByRecursion P rows
     plain rows p = go 1 rows p

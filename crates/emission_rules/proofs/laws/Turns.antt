@@ -13,6 +13,8 @@ use Rattle.ct_change.specs.declared.kind.Kind.TheVariants.{I, UB, UA, D}
 use Rattle.ct_change.specs.declared.change.Change.{Change}
 use Rattle.ct_change.specs.Changelog.{Mode, append, retract, upsert, Rows, same_row, admits, adds, apply, addition, removal, additions, removals, IsValidFrom, last_shown, Means}
 use Rattle.ct_change.specs.Emission.{emission, update}
+use Rattle.ct_change.specs.KeyRows.{key_row, deleted}
+use Rattle.ct_change.proofs.laws.KeyRows.{key_stays, length-key_row}
 use Rattle.ct_change.proofs.laws.Meanings.{same_row-true, same_row-itself, copies-apply, prefixes_mean, valid-upsert}
 use Rattle.rel_algebra.specs.GroupedCounts.{one_of}
 use Rattle.op_rules.specs.Edges.{meaning_of, ReadsAs}
@@ -234,6 +236,14 @@ module _ (keys : ℕ) where
   IsOf key None = Unit {0}
   IsOf key (Some row) = (take keys row ≡ key) × (keys ≤ length row)
 
+  -- so is the row by which a mode tells that it went
+  pub is_told : (mode : Mode) → Names mode → (key row : Row) → IsOf key (Some row) → IsOf key (Some (deleted mode row))
+  is_told append names key row is = is
+  is_told retract names key row is = is
+  is_told (upsert columns) names key row is =
+      let wide : keys ≤ length (key_row columns row) = (let e = length-key_row columns row in let w = is.1 in omega arith) in
+      ((names (key_row columns row) row wide is.1).0 (key_stays columns row) ∙ is.0, wide)
+
   -- an append changelog tells no row that changes or goes
   abbrev pub CanShow : Mode → Option Row → Option Row → Type 0
   CanShow append old fresh = (row : Row) → old ≡ Some row → fresh ≡ Some row
@@ -282,11 +292,13 @@ module _ (keys : ℕ) where
             )
       ] refl
 
-  upsert_emission : (columns : List ℕ) (shown : Shown) (key : Row) (old fresh : Option Row) → IsOf key old → IsOf key fresh → shown key ≡ old → Turns (upsert columns) shown (emission (upsert columns) old fresh) (shown_at shown key fresh)
-  upsert_emission columns shown key None None p q e = stays shown key None e
-  upsert_emission columns shown key None (Some fresh) p q e = (q.1, refl, turn-here shown key (record { kind = I; row = fresh }) q.0)
-  upsert_emission columns shown key (Some old) None p q e = (p.1, refl, turn-here shown key (record { kind = D; row = old }) p.0)
-  upsert_emission columns shown key (Some old) (Some fresh) p q e =
+  upsert_emission : (columns : List ℕ) → Names (upsert columns) → (shown : Shown) (key : Row) (old fresh : Option Row) → IsOf key old → IsOf key fresh → shown key ≡ old → Turns (upsert columns) shown (emission (upsert columns) old fresh) (shown_at shown key fresh)
+  upsert_emission columns names shown key None None p q e = stays shown key None e
+  upsert_emission columns names shown key None (Some fresh) p q e = (q.1, refl, turn-here shown key (record { kind = I; row = fresh }) q.0)
+  upsert_emission columns names shown key (Some old) None p q e =
+      let is = is_told (upsert columns) names key old p in
+      (is.1, refl, turn-here shown key (record { kind = D; row = key_row columns old }) is.0)
+  upsert_emission columns names shown key (Some old) (Some fresh) p q e =
       elim (same_row old fresh) as (λ b. same_row old fresh ≡ b → Turns (upsert columns) shown (cond b [] (update (upsert columns) old fresh)) (shown_at shown key (Some fresh))) [
         | true ↦ λ s. stays shown key (Some fresh) (e ∙ ap Some (same_row-true old fresh s))
         | false ↦ λ s. (q.1, refl, turn-here shown key (record { kind = UA; row = fresh }) q.0)
@@ -300,7 +312,7 @@ module _ (keys : ℕ) where
       let same : Some old ≡ Some fresh = sym (can old refl) in
       elim (same_row old fresh) as (λ b. Turns append shown (cond b [] []) (shown_at shown key (Some fresh))) [ true ↦ stays shown key (Some fresh) (e ∙ same) | false ↦ stays shown key (Some fresh) (e ∙ same) ]
 
-  pub turns_emission : (mode : Mode) (shown : Shown) (key : Row) (old fresh : Option Row) → IsOf key old → IsOf key fresh → CanShow mode old fresh → shown key ≡ old → Turns mode shown (emission mode old fresh) (shown_at shown key fresh)
-  turns_emission append shown key old fresh p q can e = append_emission shown key old fresh p q can e
-  turns_emission retract shown key old fresh p q can e = bag_emission shown key old fresh p q e
-  turns_emission (upsert columns) shown key old fresh p q can e = upsert_emission columns shown key old fresh p q e
+  pub turns_emission : (mode : Mode) → Names mode → (shown : Shown) (key : Row) (old fresh : Option Row) → IsOf key old → IsOf key fresh → CanShow mode old fresh → shown key ≡ old → Turns mode shown (emission mode old fresh) (shown_at shown key fresh)
+  turns_emission append names shown key old fresh p q can e = append_emission shown key old fresh p q can e
+  turns_emission retract names shown key old fresh p q can e = bag_emission shown key old fresh p q e
+  turns_emission (upsert columns) names shown key old fresh p q can e = upsert_emission columns names shown key old fresh p q e

@@ -8,7 +8,8 @@ use Rattle.ct_expr.specs.Views.{as_seen}
 use Rattle.ct_expr.proofs.laws.Seen.{seen}
 use Rattle.phys_plan.specs.declared.node.Node.{Node}
 use Rattle.phys_plan.specs.Reading.{numbered as item, numbered}
-use Rattle.phys_plan.specs.Columns.{plain_column, plain_columns}
+use Rattle.rel_algebra.specs.Items.{plain_column}
+use Rattle.phys_plan.specs.Columns.{plain_columns}
 use Rattle.plan_rules.specs.Seen.{node_as_seen}
 
 -- ---- expressions

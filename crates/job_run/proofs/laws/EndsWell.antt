@@ -29,7 +29,7 @@ use Rattle.job_batch.specs.Agree.{query_answer}
 use Rattle.job_batch.specs.Batch.{after_lines as batch_lines, answered, sink_types as answer_types, with_changes as batch_changes, with_rows}
 use Rattle.job_plan.specs.Shown.{shown}
 use Rattle.job_plan.specs.Planned.{planned, runnable}
-use Rattle.job_stream.specs.Stream.{most_sent, outcome_of, sink_types, streamed}
+use Rattle.job_stream.specs.Stream.{most_sent, outcome_of, sink_key, sink_types, streamed}
 use Rattle.job_run.specs.Held.{AreHeld}
 use Rattle.job_run.specs.Outcome.{script_limit, after_load, after_judgement, over_changes, with_script, run_script, batch_script, explain_script, with_request, outcome}
 use Rattle.job_run.specs.Complete.{MayRun, MayAnswer, MayExplain, MayEndWellBy, MayEndWell}
@@ -46,15 +46,15 @@ over_well : (names : FileNames) (h : Holdings) (script : Accepted) (changes : Li
 over_well names h script changes held next = ap (λ (l : Loaded). (after_load ChangesLimit next l).ending) held.changes_held
 
 -- a run that is neither out of range nor past the limit
-ended_well : (tys : List Ty) (r : Ran) → EndsOrStops r → ((node subtask : ℕ) (row : Row) (types : List ColTy) (printed : List PrintItem) → r ≡ stopped (fault.Range node subtask row types) printed → ⊥)
-    → ((printed : List PrintItem) → r ≡ stopped fault.Limit printed → ⊥) → (outcome_of tys r).ending ≡ Done
-ended_well tys (ended s) ends in_range few = refl
-ended_well tys (refused number code) ends in_range few = absurd ends
-ended_well tys (stopped (fault.Range node subtask row types) printed) ends in_range few = absurd (in_range node subtask row types printed refl)
-ended_well tys (stopped fault.Limit printed) ends in_range few = absurd (few printed refl)
-ended_well tys (stopped (fault.Change code) printed) ends in_range few = absurd ends
-ended_well tys (stopped (fault.Order code) printed) ends in_range few = absurd ends
-ended_well tys (stopped fault.Memory printed) ends in_range few = absurd ends
+ended_well : (tys : List Ty) (key : Option (List ℕ)) (r : Ran) → EndsOrStops r → ((node subtask : ℕ) (row : Row) (types : List ColTy) (printed : List PrintItem) → r ≡ stopped (fault.Range node subtask row types) printed → ⊥)
+    → ((printed : List PrintItem) → r ≡ stopped fault.Limit printed → ⊥) → (outcome_of tys key r).ending ≡ Done
+ended_well tys key (ended s) ends in_range few = refl
+ended_well tys key (refused number code) ends in_range few = absurd ends
+ended_well tys key (stopped (fault.Range node subtask row types) printed) ends in_range few = absurd (in_range node subtask row types printed refl)
+ended_well tys key (stopped fault.Limit printed) ends in_range few = absurd (few printed refl)
+ended_well tys key (stopped (fault.Change code) printed) ends in_range few = absurd ends
+ended_well tys key (stopped (fault.Order code) printed) ends in_range few = absurd ends
+ended_well tys key (stopped fault.Memory printed) ends in_range few = absurd ends
 
 run_well : (names : FileNames) (h : Holdings) → MayRun names h → (with_script h names.script (run_script h names.changes)).ending ≡ Done
 run_well names h may =
@@ -64,7 +64,7 @@ run_well names h may =
     held_well names h may.script may.changes may.held (run_script h names.changes)
     ∙ ap (λ (j : Judged Plan). (after_judgement (λ plan. over_changes h names.changes (streamed plan)) j).ending) may.runs
     ∙ over_well names h may.script may.changes may.held (streamed plan)
-    ∙ ended_well (sink_types plan.sink) (whole_run (network plan) most_sent plan.sources may.changes) (runs_end_or_stop plan is.ruled most_sent may.changes may.taken passes) may.in_range may.few
+    ∙ ended_well (sink_types plan.sink) (sink_key plan.sink) (whole_run (network plan) most_sent plan.sources may.changes) (runs_end_or_stop plan is.ruled most_sent may.changes may.taken passes) may.in_range may.few
 
 answer_well : (names : FileNames) (first : Option ℕ) (h : Holdings) → MayAnswer names first h → (with_script h names.script (batch_script h names.changes first)).ending ≡ Done
 answer_well names first h may =

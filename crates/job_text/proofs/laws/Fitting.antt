@@ -1,7 +1,7 @@
 -- That the change of a line is one of its table.
-use Rattle.std.proofs.Common.{◌≡◌, ◌+◌, ◌∙◌, ℕ, Bool, true, false, ◌&&◌, ◌==◌, List, [], ◌∷◌, length, map, Option, Some, None, refl, ap, arith}
+use Rattle.std.proofs.Common.{◌≡◌, ◌+◌, ◌∙◌, ℕ, suc, Bool, true, false, ◌&&◌, List, [], ◌∷◌, length, map, Option, Some, None, refl, sym, ap, subst, arith}
 use Rattle.std.proofs.lemmas.Bool.{eqb-true}
-use Rattle.std.specs.Prelude.{ℤ, cond, slice_get, Result, Ok, Err, option_map, option_and_then, if◌then◌else◌}
+use Rattle.std.specs.Prelude.{ℤ, cond, slice_get, slice_index_or, Result, Ok, Err, option_map, option_and_then, if◌then◌else◌}
 use Rattle.ct_value.specs.declared.ty.Ty.{Ty}
 use Rattle.ct_value.specs.declared.ty.ColTy.{ColTy}
 use Rattle.ct_value.specs.declared.ty.Ty.TheVariants.{Bool as Truths, Int, BigInt, Decimal, Text as Texts}
@@ -12,15 +12,19 @@ use Rattle.ct_value.specs.declared.codes.ChangeCode.TheVariants.{FieldCount, Kin
 use Rattle.ct_field.specs.Fields.{field_value, value_spelled, number_spelled, scale_of, truth_spelled, text_spelled}
 use Rattle.ct_field.specs.Numbers.{in_range, is_type}
 use Rattle.ct_field.specs.Typed.{value_fits}
+use Rattle.ct_field.proofs.laws.Numbers.{both_true}
 use Rattle.ct_change.specs.declared.kind.Kind.{Kind}
 use Rattle.ct_change.specs.declared.change.Change.{Change}
-use Rattle.ct_change.specs.Changelog.{admits}
+use Rattle.ct_change.specs.Changelog.{admits, same_row}
+use Rattle.ct_change.specs.KeyRows.{is_among, keyed_from}
+use Rattle.ct_change.proofs.laws.Meanings.{same_row-itself}
 use Rattle.ct_catalog.specs.declared.table.ColDef.{ColDef}
 use Rattle.ct_catalog.specs.declared.table.TableDef.{TableDef}
 use Rattle.job_text.specs.declared.line.Line.{Line}
 use Rattle.op_rules.specs.Values.{types_fit}
 use Rattle.job_text.specs.Fitting.{IsOfTable, LinesFit}
-use Rattle.job_text.specs.Lines.{Field, change_at, change_of, change_of_kind, change_of_row, kind_of, line_at, line_of_change, source_named, spelled, value_before, values_from}
+use Rattle.stream_model.specs.KeysTold.{is_told, told_key}
+use Rattle.job_text.specs.Lines.{Field, change_at, change_of, change_of_kind, change_of_row, fields_left, is_field_count, key_cell, key_fields, key_told, key_values, kind_of, line_at, line_of_change, row_values, source_named, spelled, value_before, values_from}
 use Rattle.ct_catalog.specs.Columns.{table_mode}
 
 -- a condition with something under it held
@@ -101,35 +105,71 @@ values-fit column (col ∷ cols) (f ∷ fs) values n e =
         let rest : others ≡ ws = cc h in
         ap (λ (b : Bool). b && types_fit (types cols) ws) (ap (value_fits col.ty.ty) first ∙ spelled-fits col.ty.ty f v s) ∙ others_fit ws (q ∙ ap Ok rest)
 
-row-fits : (table : TableDef) (kind : Kind) (fields : List Field) (change : Change) → length fields ≡ length table.cols → admits (table_mode table) kind ≡ true
-    → change_of_row kind (values_from 1 table.cols fields) ≡ Ok change → IsOfTable table change
-row-fits table kind fields change n a e = by (values_from 1 table.cols fields) refl e
-  where
-    by : (r : Result (List Value) ChangeCode) → values_from 1 table.cols fields ≡ r → change_of_row kind r ≡ Ok change → IsOfTable table change
-    by (Err code) q h = cc h
-    by (Ok values) q h =
-        let same_kind : change.kind ≡ kind = cc h in
-        let same_row : change.row ≡ values = cc h in
-        record {
-          admitted = ap (admits (table_mode table)) same_kind ∙ a;
-          fits = ap (types_fit (types table.cols)) same_row ∙ values-fit 1 table.cols fields values n q;
-        }
+-- the values of a key row fit its table's columns, and stand at the key alone
+cell-fits : (b : Bool) (ty : Ty) (field : Field) (v : Value) → key_cell b ty field ≡ Some v → (value_fits ty v ≡ true) × (cond b v Null ≡ v)
+cell-fits true ty field v e = (spelled-fits ty field v e, refl)
+cell-fits false ty field v e = let is : Null ≡ v = cc (e) in (ap (value_fits ty) (sym is) ∙ null-fits ty, is)
 
-kind-fits : (table : TableDef) (fields : List Field) (change : Change) → length fields ≡ length table.cols → (kind : Option Kind)
-    → change_of_kind table fields kind ≡ Ok change → IsOfTable table change
-kind-fits table fields change n None e = cc e
-kind-fits table fields change n (Some kind) e = by (admits (table_mode table) kind) refl e
+abbrev AreOfKey : List ℕ → ℕ → List ColDef → List Value → Type 0
+AreOfKey key column cols values = (types_fit (types cols) values ≡ true) × (keyed_from key column values ≡ values)
+
+key-fits : (key : List ℕ) (column : ℕ) (cols : List ColDef) (fields : List Field) (values : List Value) → key_values key column cols fields ≡ Ok values → AreOfKey key column cols values
+key-fits key column [] fields [] e = (refl, refl)
+key-fits key column [] fields (v ∷ vs) e = absurd (cc (e))
+key-fits key column (col ∷ cols) fields values e =
+    by (key_cell (is_among key column) col.ty.ty (slice_index_or fields 0 [])) refl (key_values key (suc column) cols (fields_left (is_among key column) fields)) refl values
+    (λ ws. key-fits key (suc column) cols (fields_left (is_among key column) fields) ws) e
   where
-    by : (b : Bool) → admits (table_mode table) kind ≡ b → (if b then change_of_row kind (values_from 1 table.cols fields) else Err KindNotDeclared) ≡ Ok change → IsOfTable table change
+    by : (o : Option Value) → key_cell (is_among key column) col.ty.ty (slice_index_or fields 0 []) ≡ o → (r : Result (List Value) ChangeCode) → key_values key (suc column) cols (fields_left (is_among key column) fields) ≡ r
+        → (vs : List Value) → ((ws : List Value) → key_values key (suc column) cols (fields_left (is_among key column) fields) ≡ Ok ws → AreOfKey key (suc column) cols ws)
+        → value_before (suc column) o r ≡ Ok vs → AreOfKey key column (col ∷ cols) vs
+    by None s r q vs others_fit h = absurd (cc (h))
+    by (Some v) s (Err code) q vs others_fit h = absurd (cc (h))
+    by (Some v) s (Ok others) q [] others_fit h = absurd (cc (h))
+    by (Some v) s (Ok others) q (w ∷ ws) others_fit h =
+        let first : v ≡ w = cc (h) in
+        let rest : others ≡ ws = cc (h) in
+        let one = cell-fits (is_among key column) col.ty.ty (slice_index_or fields 0 []) w (s ∙ ap Some first) in
+        let more = others_fit ws (q ∙ ap Ok rest) in
+        (ap (λ (b : Bool). b && types_fit (types cols) ws) one.0 ∙ more.0, (λ i. one.1 i ∷ more.1 i))
+
+told-fits : (table : TableDef) (key : Option (List ℕ)) (fields : List Field) (values : List Value) → is_field_count table key (length fields) ≡ true → row_values table key fields ≡ Ok values
+    → (types_fit (types table.cols) values ≡ true) × (is_told key values ≡ true)
+told-fits table None fields values n e = (values-fit 1 table.cols fields values (eqb-true _ _ n) e, refl)
+told-fits table (Some key) fields values n e =
+    let both = key-fits key 0 table.cols (key_fields key (length table.cols) fields) values e in
+    (both.0, ap (λ (row : List Value). same_row row values) both.1 ∙ same_row-itself values)
+
+row-fits : (table : TableDef) (kind : Kind) (fields : List Field) (change : Change) → is_field_count table (key_told table (Some kind)) (length fields) ≡ true → admits (table_mode table) kind ≡ true
+    → change_of_row kind (row_values table (key_told table (Some kind)) fields) ≡ Ok change → IsOfTable table change
+row-fits table kind fields change n a e = by (row_values table (key_told table (Some kind)) fields) refl e
+  where
+    by : (r : Result (List Value) ChangeCode) → row_values table (key_told table (Some kind)) fields ≡ r → change_of_row kind r ≡ Ok change → IsOfTable table change
+    by (Err code) q h = absurd (cc (h))
+    by (Ok values) q h =
+        let made : Change = record { kind = kind; row = values } in
+        let same : made ≡ change = cc (h) in
+        let both = told-fits table (key_told table (Some kind)) fields values n q in
+        subst (IsOfTable table) same (record {
+          admitted = a;
+          fits = both_true (types_fit (types table.cols) values) (is_told (told_key (table_mode table) kind) values) both.0 both.1;
+        })
+
+kind-fits : (table : TableDef) (fields : List Field) (change : Change) (kind : Option Kind) → is_field_count table (key_told table kind) (length fields) ≡ true
+    → change_of_kind table fields kind ≡ Ok change → IsOfTable table change
+kind-fits table fields change None n e = absurd (cc (e))
+kind-fits table fields change (Some kind) n e = by (admits (table_mode table) kind) refl e
+  where
+    by : (b : Bool) → admits (table_mode table) kind ≡ b → (if b then change_of_row kind (row_values table (key_told table (Some kind)) fields) else Err KindNotDeclared) ≡ Ok change → IsOfTable table change
     by true a h = row-fits table kind fields change n a h
-    by false a h = cc h
+    by false a h = absurd (cc (h))
 
 change-fits : (table : TableDef) (kind : Field) (fields : List Field) (change : Change) → change_of table kind fields ≡ Ok change → IsOfTable table change
-change-fits table kind fields change e = by (length fields == length table.cols) refl e
+change-fits table kind fields change e = by (is_field_count table (key_told table (kind_of kind)) (length fields)) refl e
   where
-    by : (b : Bool) → (length fields == length table.cols) ≡ b → (if b then change_of_kind table fields (kind_of kind) else Err FieldCount) ≡ Ok change → IsOfTable table change
-    by true n h = kind-fits table fields change (eqb-true _ _ n) (kind_of kind) h
-    by false n h = cc h
+    by : (b : Bool) → is_field_count table (key_told table (kind_of kind)) (length fields) ≡ b → (if b then change_of_kind table fields (kind_of kind) else Err FieldCount) ≡ Ok change → IsOfTable table change
+    by true n h = kind-fits table fields change (kind_of kind) n h
+    by false n h = absurd (cc (h))
 
 at-fits : (sources : List TableDef) (kind : Field) (fields : List Field) (line : Line) (place : Option ℕ) → line_at sources kind fields place ≡ Ok line
     → (table : TableDef) × (slice_get sources line.table ≡ Some table) × IsOfTable table line.change

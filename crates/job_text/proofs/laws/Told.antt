@@ -1,7 +1,7 @@
 -- What is printed tells its items: a line is read back as the fields of a record, and these tell the kind and the values.
-use Rattle.std.specs.Prelude.{◌&&◌, ◌||◌, ◌==◌, ◌<◌, ◌≤◌, ◌^◌, Bool, cond, codes, length}
-use Rattle.std.proofs.Common.{◌≡◌, ◌∙◌, ◌++◌, ℕ, true, false, List, [], ◌∷◌, Option, Some, None, refl, sym, ap, subst, arith, append-nil, append_assoc}
-use Rattle.std.specs.List.{AllByRecursion, list_any}
+use Rattle.std.specs.Prelude.{◌==◌, ◌<◌, ◌≤◌, ◌^◌, Bool, cond, codes}
+use Rattle.std.proofs.Common.{◌≡◌, ◌∙◌, ◌++◌, ℕ, suc, true, false, List, [], ◌∷◌, Option, Some, None, refl, sym, ap, subst, arith, append-nil}
+use Rattle.std.specs.List.{list_any}
 use Rattle.std.specs.Fmt.{decimal}
 use Rattle.std.specs.Str.Parse.{AllDigits}
 use Rattle.std.proofs.lemmas.Bool.Decides.{nat_tests}
@@ -16,7 +16,7 @@ use Rattle.ct_value.specs.declared.ty.Ty.{Ty}
 use Rattle.ct_value.specs.declared.ty.Ty.TheVariants.{Bool as Truths, Int, BigInt, Decimal, Text as Texts}
 use Rattle.ct_value.specs.declared.value.Value.{Value}
 use Rattle.ct_value.specs.declared.value.Value.TheVariants.{Null, Bool as Truth, Num, Text}
-use Rattle.ct_field.specs.Fields.{begins_with_backslash, escaped, field_text}
+use Rattle.ct_field.specs.Fields.{begins_with_backslash, field_text}
 use Rattle.ct_field.specs.Numbers.{is_type}
 use Rattle.ct_field.specs.Spells.{IsText, Spells}
 use Rattle.ct_field.specs.Typed.{value_fits}
@@ -30,8 +30,12 @@ use Rattle.ct_change.specs.declared.change.Change.{Change}
 use Rattle.stream_model.specs.declared.events.PrintItem.{PrintItem}
 use Rattle.stream_model.specs.declared.events.PrintItem.TheVariants.{Change as Printed, Quiet}
 use Rattle.job_text.specs.Lines.{kind_of}
-use Rattle.job_text.specs.Printed.{field_texts, item_line, item_lines, kind_text, quiet_line}
-use Rattle.job_text.specs.Told.{AreItemsOf, AreTypes, BytesTellItems, IsItemOf, LinesTellItems}
+use Rattle.ct_change.specs.KeyRows.{is_among, key_row, keyed_from}
+use Rattle.ct_change.proofs.laws.Meanings.{same_row-true}
+use Rattle.stream_model.specs.KeysTold.{is_told, told_by}
+use Rattle.job_text.specs.AtKey.{at_key}
+use Rattle.job_text.specs.Printed.{field_texts, item_line, item_lines, kind_text, quiet_line, told_texts}
+use Rattle.job_text.specs.Told.{AreTypes, BytesTellItems, IsItemOf, LinesTellItems}
 
 -- ---- the line of a quiet moment is that of a record of two fields
 
@@ -54,13 +58,9 @@ unfolding fields_text is_blank
 quiet_is taken few = rw (plain_digits (decimal taken) (decimal_is_IsNumeral taken few).0.1, append-nil (decimal taken)) refl
 
 -- the fields of an item's line
-abbrev fields_of : List Ty → PrintItem → List (List ℕ)
-fields_of tys (Printed change) = kind_text change.kind ∷ field_texts tys change.row
-fields_of tys (Quiet taken) = codes "=" ∷ decimal taken ∷ []
-
-line_is : (tys : List Ty) (item : PrintItem) → IsItemOf tys item → item_line tys item ≡ row_text default_writer (fields_of tys item)
-line_is tys (Printed change) is = refl
-line_is tys (Quiet taken) few = quiet_is taken few
+abbrev fields_of : List Ty → Option (List ℕ) → PrintItem → List (List ℕ)
+fields_of tys key (Printed change) = kind_text change.kind ∷ told_texts (told_by key change.kind) (field_texts tys change.row)
+fields_of tys key (Quiet taken) = codes "=" ∷ decimal taken ∷ []
 
 -- ---- fields tell kinds and values
 
@@ -137,26 +137,64 @@ row_told (ty ∷ tys) exist (v ∷ vs) (w ∷ ws) h k e =
     let values = row_told tys exist.1 vs ws (second_true (value_fits ty v) (values_fit tys vs) h) (second_true (value_fits ty w) (values_fit tys ws) k) others in
     rw (value, values) refl
 
+-- rows that tell a key alone are one where the texts of the key's columns are
+cell_told : (ty : Ty) → is_type ty ≡ true → (v w : Value) → value_fits ty v ≡ true → value_fits ty w ≡ true → (ts us : List (List ℕ)) (b : Bool) → cond b v Null ≡ v → cond b w Null ≡ w
+    → cond b (field_text ty v ∷ ts) ts ≡ cond b (field_text ty w ∷ us) us → (v ≡ w) × (ts ≡ us)
+cell_told ty exists v w h k ts us true own other e = (value_told ty exists v w h k (let first : field_text ty v ≡ field_text ty w = cc (e) in first), (let rest : ts ≡ us = cc (e) in rest))
+cell_told ty exists v w h k ts us false own other e = (sym own ∙ other, e)
+
+row_told_at : (key : List ℕ) (column : ℕ) (tys : List Ty) → AreTypes tys → (row other : List Value) → values_fit tys row ≡ true → values_fit tys other ≡ true → keyed_from key column row ≡ row → keyed_from key column other ≡ other
+    → at_key key column (field_texts tys row) ≡ at_key key column (field_texts tys other) → row ≡ other
+row_told_at key column [] exist [] [] h k own others e = refl
+row_told_at key column [] exist [] (w ∷ ws) h k own others e = absurd (cc (k))
+row_told_at key column [] exist (v ∷ vs) other h k own others e = absurd (cc (h))
+row_told_at key column (ty ∷ tys) exist [] other h k own others e = absurd (cc (h))
+row_told_at key column (ty ∷ tys) exist (v ∷ vs) [] h k own others e = absurd (cc (k))
+row_told_at key column (ty ∷ tys) exist (v ∷ vs) (w ∷ ws) h k own others e =
+    let first_own : cond (is_among key column) v Null ≡ v = cc (own) in
+    let first_other : cond (is_among key column) w Null ≡ w = cc (others) in
+    let rest_own : keyed_from key (suc column) vs ≡ vs = cc (own) in
+    let rest_other : keyed_from key (suc column) ws ≡ ws = cc (others) in
+    let one = cell_told ty exist.0 v w (first_true (value_fits ty v) (values_fit tys vs) h) (first_true (value_fits ty w) (values_fit tys ws) k)
+    (at_key key (suc column) (field_texts tys vs)) (at_key key (suc column) (field_texts tys ws)) (is_among key column) first_own first_other e in
+    let values = row_told_at key (suc column) tys exist.1 vs ws (second_true (value_fits ty v) (values_fit tys vs) h) (second_true (value_fits ty w) (values_fit tys ws) k) rest_own rest_other one.1 in
+    rw (one.0, values) refl
+
+told_same : (tys : List Ty) → AreTypes tys → (key : Option (List ℕ)) (row other : List Value) → values_fit tys row ≡ true → values_fit tys other ≡ true → is_told key row ≡ true → is_told key other ≡ true
+    → told_texts key (field_texts tys row) ≡ told_texts key (field_texts tys other) → row ≡ other
+told_same tys exist None row other h k own others e = row_told tys exist row other h k e
+told_same tys exist (Some key) row other h k own others e =
+    row_told_at key 0 tys exist row other h k (same_row-true (key_row key row) row own) (same_row-true (key_row key other) other others) e
+
 change_same : (change other : Change) → change.kind ≡ other.kind → change.row ≡ other.row → change ≡ other
 change_same change other kind row = λ i. record { kind = kind i; row = row i }
 
-fields_told : (tys : List Ty) → AreTypes tys → (a b : PrintItem) → IsItemOf tys a → IsItemOf tys b → fields_of tys a ≡ fields_of tys b → a ≡ b
-fields_told tys exist (Printed change) (Printed other) h k e =
+changes_told : (tys : List Ty) → AreTypes tys → (key : Option (List ℕ)) (change other : Change) → IsItemOf tys key (Printed change) → IsItemOf tys key (Printed other)
+    → kind_text change.kind ≡ kind_text other.kind → told_texts (told_by key change.kind) (field_texts tys change.row) ≡ told_texts (told_by key other.kind) (field_texts tys other.row) → change ≡ other
+changes_told tys exist key change other h k kinds texts =
+    let kind = kind_told change.kind other.kind kinds in
+    let told = told_by key change.kind in
+    let others : is_told told other.row ≡ true = ap (λ (x : Kind). is_told (told_by key x) other.row) kind ∙ k.1 in
+    let same : told_texts told (field_texts tys change.row) ≡ told_texts told (field_texts tys other.row) = texts ∙ sym (ap (λ (x : Kind). told_texts (told_by key x) (field_texts tys other.row)) kind) in
+    change_same change other kind (told_same tys exist told change.row other.row h.0 k.0 h.1 others same)
+
+fields_told : (tys : List Ty) → AreTypes tys → (key : Option (List ℕ)) (a b : PrintItem) → IsItemOf tys key a → IsItemOf tys key b → fields_of tys key a ≡ fields_of tys key b → a ≡ b
+fields_told tys exist key (Printed change) (Printed other) h k e =
     let kinds : kind_text change.kind ≡ kind_text other.kind = cc (e) in
-    let rows : field_texts tys change.row ≡ field_texts tys other.row = cc (e) in
-    ap Printed (change_same change other (kind_told change.kind other.kind kinds) (row_told tys exist change.row other.row h k rows))
-fields_told tys exist (Printed change) (Quiet taken) h k e = absurd (no_kind change.kind (let first : kind_text change.kind ≡ codes "=" = cc (e) in first))
-fields_told tys exist (Quiet taken) (Printed change) h k e = absurd (no_kind change.kind (let first : kind_text change.kind ≡ codes "=" = cc (e) in first))
-fields_told tys exist (Quiet taken) (Quiet other) h k e = ap Quiet (decimal_injective taken other h k (let numbers : decimal taken ≡ decimal other = cc (e) in numbers))
+    let texts : told_texts (told_by key change.kind) (field_texts tys change.row) ≡ told_texts (told_by key other.kind) (field_texts tys other.row) = cc (e) in
+    ap Printed (changes_told tys exist key change other h k kinds texts)
+fields_told tys exist key (Printed change) (Quiet taken) h k e = absurd (no_kind change.kind (let first : kind_text change.kind ≡ codes "=" = cc (e) in first))
+fields_told tys exist key (Quiet taken) (Printed change) h k e = absurd (no_kind change.kind (let first : kind_text change.kind ≡ codes "=" = cc (e) in first))
+fields_told tys exist key (Quiet taken) (Quiet other) h k e = ap Quiet (decimal_injective taken other h k (let numbers : decimal taken ≡ decimal other = cc (e) in numbers))
 
 -- ---- lines tell fields
 
 read_line : (field : List ℕ) (fields : List (List ℕ)) (x : List ℕ) → next_record default_config StartRecord [] [] (row_text default_writer (field ∷ fields) ++ x) ≡ Some (field ∷ fields, StartRecord, x)
 read_line field fields x = read-write (field ∷ fields) x
 
-item_read : (tys : List Ty) (item : PrintItem) → IsItemOf tys item → (x : List ℕ) → next_record default_config StartRecord [] [] (item_line tys item ++ x) ≡ Some (fields_of tys item, StartRecord, x)
-item_read tys (Printed change) is x = read_line (kind_text change.kind) (field_texts tys change.row) x
-item_read tys (Quiet taken) few x =
+item_read : (tys : List Ty) (key : Option (List ℕ)) (item : PrintItem) → IsItemOf tys key item → (x : List ℕ) → next_record default_config StartRecord [] [] (item_line tys key item ++ x) ≡ Some (fields_of tys key item, StartRecord, x)
+item_read tys key (Printed change) is x = read_line (kind_text change.kind) (told_texts (told_by key change.kind) (field_texts tys change.row)) x
+item_read tys key (Quiet taken) few x =
     ap (λ line. next_record default_config StartRecord [] [] (line ++ x)) (quiet_is taken few) ∙ read_line (codes "=") (decimal taken ∷ []) x
 
 read_same : (fields others : List (List ℕ)) (x y : List ℕ) → (let r : Option Read = Some (fields, StartRecord, x) in r ≡ Some (others, StartRecord, y)) → (fields ≡ others) × (x ≡ y)
@@ -167,24 +205,24 @@ read_same fields others x y e =
     (ap (λ (p : Read). p.0) same, ap (λ (p : Read). p.2) same)
 
 pub lines_tell_items : LinesTellItems
-lines_tell_items tys exist a b h k x y e =
-    let read = sym (item_read tys a h x) ∙ ap (next_record default_config StartRecord [] []) e ∙ item_read tys b k y in
-    let same = read_same (fields_of tys a) (fields_of tys b) x y read in
-    (fields_told tys exist a b h k same.0, same.1)
+lines_tell_items tys exist key a b h k x y e =
+    let read = sym (item_read tys key a h x) ∙ ap (next_record default_config StartRecord [] []) e ∙ item_read tys key b k y in
+    let same = read_same (fields_of tys key a) (fields_of tys key b) x y read in
+    (fields_told tys exist key a b h k same.0, same.1)
 
 -- ---- all lines
 
-no_line : (tys : List Ty) (item : PrintItem) → IsItemOf tys item → (x : List ℕ) → [] ≡ item_line tys item ++ x → ⊥
+no_line : (tys : List Ty) (key : Option (List ℕ)) (item : PrintItem) → IsItemOf tys key item → (x : List ℕ) → [] ≡ item_line tys key item ++ x → ⊥
 unfolding next_record
-no_line tys item is x e =
-    let none : None ≡ Some (fields_of tys item, StartRecord, x) = ap (next_record default_config StartRecord [] []) e ∙ item_read tys item is x in
+no_line tys key item is x e =
+    let none : None ≡ Some (fields_of tys key item, StartRecord, x) = ap (next_record default_config StartRecord [] []) e ∙ item_read tys key item is x in
     absurd (cc (none))
 
 pub bytes_tell_items : BytesTellItems
-bytes_tell_items tys exist [] [] h k e = refl
-bytes_tell_items tys exist [] (b ∷ others) h k e = absurd (no_line tys b k.0 (item_lines tys others) e)
-bytes_tell_items tys exist (a ∷ more) [] h k e = absurd (no_line tys a h.0 (item_lines tys more) (sym e))
-bytes_tell_items tys exist (a ∷ more) (b ∷ others) h k e =
-    let one = lines_tell_items tys exist a b h.0 k.0 (item_lines tys more) (item_lines tys others) e in
-    let rest = bytes_tell_items tys exist more others h.1 k.1 one.1 in
+bytes_tell_items tys exist key [] [] h k e = refl
+bytes_tell_items tys exist key [] (b ∷ others) h k e = absurd (no_line tys key b k.0 (item_lines tys key others) e)
+bytes_tell_items tys exist key (a ∷ more) [] h k e = absurd (no_line tys key a h.0 (item_lines tys key more) (sym e))
+bytes_tell_items tys exist key (a ∷ more) (b ∷ others) h k e =
+    let one = lines_tell_items tys exist key a b h.0 k.0 (item_lines tys key more) (item_lines tys key others) e in
+    let rest = bytes_tell_items tys exist key more others h.1 k.1 one.1 in
     rw (one.0, rest) refl

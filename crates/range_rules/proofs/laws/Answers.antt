@@ -1,13 +1,16 @@
 -- Answers with short texts: one behind the other, and those that replace a row by another.
-use Rattle.std.proofs.Common.{ℕ, zero, suc, ◌==◌, ◌≤◌, Bool, true, false, cond, List, [], ◌∷◌, ◌++◌, length, take, Option, Some, None, Ok, Err, arith}
+use Rattle.std.proofs.Common.{◌≡◌, ℕ, zero, suc, ◌==◌, ◌≤◌, Bool, true, false, cond, List, [], ◌∷◌, ◌++◌, length, take, Option, Some, None, Ok, Err, refl, arith}
 use Rattle.std.specs.List.{AllByRecursion, find}
 use Rattle.ct_value.specs.declared.row.Row.{Row}
 use Rattle.ct_change.specs.declared.change.Change.{Change}
 use Rattle.ct_change.specs.Changelog.{Mode, append, retract, upsert, same_row}
+use Rattle.ct_value.specs.declared.value.Value.TheVariants.{Null}
 use Rattle.ct_change.specs.Emission.{update, emission}
+use Rattle.ct_change.specs.KeyRows.{is_among, keyed_from, key_row, row_told}
 use Rattle.op_rules.specs.History.{Arrival, at_port}
 use Rattle.op_rules.specs.Rules.{Answer, appended}
 use Rattle.op_rules.proofs.laws.Histories.{all-append}
+use Rattle.range_rules.specs.Tame.{is_short}
 use Rattle.range_rules.specs.Ranges.{IsShortRow, IsShort, ArrivesShort, IsShortAnswer}
 
 -- ---- one behind the other
@@ -33,10 +36,24 @@ update_short append old fresh h k = tt
 update_short retract old fresh h k = (h, (k, tt))
 update_short (upsert key) old fresh h k = (k, tt)
 
+-- a row that went is told by values of its own
+keyed_short : (key : List ℕ) (column : ℕ) (row : Row) → IsShortRow row → IsShortRow (keyed_from key column row)
+keyed_short key column [] h = tt
+keyed_short key column (value ∷ values) h = (elim (is_among key column) as (λ b. is_short (cond b value Null) ≡ true) [ true ↦ h.0 | false ↦ refl ], keyed_short key (suc column) values h.1)
+
+pub key_row_short : (key : List ℕ) (row : Row) → IsShortRow row → IsShortRow (key_row key row)
+key_row_short key row h = keyed_short key 0 row h
+
+pub told_short : (mode : Mode) (comes : Bool) (row : Row) → IsShortRow row → IsShortRow (row_told mode comes row)
+told_short mode true row h = h
+told_short append false row h = h
+told_short retract false row h = h
+told_short (upsert key) false row h = key_row_short key row h
+
 pub emission_short : (mode : Mode) (old fresh : Option Row) → IsShortIf old → IsShortIf fresh → AllByRecursion IsShort (emission mode old fresh)
 emission_short mode None None h k = tt
 emission_short mode None (Some fresh) h k = (k, tt)
-emission_short mode (Some old) None h k = (h, tt)
+emission_short mode (Some old) None h k = (told_short mode false old h, tt)
 emission_short mode (Some old) (Some fresh) h k = all_if IsShort (same_row old fresh) [] (update mode old fresh) tt (update_short mode old fresh h k)
 
 found_here : (b : Bool) (row : Row) (o : Option Row) → IsShortRow row → IsShortIf o → IsShortIf (cond b (Some row) o)

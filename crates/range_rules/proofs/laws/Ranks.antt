@@ -6,7 +6,7 @@ use Rattle.ct_value.specs.Order.{row_total, row_exact}
 use Rattle.ct_value.specs.declared.row.Row.{Row}
 use Rattle.ct_value.specs.declared.value.Value.TheVariants.{Num}
 use Rattle.ct_change.specs.declared.change.Change.{Change}
-use Rattle.ct_change.specs.Changelog.{Rows, apply, fold}
+use Rattle.ct_change.specs.Changelog.{Rows, adds, apply, fold}
 use Rattle.rel_algebra.specs.Ranks.{ranked_from, shown}
 use Rattle.rel_algebra.proofs.laws.Bags.{each-copies}
 use Rattle.op_rules.specs.History.{at_port}
@@ -16,7 +16,7 @@ use Rattle.emission_rules.proofs.laws.Ranked.{all-first}
 use Rattle.emission_rules.proofs.laws.TopTold.{rows_told}
 use Rattle.range_rules.specs.Ranges.{IsShortRow, IsShort, TopNsStayInRange}
 use Rattle.range_rules.proofs.laws.Folds.{AreShort, none_short, one_after, all_after}
-use Rattle.range_rules.proofs.laws.Answers.{at_port_short, both_short}
+use Rattle.range_rules.proofs.laws.Answers.{told_short, at_port_short, both_short}
 
 shown_short : (ranked : Bool) (row : Row) (rank : ℕ) → IsShortRow row → IsShortRow (shown ranked (row, rank))
 shown_short true row rank h = both_short row (Num (pos rank) ∷ []) h (refl, tt)
@@ -36,7 +36,7 @@ module _ (r : Ranking) where
   one_short n rows change short h =
       let key = key_of r change.row in
       let after = apply r.input rows change in
-      rows_told IsShortRow r (first r key rows) (first r key after) (first_short n key rows short) (first_short (n + 1) key after (one_after r.input n rows change h short))
+      rows_told IsShortRow IsShort r (λ kind row h. told_short r.output (adds kind) row h) (λ e row h. h) (first r key rows) (first r key after) (first_short n key rows short) (first_short (n + 1) key after (one_after r.input n rows change h short))
 
   all_short : (n : ℕ) (rows : Rows) (changes : List Change) → AreShort n rows → AllByRecursion IsShort changes → AllByRecursion IsShort (tells_all r rows changes)
   all_short n rows [] short h = tt

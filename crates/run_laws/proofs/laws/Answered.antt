@@ -1,10 +1,11 @@
--- What a run has printed before each quiet item folds to the answer, and every edge carries only the kinds of its mode.
+-- What a run has printed before each quiet item folds to the answer, and every edge carries only changes that it admits.
 use Rattle.std.specs.Prelude.{◌≡◌, ℕ, Option, List, length, option_map, take}
 use Rattle.std.proofs.Common.{[], sym, ap, subst, ◌∙◌, arith, Some}
 use Rattle.std.proofs.lemmas.List.{length-append}
 use Rattle.ct_catalog.specs.declared.table.TableDef.{TableDef}
 use Rattle.ct_catalog.specs.Columns.{table_mode}
-use Rattle.ct_change.specs.Changelog.{Mode, Rows, fold, AreOf, IsValid}
+use Rattle.ct_change.specs.Changelog.{Mode, Rows, fold}
+use Rattle.ct_change.specs.KeyRows.{IsChangelog}
 use Rattle.job_text.specs.Lines.{Record, records_of}
 use Rattle.rel_algebra.specs.Rel.{Rel}
 use Rattle.rel_algebra.specs.Answer.{answer}
@@ -22,7 +23,7 @@ use Rattle.plan_rules.specs.Answers.{Answers}
 use Rattle.source_lines.specs.Fitting.{LinesFitColumns}
 use Rattle.source_lines.specs.Taken.{nothing_taken, rows_of, take_records}
 use Rattle.source_lines.specs.Run.{Ran, ended, refused, stopped, printed_by, whole_run}
-use Rattle.run_laws.specs.Headline.{AreAnswered, Carries, IsAnswered, IsCarried, RunsCarryKinds, RunsPrintAnswers, with_rows}
+use Rattle.run_laws.specs.Headline.{AreAdmitted, AreAnswered, Carries, IsAnswered, IsCarried, RunsCarryAdmitted, RunsPrintAnswers, with_rows}
 use Rattle.run_laws.proofs.laws.Ends.{take_whole, with_same}
 use Rattle.run_laws.proofs.laws.Reached.{Ends, Reached, Stands, Stopped, Told, ToldAt, no_quiet_in, run_ends, take_before}
 
@@ -53,7 +54,7 @@ module _ (fit : LinesFitColumns) (plan : Plan) (ruled : IsRuled plan) (limit : �
           within = omega (arith, t.count, r.counted, ap length r.lines_are, length-append r.before t.rest);
           taken = s.taken;
           is_taken = ap (take_records plan.sources 1 nothing_taken) first ∙ r.taken;
-          valid = subst (IsValid mode) (take_whole (changes_in s.printed) ∙ ap changes_in t.same) (tells.valid (length (changes_in s.printed)));
+          valid = subst (IsChangelog mode) (take_whole (changes_in s.printed) ∙ ap changes_in t.same) (tells.valid (length (changes_in s.printed)));
           folds = folds_at s tells t.still ∙ ap (λ items. Some (fold mode (changes_in items))) t.same;
         }
 
@@ -74,8 +75,8 @@ module _ (fit : LinesFitColumns) (plan : Plan) (ruled : IsRuled plan) (limit : �
           typed = r.typed;
           printed = ap (λ (u : State). u.printed) r.there;
           carried = record {
-            edges = λ v i node li. (all.fine v node).kinds i li;
-            printed = subst (λ (u : State). AreOf (g.edge g.count).kinds (changes_in u.printed)) r.there all.printed_kinds;
+            edges = λ v i node li. ((all.fine v node).kinds i li, (all.fine v node).types i li);
+            printed = subst (λ (u : State). AreAdmitted (g.edge g.count) (changes_in u.printed)) r.there (all.printed_kinds, all.printed_fits);
           };
         }
 
@@ -92,8 +93,8 @@ print_answers fit wired prints drains plan rel ruled told limit bytes =
     ran_answered fit plan ruled limit (records_of bytes) rel told prints [] (whole_run g limit plan.sources bytes)
     (run_ends fit plan limit (records_of bytes) (drains g (wired plan ruled) limit))
 
-pub carry_kinds : LinesFitColumns → SoundPlansAreWired → SoundPlansMeetFacts → Composes → RunsDrain → RunsCarryKinds
-carry_kinds fit wired meets composes drains plan ruled limit bytes =
+pub carry_admitted : LinesFitColumns → SoundPlansAreWired → SoundPlansMeetFacts → Composes → RunsDrain → RunsCarryAdmitted
+carry_admitted fit wired meets composes drains plan ruled limit bytes =
     let g = network plan in
     ran_carried fit plan ruled limit (records_of bytes) (composes g (wired plan ruled) (meets plan ruled) limit) [] (whole_run g limit plan.sources bytes)
     (run_ends fit plan limit (records_of bytes) (drains g (wired plan ruled) limit))

@@ -5,7 +5,7 @@ use Rattle.std.proofs.lemmas.List.{map-append}
 use Rattle.ct_value.specs.declared.codes.ChangeCode.{ChangeCode}
 use Rattle.ct_value.specs.declared.codes.OrderCode.TheVariants.{NoSuchPlace}
 use Rattle.ct_change.specs.declared.change.Change.{Change}
-use Rattle.ct_change.specs.Changelog.{Mode, Rows, fold, IsValid}
+use Rattle.ct_change.specs.Changelog.{Rows, fold}
 use Rattle.ct_catalog.specs.declared.table.TableDef.{TableDef}
 use Rattle.job_text.specs.declared.line.Line.{Line}
 use Rattle.job_text.specs.Lines.{Record, line_of, records_of}
@@ -18,19 +18,16 @@ use Rattle.stream_model.specs.declared.events.Event.TheVariants.{Take, Move, Flu
 use Rattle.stream_model.specs.declared.events.StepFault.{StepFault}
 use Rattle.stream_model.specs.declared.events.StepFault.TheVariants.{Change as Refused, Order, Range, Limit, Memory}
 use Rattle.stream_model.specs.declared.events.PrintItem.{PrintItem}
-use Rattle.stream_model.specs.declared.events.PrintItem.TheVariants.{Change as Printed, Quiet}
+use Rattle.stream_model.specs.declared.events.PrintItem.TheVariants.{Quiet}
 use Rattle.stream_model.specs.Tables.{Table as Source, scanned_at, refusal}
 use Rattle.stream_model.specs.Network.{Feed, Network}
 use Rattle.stream_model.specs.Machine.{State, opened, send, print, joins, folded, answered, flushed, size_of, flushed_if_full, is_channel, move_front, move_to, flush_held, flush_bundle, is_place, scan_count, scanned, take_unless, take_of, IsQuiet}
 use Rattle.stream_model.specs.Machine as machine
-use Rattle.stream_model.specs.Runs.{Item, happens, quiet, told_quiet, step_item, state_in, after, changes_in, IsTyped, AreTyped}
-use Rattle.stream_model.specs.Theorem.{table_rows, rows_left, Composes, Holds, PrintsAnswer}
+use Rattle.stream_model.specs.Runs.{Item, happens, quiet, told_quiet, step_item, state_in, after, IsTyped, AreTyped}
 use Rattle.stream_model.specs.Drain.{Leads, StopsBy, StopsAlong, Stage, delivers, flushes, moves, stage_items, drain_stages, stages, drain, RunsDrain}
 use Rattle.plan_rules.specs.Plans.{table_of}
-use Rattle.ct_catalog.specs.Columns.{table_mode, column_types}
-use Rattle.op_rules.proofs.laws.Values.{types_of_row}
+use Rattle.ct_catalog.specs.Columns.{table_mode}
 use Rattle.plan_rules.specs.Doings.{network}
-use Rattle.sound_plans.specs.Sound.{SoundPlansAreWired, SoundPlansMeetFacts, SoundPlansPrint}
 use Rattle.plan_rules.specs.Answers.{Answers, tables_with}
 use Rattle.source_lines.specs.Kept.{refusal_after}
 use Rattle.source_lines.specs.Taken.{Taken, RefusedLine, nothing_taken, with_line, line_refusal, take_line, take_records, unless_refused, rows_of}
@@ -122,7 +119,7 @@ module _ (fit : LinesFitColumns) (plan : Plan) (limit : ℕ) where
   one_typed s fields line t is one = λ table e.
       let found = fit plan.sources fields line s.taken is one.free in
       let same : table_of plan.parallelism found.0 ≡ table = some_same (option_map (table_of plan.parallelism) (slice_get plan.sources line.table)) (table_of plan.parallelism found.0) table (ap (option_map (table_of plan.parallelism)) found.1) e in
-      subst (λ (x : Source). x.fits line.change ≡ true) same (types_of_row (column_types found.0) line.change.row found.2)
+      subst (λ (x : Source). x.fits line.change ≡ true) same found.2.is.fits
 
   -- lines were taken, all of them
   pub record TookAll (number : ℕ) (s : State) (lines : List Record) (t : State) : Type 0 where
@@ -164,13 +161,6 @@ module _ (fit : LinesFitColumns) (plan : Plan) (limit : ℕ) where
   took_all number s (fields ∷ rest) t e =
       let p = parts (run.take_line g limit plan.sources number s (line_of plan.sources fields)) (λ next. run.take_lines g limit plan.sources (number + 1) next rest) t e in
       took_line number s fields rest (line_of plan.sources fields) p.between t refl p.first (took_all (number + 1) p.between rest t p.second)
-
--- ---- the printed items
-
-pub changes_before : (items : List PrintItem) (n : ℕ) → changes_in (items ++ Quiet n ∷ []) ≡ changes_in items
-changes_before [] n = refl
-changes_before (Printed change ∷ items) n = ap (λ changes. change ∷ changes) (changes_before items n)
-changes_before (Quiet m ∷ items) n = changes_before items n
 
 -- ---- the rows of the sources
 

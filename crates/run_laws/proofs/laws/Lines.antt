@@ -1,5 +1,5 @@
 -- The rows of change lines have short texts: a field that is longer is refused.
-use Rattle.std.specs.Prelude.{◌≡◌, ℕ, ◌+◌, ◌≤◌, ◌==◌, nat_lt, cond, Bool, true, false, List, [], ◌∷◌, length, drop, slice_get, codes, Option, Some, None, option_map, option_and_then, Result, Ok, Err, if◌then◌else◌}
+use Rattle.std.specs.Prelude.{◌≡◌, ℕ, suc, ◌+◌, ◌≤◌, nat_lt, cond, Bool, true, false, List, [], ◌∷◌, length, drop, slice_get, slice_index_or, codes, Option, Some, None, option_map, option_and_then, Result, Ok, Err, if◌then◌else◌}
 use Rattle.std.proofs.Common.{refl, subst, arith}
 use Rattle.std.proofs.lemmas.Bool.{ltb-false, le-leb}
 use Rattle.std.specs.Str.{is_utf8, bytes_eq}
@@ -14,10 +14,11 @@ use Rattle.ct_field.specs.Numbers.{is_type}
 use Rattle.ct_change.specs.declared.kind.Kind.{Kind}
 use Rattle.ct_change.specs.declared.change.Change.{Change}
 use Rattle.ct_change.specs.Changelog.{admits}
+use Rattle.ct_change.specs.KeyRows.{is_among}
 use Rattle.ct_catalog.specs.declared.table.ColDef.{ColDef}
 use Rattle.ct_catalog.specs.declared.table.TableDef.{TableDef}
 use Rattle.job_text.specs.declared.line.Line.{Line}
-use Rattle.job_text.specs.Lines.{Field, Record, kind_of, spelled, value_before, values_from, change_of_row, change_of_kind, change_at, line_of_change, line_at, source_named, line_of}
+use Rattle.job_text.specs.Lines.{Field, Record, kind_of, spelled, value_before, values_from, key_fields, key_cell, fields_left, key_values, key_told, is_field_count, row_values, change_of_row, change_of_kind, change_at, line_of_change, line_at, source_named, line_of}
 use Rattle.ct_catalog.specs.Columns.{table_mode}
 use Rattle.range_rules.specs.Tame.{is_short}
 use Rattle.range_rules.specs.Ranges.{IsShortRow, IsShort}
@@ -104,6 +105,22 @@ values_short column (col ∷ cols) [] = tt
 values_short column (col ∷ cols) (field ∷ fields) =
     before_short column (spelled col.ty.ty field) (values_from (column + 1) cols fields) (field_short col.ty.ty field) (values_short (column + 1) cols fields)
 
+-- of a key that is told alone
+cell_short : (b : Bool) (ty : Ty) (field : Field) → ValueIsShort (key_cell b ty field)
+cell_short true ty field = field_short ty field
+cell_short false ty field = refl
+
+key_short : (key : List ℕ) (column : ℕ) (cols : List ColDef) (fields : List Field) → ValuesAreShort (key_values key column cols fields)
+key_short key column [] fields = tt
+key_short key column (col ∷ cols) fields =
+    let cell = key_cell (is_among key column) col.ty.ty (slice_index_or fields 0 []) in
+    let left = fields_left (is_among key column) fields in
+    before_short (suc column) cell (key_values key (suc column) cols left) (cell_short (is_among key column) col.ty.ty (slice_index_or fields 0 [])) (key_short key (suc column) cols left)
+
+told_short : (table : TableDef) (key : Option (List ℕ)) (fields : List Field) → ValuesAreShort (row_values table key fields)
+told_short table None fields = values_short 1 table.cols fields
+told_short table (Some key) fields = key_short key 0 table.cols (key_fields key (length table.cols) fields)
+
 row_short : (kind : Kind) (values : Result (List Value) ChangeCode) → ValuesAreShort values → ChangeIsShort (change_of_row kind values)
 row_short kind (Ok values) h = h
 row_short kind (Err code) h = tt
@@ -114,11 +131,12 @@ change_if false code change h = tt
 
 kind_short : (table : TableDef) (fields : List Field) (o : Option Kind) → ChangeIsShort (change_of_kind table fields o)
 kind_short table fields None = tt
-kind_short table fields (Some kind) = change_if (admits (table_mode table) kind) KindNotDeclared (change_of_row kind (values_from 1 table.cols fields)) (row_short kind (values_from 1 table.cols fields) (values_short 1 table.cols fields))
+kind_short table fields (Some kind) = change_if (admits (table_mode table) kind) KindNotDeclared (change_of_row kind (row_values table (key_told table (Some kind)) fields))
+    (row_short kind (row_values table (key_told table (Some kind)) fields) (told_short table (key_told table (Some kind)) fields))
 
 change_short : (o : Option TableDef) (kind : Field) (fields : List Field) → ChangeIsShort (change_at o kind fields)
 change_short None kind fields = tt
-change_short (Some table) kind fields = change_if (length fields == length table.cols) FieldCount (change_of_kind table fields (kind_of kind)) (kind_short table fields (kind_of kind))
+change_short (Some table) kind fields = change_if (is_field_count table (key_told table (kind_of kind)) (length fields)) FieldCount (change_of_kind table fields (kind_of kind)) (kind_short table fields (kind_of kind))
 
 placed_short : (place : ℕ) (change : Result Change ChangeCode) → ChangeIsShort change → LineIsShort (line_of_change place change)
 placed_short place (Ok change) h = h

@@ -1,7 +1,7 @@
 -- The theorems of this crate, put together of its lemmas.
 use Rattle.run_laws.proofs.Outs.{stops_where_out}
 use Rattle.run_laws.specs.Stops.{RunsStopWhereOut, RunsStopAtRows, StopsHaveTypes}
-use Rattle.sound_plans.proofs.laws.Theorems.{sound_plans_are_wired, sound_plans_meet_facts_facts, sound_plans_meet_facts_takes}
+use Rattle.sound_plans.proofs.laws.Theorems.{sound_plans_are_wired, sound_plans_meet_facts_facts, sound_plans_meet_facts_takes, sound_plans_suit}
 use Rattle.source_lines.proofs.laws.Theorems.{taken_lines_fit}
 use Rattle.stream_model.proofs.laws.Theorems.{plans_compose}
 use Rattle.run_laws.proofs.Rows.{stop_at_rows}
@@ -14,7 +14,7 @@ runs_stop_where_out = stops_where_out taken_lines_fit sound_plans_are_wired soun
 
 -- The row at which it stops has the columns that the stop names.
 pub runs_stop_at_rows : RunsStopAtRows
-runs_stop_at_rows = stop_at_rows sound_plans_meet_facts_takes runs_stop_where_out
+runs_stop_at_rows = stop_at_rows sound_plans_meet_facts_takes sound_plans_suit runs_stop_where_out
 
 -- The types of these columns exist.
 pub stops_have_types : StopsHaveTypes

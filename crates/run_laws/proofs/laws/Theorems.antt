@@ -8,9 +8,9 @@ use Rattle.run_laws.specs.Stops.{RunsEndOrStop}
 use Rattle.sound_plans.proofs.laws.Theorems.{sound_plans_are_wired, sound_plans_meet_facts_facts, sound_plans_print}
 use Rattle.source_lines.proofs.laws.Theorems.{taken_lines_fit}
 use Rattle.stream_model.proofs.laws.Theorems.{plans_compose, runs_drain}
-use Rattle.run_laws.proofs.laws.Answered.{carry_kinds, print_answers}
+use Rattle.run_laws.proofs.laws.Answered.{carry_admitted, print_answers}
 use Rattle.run_laws.proofs.laws.Ends.{ends_quiet}
-use Rattle.run_laws.specs.Headline.{RunsCarryKinds, RunsEndQuiet, RunsPrintAnswers}
+use Rattle.run_laws.specs.Headline.{RunsCarryAdmitted, RunsEndQuiet, RunsPrintAnswers}
 
 -- The columns that the sink of a sound plan sends may go into its table.
 pub sinks_take_columns : SinksFit
@@ -18,16 +18,16 @@ sinks_take_columns = sinks_fit shaped_plans_have_shape
 
 -- Each row that a run over a sound plan prints has these columns, whether the run goes to its end or stops.
 pub runs_print_rows : RunsPrintRows
-runs_print_rows = prints_rows taken_lines_fit sound_plans_are_wired sound_plans_meet_facts_facts plans_compose runs_drain
+runs_print_rows = prints_rows taken_lines_fit sound_plans_are_wired sound_plans_meet_facts_facts sound_plans_print plans_compose runs_drain
 
 -- In a run over a sound plan that answers what a tree does, what was printed before each quiet item numbered n is a valid changelog of the
 -- sink's mode, and folds by it to the tree's answer over the rows that the first n lines leave in each source: also in a run that stops.
 pub runs_print_answers : RunsPrintAnswers
 runs_print_answers = print_answers taken_lines_fit sound_plans_are_wired sound_plans_print runs_drain
 
--- Every edge carries only the kinds of its mode.
-pub runs_carry_kinds : RunsCarryKinds
-runs_carry_kinds = carry_kinds taken_lines_fit sound_plans_are_wired sound_plans_meet_facts_facts plans_compose runs_drain
+-- Every edge carries only changes that it admits.
+pub runs_carry_admitted : RunsCarryAdmitted
+runs_carry_admitted = carry_admitted taken_lines_fit sound_plans_are_wired sound_plans_meet_facts_facts plans_compose runs_drain
 
 -- A run that goes to its end has told a quiet moment after all lines.
 pub runs_end_quiet : RunsEndQuiet

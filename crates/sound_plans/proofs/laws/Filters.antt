@@ -22,7 +22,8 @@ use Rattle.sound_plans.specs.Outputs.{Output, AreWithin, IsProper, edge_of}
 use Rattle.sound_plans.specs.Agrees.{Agrees, taken_by}
 use Rattle.sound_plans.specs.RowFits.{FiltersFit}
 use Rattle.sound_plans.proofs.laws.RowFamilies.{from_family, each_from_family}
-use Rattle.sound_plans.proofs.laws.RowInputs.{comes_by, comes_full, reads_full, carries_full}
+use Rattle.sound_plans.proofs.laws.Told.{told_in_full}
+use Rattle.sound_plans.proofs.laws.RowInputs.{comes_by, comes_full, reads_full, full_fits, fits_full, carries_full}
 
 -- it never takes new rows alone
 untaken : (sink : TableDef) (cond : Expr) (update : Update) (key : Option (List ℕ)) → taken_by sink (op.Filter cond) 0 update key ≡ false
@@ -63,7 +64,7 @@ module _ (many : ℕ) (sources : List TableDef) (sink : TableDef) (cond : Expr) 
     reads = reads_full input full;
     writes = reads_full own own_full;
     kinds = λ kind h. subst (λ (k : KindSet). has k kind ≡ true) same_kinds h;
-    fits = λ change h. subst (λ columns. row_fits columns change.row ≡ true) same_columns h;
+    fits = λ change h. fits_full own own_full change (subst (λ columns. row_fits columns change.row ≡ true) same_columns (full_fits input full change h));
     holds = λ row h. subst (λ columns. row_fits columns row ≡ true) same_columns h;
     unique = λ key h. from_family input.keys.unique own.keys.unique (ap (λ (k : KeyInfo). k.unique) keys) key h;
     local = λ key h. from_family input.keys.local own.keys.local (ap (λ (k : KeyInfo). k.local) keys) key h;
@@ -80,6 +81,7 @@ module _ (many : ℕ) (sources : List TableDef) (sink : TableDef) (cond : Expr) 
     local = each_from_family (AreWithin (length own.columns)) input.keys.local own.keys.local (ap (λ (k : KeyInfo). k.local) keys) (kept input.keys.local agrees.inputs_asked.0.proper.local);
     fixing = each_from_family (AreWithin (length own.columns)) input.keys.fixing own.keys.fixing (ap (λ (k : KeyInfo). k.fixing) keys) (kept input.keys.fixing agrees.inputs_asked.0.proper.fixing);
     update_key = λ key is. absurd (let none : None ≡ Some key = sym agrees.updates ∙ is in cc);
+    told = told_in_full own own_full;
     inserts = ap (λ (k : KindSet). k.i) agrees.sends ∙ agrees.inputs_asked.0.proper.inserts;
     replaces = λ h. ap (λ (k : KindSet). k.ua) agrees.sends ∙ agrees.inputs_asked.0.proper.replaces (sym (ap (λ (k : KindSet). k.ub) agrees.sends) ∙ h);
   }

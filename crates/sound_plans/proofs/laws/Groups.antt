@@ -28,7 +28,7 @@ use Rattle.emission_rules.specs.GroupFits.{GroupFits, output_kinds, first_column
 use Rattle.ct_change.specs.Kinds.{has_more_than_inserts}
 use Rattle.emission_rules.proofs.laws.Columns.{project-first}
 use Rattle.route.specs.Routing.{key_hash, key_text, types_at}
-use Rattle.column_sets.specs.Sets.{set_of, family}
+use Rattle.column_sets.specs.Sets.{set_of, family, is_within}
 use Rattle.column_sets.specs.Places.{first_columns}
 use Rattle.mode_infer.specs.Kinds.{group_kinds, kind_set}
 use Rattle.mode_infer.specs.Modes.{edge_kinds}
@@ -36,14 +36,16 @@ use Rattle.mode_infer.specs.UpdateKeys.{group_key}
 use Rattle.mode_infer.specs.Updates.{in_full, told}
 use Rattle.plan_rules.specs.Plans.{exchange_of, route_by}
 use Rattle.plan_rules.specs.Around.{grouping_of, mode_read, mode_told}
+use Rattle.plan_rules.proofs.laws.ChangeFits.{read_in, told_out}
 use Rattle.plan_rules.proofs.laws.Reading.{meaning_read, meaning_told}
 use Rattle.sound_plans.specs.Outputs.{Output, AreWithin, IsProper, around_by, edge_of}
 use Rattle.sound_plans.specs.Agrees.{Agrees, taken_by}
 use Rattle.sound_plans.proofs.laws.Sets.{lies_in_set}
 use Rattle.sound_plans.proofs.laws.Widths.{first_within, first_columns_are, set_within}
 use Rattle.sound_plans.specs.RowFits.{GroupsFit}
-use Rattle.sound_plans.proofs.laws.RowFamilies.{the_only, each_from_family}
+use Rattle.sound_plans.proofs.laws.RowFamilies.{the_only, each_from_family, set_in}
 use Rattle.sound_plans.proofs.laws.RowInputs.{comes_by, comes_full, carries_full, routed}
+use Rattle.sound_plans.proofs.laws.Told.{told_by_key}
 use Rattle.sound_plans.proofs.laws.Updates.{mode_full, kinds_full_read, KeyIs, told_keyed}
 
 -- ---- the first columns
@@ -146,6 +148,14 @@ key_there : (keys : ℕ) (aggs : List Agg) (width : ℕ) (key : List ℕ) → ke
 key_there keys [] width key le is = absurd (cc)
 key_there keys (agg ∷ aggs) width key le is = let same : first_columns keys ≡ key = cc in subst (AreWithin width) same (first_within keys width le)
 
+-- which has the columns that fix a row's subtask
+key_tells : (keys : ℕ) (aggs : List Agg) (key : List ℕ) → group_key keys aggs ≡ Some key → (sets : List (List ℕ)) → sets ≡ family (set_of (first_columns keys) ∷ []) → AllByRecursion (λ set. is_within set key ≡ true) sets
+key_tells keys [] key is sets e = absurd (cc)
+key_tells keys (agg ∷ aggs) key is sets e =
+    let same : first_columns keys ≡ key = cc in
+    subst (λ (k : List ℕ). AllByRecursion (λ set. is_within set k ≡ true) sets) same
+    (each_from_family (λ set. is_within set (first_columns keys) ≡ true) (set_of (first_columns keys) ∷ []) sets e (set_in (first_columns keys), tt))
+
 module _ (many : ℕ) (some : 0 < many) (sources : List TableDef) (sink : TableDef) (keys : ℕ) (aggs : List Agg) (input own : Output) (agrees : Agrees sources sink (op.Group keys aggs) (input ∷ []) own) where
   -- rows come by the key columns, and in full
   hashed : input.edge.exchange ≡ Hash (first_columns keys)
@@ -197,7 +207,7 @@ module _ (many : ℕ) (some : 0 < many) (sources : List TableDef) (sink : TableD
     routed = λ key. routed many some input.columns input.edge.exchange key;
     home = λ e. ap (λ x. route_by many input.columns (exchange_of x) []) hashed ∙ goes_home many input.columns (first_columns keys);
     kinds = comes_kind;
-    fits = λ change h. h;
+    fits = λ change h. read_in input.edge.kinds input.edge.update input.columns change h;
     keyed = λ change h. comes_whole (λ m. HasKey m change.row) tt tt;
     holds = λ row h. h;
     writes = meaning_told own.edge.update;
@@ -205,7 +215,7 @@ module _ (many : ℕ) (some : 0 < many) (sources : List TableDef) (sink : TableD
         subst (λ (k : KindSet). has k kind ≡ true) (sym own_kinds)
         (leaves keys aggs input.columns mode own.edge.update input.sent kind
         (subst (λ (k : KindSet). has (output_kinds (grouping_of keys aggs (around_by sink (input ∷ []) own)) k) kind ≡ true) input_kinds h));
-    out_fits = λ change h. h;
+    out_fits = λ kind row h. told_out own.edge.update own.columns kind row h;
     out_holds = λ row h. h;
     unique = λ key h. lies_in_key own.keys.unique (ap (λ (k : KeyInfo). k.unique) agrees.keyed) key h;
     local = λ key h. lies_in_key own.keys.local (ap (λ (k : KeyInfo). k.local) agrees.keyed) key h;
@@ -227,6 +237,7 @@ module _ (many : ℕ) (some : 0 < many) (sources : List TableDef) (sink : TableD
     local = keys_there own.keys.local (ap (λ (k : KeyInfo). k.local) agrees.keyed);
     fixing = keys_there own.keys.fixing (ap (λ (k : KeyInfo). k.fixing) agrees.keyed);
     update_key = λ key is. key_there keys aggs (length own.columns) key few (sym agrees.updates ∙ is);
+    told = told_by_key own agrees.taken agrees.tells (λ key is. key_tells keys aggs key (sym agrees.updates ∙ is) own.keys.fixing (ap (λ (k : KeyInfo). k.fixing) agrees.keyed));
     inserts = ap (λ (k : KindSet). k.i) agrees.sends ∙ group_inserts keys aggs input.sent;
     replaces = λ h. ap (λ (k : KindSet). k.ua) agrees.sends ∙ group_replaces keys aggs input.sent (sym (ap (λ (k : KindSet). k.ub) agrees.sends) ∙ h);
   }

@@ -5,8 +5,6 @@ use Rattle.std.specs.List.{AllByRecursion}
 use Rattle.ct_value.specs.declared.row.Row.{Row}
 use Rattle.ct_change.specs.Changelog.{HasKey, Mode, admits, has}
 use Rattle.ct_catalog.specs.declared.table.TableDef.{TableDef}
-use Rattle.rel_algebra.specs.Clauses.{Fits}
-use Rattle.rel_algebra.proofs.laws.Fits.{fits-length}
 use Rattle.op_rules.specs.Edges.{IsKeyedBy, KeepsKeys, hash, last_rows}
 use Rattle.emission_rules.specs.JoinFits.{SaysUpdates, SideFits}
 use Rattle.phys_plan.specs.declared.edge.Exchange.TheVariants.{Hash}
@@ -21,6 +19,7 @@ use Rattle.mode_infer.specs.Updates.{takes}
 use Rattle.plan_inferred.specs.Rules.{by_columns}
 use Rattle.plan_rules.specs.Plans.{exchange_of, meaning_by, route_by}
 use Rattle.plan_rules.specs.Around.{mode_read}
+use Rattle.plan_rules.proofs.laws.ChangeFits.{fits_width, read_in}
 use Rattle.plan_rules.proofs.laws.Reading.{meaning_read, of_no_updates}
 use Rattle.sound_plans.specs.Agrees.{IsAsked}
 use Rattle.sound_plans.specs.Outputs.{Output, edge_of}
@@ -54,10 +53,10 @@ module _ (many : ℕ) (some : 0 < many) (sink : TableDef) (o : Op) (own : Update
       (of_no_updates (λ mode. SaysUpdates mode input.sent) input.sent tt tt) tt (λ key is told taken. told))
 
   -- and each has the columns by which they tell what they replace
-  has_key : (row : Row) → Fits input.columns row → HasKey mode row
-  has_key row h =
+  has_key : (row : Row) → length row ≡ length input.columns → HasKey mode row
+  has_key row wide =
       of_asked (λ update. HasKey (mode_read input.edge.kinds update) row) sink o own port input is_asked (of_no_updates (λ mode. HasKey mode row) input.edge.kinds tt tt) tt
-      (λ key is told taken. subst (λ n. AllByRecursion (λ column. column < n) key) (sym (fits-length input.columns row h)) (is_asked.proper.update_key key is))
+      (λ key is told taken. subst (λ n. AllByRecursion (λ column. column < n) key) (sym wide) (is_asked.proper.update_key key is))
 
   pub input_fits : SideFits many mode input.columns columns (edge_of many input)
   input_fits = record {
@@ -67,8 +66,8 @@ module _ (many : ℕ) (some : 0 < many) (sink : TableDef) (o : Op) (own : Update
     kinds = λ kind h.
         subst (λ kinds. admits (mode_read kinds input.edge.update) kind ≡ true) (sym is_asked.carries) (are_admitted input.sent input.edge.update kind (subst (λ kinds. has kinds kind ≡ true) is_asked.carries h));
     updates = updates;
-    fits = λ change h. h;
-    keyed = λ change h. has_key change.row h;
+    fits = λ change h. read_in input.edge.kinds input.edge.update input.columns change h;
+    keyed = λ change h. has_key change.row (fits_width (meaning_by input.edge.update) input.columns change h);
     holds = λ row h. h;
   }
 

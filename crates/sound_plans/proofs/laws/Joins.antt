@@ -45,6 +45,8 @@ use Rattle.sound_plans.proofs.laws.JoinColumns.{made_if}
 use Rattle.sound_plans.proofs.laws.JoinInputs.{exchanged, input_fits, route_is}
 use Rattle.sound_plans.proofs.laws.Joined.{fixes, fixing_within, inferred, key_of_join, sets_within}
 use Rattle.sound_plans.proofs.laws.Kinds.{IsLess, are_sent, join_inferred, join_inserts, join_replaces, kinds_less, of_full, semi_inferred, semi_replaces}
+use Rattle.sound_plans.proofs.laws.RowInputs.{fits_full}
+use Rattle.sound_plans.proofs.laws.Told.{told_unkeyed}
 use Rattle.sound_plans.proofs.laws.Routes.{left_within, one_route, right_within}
 
 -- ---- two inputs that are asked for by the columns of pairs
@@ -113,7 +115,7 @@ module _ (many : ℕ) (some : 0 < many) (sink : TableDef) (o : Op) (on : List Pa
       within = left_within left.columns right.columns on fit;
       writes = writes;
       out_kinds = λ kind h. subst (λ kinds. has kinds kind ≡ true) (sym all_kinds) (sends kind (kinds_less shape left.edge.kinds right.edge.kinds left.sent right.sent left_less right_less kind h));
-      out_fits = λ change h. subst (λ columns. row_fits columns change.row ≡ true) made h;
+      out_fits = λ change h. fits_full own whole change (subst (λ columns. row_fits columns change.row ≡ true) made h);
       out_holds = λ row h. subst (λ columns. row_fits columns row ≡ true) made h;
       unique = unique;
       local = local;
@@ -227,6 +229,7 @@ module _ (many : ℕ) (some : 0 < many) (sources : List TableDef) (sink : TableD
         (sets_within j (everywhere left.keys) (everywhere right.keys) (everywhere_within left left_asked.proper) (everywhere_within right right_asked.proper) kind);
     fixing = moved fixing_sets own.keys.fixing fixing_is pairs_within;
     update_key = no_update_key;
+    told = told_unkeyed own agrees.taken agrees.updates agrees.tells;
     inserts = subst (λ (kinds : KindSet). kinds.i ≡ true) (sym agrees.sends) (join_inserts kind left.sent right.sent left_asked.proper.inserts);
     replaces = subst (λ (kinds : KindSet). kinds.ub ≡ true → kinds.ua ≡ true) (sym agrees.sends)
         (join_replaces kind left.sent right.sent left_asked.proper.replaces right_asked.proper.replaces);
@@ -309,6 +312,7 @@ module _ (many : ℕ) (some : 0 < many) (sources : List TableDef) (sink : TableD
     fixing = kept_within (set_of (left_pairs on) ∷ []) own.keys.fixing (ap (λ (info : KeyInfo). info.fixing) kept_keys)
         (set_within (length left.columns) (left_pairs on) (left_within left.columns right.columns on pairs_are_there), tt);
     update_key = λ key e. absurd (let wrong : None ≡ Some key = sym agrees.updates ∙ e in cc);
+    told = told_unkeyed own agrees.taken agrees.updates agrees.tells;
     inserts = subst (λ (kinds : KindSet). kinds.i ≡ true) (sym agrees.sends) kept_from.proper.inserts;
     replaces = subst (λ (kinds : KindSet). kinds.ub ≡ true → kinds.ua ≡ true) (sym agrees.sends) (semi_replaces anti left.sent right.sent kept_from.proper.replaces);
   }

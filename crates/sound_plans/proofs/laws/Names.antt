@@ -8,7 +8,7 @@ use Rattle.op_rules.specs.Edges.{LiesIn}
 use Rattle.emission_rules.specs.TopFits.{HasInputKey}
 use Rattle.phys_plan.specs.declared.edge.Exchange.TheVariants.{Hash}
 use Rattle.phys_plan.specs.declared.node.KeyInfo.{KeyInfo}
-use Rattle.column_sets.specs.Sets.{set_of}
+use Rattle.column_sets.specs.Sets.{is_within, set_of}
 use Rattle.upsert_keys.specs.Joins.{when}
 use Rattle.upsert_keys.specs.Keys.{top_keys}
 use Rattle.upsert_keys.specs.Seen.{everywhere, families, seen_over}
@@ -16,7 +16,8 @@ use Rattle.mode_infer.specs.UpdateKeys.{top_key}
 use Rattle.sound_plans.specs.Outputs.{AreWithin}
 use Rattle.sound_plans.proofs.laws.KeyFamilies.{of_when}
 use Rattle.sound_plans.proofs.laws.Members.{of_append, one_of, only_one}
-use Rattle.sound_plans.proofs.laws.Sets.{lies_in_set, lies_itself, set_lies}
+use Rattle.sound_plans.proofs.laws.RowFamilies.{each_has, within_itself}
+use Rattle.sound_plans.proofs.laws.Sets.{left_part, lies_in_set, lies_itself, of_set, set_lies}
 use Rattle.sound_plans.proofs.laws.Widths.{append_within, each_appended, each_when, set_within, wider}
 
 -- ---- what names a row
@@ -86,6 +87,18 @@ top_key_within false columns partition bound h key e = go (bound == 1) e
   where
     go : (alone : Bool) → cond alone (Some (set_of partition)) None ≡ Some key → AreWithin (length columns) key
     go true is = let same : set_of partition ≡ key = cc in subst (λ s. AreWithin (length columns) s) same (set_within (length columns) partition h)
+    go false is = absurd (cc)
+
+-- the update key has the columns of the partition
+pub top_key_tells : (ranked : Bool) (partition : List ℕ) (bound width : ℕ) (key : List ℕ) → top_key ranked partition bound width ≡ Some key → is_within (set_of partition) key ≡ true
+top_key_tells true partition bound width key e =
+    let same : set_of (partition ++ width ∷ []) ≡ key = cc in
+    subst (λ s. is_within (set_of partition) s ≡ true) same
+    (each_has (set_of (partition ++ width ∷ [])) (set_of partition) (λ column c. left_part partition (width ∷ []) column (of_set partition column c)))
+top_key_tells false partition bound width key e = go (bound == 1) e
+  where
+    go : (alone : Bool) → cond alone (Some (set_of partition)) None ≡ Some key → is_within (set_of partition) key ≡ true
+    go true is = let same : set_of partition ≡ key = cc in subst (λ s. is_within (set_of partition) s ≡ true) same (within_itself (set_of partition))
     go false is = absurd (cc)
 
 -- ---- the keys of what leaves

@@ -15,7 +15,7 @@ use Rattle.phys_plan.specs.Reading.{at, wires, numbered, first_input, no_keys}
 use Rattle.phys_plan.specs.Columns.{columns_in}
 use Rattle.mode_infer.specs.Kinds.{flows, no_flow}
 use Rattle.mode_infer.specs.UpdateKeys.{update_keys}
-use Rattle.plan_rules.specs.Plans.{exchange_in, kinds_in, keys_in, meaning_in, no_kinds, route_by}
+use Rattle.plan_rules.specs.Plans.{exchange_in, kinds_in, keys_in, meaning_in, change_fits, no_kinds, route_by}
 use Rattle.ct_catalog.specs.Columns.{table_mode}
 use Rattle.plan_rules.specs.Columns.{columns_at}
 use Rattle.plan_rules.specs.Around.{Around, Side}
@@ -54,7 +54,7 @@ module _ (plan : Plan) where
     exchange = exchange_in edge;
     route = route_by plan.parallelism columns (exchange_in edge);
     kinds = kinds_in edge;
-    fits = λ change. row_fits columns change.row;
+    fits = change_fits (cond last (meaning_of (table_mode plan.sink)) (meaning_in edge)) columns;
     holds = λ row. row_fits columns row;
     unique = keys_in (λ n. n.keys.unique) node;
     local = keys_in (λ n. n.keys.local) node;
@@ -115,4 +115,5 @@ module _ (plan : Plan) where
     others = sides inputs i;
     inputs = many (first ∷ inputs) i;
     declared = plan.sink.mode;
+    sink_key = unwrap_or plan.sink.key [];
   }

@@ -1,20 +1,22 @@
 -- What comes from an input: as it comes or by columns, and in full where its consumer doesn't take new rows alone.
-use Rattle.std.proofs.Common.{◌≡◌, ℕ, ◌<◌, false, length, List, Option, sym, ap, subst, ◌∙◌}
+use Rattle.std.proofs.Common.{◌≡◌, ℕ, ◌<◌, true, false, length, List, Option, sym, ap, subst, ◌∙◌}
 use Rattle.std.proofs.Math.Nat.{mod-lt}
 use Rattle.ct_value.specs.declared.row.Row.{Row}
 use Rattle.ct_value.specs.declared.ty.ColTy.{ColTy}
+use Rattle.ct_change.specs.declared.change.Change.{Change}
 use Rattle.ct_catalog.specs.declared.table.TableDef.{TableDef}
+use Rattle.rel_algebra.specs.Clauses.{Fits}
 use Rattle.phys_plan.specs.declared.edge.Exchange.{Exchange}
 use Rattle.phys_plan.specs.declared.edge.Exchange.TheVariants.{Forward, Hash}
 use Rattle.ct_change.specs.declared.update.Update.{Update}
 use Rattle.phys_plan.specs.declared.node.Op.{Op}
-use Rattle.op_rules.specs.Edges.{bag}
+use Rattle.op_rules.specs.Edges.{Meaning, bag}
 use Rattle.route.specs.Routing.{key_hash, key_text, types_at}
 use Rattle.mode_infer.specs.Exchanges.{asked}
 use Rattle.mode_infer.specs.Modes.{edge_kinds}
 use Rattle.mode_infer.specs.Updates.{in_full, told}
 use Rattle.plan_inferred.specs.Rules.{by_columns}
-use Rattle.plan_rules.specs.Plans.{exchange_of, route_by, meaning_by}
+use Rattle.plan_rules.specs.Plans.{change_fits, exchange_of, route_by, meaning_by}
 use Rattle.sound_plans.specs.Outputs.{Output}
 use Rattle.sound_plans.specs.Agrees.{Carries, taken_by, IsAsked}
 use Rattle.sound_plans.proofs.laws.Updates.{meaning_full, kinds_full, told_untaken, KeyIs, told_keyed}
@@ -33,6 +35,13 @@ module _ (sink : TableDef) (o : Op) (own : Update) (port : ℕ) (input : Output)
 -- an edge in full is read as a bag, and carries the kinds that its node sends
 pub reads_full : (out : Output) → out.edge.update ≡ in_full out.sent → meaning_by out.edge.update ≡ bag
 reads_full out full = ap meaning_by full ∙ meaning_full out.sent
+
+-- and each of its changes has the columns
+pub full_fits : (out : Output) → out.edge.update ≡ in_full out.sent → (change : Change) → change_fits (meaning_by out.edge.update) out.columns change ≡ true → Fits out.columns change.row
+full_fits out full change h = subst (λ (m : Meaning). change_fits m out.columns change ≡ true) (reads_full out full) h
+
+pub fits_full : (out : Output) → out.edge.update ≡ in_full out.sent → (change : Change) → Fits out.columns change.row → change_fits (meaning_by out.edge.update) out.columns change ≡ true
+fits_full out full change h = subst (λ (m : Meaning). change_fits m out.columns change ≡ true) (sym (reads_full out full)) h
 
 pub carries_full : (out : Output) → Carries out → out.edge.update ≡ in_full out.sent → out.edge.kinds ≡ out.sent
 carries_full out carries full = carries ∙ ap (edge_kinds out.sent) full ∙ kinds_full out.sent out.sent

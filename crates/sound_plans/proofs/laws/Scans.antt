@@ -7,6 +7,7 @@ use Rattle.ct_value.specs.declared.row.Row.{Row}
 use Rattle.ct_value.specs.declared.ty.ColTy.{ColTy}
 use Rattle.ct_change.specs.declared.kind.Kind.{Kind}
 use Rattle.ct_change.specs.declared.kind.KindSet.{KindSet}
+use Rattle.ct_change.specs.declared.change.Change.{Change}
 use Rattle.ct_change.specs.declared.kind.Declared.{Declared}
 use Rattle.ct_change.specs.declared.kind.Declared.TheVariants.{Append, Retract, Upsert}
 use Rattle.ct_change.specs.Changelog.{append, retract, mode_of, kinds_of, has, admits}
@@ -14,24 +15,30 @@ use Rattle.ct_catalog.specs.declared.table.TableDef.{TableDef}
 use Rattle.rel_algebra.specs.Clauses.{Fits}
 use Rattle.phys_plan.specs.declared.edge.Exchange.TheVariants.{Hash}
 use Rattle.phys_plan.specs.declared.node.KeyInfo.{KeyInfo}
-use Rattle.op_rules.specs.Edges.{meaning_of, LiesIn, KeepsKeys}
+use Rattle.rel_algebra.proofs.laws.Fits.{first, second}
+use Rattle.op_rules.specs.Edges.{Meaning, meaning_of, LiesIn, KeepsKeys}
+use Rattle.op_rules.specs.Values.{types_fit}
+use Rattle.stream_model.specs.KeysTold.{is_told, is_typed, told_fits, told_key}
+use Rattle.stream_model.specs.Tables.{asked_of, null_refusal}
 use Rattle.stream_model.specs.Scans.{IsKeyBy, CarriesTable}
-use Rattle.column_sets.specs.Sets.{set_of, family}
+use Rattle.column_sets.specs.Sets.{set_of, family, is_within}
 use Rattle.column_sets.specs.Places.{first_columns}
 use Rattle.upsert_keys.specs.Keys.{table_keys}
 use Rattle.mode_infer.specs.Modes.{edge_kinds}
 use Rattle.mode_infer.specs.Updates.{table_update}
-use Rattle.plan_rules.specs.Plans.{meaning_by, columns_from, spread_of, table_of}
-use Rattle.plan_rules.proofs.laws.Columns.{row_of_types}
-use Rattle.ct_catalog.specs.Columns.{column_types}
-use Rattle.sound_plans.specs.Outputs.{Output, AreWithin, IsProper, edge_of}
+use Rattle.plan_rules.specs.Plans.{change_fits, meaning_by, columns_from, required_from, spread_of, table_of}
+use Rattle.plan_rules.proofs.laws.ChangeFits.{table_fits}
+use Rattle.plan_rules.proofs.laws.Columns.{row_of_types, told_of_types}
+use Rattle.ct_catalog.specs.Columns.{column_types, table_mode}
+use Rattle.sound_plans.specs.Outputs.{Output, AreTold, AreWithin, IsProper, edge_of}
 use Rattle.sound_plans.specs.Agrees.{IsOrdered, ScanAgrees}
 use Rattle.sound_plans.proofs.laws.Members.{none as in_none}
 use Rattle.sound_plans.proofs.laws.Sets.{lies_itself}
 use Rattle.sound_plans.proofs.laws.Widths.{first_within}
 use Rattle.sound_plans.specs.RowFits.{ScansFit}
-use Rattle.sound_plans.proofs.laws.RowFamilies.{from_family, each_from_family, the_only}
+use Rattle.sound_plans.proofs.laws.RowFamilies.{from_family, each_from_family, set_in, the_only}
 use Rattle.sound_plans.proofs.laws.RowInputs.{routed}
+use Rattle.sound_plans.proofs.laws.Told.{full_tells}
 use Rattle.sound_plans.proofs.laws.Updates.{meaning_full, kinds_full}
 
 -- ---- updates and kinds, by the mode that the table declares
@@ -107,6 +114,13 @@ module _ (width : ℕ) where
   spread_keeps Upsert None has_key = keyless has_key
   spread_keeps Upsert (Some key) has_key = lies_itself key
 
+  -- the key of an upsert table, which is told alone, is what fixes the subtask
+  scan_tells : (mode : Declared) (o : Option (List ℕ)) (kinds : KindSet) (sets : List (List ℕ)) → sets ≡ (table_keys o width).fixing → AreTold (table_update mode o kinds) sets
+  scan_tells Append o kinds sets is = full_tells kinds sets
+  scan_tells Retract o kinds sets is = full_tells kinds sets
+  scan_tells Upsert None kinds sets is = full_tells kinds sets
+  scan_tells Upsert (Some key) kinds sets is = each_from_family (λ set. is_within set key ≡ true) (set_of key ∷ []) sets is (set_in key, tt)
+
   -- their columns are there
   abbrev Within : List (List ℕ) → Type 0
   Within sets = AllByRecursion (AreWithin width) sets
@@ -138,6 +152,26 @@ module _ (many : ℕ) (some : 0 < many) (table : TableDef) (own : Output) (agree
   row_comes : (row : Row) → Fits (column_types table) row → Fits own.columns row
   row_comes row h = subst (λ (columns : List ColTy). Fits columns row) (sym agrees.typed) h
 
+  -- a change that is taken has the table's columns, or where it tells its key alone, those of the key
+  has_types : (change : Change) → is_typed (table_mode table) (column_types table) change ≡ true → types_fit (column_types table) change.row ≡ true
+  has_types change h = first (types_fit (column_types table) change.row) (is_told (told_key (table_mode table) change.kind) change.row) h
+
+  taken_fits : (change : Change) → is_typed (table_mode table) (column_types table) change ≡ true
+      → null_refusal (asked_of (required_from 0 (column_types table)) (told_key (table_mode table) change.kind)) change.row ≡ None
+      → told_fits (told_key (table_mode table) change.kind) (column_types table) change.row ≡ true
+  taken_fits change h free =
+      told_of_types (column_types table) (told_key (table_mode table) change.kind) change.row (has_types change h)
+      (second (types_fit (column_types table) change.row) (is_told (told_key (table_mode table) change.kind) change.row) h) free
+
+  -- the edge is read as the table declares
+  reads : meaning_by own.edge.update ≡ meaning_of (table_mode table)
+  reads = ap meaning_by agrees.tells ∙ scan_means table.mode table.key own.sent agrees.has_key
+
+  change_comes : (change : Change) → change_fits (meaning_of (table_mode table)) (column_types table) change ≡ true → change_fits (meaning_by own.edge.update) own.columns change ≡ true
+  change_comes change h =
+      subst (λ (columns : List ColTy). change_fits (meaning_by own.edge.update) columns change ≡ true) (sym agrees.typed)
+      (subst (λ (m : Meaning). change_fits m (column_types table) change ≡ true) (sym reads) h)
+
   key_sets : own.keys.unique ≡ (table_keys table.key (length table.cols)).unique
   key_sets = ap (λ (k : KeyInfo). k.unique) agrees.keyed
 
@@ -148,10 +182,10 @@ module _ (many : ℕ) (some : 0 < many) (table : TableDef) (own : Output) (agree
   carries_table = record {
     routed = λ key. routed many some (column_types table) (Hash (spread_of table)) key;
     spread = spread_keeps (length table.cols) table.mode table.key agrees.has_key;
-    meaning = ap meaning_by agrees.tells ∙ scan_means table.mode table.key own.sent agrees.has_key;
+    meaning = reads;
     kinds = λ kind h. subst (λ (k : KindSet). has k kind ≡ true) (sym own_kinds) (scan_carries table.mode table.key own.sent kind agrees.has_key h);
-    fits = λ change h free. row_comes change.row (row_of_types (column_types table) change.row h free);
-    holds = λ change h free adds. row_comes change.row (row_of_types (column_types table) change.row h free);
+    fits = λ change admitted h free. change_comes change (table_fits (table_mode table) (column_types table) change admitted (taken_fits change h free));
+    holds = λ change h free comes. row_comes change.row (row_of_types (column_types table) change.row (has_types change h) free);
     unique = λ key h. is_key (length table.cols) table.mode table.key agrees.ordered own.keys.unique key_sets key h;
     local = λ key h. is_key (length table.cols) table.mode table.key agrees.ordered own.keys.local local_sets key h;
     fixing = λ columns h. spread_lies (length table.cols) table.key agrees.ordered own.keys.fixing (ap (λ (k : KeyInfo). k.fixing) agrees.keyed) columns h;
@@ -168,6 +202,7 @@ module _ (many : ℕ) (some : 0 < many) (table : TableDef) (own : Output) (agree
         local = subst (λ n. AllByRecursion (AreWithin n) own.keys.local) width all.1;
         fixing = subst (λ n. AllByRecursion (AreWithin n) own.keys.fixing) width all.2;
         update_key = λ key is. absurd (let none : None ≡ Some key = sym agrees.updates ∙ is in cc);
+        told = subst (λ update. AreTold update own.keys.fixing) (sym agrees.tells) (scan_tells (length table.cols) table.mode table.key own.sent own.keys.fixing (ap (λ (k : KeyInfo). k.fixing) agrees.keyed));
         inserts = ap (λ (k : KindSet). k.i) agrees.sends ∙ scan_inserts table.mode;
         replaces = λ h. ap (λ (k : KindSet). k.ua) agrees.sends ∙ scan_replaces table.mode (sym (ap (λ (k : KindSet). k.ub) agrees.sends) ∙ h);
       }

@@ -1,6 +1,7 @@
 -- A sink fits between its edges, and prints kinds of its table's mode alone.
 use Rattle.std.proofs.Common.{◌≡◌, ℕ, Bool, true, false, cond, ◌&&◌, ◌||◌, List, [], ◌∷◌, length, Option, Some, None, refl, sym, ap, subst, ◌∙◌}
 use Rattle.std.specs.Prelude.{unwrap_or}
+use Rattle.ct_value.specs.declared.row.Row.{Row}
 use Rattle.ct_value.specs.declared.ty.ColTy.{ColTy}
 use Rattle.ct_field.specs.Typed.{row_fits}
 use Rattle.ct_change.specs.declared.kind.Kind.{Kind}
@@ -8,15 +9,20 @@ use Rattle.ct_change.specs.declared.kind.Kind.TheVariants.{I, UB, UA, D}
 use Rattle.ct_change.specs.declared.kind.KindSet.{KindSet}
 use Rattle.ct_change.specs.declared.kind.Declared.{Declared}
 use Rattle.ct_change.specs.declared.kind.Declared.TheVariants.{Append, Retract, Upsert}
-use Rattle.ct_change.specs.Changelog.{mode_of, has, admits}
+use Rattle.ct_change.specs.declared.change.Change.{Change}
+use Rattle.ct_change.specs.Changelog.{append, retract, upsert, mode_of, adds, has, admits}
+use Rattle.ct_change.specs.KeyRows.{row_told}
 use Rattle.ct_catalog.specs.declared.table.TableDef.{TableDef}
-use Rattle.rel_algebra.proofs.laws.Fits.{second}
+use Rattle.rel_algebra.specs.Clauses.{Fits}
+use Rattle.rel_algebra.proofs.laws.Fits.{first, second}
 use Rattle.ct_change.specs.declared.update.Update.{Update}
 use Rattle.ct_change.specs.declared.update.Update.TheVariants.{Absent, After, Both}
 use Rattle.phys_plan.specs.declared.node.KeyInfo.{KeyInfo}
 use Rattle.phys_plan.specs.declared.node.Op.TheVariants as op
 use Rattle.op_rules.specs.Edges.{Meaning, bag, last_rows, meaning_of, HoldsOver}
-use Rattle.emission_rules.specs.Sink.{splits, kind_printed, MayBeRead, SinkFits}
+use Rattle.emission_rules.specs.Changes.{after_key}
+use Rattle.stream_model.specs.KeysTold.{told_fits}
+use Rattle.emission_rules.specs.Sink.{splits, kind_alone, kind_printed, printed as printed_change, MayBeRead, SinkFits}
 use Rattle.column_sets.specs.Sets.{is_within, same_set}
 use Rattle.upsert_keys.specs.Seen.{everywhere}
 use Rattle.ct_change.specs.Kinds.{has_more_than_inserts, is_upsert}
@@ -25,17 +31,19 @@ use Rattle.mode_infer.specs.Updates.{same_key, in_full, told}
 use Rattle.plan_inferred.specs.declared.ways.Way.TheVariants.{NewRows, Direct, Materialized, Refused}
 use Rattle.plan_inferred.specs.Ways.{holds_everywhere, holds_in_answers, tells_by}
 use Rattle.plan_inferred.specs.Rules.{is_direct}
-use Rattle.plan_rules.specs.Plans.{exchange_of, meaning_by}
+use Rattle.plan_rules.specs.Plans.{change_fits, exchange_of, key_alone, meaning_by}
+use Rattle.plan_rules.proofs.laws.ChangeFits.{fits_width, part_fits, row_fits_told, told_fits_in}
 use Rattle.ct_catalog.specs.Columns.{table_mode}
-use Rattle.plan_rules.specs.Around.{after_key, sink_of}
+use Rattle.plan_rules.specs.Around.{sink_of}
 use Rattle.plan_rules.proofs.laws.Reading.{retract_admits}
-use Rattle.sound_plans.specs.Outputs.{Output, AreWithin, IsProper, around_by, edge_of, printed_edge}
+use Rattle.sound_plans.specs.Outputs.{Output, AreTold, AreWithin, IsProper, around_by, edge_of, printed_edge}
 use Rattle.sound_plans.specs.Agrees.{taken_by, Suits, SinkAgrees}
+use Rattle.sound_plans.proofs.laws.Kinds.{of_told}
 use Rattle.sound_plans.proofs.laws.KeyFamilies.{one_within}
 use Rattle.sound_plans.proofs.laws.Seen.{over_of}
 use Rattle.sound_plans.proofs.laws.Sets.{lies_within, lies_same, lies_through}
 use Rattle.sound_plans.specs.RowFits.{SinksFit}
-use Rattle.sound_plans.proofs.laws.RowFamilies.{from_none, each_from_none}
+use Rattle.sound_plans.proofs.laws.RowFamilies.{among_within, from_none, each_from_none}
 use Rattle.sound_plans.proofs.laws.RowInputs.{comes_by, comes_keyed}
 use Rattle.sound_plans.proofs.laws.Updates.{meaning_full, told_untaken, meaning_after, kinds_admitted, mode_keyed}
 
@@ -193,6 +201,59 @@ module _ (many : ℕ) (input : Output) where
   may_be_read Upsert None update is suits = absurd suits
   may_be_read Upsert (Some key) update is suits = by_key key update (tells_by input.sent input.update_key key) refl (is ∙ told_new input.sent key input.update_key) suits
 
+-- ---- what is printed
+
+-- new rows alone come by the key of an upsert table
+abbrev ComesFor : Update → Declared → Option (List ℕ) → Type 0
+ComesFor Absent mode own = Unit {0}
+ComesFor (After key) Append own = ⊥
+ComesFor (After key) Retract own = ⊥
+ComesFor (After key) Upsert None = ⊥
+ComesFor (After key) Upsert (Some own) = is_within own key ≡ true
+ComesFor Both mode own = Unit {0}
+
+comes_taken : (mode : Declared) (own : Option (List ℕ)) (key : List ℕ) → takes_by mode own (Some key) ≡ true → ComesFor (After key) mode own
+comes_taken Append own key h = absurd (cc (h))
+comes_taken Retract own key h = absurd (cc (h))
+comes_taken Upsert None key h = absurd (cc (h))
+comes_taken Upsert (Some own) key h = first (is_within own key) (is_within key own) h
+
+comes_for : (sent : KindSet) (key : Option (List ℕ)) (mode : Declared) (own : Option (List ℕ)) → ComesFor (told sent key (takes_by mode own key)) mode own
+comes_for sent key mode own =
+    of_told (λ update. ComesFor update mode own) sent key (takes_by mode own key) tt tt
+    (λ columns is updates taken. comes_taken mode own columns (subst (λ (k : Option (List ℕ)). takes_by mode own k ≡ true) is taken))
+
+-- a row that is printed by itself goes or comes as it did
+alone_adds : (kind : Kind) → adds (kind_alone kind) ≡ adds kind
+alone_adds I = refl
+alone_adds UB = refl
+alone_adds UA = refl
+alone_adds D = refl
+
+-- of a row that came in full
+full_printed : (mode : Declared) (key : List ℕ) (columns : List ColTy) (change : Change) → Fits columns change.row
+    → change_fits (meaning_of (mode_of mode key)) columns (printed_change (record { declared = mode; key = key; after = None }) change) ≡ true
+full_printed Append key columns change h = told_fits_in append columns change.kind change.row h
+full_printed Retract key columns change h = told_fits_in retract columns change.kind change.row h
+full_printed Upsert key columns change h =
+    subst (λ b. told_fits (key_alone (Some key) b) columns (row_told (upsert key) (adds change.kind) change.row) ≡ true) (sym (alone_adds change.kind))
+    (row_fits_told (upsert key) columns (adds change.kind) change.row h)
+
+-- and of one that came over an after-only edge
+after_printed : (key own : List ℕ) (columns : List ColTy) (comes : Bool) (row : Row) → is_within own key ≡ true → told_fits (key_alone (Some key) comes) columns row ≡ true
+    → told_fits (key_alone (Some own) comes) columns (row_told (upsert own) comes row) ≡ true
+after_printed key own columns true row within h = h
+after_printed key own columns false row within h = part_fits key own (λ column has. among_within own key column within has) columns row h
+
+printed_fits : (update : Update) (mode : Declared) (own : Option (List ℕ)) (columns : List ColTy) (change : Change) → ComesFor update mode own → change_fits (meaning_by update) columns change ≡ true
+    → change_fits (meaning_of (mode_of mode (unwrap_or own []))) columns (printed_change (record { declared = mode; key = unwrap_or own []; after = after_key update }) change) ≡ true
+printed_fits Absent mode own columns change comes h = full_printed mode (unwrap_or own []) columns change h
+printed_fits (After key) Append own columns change comes h = absurd comes
+printed_fits (After key) Retract own columns change comes h = absurd comes
+printed_fits (After key) Upsert None columns change comes h = absurd comes
+printed_fits (After key) Upsert (Some own) columns change comes h = after_printed key own columns (adds change.kind) change.row comes h
+printed_fits Both mode own columns change comes h = full_printed mode (unwrap_or own []) columns change h
+
 -- ---- the node
 
 module _ (many : ℕ) (sink : TableDef) (input own : Output) (agrees : SinkAgrees sink input own) where
@@ -209,17 +270,23 @@ module _ (many : ℕ) (sink : TableDef) (input own : Output) (agrees : SinkAgree
   same_columns : input.columns ≡ own.columns
   same_columns = sym agrees.typed
 
+  comes : ComesFor input.edge.update sink.mode sink.key
+  comes = subst (λ (update : Update). ComesFor update sink.mode sink.key) (sym told_so) (comes_for input.sent input.update_key sink.mode sink.key)
+
   sink_fits : SinkFits (sink_of (around_by sink (input ∷ []) own)) (edge_of many input) (printed_edge many sink own)
   sink_fits = record {
     forwards = ap exchange_of (comes_by sink op.Sink Absent 0 input agrees.asked None refl);
     reads = meaning_after input.edge.update;
-    writes = may_be_read many input sink.mode sink.key input.edge.update told_so agrees.suits;
+    writes = refl;
+    may = may_be_read many input sink.mode sink.key input.edge.update told_so agrees.suits;
     admitted = λ kind h. kinds_admitted input.sent input.edge.update kind (subst (λ (k : KindSet). has k kind ≡ true) agrees.asked.carries h);
-    keyed = λ change h. mode_keyed input.columns input.update_key input.edge.update (comes_keyed sink op.Sink Absent 0 input agrees.asked) agrees.asked.proper.update_key change.row h;
+    keyed = λ change h. mode_keyed input.columns input.update_key input.edge.update (comes_keyed sink op.Sink Absent 0 input agrees.asked) agrees.asked.proper.update_key change.row (fits_width (meaning_by input.edge.update) input.columns change h);
     kinds = λ kind h.
         subst (λ (k : KindSet). has k (kind_printed (splits sink.mode (after_key input.edge.update)) kind) ≡ true) (sym agrees.prints)
         (prints sink.mode input.edge.kinds input.edge.update kind quiet h);
-    fits = λ change h. subst (λ (columns : List ColTy). row_fits columns change.row ≡ true) same_columns h;
+    fits = λ change h.
+        subst (λ (columns : List ColTy). change_fits (meaning_of (table_mode sink)) columns (printed_change (sink_of (around_by sink (input ∷ []) own)) change) ≡ true) same_columns
+        (printed_fits input.edge.update sink.mode sink.key input.columns change comes h);
     holds = λ row h. subst (λ (columns : List ColTy). row_fits columns row ≡ true) same_columns h;
     unique = λ key h. absurd (from_none own.keys.unique (ap (λ (k : KeyInfo). k.unique) agrees.keyed) key h);
     local = λ key h. absurd (from_none own.keys.local (ap (λ (k : KeyInfo). k.local) agrees.keyed) key h);
@@ -232,6 +299,7 @@ module _ (many : ℕ) (sink : TableDef) (input own : Output) (agrees : SinkAgree
     local = each_from_none (AreWithin (length own.columns)) own.keys.local (ap (λ (k : KeyInfo). k.local) agrees.keyed);
     fixing = each_from_none (AreWithin (length own.columns)) own.keys.fixing (ap (λ (k : KeyInfo). k.fixing) agrees.keyed);
     update_key = λ key is. absurd (let none : None ≡ Some key = sym agrees.updates ∙ is in cc);
+    told = subst (λ (update : Update). AreTold update own.keys.fixing) (sym agrees.tells) tt;
     inserts = ap (λ (k : KindSet). k.i) agrees.sends ∙ agrees.asked.proper.inserts;
     replaces = λ h. ap (λ (k : KindSet). k.ua) agrees.sends ∙ agrees.asked.proper.replaces (sym (ap (λ (k : KindSet). k.ub) agrees.sends) ∙ h);
   }

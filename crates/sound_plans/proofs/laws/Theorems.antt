@@ -6,7 +6,8 @@ use Rattle.plan_shape.proofs.laws.Theorems.{shaped_plans_have_shape}
 use Rattle.stream_model.proofs.laws.Theorems.{plans_compose, printed_folds_to_answer}
 use Rattle.sound_plans.proofs.laws.States.{plans_hold}
 use Rattle.sound_plans.proofs.laws.Wiring as wiring
-use Rattle.sound_plans.specs.Sound.{SoundNodesHaveColumns, SoundPlansAnswer, SoundPlansMeetFacts, SoundPortsTake, SoundPlansAreWired, SoundPlansPrint}
+use Rattle.sound_plans.specs.Sound.{SoundNodesHaveColumns, SoundPlansAnswer, SoundPlansMeetFacts, SoundPlansSuit, SoundPortsTake, SoundPlansAreWired, SoundPlansPrint}
+use Rattle.sound_plans.proofs.laws.Suits as suited
 use Rattle.sound_plans.specs.States.{SoundPlansHold}
 use Rattle.plan_rules.proofs.laws.Theorems.{plans_answer_as_erased, plans_are_wired}
 
@@ -36,6 +37,10 @@ sound_plans_meet_facts_takes = wiring.sound_ports_take nodes_fit
 -- A sound plan is wired: each port is fed by one node that stands before it, and each node but the sink feeds one port.
 pub sound_plans_are_wired : SoundPlansAreWired
 sound_plans_are_wired = wiring.sound_plans_are_wired nodes_fit plans_are_wired
+
+-- What its operators ask of what is around them holds.
+pub sound_plans_suit : SoundPlansSuit
+sound_plans_suit = suited.sound_plans_suit nodes_fit
 
 -- Each of its nodes answers as its tree does.
 pub sound_plans_answer : SoundPlansAnswer

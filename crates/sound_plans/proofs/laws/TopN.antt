@@ -23,13 +23,14 @@ use Rattle.ct_change.specs.declared.update.Update.TheVariants.{Absent, After, Bo
 use Rattle.phys_plan.specs.declared.node.KeyInfo.{KeyInfo}
 use Rattle.phys_plan.specs.declared.node.Op.{Op}
 use Rattle.phys_plan.specs.declared.node.Op.TheVariants as op
-use Rattle.column_sets.specs.Sets.{family, set_of}
+use Rattle.column_sets.specs.Sets.{family, is_within, set_of}
 use Rattle.upsert_keys.specs.Keys.{top_keys}
 use Rattle.upsert_keys.specs.Seen.{everywhere, families}
 use Rattle.mode_infer.specs.Kinds.{kind_set, top_kinds}
 use Rattle.ct_change.specs.Kinds.{has_more_than_inserts}
 use Rattle.mode_infer.specs.Modes.{edge_kinds}
 use Rattle.plan_rules.specs.Around.{mode_read, mode_told, ranking_of}
+use Rattle.plan_rules.proofs.laws.ChangeFits.{told_out}
 use Rattle.plan_rules.proofs.laws.Reading.{meaning_told}
 use Rattle.sound_plans.specs.Agrees.{Agrees, IsAsked}
 use Rattle.sound_plans.specs.Outputs.{AreWithin, IsProper, Output, around_by, edge_of}
@@ -42,7 +43,8 @@ use Rattle.sound_plans.specs.JoinFits.{TopNsFit}
 use Rattle.sound_plans.proofs.laws.JoinInputs.{exchanged, input_fits, keeps}
 use Rattle.sound_plans.proofs.laws.Kinds.{more_sent, of_told}
 use Rattle.sound_plans.proofs.laws.JoinColumns.{made_if}
-use Rattle.sound_plans.proofs.laws.Names.{key_of_rows, keys_are, local_sets, local_within, named, named_within, of_named, of_top_key, rank_width, ranks, top_key_within}
+use Rattle.sound_plans.proofs.laws.Names.{key_of_rows, keys_are, local_sets, local_within, named, named_within, of_named, of_top_key, rank_width, ranks, top_key_tells, top_key_within}
+use Rattle.sound_plans.proofs.laws.Told.{told_by_key}
 
 -- ---- kinds
 
@@ -218,6 +220,12 @@ module _ (many : ℕ) (some : 0 < many) (sources : List TableDef) (sink : TableD
   update_key_within key e =
       subst (λ (columns : List ColTy). AreWithin (length columns) key) typed.1 (top_key_within ranked input.columns partition bound there key (sym agrees.updates ∙ e))
 
+  -- the partition lies in the update key
+  key_tells : (key : List ℕ) → own.update_key ≡ Some key → AllByRecursion (λ set. is_within set key ≡ true) own.keys.fixing
+  key_tells key e =
+      subst (λ (s : List (List ℕ)). AllByRecursion (λ set. is_within set key ≡ true) s) (sym fixing_is)
+      (each_family (λ set. is_within set key ≡ true) (set_of partition ∷ []) (top_key_tells ranked partition bound (length input.columns) key (sym agrees.updates ∙ e), tt))
+
   top_proper : IsProper own
   top_proper = record {
     unique = moved unique_sets own.keys.unique unique_is unique_within;
@@ -225,6 +233,7 @@ module _ (many : ℕ) (some : 0 < many) (sources : List TableDef) (sink : TableD
     fixing = moved (set_of partition ∷ []) own.keys.fixing fixing_is
         (wider (length input.columns) (length (rank_columns ranked input.columns)) (set_of partition) (rank_width ranked input.columns) (set_within (length input.columns) partition there), tt);
     update_key = update_key_within;
+    told = told_by_key own agrees.taken agrees.tells key_tells;
     inserts = subst (λ (kinds : KindSet). kinds.i ≡ true) (sym agrees.sends) (top_inserts (ranks ranked bound) input.sent);
     replaces = subst (λ (kinds : KindSet). kinds.ub ≡ true → kinds.ua ≡ true) (sym agrees.sends) (top_replaces (ranks ranked bound) input.sent);
   }
@@ -253,7 +262,7 @@ module _ (many : ℕ) (some : 0 < many) (sources : List TableDef) (sink : TableD
     holds = side.holds;
     writes = meaning_told own.edge.update;
     out_kinds = out_kinds;
-    out_fits = λ change h. subst (λ columns. row_fits columns change.row ≡ true) typed.1 h;
+    out_fits = λ kind row h. told_out own.edge.update own.columns kind row (subst (λ columns. row_fits columns row ≡ true) typed.1 h);
     out_holds = λ row h. subst (λ columns. row_fits columns row ≡ true) typed.1 h;
     unique = unique;
     local = local;

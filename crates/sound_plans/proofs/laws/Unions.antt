@@ -23,7 +23,8 @@ use Rattle.sound_plans.specs.Outputs.{Output, AreWithin, IsProper, around_by, ed
 use Rattle.sound_plans.specs.Agrees.{Agrees, AtPorts, IsAsked, taken_by}
 use Rattle.sound_plans.specs.RowFits.{UnionsFit}
 use Rattle.sound_plans.proofs.laws.RowFamilies.{from_none, each_from_none}
-use Rattle.sound_plans.proofs.laws.RowInputs.{comes_by, comes_full, reads_full, carries_full}
+use Rattle.sound_plans.proofs.laws.RowInputs.{comes_by, comes_full, reads_full, full_fits, fits_full, carries_full}
+use Rattle.sound_plans.proofs.laws.Told.{told_in_full}
 use Rattle.sound_plans.proofs.laws.Wider.{all_wider}
 
 -- ---- kinds
@@ -138,7 +139,7 @@ module _ (many : ℕ) (sources : List TableDef) (sink : TableDef) (inputs : List
         kinds = λ kind h.
             subst (λ (k : KindSet). has k kind ≡ true) (sym (carries_full own agrees.carries own_full))
             (leaves port kind l (subst (λ (k : KindSet). has k kind ≡ true) (carries_full (slice_index_or inputs port no_output) asks.carries full) h));
-        fits = λ change h. wider_at inputs own.columns agrees.typed port l change.row h;
+        fits = λ change h. fits_full own own_full change (wider_at inputs own.columns agrees.typed port l change.row (full_fits (slice_index_or inputs port no_output) full change h));
         holds = λ row h. wider_at inputs own.columns agrees.typed port l row h;
       }
 
@@ -157,6 +158,7 @@ module _ (many : ℕ) (sources : List TableDef) (sink : TableDef) (inputs : List
     local = each_from_none (AreWithin (length own.columns)) own.keys.local (ap (λ (k : KeyInfo). k.local) agrees.keyed);
     fixing = each_from_none (AreWithin (length own.columns)) own.keys.fixing (ap (λ (k : KeyInfo). k.fixing) agrees.keyed);
     update_key = λ key is. absurd (let none : None ≡ Some key = sym agrees.updates ∙ is in cc);
+    told = told_in_full own own_full;
     inserts =
         let some = some_input inputs own.columns agrees.typed in
         leaves 0 I some (at_port (IsAsked sink op.Union own.edge.update) 0 inputs 0 0 refl some agrees.inputs_asked).proper.inserts;

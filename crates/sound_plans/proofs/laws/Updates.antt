@@ -7,16 +7,14 @@ use Rattle.ct_change.specs.declared.kind.Kind.{Kind}
 use Rattle.ct_change.specs.declared.kind.Kind.TheVariants.{I, UB, UA, D}
 use Rattle.ct_change.specs.declared.kind.KindSet.{KindSet}
 use Rattle.ct_change.specs.Changelog.{Mode, append, retract, has, admits, HasKey}
-use Rattle.rel_algebra.specs.Clauses.{Fits}
-use Rattle.rel_algebra.proofs.laws.Fits.{fits-length}
 use Rattle.ct_change.specs.declared.update.Update.{Update}
 use Rattle.ct_change.specs.declared.update.Update.TheVariants.{Absent, After, Both}
 use Rattle.op_rules.specs.Edges.{bag, meaning_of}
-use Rattle.emission_rules.specs.Changes.{mode_after}
+use Rattle.emission_rules.specs.Changes.{after_key, mode_after}
 use Rattle.mode_infer.specs.Modes.{edge_kinds}
 use Rattle.mode_infer.specs.Updates.{in_full, told}
 use Rattle.plan_rules.specs.Plans.{meaning_by}
-use Rattle.plan_rules.specs.Around.{after_key, mode_read}
+use Rattle.plan_rules.specs.Around.{mode_read}
 use Rattle.plan_rules.proofs.laws.Reading.{kinds_read, of_no_updates, retract_admits}
 use Rattle.sound_plans.specs.Outputs.{AreWithin}
 
@@ -76,11 +74,11 @@ kinds_admitted kinds (After key) D h = refl
 kinds_admitted kinds Both kind h = retract_admits kind
 
 -- the columns of a key are there in each row
-pub columns_there : (columns : List ColTy) (key : List ℕ) → AreWithin (length columns) key → (row : Row) → Fits columns row → AllByRecursion (λ column. column < length row) key
-columns_there columns key within row fits = subst (λ n. AllByRecursion (λ column. column < n) key) (sym (fits-length columns row fits)) within
+pub columns_there : (columns : List ColTy) (key : List ℕ) → AreWithin (length columns) key → (row : Row) → length row ≡ length columns → AllByRecursion (λ column. column < length row) key
+columns_there columns key within row wide = subst (λ n. AllByRecursion (λ column. column < n) key) (sym wide) within
 
-pub mode_keyed : (columns : List ColTy) (key : Option (List ℕ)) (update : Update) → KeyIs key update → ((own : List ℕ) → key ≡ Some own → AreWithin (length columns) own) → (row : Row) → Fits columns row
+pub mode_keyed : (columns : List ColTy) (key : Option (List ℕ)) (update : Update) → KeyIs key update → ((own : List ℕ) → key ≡ Some own → AreWithin (length columns) own) → (row : Row) → length row ≡ length columns
     → HasKey (mode_after (after_key update)) row
-mode_keyed columns key Absent is within row fits = tt
-mode_keyed columns key (After own) is within row fits = columns_there columns own (within own is) row fits
-mode_keyed columns key Both is within row fits = tt
+mode_keyed columns key Absent is within row wide = tt
+mode_keyed columns key (After own) is within row wide = columns_there columns own (within own is) row wide
+mode_keyed columns key Both is within row wide = tt

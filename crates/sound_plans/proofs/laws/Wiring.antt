@@ -19,6 +19,7 @@ use Rattle.stream_model.specs.Network.{task, ScanFacts, MeetsFacts}
 use Rattle.stream_model.specs.Theorem.{PrintedFolds}
 use Rattle.mode_infer.specs.Updates.{is_input}
 use Rattle.plan_inferred.specs.Rules.{consumer}
+use Rattle.plan_rules.proofs.laws.ChangeFits.{fits_keyed}
 use Rattle.plan_rules.specs.Plans.{inputs_in, scan_of, scan_in, meaning_by, meaning_in, exchange_in, exchange_of, table_of, HasShape, FitsShape, PlansAreWired}
 use Rattle.phys_plan.specs.Reading.{numbered}
 use Rattle.ct_catalog.specs.Columns.{table_mode}
@@ -199,4 +200,5 @@ sound_plans_print laws wired printed plan ruled limit items typed =
     printed (network plan) (sound_plans_are_wired laws wired plan ruled) (meets_facts laws plan ruled) (table_mode plan.sink)
     (ap (λ (x : Edge). x.meaning) last)
     (λ kind h. (sinks_fit plan.parallelism plan.sink (output_at plan sink.0) (output_at plan (length plan.nodes)) sink.2).2 kind (subst (λ (x : Edge). has x.kinds kind ≡ true) last h))
+    (λ change a h. fits_keyed (table_mode plan.sink) (output_at plan (length plan.nodes)).columns change (subst (λ (x : Edge). x.fits change ≡ true) last h))
     limit items typed

@@ -1,14 +1,12 @@
 -- What the items of a run do to its state and to what was printed, and where a run stops.
-use Rattle.std.specs.Prelude.{◌≡◌, ℕ, ◌+◌, ◌==◌, ◌&&◌, nat_le, nat_lt, Bool, cond, Option, Result, List, ◌++◌, length, slice_get, option_map, map, take}
-use Rattle.std.proofs.Common.{zero, suc, true, false, [], ◌∷◌, refl, sym, ap, subst, ◌∙◌, arith, Some, None, Ok, Err, inl, inr, append_assoc, append-nil}
+use Rattle.std.specs.Prelude.{◌≡◌, ℕ, ◌+◌, ◌==◌, ◌&&◌, nat_le, nat_lt, Bool, cond, Option, Result, List, ◌++◌, length, map}
+use Rattle.std.proofs.Common.{zero, suc, true, false, [], ◌∷◌, refl, sym, ap, subst, ◌∙◌, Some, None, Ok, Err, inl, inr, append_assoc, append-nil}
 use Rattle.std.proofs.lemmas.List.{map-append}
 use Rattle.ct_value.specs.declared.codes.ChangeCode.{ChangeCode}
 use Rattle.ct_value.specs.declared.codes.OrderCode.TheVariants.{NoSuchPlace}
 use Rattle.ct_change.specs.declared.change.Change.{Change}
-use Rattle.ct_change.specs.Changelog.{Mode, Rows, fold, IsValid}
+use Rattle.ct_change.specs.Changelog.{fold}
 use Rattle.ct_catalog.specs.declared.table.TableDef.{TableDef}
-use Rattle.job_text.specs.declared.line.Line.{Line}
-use Rattle.job_text.specs.Lines.{Record, line_of, records_of}
 use Rattle.op_rules.specs.History.{Arrival, joined}
 use Rattle.op_rules.specs.Rules.{Answer}
 use Rattle.stream_model.specs.declared.events.Event.TheVariants.{Take, Move, Flush}
@@ -18,14 +16,9 @@ use Rattle.stream_model.specs.declared.events.PrintItem.{PrintItem}
 use Rattle.stream_model.specs.declared.events.PrintItem.TheVariants.{Change as Printed, Quiet}
 use Rattle.stream_model.specs.Tables.{Table as Source, scanned_at, refusal}
 use Rattle.stream_model.specs.Network.{Feed, Network}
-use Rattle.stream_model.specs.Machine.{State, opened, send, print, joins, folded, answered, flushed, size_of, flushed_if_full, is_channel, move_front, move_to, flush_held, flush_bundle, is_place, scan_count, scanned, take_unless, take_of, IsQuiet}
-use Rattle.stream_model.specs.Machine as machine
-use Rattle.stream_model.specs.Runs.{Item, happens, quiet, told_quiet, step_item, state_in, after, changes_in, IsTyped, AreTyped}
-use Rattle.stream_model.specs.Theorem.{table_rows, rows_left, Composes, Holds, PrintsAnswer}
-use Rattle.stream_model.specs.Drain.{Leads, StopsBy, StopsAlong, Stage, delivers, flushes, moves, stage_items, drain_stages, stages, drain, RunsDrain}
-use Rattle.source_lines.specs.Kept.{refusal_after}
-use Rattle.source_lines.specs.Taken.{Taken, RefusedLine, nothing_taken, with_line, line_refusal, take_line, take_records, unless_refused, rows_of}
-use Rattle.source_lines.specs.Taken as l
+use Rattle.stream_model.specs.Machine.{State, send, print, joins, folded, answered, flushed, size_of, flushed_if_full, is_channel, move_front, move_to, flush_held, flush_bundle, is_place, scan_count, scanned, take_unless, take_of}
+use Rattle.stream_model.specs.Runs.{Item, happens, quiet, told_quiet, step_item, state_in, after, AreTyped}
+use Rattle.stream_model.specs.Drain.{Leads, StopsBy, StopsAlong, Stage, delivers, flushes, moves, stage_items, drain_stages, stages, drain}
 use Rattle.source_lines.specs.Run as run
 use Rattle.source_lines.specs.Run.{Ran, ended, refused, stopped, and_then, stepped, took, whole_run, printed_by, Begins, IsStop}
 

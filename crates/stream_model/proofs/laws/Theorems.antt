@@ -12,8 +12,8 @@ use Rattle.stream_model.specs.Drain.{RunsAreSafe, RunsDrain}
 pub plans_compose : Composes
 plans_compose = composes
 
--- In every such state each prefix of what was printed is a valid changelog of the sink's mode, and at every quiet moment
--- it folds to the batch answer.
+-- In every such state each prefix of what was printed is a valid changelog of the sink's mode, each removal of an upsert
+-- changelog its key row, and at every quiet moment it folds to the batch answer.
 pub printed_folds_to_answer : PrintedFolds
 printed_folds_to_answer = printed_folds
 

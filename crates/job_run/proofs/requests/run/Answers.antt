@@ -14,7 +14,7 @@ use Rattle.laid_plans.proofs.laws.Theorems.{inferred_plans_answer}
 use Rattle.source_lines.proofs.laws.Theorems.{taken_rows_fit}
 use Rattle.sql_grammar.proofs.laws.Theorems.{text_is_script}
 use Rattle.judge.proofs.laws.DeclaredTables.{tables_are_well_declared_types}
-use Rattle.run_laws.proofs.laws.Theorems.{runs_carry_kinds, runs_end_quiet, runs_print_answers, runs_print_rows, sinks_take_columns}
+use Rattle.run_laws.proofs.laws.Theorems.{runs_carry_admitted, runs_end_quiet, runs_print_answers, runs_print_rows, sinks_take_columns}
 use Rattle.range_rules.proofs.laws.Theorems.{inserts_are_tame}
 use Rattle.run_laws.proofs.laws.TameTheorems.{runs_stay_in_range}
 use Rattle.run_laws.proofs.laws.Trees.{trees_have_tame_plans}
@@ -22,7 +22,7 @@ use Rattle.run_laws.proofs.laws.Trees.{trees_have_tame_plans}
 laws : Laws
 laws = record {
   prints = runs_print_answers;
-  carries = runs_carry_kinds;
+  carries = runs_carry_admitted;
   ends_quiet = runs_end_quiet;
   rows = runs_print_rows;
   sinks = sinks_take_columns;

@@ -9,5 +9,5 @@ use Rattle.op_tests.proofs.row_operators.printed.Goals as goal
 pub sent-requires-clause-may : goal.sent-requires-clause-may
 sent-requires-clause-may c =
     let change = c.in_ok-insertion.field-0 in
-    subst (λ (rule : Rule). MayArrive rule [] (arrival 0 0 change)) (sym c.new-sink.ensures.rule)
-    (row_may 1 (sink_change (record { declared = Upsert; after = None })) change (omega arith) c.in_ok-insertion.ensures.kind)
+    subst (λ (rule : Rule). MayArrive rule [] (arrival 0 0 change)) (sym c.in_ok-sink.ensures.rule)
+    (row_may 1 (sink_change (record { declared = Upsert; key = c.in_ok-key.key; after = None })) change (omega arith) c.in_ok-insertion.ensures.kind)

@@ -10,4 +10,4 @@ returns-clause-refused c = λ code is rows stands.
     let table = c.args.table.now in
     let change = c.args.change.now in
     let admitted : admits (table_mode table) change.kind ≡ true = sym (c.admits.ensures (key_of table)) ∙ c.if-not-admits.false in
-    by_rows table rows change (Some code) admitted (rw c.as_slice.ensures at c.in_ok-check_nulls.ensures.ok) (c.take_kept.ensures.refused code is rows stands)
+    by_rows table rows change (Some code) admitted c.in_ok-check_nulls.ensures.ok (c.take_kept.ensures.refused code is rows stands)

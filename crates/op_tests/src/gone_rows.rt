@@ -1,0 +1,113 @@
+ghost use Rattle.std.specs.Prelude.{◌≡◌, ◌<◌, [], ◌∷◌, false, length, IfOk};
+ghost use Rattle.op_rules.specs.History.{arrival};
+ghost use Rattle.op_rules.specs.Rules.{MayArrive};
+
+use crate::row_operators::sent;
+use crate::rows::row;
+use ct_change::{Change, Changes, Declared, Kind, Update};
+use ct_expr::{ArithOp, Expr, Exprs};
+use ct_value::{Cols, Memory, Row, Text, Ty, Value, Values};
+use op_row::ProjectOp;
+use op_rules::OpFault;
+use op_sink::SinkWriter;
+use std::alloc::Global;
+
+fn word(alloc: Global, text: &str) -> Result<Value, Memory> {
+    Ok(Value::Text(Text::from_str(alloc, text)?))
+}
+
+// A row of three texts that goes.
+fn deletion(alloc: Global) -> Result<Change, Memory>
+    ensures kind { IfOk result (λ change. change.kind ≡ Kind.D) }
+    ensures width { IfOk result (λ change. length change.row ≡ 3) }
+{
+    let row = row(alloc, "a")?;
+    let row = row.with(word(alloc, "b")?)?;
+    let row = row.with(word(alloc, "c")?)?;
+    Ok(Change::new(Kind::D, row))
+}
+
+fn second_column(alloc: Global) -> Result<Cols, Memory>
+    ensures { IfOk result (λ key. key ≡ 1 ∷ []) }
+{
+    let mut key = Cols::new(alloc);
+    key.push(1)?;
+    Ok(key)
+}
+
+fn column(col: u32) -> Expr {
+    Expr::Column { col, ty: Ty::Text }
+}
+
+fn number(alloc: Global, number: i128) -> Result<Box<Expr>, Memory> {
+    Ok(Box::new(
+        alloc,
+        Expr::Literal {
+            value: Value::Num(number),
+            ty: Ty::BigInt,
+        },
+    )?)
+}
+
+// A sum that is out of range.
+fn too_large(alloc: Global) -> Result<Expr, Memory> {
+    let left = number(alloc, 9_223_372_036_854_775_807)?;
+    let right = number(alloc, 1)?;
+    Ok(Expr::Arith {
+        op: ArithOp::Add,
+        left,
+        right,
+    })
+}
+
+// What a project sends for a row that goes, over an edge that is after-only by the second column.
+fn projected(alloc: Global) -> Result<Changes, OpFault> {
+    let mut items = Exprs::new(alloc);
+    items.push(too_large(alloc)?)?;
+    items.push(column(0))?;
+    items.push(column(1))?;
+    items.push(column(1))?;
+    let key = second_column(alloc)?;
+    let mut project = ProjectOp::new(alloc, items, Some(key))?;
+    sent(&mut project, deletion(alloc)?)
+}
+
+// What an upsert sink prints for it.
+fn printed(alloc: Global) -> Result<Changes, OpFault> {
+    let update = Update::After(second_column(alloc)?);
+    let key = second_column(alloc)?;
+    let mut sink = SinkWriter::new(alloc, Declared::Upsert, update, key)?;
+    sent(&mut sink, deletion(alloc)?)
+}
+
+// The text among so many columns, with NULL in the others.
+fn alone(alloc: Global, text: &str, place: usize, columns: usize) -> Result<Row, Memory> {
+    let mut values = Values::new(alloc);
+    for column in 0..columns {
+        let value = if column == place {
+            word(alloc, text)?
+        } else {
+            Value::Null
+        };
+        values.push(value)?;
+    }
+    Ok(Row::from_values(values))
+}
+
+// Whether the one change is that this row went.
+fn is_gone(told: Result<Changes, OpFault>, row: Result<Row, Memory>) -> bool {
+    match (told, row) {
+        (Ok(told), Ok(row)) => match told.get(0) {
+            None => false,
+            Some(change) => told.len() == 1 && change.kind == Kind::D && change.row == row,
+        },
+        _ => false,
+    }
+}
+
+#[test]
+fn a_row_that_went_is_told_by_its_key(rt: HostRuntime) {
+    let alloc = rt.alloc();
+    assert!(rt; is_gone(projected(alloc), alone(alloc, "b", 2, 4)));
+    assert!(rt; is_gone(printed(alloc), alone(alloc, "b", 1, 3)));
+}

@@ -1,0 +1,79 @@
+-- What the operators of a sound plan ask of what is around them holds.
+use Rattle.std.specs.Prelude.{◌≡◌, ◌==◌, ℕ, Bool, List, map}
+use Rattle.std.proofs.Common.{false, [], ◌∷◌, refl, sym, ap, subst, ◌∙◌, Some}
+use Rattle.rel_algebra.specs.declared.agg.Agg.{Agg}
+use Rattle.rel_algebra.specs.declared.sort.SortCol.{SortCol}
+use Rattle.phys_plan.specs.declared.node.Node.{Node}
+use Rattle.phys_plan.specs.declared.node.Op.{Op}
+use Rattle.phys_plan.specs.declared.node.Op.TheVariants as op
+use Rattle.phys_plan.specs.declared.plan.Plan.{Plan}
+use Rattle.phys_plan.specs.Reading.{numbered}
+use Rattle.plan_rules.specs.Around.{Around}
+use Rattle.plan_rules.specs.Behaviours.{Suits}
+use Rattle.plan_rules.specs.Doings.{around_of}
+use Rattle.plan_rules.specs.Plans.{HasShape}
+use Rattle.plan_shape.specs.Shape.{takes as ports_of}
+use Rattle.sound_plans.specs.Agrees.{Agrees}
+use Rattle.sound_plans.specs.Outputs.{Output, around_by}
+use Rattle.sound_plans.specs.Promises.{Laws}
+use Rattle.sound_plans.specs.Sound.{IsRuled, SoundPlansSuit}
+use Rattle.sound_plans.proofs.laws.Agreed as agreed
+use Rattle.sound_plans.proofs.laws.Groups.{groups_fit}
+use Rattle.sound_plans.proofs.laws.Normalizes.{normalizes_fit}
+use Rattle.sound_plans.proofs.laws.Outputs.{around_is, output_at}
+use Rattle.sound_plans.proofs.laws.Shapes as shapes
+use Rattle.sound_plans.proofs.laws.Stands.{proper_inputs}
+use Rattle.sound_plans.proofs.laws.TopN.{topns_fit}
+
+module _ (laws : Laws) (plan : Plan) (ruled : IsRuled plan) where
+  shape : HasShape plan
+  shape = shapes.shape plan (agreed.meets laws plan ruled) laws.shaped
+
+  -- what fits a node with one input, by what the input sends
+  suits_over : (v : ℕ) (node : Node) (o : Op) (input : ℕ) → node.inputs ≡ input ∷ [] → Suits o (around_by plan.sink (output_at plan input ∷ []) (output_at plan v)) → Suits o (around_of plan v node.inputs)
+  suits_over v node o input are fits =
+      subst (λ (inputs : List ℕ). Suits o (around_of plan v inputs)) (sym are) (subst (λ (around : Around). Suits o around) (sym (around_is plan v input [])) fits)
+
+  agrees_over : (v : ℕ) (node : Node) → numbered plan.nodes v ≡ Some node → (o : Op) (input : ℕ) → node.op ≡ o → node.inputs ≡ input ∷ []
+      → agreed.scans o ≡ false → agreed.normalizes o ≡ false → agreed.sinks o ≡ false → Agrees plan.sources plan.sink o (output_at plan input ∷ []) (output_at plan v)
+  agrees_over v node e o input is are scans normalizes sinks =
+      let agrees = agreed.agrees laws plan ruled v node e (ap agreed.scans is ∙ scans) (ap agreed.normalizes is ∙ normalizes) (ap agreed.sinks is ∙ sinks) (proper_inputs laws plan ruled v node e) in
+      subst (λ (outs : List Output). Agrees plan.sources plan.sink o outs (output_at plan v)) (ap (map (output_at plan)) are)
+      (subst (λ (p : Op). Agrees plan.sources plan.sink p (map (output_at plan) node.inputs) (output_at plan v)) is agrees)
+
+  pub one_input : (v : ℕ) (node : Node) → numbered plan.nodes v ≡ Some node → (o : Op) → node.op ≡ o → ((n : ℕ) → ports_of o n ≡ (n == 1)) → (input : ℕ) × (node.inputs ≡ input ∷ [])
+  one_input v node e o is takes_one = agreed.one_input laws plan ruled v node e (λ n. ap (λ p. ports_of p n) is ∙ takes_one n)
+
+  normalizes : (v : ℕ) (node : Node) → numbered plan.nodes v ≡ Some node → (key : List ℕ) → node.op ≡ op.Normalize key → Suits (op.Normalize key) (around_of plan v node.inputs)
+  normalizes v node e key is =
+      let i = one_input v node e (op.Normalize key) is (λ n. refl) in
+      let agrees = agreed.normalize_agrees laws plan ruled v node key i.0 e is i.1 (proper_inputs laws plan ruled v node e) in
+      let fits = normalizes_fit plan.parallelism shape.parallel plan.sink key (output_at plan i.0) (output_at plan v) agrees in
+      suits_over v node (op.Normalize key) i.0 i.1 fits.0.tells
+
+  groups : (v : ℕ) (node : Node) → numbered plan.nodes v ≡ Some node → (keys : ℕ) (aggs : List Agg) → node.op ≡ op.Group keys aggs → Suits (op.Group keys aggs) (around_of plan v node.inputs)
+  groups v node e keys aggs is =
+      let i = one_input v node e (op.Group keys aggs) is (λ n. refl) in
+      let agrees = agrees_over v node e (op.Group keys aggs) i.0 is i.1 refl refl refl in
+      let fits = groups_fit plan.parallelism shape.parallel plan.sources plan.sink keys aggs (output_at plan i.0) (output_at plan v) agrees in
+      suits_over v node (op.Group keys aggs) i.0 i.1 fits.0.sound
+
+  pub ranks : (v : ℕ) (node : Node) → numbered plan.nodes v ≡ Some node → (partition : List ℕ) (order : List SortCol) (bound : ℕ) (ranked : Bool) → node.op ≡ op.TopN partition order bound ranked
+      → Suits (op.TopN partition order bound ranked) (around_of plan v node.inputs)
+  ranks v node e partition order bound ranked is =
+      let i = one_input v node e (op.TopN partition order bound ranked) is (λ n. refl) in
+      let agrees = agrees_over v node e (op.TopN partition order bound ranked) i.0 is i.1 refl refl refl in
+      let fits = topns_fit plan.parallelism shape.parallel plan.sources plan.sink partition order bound ranked (output_at plan i.0) (output_at plan v) agrees in
+      suits_over v node (op.TopN partition order bound ranked) i.0 i.1 fits.0.sound
+
+  suits_by : (v : ℕ) (node : Node) → numbered plan.nodes v ≡ Some node → (o : Op) → node.op ≡ o → Suits o (around_of plan v node.inputs)
+  suits_by v node e (op.Normalize key) is = normalizes v node e key is
+  suits_by v node e (op.Group keys aggs) is = groups v node e keys aggs is
+  suits_by v node e (op.TopN partition order bound ranked) is = ranks v node e partition order bound ranked is
+  suits_by v node e _ is = tt
+
+  suits : (v : ℕ) (node : Node) → numbered plan.nodes v ≡ Some node → Suits node.op (around_of plan v node.inputs)
+  suits v node e = suits_by v node e node.op refl
+
+pub sound_plans_suit : Laws → SoundPlansSuit
+sound_plans_suit laws plan ruled v node e = suits laws plan ruled v node e
