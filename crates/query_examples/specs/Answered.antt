@@ -39,10 +39,8 @@ w word = Words word
 -- a, b, s, d, f, g
 abbrev t_rows : List Row
 t_rows =
-    (n 1 ∷ n 10 ∷ w (codes "x") ∷ n 150 ∷ Truth true ∷ n 1 ∷ []) ∷
-    (n 1 ∷ n 20 ∷ w (codes "x") ∷ n 101 ∷ Truth false ∷ n 2 ∷ []) ∷
-    (n 2 ∷ n 30 ∷ Null ∷ Null ∷ Null ∷ n 3 ∷ []) ∷
-    (Null ∷ n 40 ∷ w (codes "y") ∷ n 100 ∷ Truth true ∷ n 4 ∷ []) ∷
+    (n 1 ∷ n 10 ∷ w (codes "x") ∷ n 150 ∷ Truth true ∷ n 1 ∷ []) ∷ (n 1 ∷ n 20 ∷ w (codes "x") ∷ n 101 ∷ Truth false ∷ n 2 ∷ []) ∷
+    (n 2 ∷ n 30 ∷ Null ∷ Null ∷ Null ∷ n 3 ∷ []) ∷ (Null ∷ n 40 ∷ w (codes "y") ∷ n 100 ∷ Truth true ∷ n 4 ∷ []) ∷
     (Null ∷ n 40 ∷ w (codes "y") ∷ n 100 ∷ Truth true ∷ n 4 ∷ []) ∷ []
 
 abbrev u_rows : List Row
@@ -69,8 +67,7 @@ answered =
     over_both (codes "SELECT MIN(s), MAX(s), AVG(b), AVG(d) FROM t") (Some ((w (codes "x") ∷ w (codes "y") ∷ n 28 ∷ n 1127500 ∷ []) ∷ [])) ∷
     -- all rows are one group, also where there are none
     over_none (codes "SELECT COUNT(*), SUM(a), 1 FROM t") (Some ((n 0 ∷ Null ∷ n 1 ∷ []) ∷ [])) ∷
-    over_none (codes "SELECT COUNT(*) FROM t GROUP BY a") (Some []) ∷
-    over_none (codes "SELECT 1 FROM t HAVING COUNT(*) > 0") (Some []) ∷
+    over_none (codes "SELECT COUNT(*) FROM t GROUP BY a") (Some []) ∷ over_none (codes "SELECT 1 FROM t HAVING COUNT(*) > 0") (Some []) ∷
     -- arguments are evaluated on every row, and calls in every group, also where nothing looks at them
     over_both (codes "SELECT COUNT(b + 2147483647) FILTER (WHERE FALSE) FROM t") None ∷
     over_both (codes "SELECT CASE WHEN TRUE THEN 1 ELSE SUM(2147483647) END FROM t") None ∷

@@ -36,9 +36,7 @@ pair left right = record { left = left; right = right }
 abbrev pub bound : List (Text × Rel)
 bound =
     -- a Project of the input's columns in place is left out
-    (codes "SELECT * FROM u", Scan 1) ∷
-    (codes "SELECT x.a, x FROM u AS x", Scan 1) ∷
-    (codes "SELECT a FROM u", Project (Scan 1) (a ∷ [])) ∷
+    (codes "SELECT * FROM u", Scan 1) ∷ (codes "SELECT x.a, x FROM u AS x", Scan 1) ∷ (codes "SELECT a FROM u", Project (Scan 1) (a ∷ [])) ∷
     (codes "SELECT x, a FROM u", Project (Scan 1) (Column 1 Texts ∷ a ∷ [])) ∷
     (codes "SELECT * FROM (SELECT a, b FROM t)", Project (Scan 0) (a ∷ b ∷ [])) ∷
     (codes "SELECT b, a FROM (SELECT b AS a, a AS b FROM t)", Project (Project (Scan 0) (b ∷ a ∷ [])) (b ∷ a ∷ [])) ∷

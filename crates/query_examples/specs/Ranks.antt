@@ -61,18 +61,12 @@ outside rest = codes "SELECT a FROM (SELECT a, ROW_NUMBER() OVER (ORDER BY a) AS
 abbrev pub refused : List (Text × ScriptCode)
 refused =
     -- S12: no bound
-    (outside [], RankUnbounded) ∷
-    (outside (codes " WHERE rn <= 0"), RankUnbounded) ∷
-    (outside (codes " WHERE rn <= 10001"), RankUnbounded) ∷
-    (outside (codes " WHERE rn < 1"), RankUnbounded) ∷
-    (outside (codes " WHERE rn = 2"), RankUnbounded) ∷
-    (outside (codes " WHERE rn <= 2.0"), RankUnbounded) ∷
-    (outside (codes " WHERE 2 >= rn"), RankUnbounded) ∷
-    (outside (codes " WHERE rn <= a"), RankUnbounded) ∷
-    (outside (codes " WHERE t.rn <= 2"), RankUnbounded) ∷
-    (outside (codes " WHERE rn <= 2 OR rn <= 1"), RankUnbounded) ∷
-    (outside (codes " WHERE NOT rn > 2"), RankUnbounded) ∷
-    (outside (codes " JOIN u ON TRUE WHERE rn <= 2"), RankUnbounded) ∷
+    (outside [], RankUnbounded) ∷ (outside (codes " WHERE rn <= 0"), RankUnbounded) ∷
+    (outside (codes " WHERE rn <= 10001"), RankUnbounded) ∷ (outside (codes " WHERE rn < 1"), RankUnbounded) ∷
+    (outside (codes " WHERE rn = 2"), RankUnbounded) ∷ (outside (codes " WHERE rn <= 2.0"), RankUnbounded) ∷
+    (outside (codes " WHERE 2 >= rn"), RankUnbounded) ∷ (outside (codes " WHERE rn <= a"), RankUnbounded) ∷
+    (outside (codes " WHERE t.rn <= 2"), RankUnbounded) ∷ (outside (codes " WHERE rn <= 2 OR rn <= 1"), RankUnbounded) ∷
+    (outside (codes " WHERE NOT rn > 2"), RankUnbounded) ∷ (outside (codes " JOIN u ON TRUE WHERE rn <= 2"), RankUnbounded) ∷
     (codes "SELECT a, ROW_NUMBER() OVER (ORDER BY a) AS rn FROM t", RankUnbounded) ∷
     (codes "SELECT a FROM (SELECT a, ROW_NUMBER() OVER (ORDER BY a) AS rn FROM t UNION ALL SELECT a, g FROM t) WHERE rn <= 2", RankUnbounded) ∷
     (codes "SELECT a FROM u WHERE a IN (SELECT ROW_NUMBER() OVER (ORDER BY a) AS rn FROM t)", RankUnbounded) ∷

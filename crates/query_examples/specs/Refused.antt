@@ -115,33 +115,25 @@ unsupported =
 abbrev pub walks : List (Text × ScriptCode)
 walks =
     -- operands before the operator, from the left
-    (codes "SELECT nosuch / 2 FROM t", UnknownColumn) ∷
-    (codes "SELECT a / nosuch FROM t", UnknownColumn) ∷
-    (codes "SELECT FOO(nosuch) FROM t", UnknownColumn) ∷
-    (codes "SELECT RAND(nosuch) FROM t", UnknownColumn) ∷
-    (codes "SELECT a + s + RAND() FROM t", TypeMismatch) ∷
-    (codes "SELECT a + RAND() + s FROM t", Nondeterministic) ∷
+    (codes "SELECT nosuch / 2 FROM t", UnknownColumn) ∷ (codes "SELECT a / nosuch FROM t", UnknownColumn) ∷
+    (codes "SELECT FOO(nosuch) FROM t", UnknownColumn) ∷ (codes "SELECT RAND(nosuch) FROM t", UnknownColumn) ∷
+    (codes "SELECT a + s + RAND() FROM t", TypeMismatch) ∷ (codes "SELECT a + RAND() + s FROM t", Nondeterministic) ∷
     (codes "SELECT a * s / 2 FROM t", TypeMismatch) ∷
     -- all operands of AND, OR, IN, COALESCE and CASE, and then the node
-    (codes "SELECT a FROM t WHERE a AND nosuch", UnknownColumn) ∷
-    (codes "SELECT a FROM t WHERE (a AND f) AND nosuch", TypeMismatch) ∷
-    (codes "SELECT a IN (s, nosuch) FROM t", UnknownColumn) ∷
-    (codes "SELECT COALESCE(a, s, RAND()) FROM t", Nondeterministic) ∷
+    (codes "SELECT a FROM t WHERE a AND nosuch", UnknownColumn) ∷ (codes "SELECT a FROM t WHERE (a AND f) AND nosuch", TypeMismatch) ∷
+    (codes "SELECT a IN (s, nosuch) FROM t", UnknownColumn) ∷ (codes "SELECT COALESCE(a, s, RAND()) FROM t", Nondeterministic) ∷
     (codes "SELECT CASE WHEN a THEN 1 ELSE nosuch END FROM t", UnknownColumn) ∷
     -- sources, WHERE, GROUP BY, HAVING, select list
     (codes "SELECT RAND() FROM (SELECT nosuch FROM t)", UnknownColumn) ∷
     (codes "SELECT RAND() FROM t JOIN nosuch ON nosuch = 1", UnknownTable) ∷
     (codes "SELECT RAND() FROM t JOIN u ON nosuch = 1 JOIN nosuch ON TRUE", UnknownColumn) ∷
     (codes "SELECT RAND() FROM t JOIN u ON COUNT(*) = 1 WHERE nosuch = 1", NotGrouped) ∷
-    (codes "SELECT RAND() FROM t WHERE nosuch = 1", UnknownColumn) ∷
-    (codes "SELECT RAND() FROM t GROUP BY nosuch", UnknownColumn) ∷
+    (codes "SELECT RAND() FROM t WHERE nosuch = 1", UnknownColumn) ∷ (codes "SELECT RAND() FROM t GROUP BY nosuch", UnknownColumn) ∷
     (codes "SELECT RAND() FROM t WHERE COUNT(*) = 1 GROUP BY nosuch", NotGrouped) ∷
-    (codes "SELECT nosuch FROM t GROUP BY s HAVING s", TypeMismatch) ∷
-    (codes "SELECT nosuch, RAND() FROM t", UnknownColumn) ∷
+    (codes "SELECT nosuch FROM t GROUP BY s HAVING s", TypeMismatch) ∷ (codes "SELECT nosuch, RAND() FROM t", UnknownColumn) ∷
     (codes "SELECT u.*, RAND() FROM t", UnknownColumn) ∷
     -- at one place
-    (codes "SELECT SUM(DISTINCT s, a) FROM t", Unsupported) ∷
-    (codes "SELECT a FROM t WHERE MAX(DISTINCT a) = 1", Unsupported) ∷
+    (codes "SELECT SUM(DISTINCT s, a) FROM t", Unsupported) ∷ (codes "SELECT a FROM t WHERE MAX(DISTINCT a) = 1", Unsupported) ∷
     (codes "SELECT a FROM t WHERE SUM(s) = 1", NotGrouped) ∷
     -- selects of a UNION ALL as pairs, and what stands behind them last
     (codes "SELECT a FROM t UNION ALL SELECT s FROM t UNION ALL SELECT RAND() FROM t", TypeMismatch) ∷
@@ -168,8 +160,7 @@ chain n first more = codes "SELECT " ++ first ++ times n more ++ codes " FROM t"
 
 abbrev pub long_chains : List (Text × ScriptCode)
 long_chains =
-    (chain 512 (codes "nosuch") (codes "+a"), Unsupported) ∷
-    (chain 511 (codes "nosuch") (codes "+a"), UnknownColumn) ∷
+    (chain 512 (codes "nosuch") (codes "+a"), Unsupported) ∷ (chain 511 (codes "nosuch") (codes "+a"), UnknownColumn) ∷
     (chain 512 (codes "nosuch") (codes "*a"), Unsupported) ∷
     (chain 511 (codes "s") (codes "||s") ++ codes " WHERE nosuch", UnknownColumn) ∷ []
 
@@ -183,8 +174,7 @@ wide =
 
 abbrev pub accepted : List Text
 accepted =
-    (codes "SELECT b, " ++ times 10 (codes "*, ") ++ codes "a, a, s FROM t") ∷
-    chain 511 (codes "a") (codes "+a") ∷
+    (codes "SELECT b, " ++ times 10 (codes "*, ") ++ codes "a, a, s FROM t") ∷ chain 511 (codes "a") (codes "+a") ∷
     codes "SELECT t.a, x FROM (SELECT a, s AS x FROM t) AS t" ∷ codes "SELECT t.*, * FROM t" ∷
     -- a star stands for columns by their places
     codes "SELECT * FROM (SELECT a, b AS a FROM t)" ∷ codes "SELECT x.* FROM (SELECT a + 1, a + 1 FROM t) AS x" ∷

@@ -10,9 +10,7 @@ use Rattle.text_examples.specs.Words.{a, c, name, pick, the, table}
 -- the text, and what it is read as
 abbrev pub read_scripts : List (List ℕ × Answer)
 read_scripts =
-    ([], answered []) ∷
-    ((codes " " ++ (9 ∷ 13 ∷ 10 ∷ [])), answered []) ∷
-    (codes "-- nothing", answered []) ∷
+    ([], answered []) ∷ ((codes " " ++ (9 ∷ 13 ∷ 10 ∷ [])), answered []) ∷ (codes "-- nothing", answered []) ∷
     (codes "SET 'a' = 'b';", answered (Set (codes "a") (codes "b") ∷ [])) ∷
     (codes "set'a'='b c';", answered (Set (codes "a") (codes "b c") ∷ [])) ∷
     (codes "SET 'table.exec.state.ttl' = '0 ms';", answered (Set (codes "table.exec.state.ttl") (codes "0 ms") ∷ [])) ∷
@@ -39,18 +37,14 @@ read_scripts =
     (codes "INSERT INTO `o p` SELECT a FROM t;", answered (Insert (codes "o p") (the (pick a (table (codes "t")))) ∷ [])) ∷
     (codes "CREATE TABLE t (a INT);INSERT INTO o SELECT a FROM t;SET 'a' = 'b';", answered (Create (codes "t") (Column (codes "a") (record { name = codes "INT"; numbers = [] }) false false ∷ []) [] ∷ Insert (codes "o") (the (pick a (table (codes "t")))) ∷ Set (codes "a") (codes "b") ∷ [])) ∷
     -- the first statement that is refused counts
-    (codes "SET 'a' = 'b'; SET; SET #;", refused Syntax 2) ∷
-    (codes "SET; SET 'a' = #;", refused Syntax 1) ∷
-    (codes "SET 'a' = #; SET;", refused BadToken 1) ∷
-    (codes "SET 'a' = 'b'; SET 'c' = #; SET;", refused BadToken 2) ∷
+    (codes "SET 'a' = 'b'; SET; SET #;", refused Syntax 2) ∷ (codes "SET; SET 'a' = #;", refused Syntax 1) ∷
+    (codes "SET 'a' = #; SET;", refused BadToken 1) ∷ (codes "SET 'a' = 'b'; SET 'c' = #; SET;", refused BadToken 2) ∷
     (codes "CREATE TABLE t (a INT);SET 'a' = 'b';INSERT INTO o SELECT a FROM t", refused Syntax 3) ∷
     (codes "CREATE TABLE t (a INT);SET 'a' = 'b';INSERT INTO o SELECT a FROM t;;", refused Syntax 4) ∷
     -- bytes within quotes are UTF-8, within comments any
-    ((codes "SET 'a' = '" ++ (255 ∷ codes "';")), refused BadToken 1) ∷
-    ((codes "SET 'a' = '" ++ (195 ∷ codes "';")), refused BadToken 1) ∷
+    ((codes "SET 'a' = '" ++ (255 ∷ codes "';")), refused BadToken 1) ∷ ((codes "SET 'a' = '" ++ (195 ∷ codes "';")), refused BadToken 1) ∷
     ((codes "SET 'a' = 'b'; SET '" ++ (237 ∷ 160 ∷ 128 ∷ codes "' = 'c';")), refused BadToken 2) ∷
     ((codes "INSERT INTO `" ++ (255 ∷ codes "` SELECT a FROM t;")), refused BadToken 1) ∷
     ((codes "SET 'a' = 'b';" ++ (0 ∷ [])), refused BadToken 2) ∷
     ((codes "SET /* " ++ (255 ∷ codes " */ 'a' = 'b'; -- " ++ (195 ∷ []))), answered (Set (codes "a") (codes "b") ∷ [])) ∷
-    ((codes "SET 'a' = '" ++ (195 ∷ 169 ∷ codes "';")), answered (Set (codes "a") (195 ∷ 169 ∷ []) ∷ [])) ∷
-    []
+    ((codes "SET 'a' = '" ++ (195 ∷ 169 ∷ codes "';")), answered (Set (codes "a") (195 ∷ 169 ∷ []) ∷ [])) ∷ []

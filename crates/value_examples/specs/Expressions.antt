@@ -48,16 +48,11 @@ evaluated expr ty nullable value = record { expr = expr; ty = ty; nullable = nul
 
 abbrev pub spellings : List Spelling
 spellings =
-    spelling Int (codes "\\N") Null (codes "\\N") ∷
-    spelling Truths (codes "\\N") Null (codes "\\N") ∷
-    spelling Texts (codes "\\N") Null (codes "\\N") ∷
-    spelling Truths (codes "TRUE") (Truth true) (codes "TRUE") ∷
-    spelling Truths (codes "true") (Truth true) (codes "TRUE") ∷
-    spelling Truths (codes "FALSE") (Truth false) (codes "FALSE") ∷
-    spelling Truths (codes "false") (Truth false) (codes "FALSE") ∷
-    spelling Int (codes "0") (Num (pos 0)) (codes "0") ∷
-    spelling Int (codes "-0") (Num (pos 0)) (codes "0") ∷
-    spelling Int (codes "+7") (Num (pos 7)) (codes "7") ∷
+    spelling Int (codes "\\N") Null (codes "\\N") ∷ spelling Truths (codes "\\N") Null (codes "\\N") ∷
+    spelling Texts (codes "\\N") Null (codes "\\N") ∷ spelling Truths (codes "TRUE") (Truth true) (codes "TRUE") ∷
+    spelling Truths (codes "true") (Truth true) (codes "TRUE") ∷ spelling Truths (codes "FALSE") (Truth false) (codes "FALSE") ∷
+    spelling Truths (codes "false") (Truth false) (codes "FALSE") ∷ spelling Int (codes "0") (Num (pos 0)) (codes "0") ∷
+    spelling Int (codes "-0") (Num (pos 0)) (codes "0") ∷ spelling Int (codes "+7") (Num (pos 7)) (codes "7") ∷
     spelling Int (codes "-007") (Num (negsuc 6)) (codes "-7") ∷
     spelling Int (codes "2147483647") (Num (pos 2147483647)) (codes "2147483647") ∷
     spelling Int (codes "-2147483648") (Num (negsuc 2147483647)) (codes "-2147483648") ∷
@@ -74,66 +69,37 @@ spellings =
     spelling (Decimal 38 0) (codes "-99999999999999999999999999999999999999") (Num (negsuc 99999999999999999999999999999999999998)) (codes "-99999999999999999999999999999999999999") ∷
     spelling (Decimal 38 38) (codes "0.1") (Num (pos 10000000000000000000000000000000000000)) (codes "0.10000000000000000000000000000000000000") ∷
     spelling (Decimal 38 38) (codes "-0.99999999999999999999999999999999999999") (Num (negsuc 99999999999999999999999999999999999998)) (codes "-0.99999999999999999999999999999999999999") ∷
-    spelling Texts [] (Text []) [] ∷
-    spelling Texts (codes " a,b ") (Text (codes " a,b ")) (codes " a,b ") ∷
-    spelling Texts (codes "\\\\N") (Text (codes "\\N")) (codes "\\\\N") ∷
-    spelling Texts (codes "\\\\") (Text (codes "\\")) (codes "\\\\") ∷
+    spelling Texts [] (Text []) [] ∷ spelling Texts (codes " a,b ") (Text (codes " a,b ")) (codes " a,b ") ∷
+    spelling Texts (codes "\\\\N") (Text (codes "\\N")) (codes "\\\\N") ∷ spelling Texts (codes "\\\\") (Text (codes "\\")) (codes "\\\\") ∷
     spelling Texts (codes "a\\N") (Text (codes "a\\N")) (codes "a\\N") ∷
     spelling Texts (codes "TRUE") (Text (codes "TRUE")) (codes "TRUE") ∷
     spelling Texts (195 ∷ 169 ∷ []) (Text (195 ∷ 169 ∷ [])) (195 ∷ 169 ∷ []) ∷ []
 
 abbrev pub misspellings : List Misspelling
 misspellings =
-    misspelling Truths [] ∷
-    misspelling Truths (codes "True") ∷
-    misspelling Truths (codes "1") ∷
-    misspelling Truths (codes " TRUE") ∷
-    misspelling Int [] ∷
-    misspelling Int (codes "-") ∷
-    misspelling Int (codes "+") ∷
-    misspelling Int (codes "--1") ∷
-    misspelling Int (codes "+-1") ∷
-    misspelling Int (codes " 1") ∷
-    misspelling Int (codes "1 ") ∷
-    misspelling Int (codes "1.0") ∷
-    misspelling Int (codes "1e3") ∷
-    misspelling Int (codes "\\n") ∷
-    misspelling Int (codes "2147483648") ∷
-    misspelling Int (codes "-2147483649") ∷
-    misspelling BigInt (codes "9223372036854775808") ∷
-    misspelling BigInt (codes "-9223372036854775809") ∷
-    misspelling BigInt (codes "340282366920938463463374607431768211457") ∷
-    misspelling (Decimal 10 2) (codes "1.") ∷
-    misspelling (Decimal 10 2) (codes ".5") ∷
-    misspelling (Decimal 10 2) (codes "1.234") ∷
-    misspelling (Decimal 10 2) (codes "1.2.3") ∷
-    misspelling (Decimal 10 2) (codes "1.-5") ∷
-    misspelling (Decimal 10 2) (codes "100000000.00") ∷
-    misspelling (Decimal 38 0) (codes "100000000000000000000000000000000000000") ∷
-    misspelling (Decimal 38 0) (codes "1.0") ∷
-    misspelling (Decimal 38 38) (codes "1") ∷
-    misspelling Texts (codes "\\") ∷
-    misspelling Texts (codes "\\x") ∷
-    misspelling Texts (codes "\\N ") ∷
+    misspelling Truths [] ∷ misspelling Truths (codes "True") ∷ misspelling Truths (codes "1") ∷ misspelling Truths (codes " TRUE") ∷
+    misspelling Int [] ∷ misspelling Int (codes "-") ∷ misspelling Int (codes "+") ∷ misspelling Int (codes "--1") ∷
+    misspelling Int (codes "+-1") ∷ misspelling Int (codes " 1") ∷ misspelling Int (codes "1 ") ∷ misspelling Int (codes "1.0") ∷
+    misspelling Int (codes "1e3") ∷ misspelling Int (codes "\\n") ∷ misspelling Int (codes "2147483648") ∷
+    misspelling Int (codes "-2147483649") ∷ misspelling BigInt (codes "9223372036854775808") ∷
+    misspelling BigInt (codes "-9223372036854775809") ∷ misspelling BigInt (codes "340282366920938463463374607431768211457") ∷
+    misspelling (Decimal 10 2) (codes "1.") ∷ misspelling (Decimal 10 2) (codes ".5") ∷ misspelling (Decimal 10 2) (codes "1.234") ∷
+    misspelling (Decimal 10 2) (codes "1.2.3") ∷ misspelling (Decimal 10 2) (codes "1.-5") ∷
+    misspelling (Decimal 10 2) (codes "100000000.00") ∷ misspelling (Decimal 38 0) (codes "100000000000000000000000000000000000000") ∷
+    misspelling (Decimal 38 0) (codes "1.0") ∷ misspelling (Decimal 38 38) (codes "1") ∷ misspelling Texts (codes "\\") ∷
+    misspelling Texts (codes "\\x") ∷ misspelling Texts (codes "\\N ") ∷
     misspelling Texts (255 ∷ []) ∷ []
 
 abbrev pub rescalings : List Rescaled
 rescalings =
-    rescaled (pos 5) 0 0 (Some (pos 5)) ∷
-    rescaled (negsuc 4) 0 2 (Some (negsuc 499)) ∷
+    rescaled (pos 5) 0 0 (Some (pos 5)) ∷ rescaled (negsuc 4) 0 2 (Some (negsuc 499)) ∷
     rescaled (pos 99999999999999999999999999999999999999) 0 0 (Some (pos 99999999999999999999999999999999999999)) ∷
-    rescaled (pos 100000000000000000000000000000000000000) 0 0 None ∷
-    rescaled (pos 99999999999999999999999999999999999999) 0 1 None ∷
+    rescaled (pos 100000000000000000000000000000000000000) 0 0 None ∷ rescaled (pos 99999999999999999999999999999999999999) 0 1 None ∷
     rescaled (negsuc 99999999999999999999999999999999999998) 1 2 None ∷
-    rescaled (pos 9) 0 37 (Some (pos 90000000000000000000000000000000000000)) ∷
-    rescaled (pos 10) 0 37 None ∷
-    rescaled (pos 170141183460469231731687303715884105727) 0 38 None ∷
-    rescaled (pos 0) 0 38 (Some (pos 0)) ∷
-    rescaled (pos 25) 1 0 (Some (pos 3)) ∷
-    rescaled (negsuc 24) 1 0 (Some (negsuc 2)) ∷
-    rescaled (pos 24) 1 0 (Some (pos 2)) ∷
-    rescaled (negsuc 148) 2 0 (Some (negsuc 0)) ∷
-    rescaled (pos 99999999999999999999999999999999999999) 38 0 (Some (pos 1)) ∷
+    rescaled (pos 9) 0 37 (Some (pos 90000000000000000000000000000000000000)) ∷ rescaled (pos 10) 0 37 None ∷
+    rescaled (pos 170141183460469231731687303715884105727) 0 38 None ∷ rescaled (pos 0) 0 38 (Some (pos 0)) ∷
+    rescaled (pos 25) 1 0 (Some (pos 3)) ∷ rescaled (negsuc 24) 1 0 (Some (negsuc 2)) ∷ rescaled (pos 24) 1 0 (Some (pos 2)) ∷
+    rescaled (negsuc 148) 2 0 (Some (negsuc 0)) ∷ rescaled (pos 99999999999999999999999999999999999999) 38 0 (Some (pos 1)) ∷
     rescaled (negsuc 170141183460469231731687303715884105727) 38 0 (Some (negsuc 1)) ∷ []
 
 -- arithmetic, comparison, NULLIF, `||` and LIKE
@@ -268,25 +234,12 @@ others =
 -- expressions without a type
 abbrev pub untyped : List Expr
 untyped =
-    And (exprs []) ∷
-    Coalesce (exprs []) ∷
-    Case (whens []) no_expr ∷
-    InList (Literal Null Int) (exprs []) ∷
-    Column 0 Int ∷
-    Literal (Truth true) Int ∷
-    Literal (Num (pos 2147483648)) Int ∷
-    Literal Null (Decimal 39 0) ∷
-    Literal Null (Decimal 0 0) ∷
-    Literal Null (Decimal 5 6) ∷
-    Neg (Literal (Truth true) Truths) ∷
-    Arith Mul (Literal Null (Decimal 38 20)) (Literal Null (Decimal 38 19)) ∷
-    Arith Add (Literal Null Texts) (Literal Null Int) ∷
-    Compare Eq (Literal Null Texts) (Literal Null Int) ∷
-    Not (Literal (Num (pos 1)) Int) ∷
-    Coalesce (exprs (Literal Null (Decimal 9 2) ∷ Literal Null (Decimal 9 3) ∷ [])) ∷
-    Cast (Literal (Truth true) Truths) Int ∷
-    Cast (Literal Null Texts) Int ∷
-    Concat (Literal Null Texts) (Literal Null Int) ∷
-    Like (Literal Null Int) (Literal Null Texts) ∷
+    And (exprs []) ∷ Coalesce (exprs []) ∷ Case (whens []) no_expr ∷ InList (Literal Null Int) (exprs []) ∷ Column 0 Int ∷
+    Literal (Truth true) Int ∷ Literal (Num (pos 2147483648)) Int ∷ Literal Null (Decimal 39 0) ∷ Literal Null (Decimal 0 0) ∷
+    Literal Null (Decimal 5 6) ∷ Neg (Literal (Truth true) Truths) ∷
+    Arith Mul (Literal Null (Decimal 38 20)) (Literal Null (Decimal 38 19)) ∷ Arith Add (Literal Null Texts) (Literal Null Int) ∷
+    Compare Eq (Literal Null Texts) (Literal Null Int) ∷ Not (Literal (Num (pos 1)) Int) ∷
+    Coalesce (exprs (Literal Null (Decimal 9 2) ∷ Literal Null (Decimal 9 3) ∷ [])) ∷ Cast (Literal (Truth true) Truths) Int ∷
+    Cast (Literal Null Texts) Int ∷ Concat (Literal Null Texts) (Literal Null Int) ∷ Like (Literal Null Int) (Literal Null Texts) ∷
     CharLength (Literal Null Int) ∷
     NullIf (Literal Null Int) (Literal Null Truths) ∷ []
