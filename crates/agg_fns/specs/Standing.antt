@@ -5,11 +5,11 @@ use Rattle.std.specs.Ordering.{is_lt, is_gt}
 use Rattle.ct_value.specs.Order.{value_cmp}
 use Rattle.ct_value.specs.declared.ty.Ty.{Ty}
 use Rattle.ct_value.specs.declared.value.Value.{Value}
-use Rattle.ct_field.specs.Numbers.{in_range, has_38_digits}
+use Rattle.ct_field.specs.Numbers.{has_38_digits}
 use Rattle.ct_field.specs.Typed.{is_null}
 use Rattle.rel_algebra.specs.declared.agg.AggCall.{AggCall}
 use Rattle.rel_algebra.specs.declared.agg.AggCall.TheVariants.{CountAll, Count, CountDistinct, Sum, Min, Max, Avg}
-use Rattle.rel_algebra.specs.Aggregates.{Values, size, known, sum_of, sum_type}
+use Rattle.rel_algebra.specs.Aggregates.{Values, size, known, sum_of}
 use Rattle.rel_algebra.specs.Sums.{distinct}
 use Rattle.agg_fns.specs.declared.acc.Acc.{Acc}
 use Rattle.agg_fns.specs.declared.numbers.Numbers.{Numbers}

@@ -2,9 +2,8 @@ ghost use Rattle.std.specs.Prelude.{◌≡◌, ◌+◌, ◌<◌, ◌^◌, true, 
 ghost use Rattle.ct_value.specs.Bag as bag;
 ghost use Rattle.ct_value.specs.declared.value.Value.{Value};
 ghost use Rattle.ct_value.specs.declared.ty.Ty.{Ty};
-ghost use Rattle.ct_field.specs.Typed.{is_null};
 ghost use Rattle.rel_algebra.specs.declared.agg.AggCall.{AggCall};
-ghost use Rattle.rel_algebra.specs.Aggregates.{Values, size, known, agg_value, sum_fits};
+ghost use Rattle.rel_algebra.specs.Aggregates.{Values, size, agg_value, sum_fits};
 ghost use Rattle.agg_fns.specs.Standing.{StandsFor, retracts};
 ghost use Rattle.agg_fns.specs.declared.acc.AccFault.TheVariants.{Out};
 

@@ -4,7 +4,7 @@ ghost use Rattle.ct_value.specs.Bag as bag;
 ghost use Rattle.ct_value.specs.declared.value.Value.{Value};
 ghost use Rattle.ct_value.specs.declared.value.Value.TheVariants.{Null};
 ghost use Rattle.ct_field.specs.Typed.{is_null};
-ghost use Rattle.rel_algebra.specs.Aggregates.{Values, size, known};
+ghost use Rattle.rel_algebra.specs.Aggregates.{Values, size};
 ghost use Rattle.agg_fns.specs.Standing.{first_item, last_item, is_below, is_above, gained, lost};
 
 use crate::value_bag::ValueBag;

@@ -1,5 +1,5 @@
 -- What is made key by key, over the entries of an index.
-use Rattle.std.proofs.Common.{◌≡◌, ℕ, zero, suc, ◌+◌, ◌*◌, ◌<◌, ◌==◌, Bool, true, false, cond, List, [], ◌∷◌, ◌++◌, map, take, length, Option, Some, None, refl, sym, ap, ◌∙◌, subst, arith}
+use Rattle.std.proofs.Common.{◌≡◌, ℕ, zero, suc, ◌+◌, ◌*◌, ◌<◌, ◌==◌, Bool, true, false, cond, List, [], ◌∷◌, ◌++◌, take, Option, Some, None, refl, sym, ap, ◌∙◌, subst, arith}
 use Rattle.std.specs.Prelude.{option_map}
 use Rattle.std.specs.List.{AllByRecursion, slice_get}
 use Rattle.std.specs.Ordering.{eq_by_cmp, is_eq}
@@ -9,17 +9,17 @@ use Rattle.std.specs.Map.{lookup, keys_of}
 use Rattle.std.specs.Cmp.{Equal-is, tied_itself}
 use Rattle.std.proofs.lemmas.Map.Keys.{IsDistinct-from_sorted}
 use Rattle.std.proofs.lemmas.Map.Entries.{btree_map_get_place}
-use Rattle.ct_value.specs.Bag.{Bag, none, add_many, bag_of_counts, copies, one_at}
+use Rattle.ct_value.specs.Bag.{none, bag_of_counts, copies, one_at}
 use Rattle.ct_value.proofs.laws.Bags.{copies-none, copies-bag_of_counts, same_bag, one_at_itself}
 use Rattle.ct_value.specs.Order.{row_cmp, row_total, row_exact}
 use Rattle.ct_value.specs.declared.row.Row.{Row}
 use Rattle.ct_change.specs.Changelog.{Rows, same_row}
-use Rattle.rel_algebra.specs.Sums.{one, mapped, distinct, sum_over}
+use Rattle.rel_algebra.specs.Sums.{one, mapped, sum_over}
 use Rattle.rel_algebra.specs.Groups.{group_rows}
-use Rattle.rel_algebra.specs.Keys.{rows_of_key, keys_in, by_key}
+use Rattle.rel_algebra.specs.Keys.{rows_of_key, keys_in}
 use Rattle.rel_algebra.proofs.laws.Bags.{copies-restrict, copies-distinct}
 use Rattle.rel_algebra.proofs.laws.Keys.{key_there, there_key, rows_of_key-all}
-use Rattle.batch_answer.specs.Tallies.{AreCounted, OfRows}
+use Rattle.batch_answer.specs.Tallies.{OfRows}
 use Rattle.batch_answer.specs.Indexes.{Index, found_at, IsFilled, IsIndex}
 use Rattle.batch_answer.proofs.Sums.{copies-many}
 use Rattle.batch_answer.proofs.Indexes.{each-lookup}

@@ -1,12 +1,12 @@
 -- What is made of rows with counts, entry by entry.
 use Rattle.std.proofs.Common.{◌≡◌, ℕ, zero, suc, ◌+◌, ◌*◌, ◌<◌, ◌≤◌, ◌^◌, List, [], ◌∷◌, Option, Some, None, refl, sym, ap, ◌∙◌, subst, arith}
-use Rattle.ct_value.specs.Bag.{Bag, none, add, add_many, bag_of_counts, copies, one_at}
-use Rattle.ct_value.proofs.laws.Bags.{copies-add, copies-occurs, one_at_itself, total-add_many}
+use Rattle.ct_value.specs.Bag.{none, add, add_many, bag_of_counts, copies, one_at}
+use Rattle.ct_value.proofs.laws.Bags.{copies-occurs, one_at_itself, total-add_many}
 use Rattle.ct_value.specs.Order.{row_cmp, row_total, row_exact}
 use Rattle.ct_value.specs.declared.row.Row.{Row}
 use Rattle.ct_change.specs.Changelog.{Rows}
 use Rattle.rel_algebra.specs.Sums.{one, together, plus, sum_over}
-use Rattle.rel_algebra.proofs.laws.Bags.{together-none, together-comm, together-add, copies-together, plus-none, plus-assoc, plus-one, plus-out, plus-none-right, plus-comm, sum_over-none, sum_over-add}
+use Rattle.rel_algebra.proofs.laws.Bags.{together-none, together-comm, together-add, copies-together, plus-none, plus-assoc, plus-one, plus-comm, sum_over-none, sum_over-add}
 use Rattle.batch_answer.specs.Tallies.{Unfit, OfRows, times, over}
 
 sum_over-many : (f : OfRows) (rows : Rows) (row : Row) (n : ℕ) → sum_over f (add_many rows row n) ≡ plus (times n (f row)) (sum_over f rows)

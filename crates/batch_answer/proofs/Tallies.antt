@@ -1,19 +1,17 @@
 -- Counts after one is written.
-use Rattle.std.proofs.Common.{◌≡◌, ℕ, ◌+◌, ◌*◌, ◌<◌, ◌≤◌, ◌^◌, true, false, cond, List, [], ◌∷◌, Option, Some, refl, sym, ap, ◌∙◌, arith}
-use Rattle.std.specs.List.{AllByRecursion, list_any}
+use Rattle.std.proofs.Common.{◌≡◌, ℕ, ◌+◌, ◌*◌, ◌<◌, ◌≤◌, ◌^◌, true, false, cond, List, [], ◌∷◌, Some, refl, sym, ap, ◌∙◌, arith}
 use Rattle.std.specs.Ordering.{eq_by_cmp, match_ordering}
-use Rattle.std.specs.declared.cmp.Ordering.{Ordering}
 use Rattle.std.specs.declared.cmp.Ordering.TheVariants.{Less, Equal, Greater}
 use Rattle.std.specs.Option.{unwrap_or}
 use Rattle.std.specs.BTreeMap.{BTreeMap, IsOrdered, get, keys, insert_entry}
 use Rattle.std.specs.Cmp.{eq_by_cmp_equiv, Equal-is}
 use Rattle.std.proofs.lemmas.Map.Keys.{IsDistinct-from_sorted}
 use Rattle.ct_value.specs.Order.{row_cmp, row_total, row_exact}
-use Rattle.ct_value.specs.Bag.{Bag, copies, add_many, bag_of_counts, one_at}
+use Rattle.ct_value.specs.Bag.{copies, add_many, bag_of_counts, one_at}
 use Rattle.ct_value.proofs.laws.Bags.{copies-bag_of_counts, same_bag}
 use Rattle.ct_value.specs.declared.row.Row.{Row}
 use Rattle.ct_change.specs.Changelog.{Rows}
-use Rattle.batch_answer.specs.Tallies.{AreCounted, IsTally, count_at}
+use Rattle.batch_answer.specs.Tallies.{AreCounted, count_at}
 use Rattle.batch_answer.proofs.Sums.{copies-many}
 
 abbrev pub bag_in : BTreeMap Row ℕ → Rows

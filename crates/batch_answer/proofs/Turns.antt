@@ -1,14 +1,14 @@
 -- One turn of a loop over rows with counts: a condition, the items' values, the rows of another input.
-use Rattle.std.proofs.Common.{◌≡◌, ℕ, ◌+◌, ◌<◌, ◌≤◌, ◌^◌, Bool, true, false, cond, List, [], ◌∷◌, map, Option, Some, None, refl, sym, ap, ◌∙◌, subst, arith}
+use Rattle.std.proofs.Common.{◌≡◌, ℕ, ◌+◌, ◌<◌, ◌≤◌, ◌^◌, Bool, true, false, cond, List, [], ◌∷◌, Option, Some, None, refl, sym, ap, ◌∙◌, subst, arith}
 use Rattle.std.specs.Prelude.{option_map}
-use Rattle.ct_value.specs.Bag.{Bag, none, add_many, bag_of_counts, copies}
-use Rattle.ct_value.specs.Order.{row_cmp, row_total, row_exact}
+use Rattle.ct_value.specs.Bag.{none, add_many, bag_of_counts, copies}
+use Rattle.ct_value.specs.Order.{row_total, row_exact}
 use Rattle.ct_value.specs.declared.row.Row.{Row}
 use Rattle.ct_change.specs.Changelog.{Rows}
 use Rattle.rel_algebra.specs.Sums.{one, kept, together, plus, sum_over}
-use Rattle.rel_algebra.specs.Clauses.{Meaning, rows_where, row_of}
+use Rattle.rel_algebra.specs.Clauses.{Meaning, row_of}
 use Rattle.rel_algebra.proofs.laws.Bags.{plus-none-right, plus-none, together-none, together-comm, together-assoc}
-use Rattle.batch_answer.specs.Tallies.{Unfit, AreCounted, OfRows, over}
+use Rattle.batch_answer.specs.Tallies.{Unfit, OfRows, over}
 use Rattle.batch_answer.proofs.Sums.{over-none, with_row, with_nothing, out_of_range, unfit-none, unfit-same, unfit-plus, unfit-many, together-many}
 
 -- what was made so far, and what the entries left make

@@ -2,7 +2,7 @@
 ghost use Rattle.bind_names.specs.declared.fault.BindFault.TheVariants as f;
 ghost use Rattle.std.specs.Prelude.{◌≡◌, ◌+◌, Some, option_map, IfOk, IsErrOf};
 ghost use Rattle.ct_value.specs.declared.codes.ScriptCode.{ScriptCode};
-ghost use Rattle.sql_syntax.specs.View.{view, trees_view};
+ghost use Rattle.sql_syntax.specs.View.{view};
 ghost use Rattle.query_answer.specs.Names.{find};
 ghost use Rattle.query_answer.specs.Shapes.{Shape, shape, column_shape};
 ghost use Rattle.binding.specs.InGroups as g;

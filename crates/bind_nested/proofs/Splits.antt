@@ -1,12 +1,10 @@
 -- Conjuncts by what they are, one after the other.
-use Rattle.std.proofs.Common.{◌≡◌, suc, ◌==◌, true, false, List, [], ◌∷◌, ◌++◌, Option, Some, None, length, refl, sym, ap, ◌∙◌, append_assoc, arith}
+use Rattle.std.proofs.Common.{◌≡◌, suc, ◌==◌, true, false, List, [], ◌∷◌, ◌++◌, Some, None, length, refl, sym, ap, ◌∙◌, append_assoc, arith}
 use Rattle.std.proofs.lemmas.Bool.Decides.{nat_tests}
-use Rattle.rel_algebra.specs.declared.join.Pair.{Pair}
 use Rattle.rel_algebra.specs.Rel.{Rel}
 use Rattle.rel_algebra.specs.Rel as r
-use Rattle.query_answer.specs.Joins.{with_pair}
 use Rattle.binding.specs.Nodes.{Bound}
-use Rattle.binding.specs.Queries.{Part, Own, Linked, Matched, all_if, all_matched, all_of, links, owns, rests, unless_link, where_all}
+use Rattle.binding.specs.Queries.{Part, Own, Linked, Matched, all_if, all_matched, all_of, links, owns, rests, where_all}
 use Rattle.bind_nodes.specs.declared.bound.Bound.{Bound as Made}
 use Rattle.bind_nodes.specs.Views.{bounds_view}
 use Rattle.bind_nested.specs.Splits.{subqueries}

@@ -4,7 +4,7 @@ ghost use Rattle.std.specs.Prelude.{◌≡◌, ◌++◌, ◌∷◌, [], Ok, Err,
 ghost use Rattle.ct_value.specs.declared.codes.ScriptCode.{ScriptCode};
 ghost use Rattle.rel_algebra.specs.Rel as r;
 ghost use Rattle.rel_algebra.specs.View.{rel_view};
-ghost use Rattle.rel_algebra.specs.Ranks.{rank_column, rank_columns};
+ghost use Rattle.rel_algebra.specs.Ranks.{rank_columns};
 ghost use Rattle.query_answer.specs.Answer.{types};
 ghost use Rattle.query_answer.specs.Ranks.{with_rank};
 ghost use Rattle.binding.specs.Queries as q;

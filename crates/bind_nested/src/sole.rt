@@ -5,7 +5,6 @@ ghost use Rattle.ct_value.specs.declared.codes.ScriptCode.{ScriptCode};
 ghost use Rattle.sql_syntax.specs.View.{select_view};
 ghost use Rattle.query_answer.specs.Answer as a;
 ghost use Rattle.binding.specs.Queries as q;
-ghost use Rattle.bind_clauses.specs.Views.{relation_view};
 ghost use Rattle.bind_forms.specs.Views.{conjunct_view, top_view};
 ghost use Rattle.bind_nested.specs.RankViews.{framed_view, list_view};
 

@@ -14,7 +14,7 @@ use Rattle.bind_nodes.specs.declared.bound.Bound.{Bound}
 use Rattle.bind_nodes.specs.declared.cases.Branch.{Branch}
 use Rattle.bind_nodes.specs.declared.cases.Choice.{Choice}
 use Rattle.bind_nodes.specs.Cases.{with_known}
-use Rattle.bind_nodes.specs.Views.{bound_view, bounds_view, branch_view, branches_view, choices_view}
+use Rattle.bind_nodes.specs.Views.{bound_view, bounds_view, branches_view, choices_view}
 
 gather_none : {A B : Type 0} (f : A → B → Option A) (os : List (Option B)) → gather f None os ≡ None
 gather_none f [] = refl

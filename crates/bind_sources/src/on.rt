@@ -10,7 +10,6 @@ ghost use Rattle.query_answer.specs.Joins as j;
 ghost use Rattle.binding.specs.Queries as b;
 ghost use Rattle.bind_nodes.specs.Views.{bounds_view};
 ghost use Rattle.bind_clauses.specs.Views.{relation_view};
-ghost use Rattle.bind_sources.specs.Columns as c;
 ghost use Rattle.bind_sources.specs.Splits.{accepted, accepted_tests, rest_if, tests};
 
 use crate::sides::{columns, share_source};

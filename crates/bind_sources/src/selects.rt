@@ -4,10 +4,9 @@ ghost use Rattle.std.specs.Prelude.{◌≡◌, ◌+◌, Ok, Err, length, map, op
 ghost use Rattle.ct_value.specs.declared.codes.ScriptCode.{ScriptCode};
 ghost use Rattle.sql_syntax.specs.Tree.{optional_tree};
 ghost use Rattle.sql_syntax.specs.View.{view, trees_view};
-ghost use Rattle.binding.specs.InGroups.{bound_arguments, bound_filters};
 ghost use Rattle.binding.specs.Queries as q;
 ghost use Rattle.bind_names.specs.Calls.{call_view};
-ghost use Rattle.bind_nodes.specs.Views.{bound_view, bounds_view};
+ghost use Rattle.bind_nodes.specs.Views.{bounds_view};
 ghost use Rattle.bind_clauses.specs.Views.{relation_view};
 ghost use Rattle.bind_names.specs.Entries.{entries_view};
 ghost use Rattle.bind_sources.specs.Lists.{made_of};

@@ -2,7 +2,7 @@
 ghost use Rattle.bind_names.specs.declared.fault.BindFault.TheVariants as f;
 ghost use Rattle.std.specs.Prelude.{◌≡◌, [], ◌∷◌, ◌++◌, Ok, Err, OnOk, IsErrOf};
 ghost use Rattle.ct_value.specs.declared.codes.ScriptCode.{ScriptCode};
-ghost use Rattle.sql_syntax.specs.View.{view, trees_view};
+ghost use Rattle.sql_syntax.specs.View.{view};
 ghost use Rattle.query_answer.specs.Answer.{conjuncts};
 ghost use Rattle.bind_nodes.specs.Views.{bounds_view};
 ghost use Rattle.bind_sources.specs.Splits.{behind, conjuncts_of, pairs_in, rest_in};

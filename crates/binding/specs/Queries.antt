@@ -20,7 +20,7 @@ use Rattle.rel_algebra.specs.Types.{common_columns, is_boolean}
 use Rattle.sql_syntax.specs.Tree.{Tree, Text}
 use Rattle.sql_syntax.specs.Tree as t
 use Rattle.query_answer.specs.declared.scope.Found.{Found}
-use Rattle.query_answer.specs.declared.scope.Found.TheVariants.{Absent, At, Several}
+use Rattle.query_answer.specs.declared.scope.Found.TheVariants.{At}
 use Rattle.query_answer.specs.Calls.{Call}
 use Rattle.query_answer.specs.Forms.{is_simple}
 use Rattle.query_answer.specs.Joins.{kind_of, plain_column, pair_found, pair_of, with_pair, pairs_of, rest_of, join_scope}

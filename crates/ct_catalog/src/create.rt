@@ -1,7 +1,7 @@
 //! What CREATE TABLE declares, and what it is refused as.
 ghost use Rattle.std.specs.Prelude.{◌≡◌, ◌≤◌, ◌∷◌, ◌++◌, [], length, option_map, option_to_list, slice_get, unwrap_or, OnOk, IfOk};
 ghost use Rattle.std.specs.List.{list_all};
-ghost use Rattle.ct_catalog.specs.Tables.{has_name, repeats, column_names, has_types, keys, columns, places, mode_of, mode_words, last_mode, declared_mode, has_unknown_mode, is_upsert, is_bad_key, lacks_key, has_table, create_refusal, table_of};
+ghost use Rattle.ct_catalog.specs.Tables.{has_name, repeats, column_names, has_types, keys, columns, places, mode_of, last_mode, declared_mode, has_unknown_mode, is_upsert, is_bad_key, lacks_key, has_table, create_refusal, table_of};
 
 use crate::types::type_of;
 use crate::{ColDef, ColDefs, TableDef};

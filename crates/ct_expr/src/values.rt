@@ -4,7 +4,7 @@ ghost use Rattle.std.specs.Str.{chars};
 ghost use Rattle.ct_field.specs.Numbers.{has_38_digits};
 ghost use Rattle.std.specs.Ordering.{int_cmp};
 ghost use Rattle.ct_expr.specs.Types.{scale, is_null};
-ghost use Rattle.ct_expr.specs.Values.{and_of, or_of, not_of, is_true, ranged, minus_of, arith_of, numbers_arith, holds, number_cmp, compare_of, null_if_of, concat_of, char_length_of, truncated};
+ghost use Rattle.ct_expr.specs.Values.{and_of, or_of, not_of, is_true, ranged, minus_of, arith_of, numbers_arith, holds, number_cmp, compare_of, concat_of, char_length_of, truncated};
 
 use crate::ArithOp;
 use crate::types::{arith_ty, scale};

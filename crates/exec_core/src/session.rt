@@ -4,7 +4,7 @@ ghost use Rattle.ct_catalog.specs.Columns.{table_mode};
 ghost use Rattle.plan_rules.specs.Doings.{network};
 ghost use Rattle.sound_plans.specs.Sound.{IsRuled};
 ghost use Rattle.stream_model.specs.Machine as machine;
-ghost use Rattle.stream_model.specs.Machine.{IsQuiet, State, opened};
+ghost use Rattle.stream_model.specs.Machine.{IsQuiet, opened};
 ghost use Rattle.stream_model.specs.Drain.{StopsBy};
 ghost use Rattle.session_core.specs.Kept.{in_flight};
 ghost use Rattle.session_core.specs.Stands.{HasAnswered, buffer_at};

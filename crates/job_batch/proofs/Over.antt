@@ -1,6 +1,5 @@
 -- The batch answer over the rows of the sources.
 use Rattle.std.proofs.Common.{◌≡◌, ◌⊎◌, inl, inr, ℕ, Bool, true, false, List, [], ◌∷◌, ◌++◌, map, length, Option, Some, None, Result, Ok, Err, IfOk, refl, sym, ap, subst, ◌∙◌}
-use Rattle.std.specs.List.{AllByRecursion}
 use Rattle.ct_value.specs.Bag.{none}
 use Rattle.ct_value.specs.declared.ty.ColTy.{ColTy}
 use Rattle.ct_value.specs.declared.ty.Ty.{Ty}
@@ -17,18 +16,18 @@ use Rattle.query_answer.specs.Answer.{TableRows, types}
 use Rattle.query_answer.specs.Answer as query
 use Rattle.query_laws.specs.Statement.{HaveWidths, declared, filled, tables_of}
 use Rattle.query_laws.proofs.laws.Widths.{typed_are_wide}
-use Rattle.binding.specs.Inserts.{Inserted, insert_bound}
+use Rattle.binding.specs.Inserts.{insert_bound}
 use Rattle.rel_algebra.specs.GoesInto.{go_into}
 use Rattle.ct_catalog.specs.Columns.{column_types}
 use Rattle.batch_answer.specs.Tables.{IsOut, IsTypedOver}
 use Rattle.source_lines.specs.Fitting.{RowsFit}
 use Rattle.job_ending.specs.declared.ending.Ending.TheVariants.{Range}
-use Rattle.job_ending.specs.Outcome.{Outcome, ends}
+use Rattle.job_ending.specs.Outcome.{ends}
 use Rattle.job_judgement.specs.Judged.{IsBound}
 use Rattle.job_judgement.specs.Judgement.{Accepted}
 use Rattle.job_batch.specs.Batch.{answered, done, over_tables, sink_types, with_rows}
 use Rattle.job_batch.specs.Runs.{AreWide}
-use Rattle.job_batch.proofs.Tables.{declared_rows, same_tables, typed_sources, typed_with, types_of_rows}
+use Rattle.job_batch.proofs.Tables.{declared_rows, typed_sources, typed_with, types_of_rows}
 use Rattle.job_batch.proofs.Widths.{rows_wide}
 
 -- what holds of a result holds of what it is

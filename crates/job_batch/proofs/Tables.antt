@@ -1,17 +1,14 @@
 -- Sources with the rows that lines leave in them.
 use Rattle.std.proofs.Common.{◌≡◌, ℕ, suc, List, [], ◌∷◌, ◌++◌, map, length, refl, sym, ap, subst, ◌∙◌}
-use Rattle.std.specs.List.{AllByRecursion}
 use Rattle.ct_value.specs.Bag.{none}
 use Rattle.ct_value.specs.Order.{row_total, row_exact}
 use Rattle.ct_value.specs.declared.ty.ColTy.{ColTy}
 use Rattle.ct_change.specs.Changelog.{Rows}
 use Rattle.ct_catalog.specs.declared.table.TableDef.{TableDef}
 use Rattle.rel_algebra.specs.Clauses.{Fits}
-use Rattle.rel_algebra.specs.Sums.{Each}
 use Rattle.rel_algebra.proofs.laws.Bags.{each-none}
 use Rattle.rel_algebra.specs.Answer.{AreTyped, Table, types_in}
 use Rattle.ct_catalog.specs.Columns.{column_types}
-use Rattle.query_answer.specs.Answer.{TableRows}
 use Rattle.query_laws.specs.Statement.{declared, filled, tables_of}
 use Rattle.batch_answer.specs.Tables as batch
 use Rattle.source_lines.specs.Fitting.{RowsFit}

@@ -5,7 +5,6 @@ use Rattle.ct_value.specs.Bag.{items}
 use Rattle.ct_value.specs.declared.codes.ScriptCode.TheVariants.{SinkShape, UnknownTable}
 use Rattle.ct_value.specs.declared.row.Row.{Row}
 use Rattle.ct_value.specs.declared.ty.ColTy.{ColTy}
-use Rattle.ct_value.specs.declared.ty.Ty.{Ty}
 use Rattle.ct_value.specs.declared.value.Value.{Value}
 use Rattle.ct_field.specs.Numbers.{is_type}
 use Rattle.ct_field.specs.Typed.{col_fits, row_fits}

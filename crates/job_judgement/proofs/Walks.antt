@@ -4,7 +4,7 @@ use Rattle.ct_value.specs.declared.codes.ScriptCode.{ScriptCode}
 use Rattle.ct_catalog.specs.declared.table.TableDef.{TableDef}
 use Rattle.rel_algebra.specs.Rel.{Rel}
 use Rattle.sql_syntax.specs.Tree.{Query, Text}
-use Rattle.binding.specs.Checked.{Checked, ◌>>=◌}
+use Rattle.binding.specs.Checked.{◌>>=◌}
 use Rattle.binding.specs.Inserts.{insert_bound}
 use Rattle.binder.specs.Bound.{Bound, names_bound}
 use Rattle.rewrite.specs.Rewritten.{inserted, rewritten}

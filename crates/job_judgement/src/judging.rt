@@ -1,5 +1,5 @@
 ghost use Rattle.std.specs.Prelude.{◌≡◌, ◌≤◌, Ok, length, IfOk, IfErr};
-ghost use Rattle.judge.specs.Judgement.{asked_view, insert_view};
+ghost use Rattle.judge.specs.Judgement.{asked_view};
 ghost use Rattle.sql_syntax.specs.View.{query_view, statement_view};
 ghost use Rattle.job_judgement.specs.Halts.{IsHalt};
 ghost use Rattle.job_judgement.specs.Judgement.{accepted_of, bound_insert, bound_query, judgement};

@@ -2,9 +2,8 @@
 use Rattle.std.specs.Prelude.{ℕ, List}
 use Rattle.std.proofs.Common.{◌≡◌, [], refl, subst}
 use Rattle.phys_plan.specs.declared.plan.Plan.{Plan}
-use Rattle.stream_model.specs.Machine.{State, opened}
+use Rattle.stream_model.specs.Machine.{State}
 use Rattle.stream_model.specs.Network.{Network}
-use Rattle.stream_model.specs.Runs.{after}
 use Rattle.stream_model.proofs.laws.Theorems.{runs_drain}
 use Rattle.plan_rules.specs.Doings.{network}
 use Rattle.job_text.specs.Lines.{records_of}

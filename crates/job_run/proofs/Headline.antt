@@ -1,7 +1,6 @@
 -- What a job has written, whatever its ending, and what one has written that ends well.
 use Rattle.std.proofs.Common.{◌≡◌, ◌≤◌, ◌<◌, ◌^◌, ◌++◌, ℕ, Bool, true, false, cond, List, [], ◌∷◌, length, Option, Some, None, Result, Ok, Err, inl, inr, refl, sym, ap, subst, ◌∙◌, arith, append_assoc, append-nil}
 use Rattle.std.specs.Prelude.{nat_le}
-use Rattle.std.specs.List.{AllByRecursion}
 use Rattle.std.proofs.lemmas.Bool.{leb-true}
 use Rattle.command_line.specs.Words.{FileNames, Request, run, batch, explain, request_of}
 use Rattle.ct_value.specs.Bag.{items}
@@ -38,7 +37,7 @@ use Rattle.stream_model.specs.Machine.{State}
 use Rattle.stream_model.specs.Runs.{changes_in}
 use Rattle.ct_catalog.specs.Columns.{table_mode, column_types}
 use Rattle.plan_rules.specs.Doings.{network}
-use Rattle.run_laws.specs.Headline.{AreAnswered, EndsQuiet, IsAnswered, RunsCarryAdmitted, RunsEndQuiet, RunsPrintAnswers, with_rows as rows_in}
+use Rattle.run_laws.specs.Headline.{AreAnswered, IsAnswered, RunsCarryAdmitted, RunsEndQuiet, RunsPrintAnswers, with_rows as rows_in}
 use Rattle.run_laws.specs.Rows.{RunsPrintRows, SinksFit, sent_columns}
 use Rattle.job_judgement.specs.Judged.{IsJudged}
 use Rattle.job_judgement.specs.Judgement.{Accepted, judgement}

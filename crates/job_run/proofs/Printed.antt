@@ -1,14 +1,14 @@
 -- What a run prints are items of its sink: the sink's columns are as wide as those that are sent, and no quiet moment has a number beyond the
 -- lines of the change file.
-use Rattle.std.specs.Prelude.{◌&&◌, ◌||◌, ◌+ℤ◌, ◌≤ℤ◌, ◌^◌, Bool, ℤ, int_le, int_lt, map, nat_le, nat_lt, neg_ℤ, pos, unsigned_abs}
-use Rattle.std.proofs.Common.{◌≡◌, ◌∙◌, ◌++◌, ◌<◌, ◌≤◌, ℕ, true, false, Option, List, [], ◌∷◌, length, refl, sym, ap, subst, arith, append_assoc, lit<}
+use Rattle.std.specs.Prelude.{◌&&◌, ◌||◌, ◌+ℤ◌, ◌≤ℤ◌, ◌^◌, Bool, ℤ, int_le, int_lt, map, nat_le, neg_ℤ, pos, unsigned_abs}
+use Rattle.std.proofs.Common.{◌≡◌, ◌∙◌, ◌++◌, ◌<◌, ◌≤◌, ℕ, true, false, Option, List, [], ◌∷◌, refl, sym, ap, subst, arith, append_assoc, lit<}
 use Rattle.std.specs.List.{AllByRecursion}
 use Rattle.std.proofs.lemmas.Bool.{leb-true, ltb-true, lt-ltb}
 use Rattle.std.proofs.lemmas.Int.{ints}
 use Rattle.std.proofs.Math.Nat.{pow-le-pow_right}
 use Rattle.ct_value.specs.declared.ty.ColTy.{ColTy}
 use Rattle.ct_value.specs.declared.ty.Ty.{Ty}
-use Rattle.ct_value.specs.declared.ty.Ty.TheVariants.{Bool as Truths, Int, BigInt, Decimal, Text as Texts}
+use Rattle.ct_value.specs.declared.ty.Ty.TheVariants.{Int, BigInt, Decimal}
 use Rattle.ct_value.specs.declared.value.Value.{Value}
 use Rattle.ct_value.specs.declared.value.Value.TheVariants.{Null, Bool as Truth, Num, Text}
 use Rattle.ct_field.specs.Numbers.{in_range}

@@ -1,5 +1,5 @@
 -- A first part of the lines of items is lines and a first part of one more.
-use Rattle.std.proofs.Common.{◌≡◌, ◌<◌, ◌⊎◌, ◌∙◌, ◌++◌, ℕ, Option, List, [], ◌∷◌, length, inl, inr, refl, sym, ap, arith, append_assoc, append-nil}
+use Rattle.std.proofs.Common.{◌≡◌, ◌<◌, ◌⊎◌, ◌∙◌, ◌++◌, ℕ, Option, List, [], ◌∷◌, length, inl, inr, refl, sym, ap, arith, append_assoc}
 use Rattle.ct_value.specs.declared.ty.Ty.{Ty}
 use Rattle.stream_model.specs.declared.events.PrintItem.{PrintItem}
 use Rattle.job_text.specs.Printed.{item_line, item_lines}

@@ -1,33 +1,28 @@
 -- What a job needs to end well, and which scripts never leave a type's range as they run.
-use Rattle.std.specs.Prelude.{◌≡◌, ℕ, false, Bool, List, Option, Some, None, Result, Ok}
+use Rattle.std.specs.Prelude.{◌≡◌, ℕ, false, List, Option, Some, None, Ok}
 use Rattle.command_line.specs.Words.{FileNames, Request, run, batch, explain, request_of}
-use Rattle.ct_io.specs.Holdings.{Holdings, Loaded, Whole, loaded}
+use Rattle.ct_io.specs.Holdings.{Holdings, Whole, loaded}
 use Rattle.ct_value.specs.declared.row.Row.{Row}
 use Rattle.ct_value.specs.declared.ty.ColTy.{ColTy}
 use Rattle.ct_change.specs.Changelog.{Rows}
 use Rattle.sql_syntax.specs.Tree.{Script}
 use Rattle.sql_grammar.specs.Scripts.{IsScript}
-use Rattle.judge.specs.Judgement.{Judged}
 use Rattle.rel_algebra.specs.Answer.{wide}
 use Rattle.query_laws.specs.Statement.{tables_of}
-use Rattle.source_lines.specs.Taken.{RefusedLine, Taken, rows_of, taken_of}
-use Rattle.job_ending.specs.declared.ending.Ending.TheVariants.{Done}
-use Rattle.job_ending.specs.declared.ending.LimitName.TheVariants.{Script as ScriptLimit, Changes as ChangesLimit}
-use Rattle.job_ending.specs.Outcome.{Outcome}
+use Rattle.source_lines.specs.Taken.{Taken, rows_of, taken_of}
 use Rattle.phys_plan.specs.declared.plan.Plan.{Plan}
 use Rattle.stream_model.specs.declared.events.PrintItem.{PrintItem}
 use Rattle.stream_model.specs.declared.events.StepFault.TheVariants.{Limit, Range}
 use Rattle.plan_rules.specs.Doings.{network}
-use Rattle.source_lines.specs.Run.{Ran, stopped, whole_run}
+use Rattle.source_lines.specs.Run.{stopped, whole_run}
 use Rattle.job_judgement.specs.Judgement.{Accepted, judgement}
 use Rattle.range_rules.specs.Arithmetic.{in_statements}
 use Rattle.job_batch.specs.Agree.{query_answer}
-use Rattle.job_batch.specs.Batch.{after_lines as batch_lines, answered, sink_types as answer_types, with_changes as batch_changes, with_rows}
-use Rattle.job_plan.specs.Shown.{shown}
+use Rattle.job_batch.specs.Batch.{with_rows}
 use Rattle.job_plan.specs.Planned.{planned, runnable}
-use Rattle.job_stream.specs.Stream.{most_sent, outcome_of, sink_types, streamed}
+use Rattle.job_stream.specs.Stream.{most_sent}
 use Rattle.job_run.specs.Held.{AreHeld}
-use Rattle.job_run.specs.Outcome.{script_limit, after_load, after_judgement, over_changes, with_script, run_script, batch_script, explain_script, with_request, outcome}
+use Rattle.job_run.specs.Outcome.{script_limit}
 
 -- nothing is refused: two files are held, each within its limit; the script is accepted and can be run; each line passes; and the machine's run
 -- of its plan over the lines is nowhere out of range, nor would it pass the limit on changes

@@ -5,7 +5,7 @@ ghost use Rattle.ct_value.specs.declared.codes.ChangeCode.TheVariants.{BadField}
 ghost use Rattle.job_text.specs.declared.line.LineFault.TheVariants.{Change as Refused};
 ghost use Rattle.ct_catalog.specs.Columns.{table_mode};
 ghost use Rattle.stream_model.specs.KeysTold.{told_key};
-ghost use Rattle.job_text.specs.Lines.{change_of, change_of_kind, is_field_count, key_cell, key_fields, key_told, key_values, kind_of, line_of, row_values, spelled, values_from};
+ghost use Rattle.job_text.specs.Lines.{change_of, is_field_count, key_cell, key_fields, key_told, key_values, kind_of, line_of, row_values, spelled, values_from};
 
 use crate::named::NamedSources;
 use csv::ByteRecord;

@@ -1,6 +1,5 @@
 ghost use Rattle.std.specs.Prelude.{◌≡◌, ◌∷◌, ◌≤◌, ◌<◌, ◌⊎◌, [], IfOk, OnErr, length, List, Some, None, Ok, Err, IsSome, ℕ};
 ghost use Rattle.std.specs.Bool.{MatchBool};
-ghost use Rattle.csv.specs.Reading.{has_failed};
 ghost use Rattle.csv.specs.Records.{fields_of};
 ghost use Rattle.job_text.specs.Lines.{Record, answer_of, line_of, records_of};
 ghost use Rattle.job_text.specs.Reading.{IsReading, Takes, left_in};

@@ -1,5 +1,5 @@
 -- The rows of a change's own group after the change: without what goes, and with what comes.
-use Rattle.std.proofs.Common.{◌≡◌, ℕ, ◌<◌, ◌≤◌, Bool, true, false, length, take, Option, Some, None, refl, sym, ap, subst, ◌∙◌}
+use Rattle.std.proofs.Common.{◌≡◌, ℕ, ◌<◌, ◌≤◌, true, false, length, take, Option, Some, None, refl, sym, ap, subst, ◌∙◌}
 use Rattle.ct_value.specs.Bag.{copies, add, remove}
 use Rattle.ct_value.proofs.laws.Bags.{add-remove, remove-add}
 use Rattle.ct_value.specs.Order.{row_total, row_exact}
@@ -7,7 +7,7 @@ use Rattle.ct_value.specs.declared.row.Row.{Row}
 use Rattle.ct_change.specs.declared.change.Change.{Change}
 use Rattle.ct_change.specs.declared.change.Diff.{Diff}
 use Rattle.ct_change.specs.Changelog.{Mode, append, retract, upsert, Rows, same_row, adds, apply, row_at, MayCome}
-use Rattle.ct_change.specs.Emission.{difference, as_it_is, put_in, put_over, replaced_by, row_of, replaced, Stands as GoneStands}
+use Rattle.ct_change.specs.Emission.{difference, row_of, replaced, Stands as GoneStands}
 use Rattle.ct_change.proofs.laws.Differences.{come-row, gone_as_it_is, gone_replaced_by}
 use Rattle.ct_change.proofs.laws.Folds.{settle-difference, gone_stands, row_at-key, row_at-stands}
 use Rattle.ct_change.proofs.laws.Meanings.{same_row-itself}

@@ -1,7 +1,7 @@
 -- Groups of no rows.
 use Rattle.std.proofs.Common.{◌≡◌, ℕ, ◌<◌, ◌≤◌, ◌==◌, ◌&&◌, ◌||◌, ◌++◌, Bool, true, false, cond, List, [], ◌∷◌, take, length, Option, Some, None, refl, sym, ap, subst, ◌∙◌, arith}
 use Rattle.std.specs.Prelude.{ℤ, pos, nat_le, not, option_map, is_some}
-use Rattle.std.specs.BTreeMap.{BTreeMap, IsOrdered, IsEmpty, is_at, get}
+use Rattle.std.specs.BTreeMap.{BTreeMap, IsOrdered, IsEmpty, is_at}
 use Rattle.std.specs.Map.{lookup}
 use Rattle.std.proofs.lemmas.Bool.{eq-eqb}
 use Rattle.ct_value.specs.Bag.{none}
@@ -14,20 +14,20 @@ use Rattle.ct_value.specs.declared.ty.ColTy.{ColTy}
 use Rattle.ct_field.specs.Numbers.{in_range as is_in_range, has_38_digits}
 use Rattle.ct_field.specs.Typed.{is_null, is_number}
 use Rattle.ct_change.specs.declared.change.Change.{Change}
-use Rattle.ct_change.specs.Changelog.{Mode, Rows, same_row}
+use Rattle.ct_change.specs.Changelog.{Mode, same_row}
 use Rattle.ct_change.specs.Emission.{emission}
 use Rattle.rel_algebra.specs.declared.agg.Agg.{Agg}
 use Rattle.rel_algebra.specs.declared.agg.AggCall.{AggCall}
 use Rattle.rel_algebra.specs.declared.agg.AggCall.TheVariants.{CountAll, Count, CountDistinct, Sum, Min, Max, Avg}
-use Rattle.rel_algebra.specs.Aggregates.{Values, known, sum_of, sum_type, values_of, type_in, ty_or_bigint, column_if, call_type, filter_fits, arg_fits, agg_type, column_before, agg_types, sum_fits}
+use Rattle.rel_algebra.specs.Aggregates.{known, sum_of, sum_type, values_of, type_in, ty_or_bigint, column_if, call_type, filter_fits, arg_fits, agg_type, column_before, agg_types, sum_fits}
 use Rattle.rel_algebra.proofs.laws.Aggregates.{sum_of-none}
 use Rattle.rel_algebra.proofs.laws.Bags.{restrict-none}
-use Rattle.emission_rules.specs.Grouping.{Grouping, members, row_count, is_shown, results, row_of as row_with, group_row, opening, sums_fit, is_counted, IsSound}
+use Rattle.emission_rules.specs.Grouping.{Grouping, members, row_count, is_shown, results, row_of as row_with, group_row, opening, sums_fit, IsSound}
 use Rattle.emission_rules.proofs.laws.Pieces.{counted_none}
 use Rattle.op_group.specs.declared.kept.Kept.{Kept}
 use Rattle.op_group.specs.declared.groups.GroupBy.{GroupBy}
 use Rattle.op_group.specs.Kept.{KeptAt, all_fit, row_in}
-use Rattle.op_group.specs.Groups.{AreKept, IsGrouped, grouping}
+use Rattle.op_group.specs.Groups.{IsGrouped, grouping}
 use Rattle.op_group.proofs.Shifts.{values-none}
 
 -- ---- sums of no values

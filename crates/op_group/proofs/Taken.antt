@@ -7,18 +7,16 @@ use Rattle.std.proofs.lemmas.Bool.{eqb-true, eq-eqb, false≢true}
 use Rattle.std.proofs.lemmas.List.{length-take-le}
 use Rattle.ct_value.specs.Bag.{copies}
 use Rattle.ct_value.proofs.laws.Bags.{total-le}
-use Rattle.ct_value.specs.Order.{row_cmp, row_total, row_exact}
+use Rattle.ct_value.specs.Order.{row_total}
 use Rattle.ct_value.specs.declared.row.Row.{Row}
-use Rattle.ct_value.specs.Rows.{project}
 use Rattle.ct_change.specs.declared.kind.Kind.TheVariants.{D}
 use Rattle.ct_change.specs.declared.change.Change.{Change}
 use Rattle.ct_change.specs.Changelog.{Mode, append, retract, upsert, Rows, same_row, adds, admits, kinds_of, apply, fold, MayCome}
 use Rattle.ct_change.specs.Emission.{difference, as_it_is, emission, row_of, replaced, CanTell}
 use Rattle.ct_change.proofs.laws.Folds.{fold-push, append_only, total-apply, weight-come}
 use Rattle.ct_change.proofs.laws.Meanings.{same_row-itself, same_row-true}
-use Rattle.rel_algebra.specs.declared.agg.Agg.{Agg}
 use Rattle.rel_algebra.specs.Aggregates.{agg_results}
-use Rattle.rel_algebra.specs.GroupedCounts.{in_group, in_it, group_size, AreWide}
+use Rattle.rel_algebra.specs.GroupedCounts.{in_group, in_it}
 use Rattle.op_rules.specs.History.{Arrival, arrival, at_port}
 use Rattle.op_rules.specs.Rules.{Answer, appended, MayArrive}
 use Rattle.op_rules.proofs.laws.Values.{types-length}

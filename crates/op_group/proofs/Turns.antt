@@ -1,5 +1,5 @@
 -- What is kept of all groups after one of them is taken out and put back.
-use Rattle.std.proofs.Common.{◌≡◌, ◌==◌, Bool, true, false, cond, Option, Some, None, refl, sym, ap, subst, ◌∙◌}
+use Rattle.std.proofs.Common.{◌≡◌, ◌==◌, true, false, cond, Option, Some, None, refl, sym, ap, subst, ◌∙◌}
 use Rattle.std.specs.BTreeMap.{BTreeMap, IsOrdered, get}
 use Rattle.std.proofs.lemmas.Bool.{eqb-true}
 use Rattle.ct_value.specs.Bag.{none}

@@ -1,14 +1,12 @@
 -- What is kept of all groups, and what a change of one of them makes of it.
-use Rattle.std.specs.Prelude.{◌≡◌, ◌≤◌, ◌<◌, ◌+◌, ◌^◌, ◌&&◌, ℕ, Bool, true, false, List, Option, Some, None, length}
+use Rattle.std.specs.Prelude.{◌≡◌, ◌≤◌, ◌<◌, ◌+◌, ◌^◌, ◌&&◌, ℕ, Bool, true, false, List, Option, Some, None}
 use Rattle.std.specs.BTreeMap.{BTreeMap, IsOrdered, get}
 use Rattle.ct_value.specs.Order.{row_cmp}
 use Rattle.ct_value.specs.declared.row.Row.{Row}
-use Rattle.ct_value.specs.declared.ty.ColTy.{ColTy}
 use Rattle.ct_change.specs.declared.kind.Kind.TheVariants.{D}
 use Rattle.ct_change.specs.declared.change.Change.{Change}
 use Rattle.ct_change.specs.Changelog.{Mode, Rows, same_row, admits, MayCome, HasKey}
 use Rattle.ct_change.specs.Emission.{replaced}
-use Rattle.rel_algebra.specs.declared.agg.Agg.{Agg}
 use Rattle.op_rules.specs.Values.{types_fit}
 use Rattle.rel_algebra.specs.GroupedCounts.{AreWide}
 use Rattle.emission_rules.specs.Grouping.{Grouping, members, row_count, sums_fit, is_counted, IsSound}

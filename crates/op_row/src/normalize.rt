@@ -1,5 +1,5 @@
 ghost use Rattle.std.specs.Prelude.{◌≡◌, [], ◌∷◌, false, IfOk};
-ghost use Rattle.ct_change.specs.Changelog.{Rows, upsert, adds, apply, MayCome, HasKey};
+ghost use Rattle.ct_change.specs.Changelog.{Rows, upsert, apply, MayCome, HasKey};
 ghost use Rattle.ct_change.specs.Emission.{emission, row_of, CanTell};
 ghost use Rattle.ct_change.specs.LastRows.{AreLast};
 ghost use Rattle.emission_rules.specs.Normalize.{normalized, TellsKey};

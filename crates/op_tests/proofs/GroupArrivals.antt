@@ -1,5 +1,5 @@
 -- What an operator of a group took, after one more change.
-use Rattle.std.proofs.Common.{◌≡◌, ℕ, ◌+◌, ◌<◌, ◌≤◌, ◌^◌, true, List, [], ◌∷◌, ◌++◌, length, refl, sym, ap, subst, ◌∙◌, arith}
+use Rattle.std.proofs.Common.{◌≡◌, ℕ, ◌+◌, ◌<◌, ◌≤◌, ◌^◌, true, List, [], ◌∷◌, ◌++◌, refl, sym, ap, subst, ◌∙◌, arith}
 use Rattle.std.proofs.lemmas.List.{length-append}
 use Rattle.ct_change.specs.declared.change.Change.{Change}
 use Rattle.ct_change.specs.Changelog.{Rows, retract, apply, fold, MayCome, HasKey}
@@ -10,8 +10,7 @@ use Rattle.op_rules.specs.Rules.{Rule, MayArrive}
 use Rattle.op_rules.specs.Values.{types_fit}
 use Rattle.op_rules.proofs.laws.Values.{types_of_row}
 use Rattle.op_rules.proofs.laws.Histories.{at_port-push}
-use Rattle.emission_rules.specs.Grouping.{Grouping, group_rule}
-use Rattle.op_tests.specs.GroupFed.{IsFed, IsOfRows}
+use Rattle.op_tests.specs.GroupFed.{IsFed}
 use Rattle.op_tests.specs.GroupTables.{columns}
 
 module _ (rule : Rule) (stands_for : List Arrival → Type 0) (standing : Rows) (taken : ℕ) (fed : IsFed rule stands_for standing taken) (change : Change) where

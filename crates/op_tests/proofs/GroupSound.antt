@@ -9,14 +9,14 @@ use Rattle.ct_value.specs.declared.ty.ColTy.{ColTy}
 use Rattle.ct_field.specs.Typed.{row_fits}
 use Rattle.ct_change.specs.declared.kind.Kind.TheVariants.{I}
 use Rattle.ct_change.specs.declared.change.Change.{Change}
-use Rattle.ct_change.specs.Changelog.{Mode, append, retract, upsert, adds, admits, Rows, MayCome, HasKey}
+use Rattle.ct_change.specs.Changelog.{Mode, append, retract, upsert, adds, admits, MayCome, HasKey}
 use Rattle.rel_algebra.specs.declared.agg.Agg.{Agg}
 use Rattle.rel_algebra.proofs.laws.Fits.{fits-length}
 use Rattle.op_rules.specs.History.{arrival}
 use Rattle.op_rules.specs.Rules.{Rule, MayArrive}
 use Rattle.op_rules.specs.Values.{types_fit}
 use Rattle.op_rules.proofs.laws.Values.{types_of_row}
-use Rattle.emission_rules.specs.Grouping.{Grouping, group_rule, IsSound}
+use Rattle.emission_rules.specs.Grouping.{group_rule, IsSound}
 use Rattle.emission_rules.proofs.laws.Columns.{project-first}
 use Rattle.op_tests.specs.GroupFed.{IsOfRows}
 use Rattle.op_tests.specs.GroupTables.{columns, five_calls, all_calls, grouped}

@@ -1,5 +1,5 @@
 -- The rows and calls of the tests.
-use Rattle.std.specs.Prelude.{ℕ, true, false, List, [], ◌∷◌, Option, Some, None}
+use Rattle.std.specs.Prelude.{ℕ, true, false, List, [], ◌∷◌, Some, None}
 use Rattle.ct_value.specs.declared.ty.Ty.TheVariants.{Bool as Truths, BigInt, Decimal}
 use Rattle.ct_value.specs.declared.ty.ColTy.{ColTy}
 use Rattle.ct_change.specs.Changelog.{Mode}

@@ -1,6 +1,4 @@
 ghost use Rattle.std.specs.Prelude.{◌≡◌, ◌<◌, [], ◌∷◌, false, length, IfOk};
-ghost use Rattle.op_rules.specs.History.{arrival};
-ghost use Rattle.op_rules.specs.Rules.{MayArrive};
 
 use crate::row_operators::sent;
 use crate::rows::row;

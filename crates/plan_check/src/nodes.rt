@@ -6,24 +6,10 @@ ghost use Rattle.plan_check.specs.Types as t;
 use crate::operators::next_types;
 use crate::sinks::is_typed_by;
 use ct_catalog::Sources;
-use ct_value::{ColTys, Memory};
+use ct_value::Memory;
 use phys_plan::{Node, Nodes, Plan};
-use plan_shape::{NodeColumns, numbered_columns, same_columns};
+use plan_shape::{NodeColumns, numbered_columns};
 use std::alloc::Global;
-
-/// The types of a node's columns, by its number, from 1; a sink has its input's. None where there is no such node, or it or a node
-/// that it reads isn't well-typed.
-pub fn node_types(
-    alloc: Global,
-    sources: &Sources,
-    nodes: &Nodes,
-    node: u32,
-) -> Result<Option<ColTys>, Memory>
-    ensures { IfOk result (λ types. types ≡ t.types_at sources.now nodes.now node) }
-{
-    let types = all_types(alloc, sources, nodes)?;
-    same_columns(numbered_columns(&types, node))
-}
 
 /// The columns of all nodes of a plan.
 pub(crate) fn plan_types(alloc: Global, plan: &Plan) -> Result<NodeColumns, Memory>

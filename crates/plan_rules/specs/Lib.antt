@@ -4,7 +4,6 @@ pub mod Behaviours
 pub mod Columns
 pub mod Doings
 pub mod Erased
-pub mod Laid
 pub mod Pieces
 pub mod Plans
 pub mod Roles

@@ -1,11 +1,11 @@
 -- A plan read as a network: its wiring by numbers, its edges and its tables.
-use Rattle.std.specs.Prelude.{◌≡◌, ℕ, zero, suc, ◌<◌, ◌≤◌, ◌==◌, Bool, true, false, cond, List, [], ◌∷◌, length, map, slice_get, slice_index_or, Option, Some, None, option_map, unwrap_or}
+use Rattle.std.specs.Prelude.{◌≡◌, ℕ, zero, suc, ◌<◌, ◌≤◌, ◌==◌, Bool, true, false, cond, List, [], ◌∷◌, length, slice_get, slice_index_or, Option, Some, None, option_map, unwrap_or}
 use Rattle.ct_value.specs.declared.ty.ColTy.{ColTy}
 use Rattle.ct_value.specs.declared.row.Row.{Row}
 use Rattle.ct_field.specs.Typed.{row_fits}
 use Rattle.ct_change.specs.declared.kind.KindSet.{KindSet}
 use Rattle.ct_change.specs.declared.change.Change.{Change}
-use Rattle.ct_change.specs.Changelog.{Mode, mode_of, Rows, adds}
+use Rattle.ct_change.specs.Changelog.{Rows, adds}
 use Rattle.ct_catalog.specs.declared.table.TableDef.{TableDef}
 use Rattle.ct_catalog.specs.Columns.{column_types, table_mode}
 use Rattle.phys_plan.specs.declared.edge.Edge.{Edge as PlanEdge}

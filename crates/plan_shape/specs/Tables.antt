@@ -3,7 +3,6 @@ use Rattle.std.specs.Prelude.{ℕ, ◌+◌, nat_le, Bool, true, false, not, ◌&
 use Rattle.std.specs.List.{list_all}
 use Rattle.ct_field.specs.Numbers.{is_type}
 use Rattle.ct_change.specs.declared.kind.Declared.{Declared}
-use Rattle.ct_change.specs.declared.kind.Declared.TheVariants.{Append, Retract, Upsert}
 use Rattle.ct_catalog.specs.Tables.{repeats}
 use Rattle.ct_catalog.specs.declared.table.ColDef.{ColDef}
 use Rattle.ct_catalog.specs.declared.table.TableDef.{TableDef}

@@ -20,7 +20,7 @@ use Rattle.query_answer.specs.Table.{Typed}
 use Rattle.query_answer.specs.Table as tab
 use Rattle.binding.specs.Checked.{Checked, ◌>>=◌}
 use Rattle.binding.specs.Expressions.{Leaf, or_else, unless_null, is_long, sum_length, product_length, form_of, bound, all_bound, sum_bound, product_bound, whens_bound, otherwise_bound, optional_bound, window_bound, args_bound}
-use Rattle.binding.specs.Nodes.{Bound, CallForm}
+use Rattle.binding.specs.Nodes.{Bound}
 use Rattle.binding.specs.Nodes as node_of
 use Rattle.query_laws.proofs.Nodes as k
 use Rattle.query_laws.proofs.Options.{bind, then, tested}

@@ -17,14 +17,14 @@ use Rattle.rel_algebra.proofs.laws.Clauses.{length-collect}
 use Rattle.rel_algebra.specs.Types.{is_boolean}
 use Rattle.sql_syntax.specs.Tree.{Tree}
 use Rattle.sql_syntax.specs.Tree as t
-use Rattle.query_answer.specs.Answer.{Reach, Listed, Entry, over, types, some_column, listed_calls, having_calls, select_calls}
+use Rattle.query_answer.specs.Answer.{Entry, over, some_column}
 use Rattle.query_answer.specs.Answer as a
 use Rattle.query_answer.specs.Calls.{Call, arguments, filters}
 use Rattle.query_answer.specs.Groups.{meanings, key_of, groups_of, members, grouped_rows, filter_if, call_value, call_column}
 use Rattle.query_answer.specs.Names.{Scope}
 use Rattle.query_answer.specs.Stands.{stands}
 use Rattle.query_answer.specs.Table.{Typed}
-use Rattle.binding.specs.InGroups.{in_group, BoundCall, calls_bound, bound_arguments, bound_filters}
+use Rattle.binding.specs.InGroups.{in_group, BoundCall, bound_arguments, bound_filters}
 use Rattle.binding.specs.InGroups as bg
 use Rattle.binding.specs.Nodes.{Bound, expr_list}
 use Rattle.binding.specs.Queries.{aggs_from}

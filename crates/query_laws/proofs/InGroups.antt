@@ -16,11 +16,11 @@ use Rattle.sql_syntax.specs.Tree.{Tree}
 use Rattle.sql_syntax.specs.Tree as t
 use Rattle.query_answer.specs.declared.scope.Found.{Found}
 use Rattle.query_answer.specs.declared.scope.Found.TheVariants.{Absent, At, Several}
-use Rattle.query_answer.specs.Answer.{Listed, Placed, Written, NoSource, Entry, over, types, some_column, listed_calls}
+use Rattle.query_answer.specs.Answer.{Listed, Placed, Written, NoSource, over, some_column, listed_calls}
 use Rattle.query_answer.specs.Answer as a
 use Rattle.query_answer.specs.Calls.{Call, calls, call_of, call_at, aggregate_of, agg_call, agg_arg, optional}
 use Rattle.query_answer.specs.Functions.{function_of}
-use Rattle.query_answer.specs.Groups.{meanings, key_at, called, call_column, is_condition_if, is_typed_if, has_no_keys}
+use Rattle.query_answer.specs.Groups.{meanings, key_at, call_column, is_condition_if, is_typed_if, has_no_keys}
 use Rattle.query_answer.specs.Groups as g
 use Rattle.query_answer.specs.Names.{Scope, find, named}
 use Rattle.query_answer.specs.Shapes.{shape, place_of, column_shape}
@@ -35,7 +35,7 @@ use Rattle.binding.specs.Queries.{group_listed}
 use Rattle.query_laws.proofs.Bound.{Known, bound_means}
 use Rattle.query_laws.proofs.Clauses.{tys}
 use Rattle.query_laws.proofs.Lists.{map_length, slice_map, slice_before, slice_past, slice_there, cell_before, cell_past}
-use Rattle.query_laws.proofs.Names.{Same, AllAre, column_typed, over_means, args_over}
+use Rattle.query_laws.proofs.Names.{AllAre, column_typed, over_means, args_over}
 use Rattle.query_laws.proofs.Names as n
 use Rattle.query_laws.proofs.Nodes as k
 use Rattle.query_laws.proofs.Options.{bind, tested, some_is, map_parts}

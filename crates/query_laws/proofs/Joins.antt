@@ -15,14 +15,13 @@ use Rattle.rel_algebra.specs.Joins.{Matching, agree, matching, nulls, nullable_i
 use Rattle.rel_algebra.specs.Sums.{Each}
 use Rattle.rel_algebra.proofs.laws.Joins.{each-join_rows}
 use Rattle.rel_algebra.specs.Answer.{Table, answer, columns_in}
-use Rattle.rel_algebra.specs.Rel.{Rel}
 use Rattle.rel_algebra.specs.Rel as r
 use Rattle.rel_algebra.specs.Types.{columns_if, match_fits, pairs_fit, pair_fits, common_column, is_condition_if}
 use Rattle.sql_syntax.specs.Tree.{Tree}
 use Rattle.sql_syntax.specs.Tree as t
 use Rattle.query_answer.specs.declared.scope.Found.{Found}
 use Rattle.query_answer.specs.declared.scope.Found.TheVariants.{Absent, At, Several}
-use Rattle.query_answer.specs.Answer.{Reach, by, over, conjuncts, rest_meaning, types}
+use Rattle.query_answer.specs.Answer.{by, over, conjuncts, rest_meaning, types}
 use Rattle.query_answer.specs.Answer as a
 use Rattle.query_answer.specs.Joins.{plain_column, pair_at, or_pair, pair_found, pair_of, with_pair, pairs_of, rest_of, nullable_scope, join_scope}
 use Rattle.query_answer.specs.Names.{Scope, Lookup, find}

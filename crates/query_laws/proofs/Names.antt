@@ -6,7 +6,6 @@ use Rattle.ct_value.specs.declared.ty.Ty.TheVariants.{Bool as Truths}
 use Rattle.ct_value.specs.declared.value.Value.{Value}
 use Rattle.ct_value.specs.declared.value.Value.TheVariants.{Null, Bool as Truth, Num, Text}
 use Rattle.ct_field.specs.Typed.{is_true, cell}
-use Rattle.ct_expr.specs.Expr.{Expr}
 use Rattle.ct_expr.specs.Expr as e
 use Rattle.ct_expr.specs.Eval.{eval}
 use Rattle.ct_expr.specs.Types.{type_of, same_ty, is_truths, all_truths, both_of, col}
@@ -25,7 +24,7 @@ use Rattle.query_answer.specs.Stands.{args_stand}
 use Rattle.query_answer.specs.Table.{Typed, conjunction}
 use Rattle.binding.specs.Checked.{◌>>=◌}
 use Rattle.binding.specs.Expressions.{bound_by, bound_over, each_bound, names, names_by, column, found_column, may_change, args_bound, conditions, truths}
-use Rattle.binding.specs.Nodes.{Bound, operands}
+use Rattle.binding.specs.Nodes.{Bound}
 use Rattle.binding.specs.Nodes as node_of
 use Rattle.binding.specs.Queries.{all_of}
 use Rattle.query_laws.proofs.Bound.{Known, bound_means, args_mean}

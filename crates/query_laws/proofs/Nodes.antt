@@ -13,10 +13,10 @@ use Rattle.ct_value.specs.declared.value.Value.TheVariants.{Null, Num}
 use Rattle.ct_expr.specs.declared.expr.ArithOp.{ArithOp}
 use Rattle.ct_expr.specs.declared.expr.ArithOp.TheVariants.{Add, Sub, Mul}
 use Rattle.ct_expr.specs.Eval.{eval, evals, typed_evals, branches, typed as typed_value}
-use Rattle.ct_expr.specs.Expr.{Expr, Exprs, exprs, whens, optional_expr, no_expr, some_expr}
+use Rattle.ct_expr.specs.Expr.{Expr, whens, no_expr, some_expr}
 use Rattle.ct_expr.specs.Expr as e
 use Rattle.ct_expr.specs.Types as y
-use Rattle.ct_expr.specs.Types.{type_of, types_of, conds_of, results_of, otherwise_of, ty_of, both_of}
+use Rattle.ct_expr.specs.Types.{type_of, types_of, conds_of, results_of, ty_of, both_of}
 use Rattle.ct_expr.specs.Values as v
 use Rattle.rel_algebra.specs.declared.agg.AggCall.{AggCall}
 use Rattle.sql_syntax.specs.declared.tree.ProductWord.{ProductWord}
@@ -26,10 +26,10 @@ use Rattle.sql_syntax.specs.declared.tree.SumWord.TheVariants.{Plus, Minus, Conc
 use Rattle.query_answer.specs.declared.function.Function.{Function}
 use Rattle.query_answer.specs.declared.function.Function.TheVariants.{Aggregate, Coalesce, NullIf, CharLength, RowNumber, Changing, Unknown}
 use Rattle.query_answer.specs.Stands as s
-use Rattle.query_answer.specs.Table.{Typed, ty_in, columns, values, typed_values, otherwise_value}
+use Rattle.query_answer.specs.Table.{Typed, ty_in, columns, values, typed_values}
 use Rattle.query_answer.specs.Table as t
 use Rattle.binding.specs.Checked.{Checked, ◌>>=◌}
-use Rattle.binding.specs.Nodes.{Bound, CallForm, typed, operands, expr_list}
+use Rattle.binding.specs.Nodes.{Bound, CallForm, typed, operands}
 use Rattle.binding.specs.Nodes as n
 use Rattle.query_laws.proofs.Options.{bind, cond_some, tested}
 use Rattle.query_laws.proofs.Types.{says}

@@ -1,8 +1,7 @@
 -- WHERE: what its conjuncts are bound to keeps the rows that they keep, those with a subquery by semi joins.
-use Rattle.std.proofs.Common.{◌≡◌, ℕ, suc, ◌+◌, Bool, true, false, ◌&&◌, ◌||◌, List, [], ◌∷◌, ◌++◌, map, filter, length, Option, Some, None, cond, Ok, Err, IfOk, refl, sym, ap, ◌∙◌, subst, option_and_then, option_map, slice_get, unwrap_or, arith}
+use Rattle.std.proofs.Common.{◌≡◌, ℕ, suc, ◌+◌, Bool, true, false, ◌&&◌, ◌||◌, List, [], ◌∷◌, ◌++◌, map, filter, length, Option, Some, None, cond, Ok, Err, IfOk, refl, sym, ap, ◌∙◌, subst, option_and_then, option_map, slice_get, arith}
 use Rattle.std.specs.List.{list_all}
-use Rattle.ct_value.specs.declared.codes.ScriptCode.TheVariants.{TypeMismatch, Unsupported}
-use Rattle.ct_value.specs.declared.row.Row.{Row}
+use Rattle.ct_value.specs.declared.codes.ScriptCode.TheVariants.{TypeMismatch}
 use Rattle.ct_value.specs.declared.ty.ColTy.{ColTy}
 use Rattle.ct_value.specs.declared.ty.Ty.TheVariants.{Bool as Truths}
 use Rattle.ct_value.specs.declared.value.CompareOp.TheVariants.{Eq}
@@ -10,21 +9,21 @@ use Rattle.ct_change.specs.Changelog.{Rows}
 use Rattle.ct_expr.specs.Expr.{Expr}
 use Rattle.ct_expr.specs.Expr as e
 use Rattle.ct_expr.specs.Eval.{eval}
-use Rattle.ct_expr.specs.Types.{both_of, gather, logic_col, all_truths, is_truths, compare_col, comparable, col}
+use Rattle.ct_expr.specs.Types.{both_of, gather, logic_col, is_truths, comparable, col}
 use Rattle.rel_algebra.specs.declared.join.Pair.{Pair}
 use Rattle.rel_algebra.specs.Clauses.{rows_where}
-use Rattle.rel_algebra.specs.Joins.{Matching, agree, matching, semi_join}
+use Rattle.rel_algebra.specs.Joins.{matching, semi_join}
 use Rattle.rel_algebra.specs.Sums.{Each}
 use Rattle.rel_algebra.proofs.laws.Joins.{each-semi_join}
 use Rattle.rel_algebra.specs.Answer.{Table, answer, types_in}
 use Rattle.rel_algebra.specs.Batch.{semi_answer}
 use Rattle.rel_algebra.specs.Rel.{Rel}
 use Rattle.rel_algebra.specs.Rel as r
-use Rattle.rel_algebra.specs.Types.{columns_of, columns_if, match_fits, pair_fits, pairs_fit, is_boolean, is_condition_if}
+use Rattle.rel_algebra.specs.Types.{columns_of, columns_if, match_fits, pair_fits, pairs_fit, is_boolean}
 use Rattle.sql_syntax.specs.Tree.{Tree}
 use Rattle.query_answer.specs.declared.scope.Found.TheVariants.{At}
 use Rattle.query_answer.specs.declared.scope.ScopeColumn.{ScopeColumn}
-use Rattle.query_answer.specs.Answer.{Reach, by, over, rest_meaning, types}
+use Rattle.query_answer.specs.Answer.{Reach, by, over, types}
 use Rattle.query_answer.specs.Answer as a
 use Rattle.query_answer.specs.Joins.{plain_column, pair_found, pair_of, with_pair, unless_pair, pairs_of, rest_of}
 use Rattle.query_answer.specs.Names.{Scope, Lookup, find, find_linked, column_at}
@@ -35,14 +34,14 @@ use Rattle.binding.specs.Checked.{Checked, ◌>>=◌}
 use Rattle.binding.specs.Expressions.{bound_by, bound_over, column}
 use Rattle.binding.specs.Nodes.{Bound}
 use Rattle.binding.specs.Nodes as node_of
-use Rattle.binding.specs.Queries.{Relation, Outside, all_of, all_if, where_all, is_test, tests, owns, links, rests, unless_link, all_matched, own_part, linked_part, plain_part, own_value, only_column, matched_by, member_part, exists_part}
+use Rattle.binding.specs.Queries.{Relation, Outside, all_of, all_if, where_all, is_test, tests, owns, links, rests, unless_link, all_matched, own_part, linked_part, plain_part, own_value, only_column, matched_by, member_part}
 use Rattle.binding.specs.Queries as b
 use Rattle.query_laws.specs.Statement.{has_idle_project}
 use Rattle.rel_algebra.specs.Unions.{has_full_unions}
 use Rattle.query_laws.proofs.Clauses.{Fine}
 use Rattle.query_laws.proofs.Joins.{plain_there, found_fits, pairs_right, RestIs, rest_is}
 use Rattle.query_laws.proofs.Lists.{map_length, slice_behind, both_true}
-use Rattle.query_laws.proofs.Names.{SameRow, LooksUp, finds_before, finds_linked, column_there, by_means, over_means, IsTruths, AllAre, all_hold, all_boolean}
+use Rattle.query_laws.proofs.Names.{SameRow, finds_before, finds_linked, column_there, by_means, over_means, IsTruths, AllAre, all_hold, all_boolean}
 use Rattle.query_laws.proofs.Nodes as k
 use Rattle.query_laws.proofs.Options.{bind, both_ok, for_all, tested_else}
 use Rattle.query_laws.proofs.Selects.{reach, FineAt, filter_fine}

@@ -12,12 +12,12 @@ use Rattle.ct_catalog.specs.declared.table.TableDef.{TableDef}
 use Rattle.rel_algebra.specs.Sums.{plus, together, Each}
 use Rattle.rel_algebra.proofs.laws.Bags.{plus-assoc, plus-none-right, plus_parts, each-together, each-none}
 use Rattle.rel_algebra.specs.Answer.{Table, answer, answers, types_in}
-use Rattle.rel_algebra.specs.Rel.{Rel, Rels, no_rels, rel_and}
+use Rattle.rel_algebra.specs.Rel.{Rels, no_rels, rel_and}
 use Rattle.rel_algebra.specs.Rel as r
 use Rattle.rel_algebra.specs.Types.{columns_of, common_from, common_columns, common_column}
 use Rattle.sql_syntax.specs.Tree.{Text}
 use Rattle.sql_syntax.specs.Tree as t
-use Rattle.query_answer.specs.Answer.{TableRows, Reach, Entry, types, entries, listed_trees, is_grouped, union, union_scope, retyped, find_table, table_scope}
+use Rattle.query_answer.specs.Answer.{TableRows, Reach, Entry, types, entries, listed_trees, is_grouped, union, retyped, find_table, table_scope}
 use Rattle.query_answer.specs.Answer as a
 use Rattle.query_answer.specs.Forms.{is_simple}
 use Rattle.query_answer.specs.Joins.{kind_of}

@@ -10,7 +10,7 @@ use Rattle.ct_change.specs.Changelog.{Rows}
 use Rattle.ct_expr.specs.Expr.{Expr}
 use Rattle.ct_expr.specs.Eval.{eval}
 use Rattle.rel_algebra.specs.Aggregates.{agg_results}
-use Rattle.rel_algebra.specs.Clauses.{holds, rows_where, project_rows, filter_rows}
+use Rattle.rel_algebra.specs.Clauses.{holds, project_rows, filter_rows}
 use Rattle.rel_algebra.specs.Groups.{group_rows, group_columns}
 use Rattle.rel_algebra.specs.Sums.{one, distinct, sum_over, Each}
 use Rattle.rel_algebra.proofs.laws.Bags.{each-distinct}

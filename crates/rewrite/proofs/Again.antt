@@ -4,7 +4,6 @@ use Rattle.std.specs.Prelude.{◌-◌, nat_lt, ◌&&◌}
 use Rattle.ct_value.specs.declared.codes.ScriptCode.{ScriptCode}
 use Rattle.ct_value.specs.declared.codes.ScriptCode.TheVariants.{RankUnbounded, Unsupported}
 use Rattle.ct_catalog.specs.declared.table.TableDef.{TableDef}
-use Rattle.rel_algebra.specs.Rel.{Rel}
 use Rattle.sql_syntax.specs.Tree.{Query, Text, Tree}
 use Rattle.sql_syntax.specs.Tree as t
 use Rattle.query_answer.specs.Answer.{conjuncts, select_conjuncts, top_of}
@@ -13,7 +12,7 @@ use Rattle.query_answer.specs.Joins.{kind_of}
 use Rattle.query_answer.specs.Names.{Scope}
 use Rattle.query_answer.specs.Ranks.{Ranked, Top, ranked_select}
 use Rattle.binding.specs.Checked.{Checked, ◌>>=◌}
-use Rattle.binding.specs.Queries.{Alone, FromWhere, Joined, Only, Outside, Part, RankedList, Read, Relation, all_parts_bound, all_parts_but, alone, alone_bound, alone_of, bounded, denied_bound, exists_bound, exists_over, exists_part, framed, gathered_bound, inside_bound, is_one, is_plain, joined, joins_bound, kept, list_inside, listed_by, member_part, own_value, parts_bound, parts_but, plain_part, query_bound, ranked_list, read_by, select_bound, select_over, selects_bound, source_bound, tests, unbounded, united, where_bound}
+use Rattle.binding.specs.Queries.{Alone, FromWhere, Joined, Only, Outside, RankedList, Read, Relation, all_parts_bound, all_parts_but, alone, alone_bound, alone_of, bounded, denied_bound, exists_bound, exists_over, exists_part, framed, gathered_bound, inside_bound, is_one, is_plain, joined, joins_bound, kept, list_inside, listed_by, member_part, own_value, parts_bound, parts_but, plain_part, query_bound, ranked_list, read_by, select_bound, select_over, selects_bound, source_bound, tests, unbounded, united, where_bound}
 use Rattle.binder.specs.Bound.{columns_bound}
 
 -- the second is the first, or is refused for a rank without a bound

@@ -14,14 +14,13 @@ use Rattle.rel_algebra.specs.declared.agg.AggCall.TheVariants.{CountAll}
 use Rattle.rel_algebra.specs.declared.join.Pair.{Pair}
 use Rattle.rel_algebra.specs.declared.join.JoinKind.{JoinKind}
 use Rattle.rel_algebra.specs.declared.join.JoinKind.TheVariants.{Inner, Left, Right, Full}
-use Rattle.rel_algebra.specs.declared.sort.SortCol.{SortCol}
 use Rattle.ct_change.specs.declared.update.Update.{Update}
 use Rattle.ct_change.specs.declared.update.Update.TheVariants.{Absent, After, Both}
 use Rattle.phys_plan.specs.declared.node.KeyInfo.{KeyInfo}
 use Rattle.phys_plan.specs.declared.node.Op.{Op}
 use Rattle.phys_plan.specs.declared.node.Op.TheVariants as op
 use Rattle.mode_infer.specs.Kinds.{inserts, kind_set}
-use Rattle.run_examples.specs.Plans.{Example, Laid, must, may, table, forward, hashed, families, keyed, fixed, keyless}
+use Rattle.run_examples.specs.Plans.{Example, must, may, table, forward, hashed, families, keyed, fixed, keyless}
 
 -- ---- kinds
 

@@ -1,20 +1,16 @@
 -- What is in flight after the front of a channel was taken, and after the scans of a table sent a change.
-use Rattle.std.proofs.Common.{◌≡◌, ℕ, zero, suc, ◌+◌, ◌<◌, ◌≤◌, nat_lt, nat_le, ◌==◌, ◌&&◌, Bool, true, false, cond, List, [], ◌∷◌, ◌++◌, map, length, get_or, slice_get, Option, Some, None, Ok, Err, refl, sym, ap, subst, ◌∙◌, arith, inl, inr, ◌⊎◌, eqb}
-use Rattle.std.specs.List.{AllByRecursion, All, filter, fold}
-use Rattle.std.proofs.lemmas.List.{length-append, append_assoc}
+use Rattle.std.proofs.Common.{◌≡◌, ℕ, zero, suc, ◌+◌, ◌<◌, ◌≤◌, nat_lt, nat_le, ◌==◌, ◌&&◌, Bool, true, false, cond, List, [], ◌∷◌, ◌++◌, length, Option, Some, None, Ok, Err, refl, sym, ap, subst, ◌∙◌, arith, inl, inr, ◌⊎◌, eqb}
+use Rattle.std.specs.List.{AllByRecursion, All, filter}
+use Rattle.std.proofs.lemmas.List.{length-append}
 use Rattle.std.proofs.lemmas.List.Sums.{fold-append}
-use Rattle.std.proofs.lemmas.Option.{slice_get-get_or}
 use Rattle.std.proofs.lemmas.Bool.{cases_eq, cases_Bool, eq-eqb, ne_eqb, eqb-true, and_parts, and_from, lt-ltb, le-leb, ltb-true, leb-true, false≢true}
 use Rattle.ct_value.specs.Rows.{project}
-use Rattle.ct_value.specs.declared.row.Row.{Row}
 use Rattle.ct_change.specs.declared.change.Change.{Change}
 use Rattle.op_rules.specs.Edges.{Edge, goes}
 use Rattle.op_rules.specs.Tasks.{total}
-use Rattle.stream_model.specs.declared.events.PrintItem.{PrintItem}
-use Rattle.stream_model.specs.declared.events.PrintItem.TheVariants.{Change as Printed}
 use Rattle.stream_model.specs.declared.events.StepFault.TheVariants.{Limit}
 use Rattle.stream_model.specs.Tables.{Table, scanned_at}
-use Rattle.stream_model.specs.Network.{Network, IsWired, IsNode}
+use Rattle.stream_model.specs.Network.{Network, IsWired}
 use Rattle.stream_model.specs.Machine as machine
 use Rattle.stream_model.specs.Machine.{State, put, hand_on, send, print, is_number, is_scan_of, scan_count, scanned, take_within}
 use Rattle.session_core.specs.declared.channels.Channels.{Channels}

@@ -1,10 +1,10 @@
 -- One operator of many takes a change.
-use Rattle.std.proofs.Common.{◌≡◌, ℕ, zero, suc, ◌+◌, ◌*◌, ◌/◌, ◌<◌, ◌==◌, ◌&&◌, Bool, true, false, cond, List, [], ◌∷◌, ◌++◌, length, get_or, set, Option, Some, None, Result, Ok, Err, IfOk, OnOk, refl, sym, ap, subst, ◌∙◌, arith, inl, inr, ◌⊎◌, eqb}
+use Rattle.std.proofs.Common.{◌≡◌, ℕ, zero, suc, ◌+◌, ◌*◌, ◌/◌, ◌<◌, ◌==◌, ◌&&◌, Bool, true, false, List, [], ◌∷◌, ◌++◌, length, get_or, set, Option, Some, None, Result, Ok, Err, IfOk, OnOk, refl, sym, ap, subst, ◌∙◌, arith, inl, inr, ◌⊎◌, eqb}
 use Rattle.std.proofs.lemmas.Nat.{div-mul-add}
 use Rattle.std.proofs.lemmas.List.{get_or-set_same, get_or-set_other, get_or_default, append_assoc, append-nil}
 use Rattle.std.proofs.lemmas.Bool.{cases_eq, eq-eqb, ne_eqb, and_from, false≢true}
 use Rattle.op_rules.specs.History.{Arrival, joined}
-use Rattle.op_rules.specs.Rules.{Rule, Answer}
+use Rattle.op_rules.specs.Rules.{Rule}
 use Rattle.op_rules.specs.Ports.{TakesAll}
 use Rattle.op_rules.specs.declared.operator.OpFault.{OpFault}
 use Rattle.op_rules.specs.declared.operator.OpFault.TheVariants.{Range, Memory}

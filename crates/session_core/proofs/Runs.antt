@@ -1,12 +1,11 @@
 -- Runs one after the other, and the stages of a drain.
-use Rattle.std.proofs.Common.{◌≡◌, ℕ, zero, suc, ◌+◌, ◌<◌, ◌≤◌, List, [], ◌∷◌, ◌++◌, length, drop, Option, Some, None, Ok, refl, sym, ap, subst, ◌∙◌, arith, inl, inr, ◌⊎◌}
-use Rattle.std.proofs.lemmas.List.{append_assoc, append-nil}
+use Rattle.std.proofs.Common.{◌≡◌, ℕ, zero, suc, ◌+◌, ◌<◌, ◌≤◌, List, [], ◌∷◌, ◌++◌, length, drop, Some, None, Ok, refl, sym, ap, subst, ◌∙◌, arith, inl, inr, ◌⊎◌}
 use Rattle.stream_model.specs.declared.events.Event.TheVariants.{Move}
 use Rattle.stream_model.specs.declared.events.StepFault.{StepFault}
 use Rattle.stream_model.specs.declared.events.PrintItem.{PrintItem}
 use Rattle.stream_model.specs.Network.{Network}
 use Rattle.stream_model.specs.Machine.{State, step}
-use Rattle.stream_model.specs.Runs.{Item, happens, quiet, state_in, step_item, after, AreTyped}
+use Rattle.stream_model.specs.Runs.{Item, quiet, state_in, step_item, after, AreTyped}
 use Rattle.stream_model.specs.Drain.{Leads, StopsBy, StopsAlong, Stage, delivers, flushes, moves, stage_items, drain_stages, stages, drain}
 
 module _ (g : Network) (limit : ℕ) where

@@ -1,5 +1,5 @@
 -- A change moves, or is taken: the parts of the step joined.
-use Rattle.std.proofs.Common.{◌≡◌, ℕ, ◌+◌, zero, suc, ◌<◌, ◌≤◌, nat_lt, nat_le, eqb, ◌==◌, ◌&&◌, Bool, true, false, cond, List, [], ◌∷◌, ◌++◌, length, Option, Some, None, Result, Ok, Err, refl, sym, ap, subst, ◌∙◌, arith, inl, inr, ◌⊎◌, slice_get, set, get_or}
+use Rattle.std.proofs.Common.{◌≡◌, ℕ, ◌+◌, zero, suc, ◌<◌, ◌≤◌, nat_lt, nat_le, eqb, ◌==◌, ◌&&◌, Bool, true, false, cond, List, [], ◌∷◌, ◌++◌, length, Option, Some, None, Result, Ok, Err, refl, sym, ap, subst, ◌∙◌, arith, inl, inr, ◌⊎◌, slice_get, set}
 use Rattle.std.proofs.lemmas.List.{append-nil}
 use Rattle.std.proofs.lemmas.Bool.{and_parts, ltb-true, cases_eq, eq-eqb, ne_eqb, cases_Bool}
 use Rattle.ct_value.specs.declared.codes.OrderCode.TheVariants.{NoSuchPlace, NoBuffer}
@@ -7,18 +7,16 @@ use Rattle.ct_value.specs.declared.codes.ChangeCode.{ChangeCode}
 use Rattle.ct_change.specs.declared.change.Change.{Change}
 use Rattle.ct_change.specs.Changelog.{fold}
 use Rattle.op_rules.specs.History.{Arrival, arrival, joined}
-use Rattle.op_rules.specs.Rules.{Rule, Answer}
+use Rattle.op_rules.specs.Rules.{Answer}
 use Rattle.op_rules.specs.Tasks.{IsReady}
-use Rattle.stream_model.specs.declared.events.Event.{Event}
 use Rattle.stream_model.specs.declared.events.PrintItem.{PrintItem}
 use Rattle.stream_model.specs.declared.events.StepFault.{StepFault}
 use Rattle.stream_model.specs.declared.events.StepFault.TheVariants.{Change as Refused, Order, Range, Limit, Memory}
 use Rattle.stream_model.specs.Tables.{Table, scanned_at, refusal}
 use Rattle.stream_model.specs.Network.{Feed, Network, IsWired, task}
-use Rattle.stream_model.specs.Theorem.{MayArrive}
-use Rattle.stream_model.specs.Machine.{State, put, consumed, joins, folded, answered, flushed, flushed_if_full, size_of, hand_on, is_channel, has_channel, move, move_front, move_to, flush, flush_bundle, is_place, step, take, take_of, take_unless, take_within, scanned}
-use Rattle.stream_model.specs.Runs.{Item, happens, quiet, told_quiet, step_item, IsTyped, AreTyped}
-use Rattle.stream_model.specs.Drain.{Leads, StopsBy, IsSafe, IsOpen}
+use Rattle.stream_model.specs.Machine.{State, put, consumed, joins, folded, answered, flushed, size_of, is_channel, has_channel, move, move_front, move_to, flush, flush_bundle, is_place, take, take_of, take_unless, take_within}
+use Rattle.stream_model.specs.Runs.{Item, step_item, IsTyped}
+use Rattle.stream_model.specs.Drain.{StopsBy}
 use Rattle.session_core.specs.declared.traffic.Traffic.{Traffic}
 use Rattle.session_core.specs.Kept.{Carries, AllFit, fetched}
 use Rattle.session_core.specs.Runs.{MayTake, pieces_after, IsOutAt}

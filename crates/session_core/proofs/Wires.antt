@@ -1,19 +1,12 @@
 -- What the wiring says of an edge, of a channel and of a table.
-use Rattle.std.proofs.Common.{◌≡◌, ℕ, zero, suc, ◌+◌, ◌<◌, ◌≤◌, nat_lt, ◌==◌, ◌&&◌, Bool, true, false, cond, List, [], ◌∷◌, ◌++◌, map, length, drop, get_or, slice_get, Option, Some, None, Result, Ok, Err, refl, sym, ap, subst, ◌∙◌, arith}
+use Rattle.std.proofs.Common.{◌≡◌, ℕ, zero, suc, ◌+◌, ◌<◌, ◌≤◌, nat_lt, ◌==◌, ◌&&◌, true, false, cond, List, [], ◌∷◌, ◌++◌, map, length, drop, get_or, slice_get, Option, Some, None, Err, refl, sym, ap, subst, ◌∙◌, arith}
 use Rattle.std.proofs.lemmas.Bool.{and_parts, ltb-true}
 use Rattle.std.proofs.lemmas.Option.{slice_get-get_or}
 use Rattle.ct_value.specs.declared.codes.OrderCode.TheVariants.{NoSuchPlace, TooFew}
-use Rattle.op_rules.specs.Edges.{Edge, Exchange}
-use Rattle.stream_model.specs.declared.events.StepFault.{StepFault}
 use Rattle.stream_model.specs.declared.events.StepFault.TheVariants.{Order}
-use Rattle.ct_change.specs.declared.change.Change.{Change}
 use Rattle.stream_model.specs.Tables.{Table}
 use Rattle.stream_model.specs.Network.{Feed, Network, IsWired}
 use Rattle.stream_model.specs.Machine.{State, has_channel, is_channel, move, move_front, move_to}
-use Rattle.session_core.specs.declared.exchange.KeyRoute.{KeyRoute}
-use Rattle.session_core.specs.declared.exchange.Route.{Route}
-use Rattle.session_core.specs.declared.exchange.Route.TheVariants.{Forward, Hash}
-use Rattle.session_core.specs.Routes.{RoutesFor}
 use Rattle.session_core.specs.declared.wiring.Lane.{Lane}
 use Rattle.session_core.specs.declared.wiring.TableWiring.{TableWiring}
 use Rattle.session_core.specs.declared.wiring.Wiring.{Wiring}

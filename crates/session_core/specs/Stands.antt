@@ -14,7 +14,7 @@ use Rattle.stream_model.specs.Tables.{Table}
 use Rattle.stream_model.specs.Network.{Network, IsAnswer}
 use Rattle.stream_model.specs.Machine.{State, opened, is_place, step, IsQuiet}
 use Rattle.stream_model.specs.Runs.{Item, happens, after, changes_in, AreTyped, IsTyped}
-use Rattle.stream_model.specs.Drain.{Leads, IsSafe, StopsAlong, StopsBy, IsDrainFault, drain}
+use Rattle.stream_model.specs.Drain.{Leads, IsSafe, StopsAlong, IsDrainFault, drain}
 use Rattle.stream_model.specs.Theorem.{table_rows}
 use Rattle.session_core.specs.LaidOut.{IsLaidOut}
 use Rattle.session_core.specs.Kept.{Carries, AllFit}

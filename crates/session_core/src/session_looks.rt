@@ -1,7 +1,7 @@
 ghost use Rattle.std.specs.Prelude.{◌≡◌, ◌++◌, true};
 ghost use Rattle.ct_change.specs.Changelog.{Mode};
 ghost use Rattle.stream_model.specs.Network.{MeetsFacts};
-ghost use Rattle.stream_model.specs.Machine.{IsQuiet, State};
+ghost use Rattle.stream_model.specs.Machine.{IsQuiet};
 ghost use Rattle.session_core.specs.Kept.{in_flight};
 ghost use Rattle.session_core.specs.Stands.{ForRuns, HasAnswered, PrintsIn, StandsFor, StandsForSome, buffer_at, reached};
 

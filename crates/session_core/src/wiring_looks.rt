@@ -2,7 +2,6 @@ ghost use Rattle.std.specs.Prelude.{◌≡◌, ℕ, ◌+◌, ◌<◌, ◌∷◌,
 ghost use Rattle.stream_model.specs.Network.{Network};
 ghost use Rattle.stream_model.specs.Machine as machine;
 ghost use Rattle.stream_model.specs.Drain.{stages};
-ghost use Rattle.session_core.specs.Routes.{RoutesFor};
 ghost use Rattle.session_core.specs.LaidOut.{IsLaidOut, IsThere, feed_of, stage_of};
 
 use crate::{Feed, Lane, TableWiring, Wiring};

@@ -1,14 +1,14 @@
 -- Subtasks send what they open with, one behind the other.
-use Rattle.std.proofs.Common.{◌≡◌, ℕ, zero, suc, ◌+◌, ◌-◌, ◌*◌, ◌/◌, ◌%◌, ◌<◌, ◌≤◌, nat_lt, ◌==◌, ◌&&◌, Bool, true, false, cond, List, [], ◌∷◌, ◌++◌, length, get_or, Option, Some, None, refl, sym, ap, subst, ◌∙◌, arith, inl, inr, ◌⊎◌, eqb}
+use Rattle.std.proofs.Common.{◌≡◌, ℕ, zero, suc, ◌+◌, ◌-◌, ◌*◌, ◌/◌, ◌%◌, ◌<◌, ◌≤◌, nat_lt, ◌==◌, ◌&&◌, Bool, true, false, cond, List, [], ◌∷◌, ◌++◌, length, Option, Some, None, refl, sym, ap, subst, ◌∙◌, arith, inl, inr, ◌⊎◌, eqb}
 use Rattle.std.specs.List.{AllByRecursion, All, filter}
-use Rattle.std.proofs.lemmas.Bool.{cases_eq, cases_lt, eq-eqb, ne_eqb, lt-ltb, le-ltb, ltb-true, ltb-false}
+use Rattle.std.proofs.lemmas.Bool.{cases_eq, cases_lt, eq-eqb, ne_eqb, lt-ltb, le-ltb}
 use Rattle.std.proofs.lemmas.Nat.{div-mul-add, mod-mul-add, mul-add-lt}
 use Rattle.ct_change.specs.declared.change.Change.{Change}
 use Rattle.op_rules.specs.Edges.{Edge, goes}
 use Rattle.op_rules.specs.History.{Arrival}
 use Rattle.op_rules.specs.Rules.{Rule}
 use Rattle.op_rules.specs.Tasks.{total}
-use Rattle.stream_model.specs.Network.{Network, IsNode, IsWired}
+use Rattle.stream_model.specs.Network.{Network, IsWired}
 use Rattle.ct_value.specs.declared.ty.ColTy.{ColTy}
 use Rattle.phys_plan.specs.declared.plan.Plan.{Plan}
 use Rattle.session_core.specs.Lanes.{flight_in}

@@ -1,5 +1,5 @@
 -- What is asked of a plan so that a job of it can be opened, and how far the opening is.
-use Rattle.std.specs.Prelude.{◌≡◌, ℕ, ◌+◌, ◌*◌, ◌/◌, ◌%◌, ◌<◌, ◌≤◌, ◌^◌, nat_lt, Bool, true, cond, IsTrue, List, [], length, get_or, slice_get, Option, Some, None}
+use Rattle.std.specs.Prelude.{◌≡◌, ℕ, ◌+◌, ◌*◌, ◌/◌, ◌%◌, ◌<◌, ◌≤◌, ◌^◌, nat_lt, Bool, true, cond, IsTrue, List, [], length, get_or, Option, Some, None}
 use Rattle.std.specs.List.{All, AllByRecursion, filter}
 use Rattle.ct_value.specs.declared.ty.ColTy.{ColTy}
 use Rattle.ct_field.specs.Numbers.{is_type}

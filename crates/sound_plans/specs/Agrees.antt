@@ -1,14 +1,11 @@
 -- What a sound plan says of a node: that what it sends is what is inferred of it, by what its inputs send.
 use Rattle.std.specs.Prelude.{◌≡◌, ℕ, zero, suc, Bool, true, false, List, [], ◌∷◌, length, map, Option, None, Some}
-use Rattle.std.specs.List.{AllByRecursion}
-use Rattle.ct_value.specs.declared.ty.ColTy.{ColTy}
 use Rattle.ct_change.specs.declared.kind.Declared.{Declared}
 use Rattle.ct_change.specs.declared.kind.Declared.TheVariants.{Append, Retract, Upsert}
-use Rattle.ct_change.specs.declared.kind.KindSet.{KindSet}
 use Rattle.ct_catalog.specs.declared.table.TableDef.{TableDef}
 use Rattle.phys_plan.specs.declared.edge.Exchange.TheVariants.{Forward, Hash}
 use Rattle.ct_change.specs.declared.update.Update.{Update}
-use Rattle.ct_change.specs.declared.update.Update.TheVariants.{Absent, After, Both}
+use Rattle.ct_change.specs.declared.update.Update.TheVariants.{Absent, After}
 use Rattle.phys_plan.specs.declared.node.Op.{Op}
 use Rattle.phys_plan.specs.declared.node.Op.TheVariants as op
 use Rattle.column_sets.specs.Sets.{set_of}
@@ -22,7 +19,6 @@ use Rattle.ct_change.specs.Kinds.{has_more_than_inserts}
 use Rattle.mode_infer.specs.Modes.{edge_kinds, printed}
 use Rattle.mode_infer.specs.UpdateKeys.{update_key_of}
 use Rattle.mode_infer.specs.Updates.{scan_update, takes, told}
-use Rattle.mode_infer.specs.declared.modes.EdgeMode.{EdgeMode}
 use Rattle.plan_inferred.specs.Ways.{way_of}
 use Rattle.plan_inferred.specs.Rules.{by_columns, is_direct}
 use Rattle.sound_plans.specs.Outputs.{Output, AreWithin, IsProper, seen}

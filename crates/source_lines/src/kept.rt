@@ -5,7 +5,7 @@ ghost use Rattle.ct_value.specs.Rows.{project};
 ghost use Rattle.ct_value.specs.declared.codes.ChangeCode.{ChangeCode};
 ghost use Rattle.ct_value.specs.declared.row.Row.{Row};
 ghost use Rattle.ct_field.specs.Typed.{cell};
-ghost use Rattle.ct_change.specs.Changelog.{Rows, adds, admits, apply, fold, retract};
+ghost use Rattle.ct_change.specs.Changelog.{Rows, admits, apply, fold, retract};
 ghost use Rattle.ct_change.specs.declared.change.Change.{Change};
 ghost use Rattle.stream_model.specs.Tables.{refusal, row_refusal};
 ghost use Rattle.ct_catalog.specs.Columns.{table_mode};

@@ -14,12 +14,12 @@ use Rattle.sql_grammar.specs.Spells
 use Rattle.sql_grammar.specs.Nodes.{or_node, and_node, sum_node, product_node, is_desc}
 use Rattle.sql_grammar.specs.Spells.{Inside, NameOf, NumbersOf, TypeOf, AliasOf, Rest, no_rest, compares, is_null, between, in_list, in_query, like, rest_node}
 use Rattle.sql_grammar.specs.Reading
-use Rattle.sql_grammar.specs.Reading.{Reader, ◌>>=◌, first_word, word_at, after, optional, optional_word, maybe, maybe_item, flag, nothing, or_none, bracketed, listed}
+use Rattle.sql_grammar.specs.Reading.{Reader, ◌>>=◌, word_at, after, optional, optional_word, maybe_item, bracketed}
 use Rattle.sql_grammar.specs.Reads
 use Rattle.sql_grammar.specs.declared.words.NegatableWord.TheVariants as negatable
 use Rattle.sql_grammar.specs.declared.words.RestWord.{RestWord}
 use Rattle.sql_grammar.specs.declared.words.RestWord.TheVariants as word
-use Rattle.sql_grammar.specs.Reads.{Readers, name_at, sizes_at, numbers_at, type_at, alias_at, primary_word, rest_word}
+use Rattle.sql_grammar.specs.Reads.{Readers, name_at, sizes_at, numbers_at, type_at, alias_at, rest_word}
 use Rattle.sql_grammar.proofs.WordReading.{IfRead, IsWord, only_is, name_is, sign_is, product_is, sum_is, direction_is, rest_token, rest_is, sign_back, product_back, sum_back, direction_back, rest_back}
 use Rattle.sql_grammar.proofs.SoundShapes.{at_word}
 use Rattle.sql_grammar.proofs.laws.Steps.{bind_is, fail_bind}

@@ -8,7 +8,7 @@ use Rattle.sql_grammar.specs.Words.{ALL, AND, AS, BETWEEN, BY, CASE, CAST, DISTI
 use Rattle.sql_grammar.specs.Shapes.{Spelling, Word, WordOf, Led, After, Seq2, Seq3, Seq4, Made, Maybe, Flag, OrNone, Many, Series, Listed, Bracketed, Chain}
 use Rattle.sql_grammar.specs.Spells
 use Rattle.sql_grammar.specs.Nodes.{or_node, and_node, sum_node, product_node}
-use Rattle.sql_grammar.specs.Spells.{Inside, NameOf, TypeOf, AliasOf, Rest, no_rest, compares, is_null, between, in_list, in_query, like, StatementOf, within}
+use Rattle.sql_grammar.specs.Spells.{Inside, NameOf, TypeOf, AliasOf, no_rest, compares, is_null, between, in_list, in_query, like, StatementOf, within}
 
 -- what R spells by fewer than n tokens, S spells too
 abbrev pub Below : {A : Type 0} → ℕ → Spelling A → Spelling A → Type 0

@@ -11,7 +11,7 @@ use Rattle.sql_grammar.specs.Shapes.{Spelling, Word, WordOf, Led, After, Seq2, S
 use Rattle.sql_grammar.specs.Spells
 use Rattle.sql_grammar.specs.Nodes.{or_node, and_node, sum_node, product_node, not_node, sign_node, is_desc}
 use Rattle.sql_grammar.specs.Spells.{Inside, NameOf, NumbersOf, TypeOf, AliasOf, Rest, no_rest, compares, is_null, between, in_list, in_query, like, rest_node}
-use Rattle.sql_grammar.specs.Reading.{Reader, ◌>>=◌, word_at, words_at, made, after, optional, maybe, flag, nothing, or_none, repeated, series, listed, bracketed, chain}
+use Rattle.sql_grammar.specs.Reading.{Reader, ◌>>=◌, word_at, after, optional, maybe, flag, nothing, bracketed}
 use Rattle.sql_grammar.specs.Reading
 use Rattle.sql_grammar.specs.Reads
 use Rattle.sql_grammar.specs.declared.words.PrimaryWord.{PrimaryWord}

@@ -8,7 +8,7 @@ use Rattle.sql_grammar.specs.Words.{ALL, BY, DISTINCT, FROM, GROUP, HAVING, JOIN
 use Rattle.sql_grammar.specs.Shapes.{Spelling, Word, WordOf, After, Seq3, Maybe, Flag, OrNone, Many, Listed, Bracketed}
 use Rattle.sql_grammar.specs.Spells
 use Rattle.sql_grammar.specs.Nodes.{select_node}
-use Rattle.sql_grammar.specs.Spells.{Inside, NameOf, StarOf, AliasOf}
+use Rattle.sql_grammar.specs.Spells.{Inside, StarOf, AliasOf}
 use Rattle.sql_grammar.specs.Reading.{word_at, after, flag, nothing, bracketed}
 use Rattle.sql_grammar.specs.Reads
 use Rattle.sql_grammar.specs.Reads.{Readers, alias_at}

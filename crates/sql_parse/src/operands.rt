@@ -2,7 +2,7 @@
 ghost use Rattle.std.specs.Prelude.{◌≡◌, option_map};
 ghost use Rattle.sql_syntax.specs.Tree as t;
 ghost use Rattle.sql_syntax.specs.View.{view, args_view, over_view, query_view, product_view, product_tails_view, sum_view, sum_tails_view, when_view, whens_view, trees_view};
-ghost use Rattle.sql_grammar.specs.Words.{THEN, WHEN, only, product_word, sum_word};
+ghost use Rattle.sql_grammar.specs.Words.{THEN, WHEN, product_word, sum_word};
 ghost use Rattle.sql_grammar.specs.Reading.{after, repeated};
 ghost use Rattle.sql_grammar.specs.Reads.{args_at, call_at, case_at, cast_at, column_at, else_at, filter_at, kept_at, named_at, opened_at, over_at, partition_at, primary_at, product_at, product_tail_at, sign_at, sum_at, sum_tail_at, when_at, whens_at, window_at};
 ghost use Rattle.sql_reading.specs.Gives.{Gives};

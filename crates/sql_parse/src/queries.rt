@@ -2,7 +2,7 @@
 ghost use Rattle.std.specs.Prelude.{◌≡◌, None, option_map, IfOk};
 ghost use Rattle.sql_syntax.specs.Tree as t;
 ghost use Rattle.sql_syntax.specs.View.{view, item_view, source_view, items_view, join_view, joins_view, query_view, select_view, selects_view, sorts_view, trees_view};
-ghost use Rattle.sql_grammar.specs.Words.{AS, ON, UNION, join_word, only};
+ghost use Rattle.sql_grammar.specs.Words.{AS, ON, join_word, only};
 ghost use Rattle.sql_grammar.specs.Reading.{after, bracketed, word_at};
 ghost use Rattle.sql_grammar.specs.Reads.{alias_at, chosen_at, filters_at, from_at, group_at, having_at, item_at, items_at, joined_at, joins_at, limit_at, on_at, order_at, outer_at, query_at, select_at, selected_at, selects_at, source_at, star_of_at, table_at, union_at, where_at};
 ghost use Rattle.sql_reading.specs.Gives.{Answers, Gives, Parts};

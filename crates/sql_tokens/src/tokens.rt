@@ -3,7 +3,7 @@ ghost use Rattle.std.specs.Prelude.{◌≡◌, ◌≤◌, ◌<◌, ◌↔◌, �
 ghost use Rattle.std.specs.Char.{is_ascii_digit};
 ghost use Rattle.std.specs.Str.{IsAscii, is_utf8, str_eq_ignore_ascii_case};
 ghost use Rattle.std.specs.List.{prefix_len};
-ghost use Rattle.sql_tokens.specs.Tokens.{keyword_in, keyword_of, word_token, word_front, number_len, number_front, quoted, named, quoted_front, text_front, name_front, after_comment, symbol_in, symbol_front, other_front, front, tokens_of, is_blank, begins_word};
+ghost use Rattle.sql_tokens.specs.Tokens.{keyword_in, keyword_of, word_token, word_front, number_len, number_front, quoted, text_front, name_front, after_comment, symbol_in, symbol_front, other_front, front, tokens_of, is_blank, begins_word};
 ghost use Rattle.sql_tokens.specs.Fronts.{front_view, IsShorter, is_in, quoted_byte};
 
 use crate::token::{Keyword, Symbol, Token};

@@ -1,7 +1,6 @@
 -- Texts that have no tree.
 use Rattle.std.specs.Prelude.{ℕ, List, ◌++◌, codes, [], ◌∷◌}
-use Rattle.sql_syntax.specs.Tree.{items}
-use Rattle.text_examples.specs.Words.{a, name, the}
+use Rattle.text_examples.specs.Words.{a}
 
 -- scripts with a bad place in their first statement
 abbrev pub bad_places : List (List ℕ)

@@ -6,7 +6,7 @@ use Rattle.phys_plan.specs.declared.edge.Exchange.{Exchange}
 use Rattle.phys_plan.specs.declared.edge.Exchange.TheVariants.{Forward, Hash}
 use Rattle.phys_plan.specs.declared.node.KeyInfo.{KeyInfo}
 use Rattle.column_sets.specs.Sets.{set_of, family, unions}
-use Rattle.phys_plan.specs.Reading.{numbered, no_keys}
+use Rattle.phys_plan.specs.Reading.{numbered}
 use Rattle.upsert_keys.specs.declared.seen.Seen.{Seen}
 
 -- the keys under each of which at most one row stands over all subtasks at every moment: a local key joined with a set that fixes

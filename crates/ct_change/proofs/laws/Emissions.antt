@@ -13,7 +13,7 @@ use Rattle.ct_change.specs.declared.change.Change.{Change}
 use Rattle.ct_change.specs.Changelog.{Mode, append, retract, upsert, Rows, adds, kinds_of, AreOf, row_at, without, same_row}
 use Rattle.ct_change.specs.Emission.{emission, update, CanTell, Tells, Replaces}
 use Rattle.ct_change.proofs.laws.Folds.{row_at-stands}
-use Rattle.ct_change.specs.KeyRows.{deleted, row_told, IsKeyed, AreKeyed}
+use Rattle.ct_change.specs.KeyRows.{row_told, AreKeyed}
 use Rattle.ct_change.proofs.laws.Meanings.{same_row-itself}
 use Rattle.ct_change.proofs.laws.KeyRows.{row_at-key_row, is_key_row}
 

@@ -1,7 +1,7 @@
 -- Laws of pieces that are written one after the other.
-use Rattle.std.proofs.Common.{◌≡◌, ℕ, zero, suc, ◌<◌, ◌+◌, ◌-◌, List, [], ◌++◌, Option, refl, sym, ◌∙◌, ap, subst, append_assoc, append-nil, arith}
+use Rattle.std.proofs.Common.{◌≡◌, ℕ, zero, suc, ◌<◌, ◌+◌, ◌-◌, List, [], ◌++◌, Option, refl, sym, ◌∙◌, ap, subst, append_assoc, arith}
 use Rattle.ct_io.specs.Written.{Appends, AppendsUpTo, AppendsPart}
-use Rattle.ct_io.proofs.laws.Appending.{appends_both, part_of_whole, up_to_end}
+use Rattle.ct_io.proofs.laws.Appending.{appends_both, up_to_end}
 use Rattle.ct_io.specs.Copies.{copies_text}
 
 -- one piece more

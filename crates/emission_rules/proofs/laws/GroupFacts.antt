@@ -27,7 +27,7 @@ use Rattle.emission_rules.specs.Grouping.{Grouping, results, group_row, TellsGro
 use Rattle.emission_rules.proofs.laws.GroupAnswers.{shown_by, answer_shown, counted_answer, row_of_group}
 use Rattle.emission_rules.proofs.laws.Columns.{project-first, project-taken}
 use Rattle.emission_rules.specs.Arriving.{FitsIn}
-use Rattle.emission_rules.proofs.laws.Pieces.{IsTold, IsTaken, fits_wide, types_wide, rows_wide, stands_whole, nothing_whole}
+use Rattle.emission_rules.proofs.laws.Pieces.{IsTold, IsTaken, types_wide, rows_wide, stands_whole, nothing_whole}
 use Rattle.emission_rules.proofs.laws.Turns.{Shown, nothing_shown, Turns, Names, AreNamed, shown_in, is_shown_row, one_of-le, turns_read, prefix_shown, prefix_stands}
 
 means_in : (mode : Mode) (changes : List Change) (rows : Rows) → ReadsAs (meaning_of mode) changes rows → Means mode changes rows

@@ -1,5 +1,5 @@
 -- The rows of groups after one more change, and after a piece.
-use Rattle.std.proofs.Common.{◌≡◌, ℕ, ◌+◌, ◌<◌, ◌≤◌, Bool, true, false, cond, ◌||◌, List, [], ◌∷◌, map, length, take, Option, Some, None, refl, sym, ap, subst, ◌∙◌, arith}
+use Rattle.std.proofs.Common.{◌≡◌, ℕ, ◌+◌, ◌<◌, ◌≤◌, Bool, true, false, cond, ◌||◌, List, [], ◌∷◌, map, length, take, Some, None, refl, sym, ap, subst, ◌∙◌, arith}
 use Rattle.std.specs.List.{list_any, AllByRecursion}
 use Rattle.std.specs.Option.{is_some}
 use Rattle.ct_value.specs.Bag.{copies, total, one_at}
@@ -7,7 +7,7 @@ use Rattle.ct_value.proofs.laws.Bags.{copies-occurs, same_bag}
 use Rattle.ct_value.specs.Order.{row_cmp, row_total, row_exact}
 use Rattle.ct_value.specs.declared.row.Row.{Row}
 use Rattle.ct_change.specs.declared.change.Change.{Change}
-use Rattle.ct_change.specs.Changelog.{Mode, append, retract, upsert, Rows, apply, fold_from, adds, MayCome, IsValidFrom, same_row, row_at}
+use Rattle.ct_change.specs.Changelog.{Mode, append, retract, upsert, Rows, apply, fold_from, adds, MayCome, IsValidFrom, same_row}
 use Rattle.ct_change.specs.Emission.{difference, IsSame}
 use Rattle.ct_change.proofs.laws.Differences.{comes-adds}
 use Rattle.ct_change.proofs.laws.Folds.{total-apply, weight-gone, weight-come, row_at-key, row_at-stands}

@@ -1,5 +1,5 @@
 -- A session that takes lines goes along the machine's run over them.
-use Rattle.std.specs.Prelude.{◌≡◌, ◌⊎◌, ◌&&◌, nat_lt, nat_le, ℕ, ◌+◌, ◌<◌, cond, Bool, Option, Result, List, ◌++◌, length, slice_get, option_map, IfOk, IfErr}
+use Rattle.std.specs.Prelude.{◌≡◌, ◌⊎◌, ◌&&◌, nat_lt, nat_le, ℕ, ◌+◌, ◌<◌, cond, Bool, Option, Result, List, ◌++◌, length, option_map, IfOk, IfErr}
 use Rattle.std.proofs.Common.{[], ◌∷◌, refl, sym, ap, subst, ◌∙◌, Some, None, Ok, Err, true, false, inl, inr, arith}
 use Rattle.ct_value.specs.declared.codes.ChangeCode.{ChangeCode}
 use Rattle.ct_value.specs.declared.codes.OrderCode.{OrderCode}
@@ -15,7 +15,6 @@ use Rattle.stream_model.specs.declared.events.Event.TheVariants.{Take}
 use Rattle.stream_model.specs.declared.events.StepFault.{StepFault}
 use Rattle.stream_model.specs.declared.events.StepFault.TheVariants.{Change as Refused, Order, Range, Limit, Memory}
 use Rattle.stream_model.specs.declared.events.Stopped.{Stopped}
-use Rattle.stream_model.specs.declared.events.PrintItem.{PrintItem}
 use Rattle.stream_model.specs.Tables.{Table, scanned_at, refusal}
 use Rattle.stream_model.specs.Network.{Network}
 use Rattle.stream_model.specs.Machine.{State, opened, scan_count, scanned, take, take_of, take_unless}
@@ -23,13 +22,13 @@ use Rattle.stream_model.specs.Runs.{Item, happens, after, state_in, step_item, I
 use Rattle.stream_model.specs.Drain.{StopsBy, StopsAlong, Leads, IsDrainFault, drain}
 use Rattle.plan_rules.specs.Plans.{table_of}
 use Rattle.source_lines.specs.Run as run
-use Rattle.source_lines.specs.Run.{Ran, ended, refused, stopped, and_then, took, take_line, take_lines, drained}
+use Rattle.source_lines.specs.Run.{Ran, ended, stopped, and_then, took, take_line, take_lines, drained}
 use Rattle.source_lines.specs.Run.{IsStop}
 use Rattle.source_lines.proofs.laws.Along.{leads_after, leads_along, stops_along}
 use Rattle.exec_core.specs.declared.fault.RunFault.{RunFault}
 use Rattle.exec_core.specs.declared.fault.RunFault.TheVariants.{Refused as RefusedAt, Stopped as Stops, Memory as Wanting}
 use Rattle.exec_core.specs.Faults.{fault_at, at_line, IsStopAt, IsLineRan, IsRan}
-use Rattle.exec_core.specs.Goes.{HasTables, IsOfSource, run_of}
+use Rattle.exec_core.specs.Goes.{HasTables, IsOfSource}
 
 some_same : {A : Type 0} (o : Option A) (a b : A) → o ≡ Some a → o ≡ Some b → a ≡ b
 some_same o a b p q = cc (p, q)

@@ -1,12 +1,11 @@
 -- Laws of runs: how the parts of a run go together.
-use Rattle.std.proofs.Common.{◌≡◌, ◌⊎◌, inl, inr, ℕ, ◌≤◌, false, List, [], Option, Some, None, Result, Ok, Err, IsSomeAnd, refl, sym, ◌∙◌, ap, subst, arith}
+use Rattle.std.proofs.Common.{◌≡◌, ◌⊎◌, inl, inr, ℕ, ◌≤◌, false, List, [], Option, Some, None, Result, Ok, Err, refl, sym, ◌∙◌, ap, subst, arith}
 use Rattle.ct_io.specs.Counts.{Rose}
-use Rattle.ct_io.specs.Holdings.{Holdings, loaded, Missing}
+use Rattle.ct_io.specs.Holdings.{Holdings}
 use Rattle.ct_io.specs.Written.{Appends, AppendsPart}
 use Rattle.ct_io.proofs.laws.Appending.{appends_nothing, part_none}
 use Rattle.job_ending.specs.declared.ending.Ending.{Ending}
 use Rattle.job_ending.specs.declared.ending.Ending.TheVariants as e
-use Rattle.job_ending.specs.declared.ending.LimitName.{LimitName}
 use Rattle.job_ending.specs.declared.halt.Halt.{Halt}
 use Rattle.job_ending.specs.declared.halt.Halt.TheVariants.{Script, Change, Range, Limit, ReadFault, WriteFault, Memory}
 use Rattle.job_ending.specs.Outcome.{Outcome}

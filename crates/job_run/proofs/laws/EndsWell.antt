@@ -6,11 +6,7 @@ use Rattle.ct_value.specs.declared.row.Row.{Row}
 use Rattle.ct_value.specs.declared.ty.ColTy.{ColTy}
 use Rattle.ct_value.specs.declared.ty.Ty.{Ty}
 use Rattle.ct_change.specs.Changelog.{Rows}
-use Rattle.sql_syntax.specs.Tree.{Script}
-use Rattle.sql_grammar.specs.Scripts.{IsScript}
 use Rattle.judge.specs.Judgement.{Judged}
-use Rattle.rel_algebra.specs.Answer.{wide}
-use Rattle.query_laws.specs.Statement.{tables_of}
 use Rattle.source_lines.specs.Taken.{RefusedLine, Taken, rows_of, taken_of}
 use Rattle.job_ending.specs.declared.ending.Ending.TheVariants.{Done}
 use Rattle.job_ending.specs.declared.ending.LimitName.TheVariants.{Script as ScriptLimit, Changes as ChangesLimit}
@@ -24,11 +20,9 @@ use Rattle.run_laws.specs.Stops.{EndsOrStops}
 use Rattle.run_laws.proofs.laws.Theorems.{runs_end_or_stop}
 use Rattle.job_plan.proofs.laws.Theorems.{runnable_scripts_are_planned}
 use Rattle.job_judgement.specs.Judgement.{Accepted, judgement}
-use Rattle.range_rules.specs.Arithmetic.{in_statements}
 use Rattle.job_batch.specs.Agree.{query_answer}
-use Rattle.job_batch.specs.Batch.{after_lines as batch_lines, answered, sink_types as answer_types, with_changes as batch_changes, with_rows}
+use Rattle.job_batch.specs.Batch.{after_lines as batch_lines, answered, sink_types as answer_types, with_changes as batch_changes}
 use Rattle.job_plan.specs.Shown.{shown}
-use Rattle.job_plan.specs.Planned.{planned, runnable}
 use Rattle.job_stream.specs.Stream.{most_sent, outcome_of, sink_key, sink_types, streamed}
 use Rattle.job_run.specs.Held.{AreHeld}
 use Rattle.job_run.specs.Outcome.{script_limit, after_load, after_judgement, over_changes, with_script, run_script, batch_script, explain_script, with_request, outcome}

@@ -3,14 +3,12 @@ use Rattle.std.proofs.Common.{◌≡◌, ℕ, ◌<◌, true, List, [], ◌∷◌
 use Rattle.std.specs.List.{AllByRecursion}
 use Rattle.ct_value.specs.Bag.{none}
 use Rattle.ct_change.specs.declared.change.Change.{Change}
-use Rattle.ct_change.specs.Changelog.{Mode, append, retract, upsert, Rows, has, admits, MayCome, IsValid, IsValidFrom, Means, HasKey}
+use Rattle.ct_change.specs.Changelog.{Mode, append, retract, upsert, Rows, has, admits, IsValid, IsValidFrom, Means}
 use Rattle.ct_change.proofs.laws.Folds.{IsValidFrom-back}
 use Rattle.ct_change.proofs.laws.Meanings.{valid_where_means}
-use Rattle.op_rules.specs.History.{Arrival, at_port}
-use Rattle.op_rules.specs.Rules.{Rule, MayArrive}
+use Rattle.op_rules.specs.History.{at_port}
 use Rattle.op_rules.specs.Edges.{Meaning, bag, last_rows, partials, ReadsAs}
-use Rattle.op_rules.specs.Tasks.{Task, IsReady}
-use Rattle.op_rules.specs.Ports.{IsReadIn, TakesAll, ReadyArrives}
+use Rattle.op_rules.specs.Ports.{IsReadIn, ReadyArrives}
 use Rattle.op_rules.proofs.laws.Histories.{all-back, all-each, at_port-push, prefix_at}
 
 -- of kinds that the mode admits, and each prefix of them stands for some rows

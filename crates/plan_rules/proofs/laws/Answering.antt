@@ -11,7 +11,7 @@ use Rattle.ct_expr.specs.Types.{both_of}
 use Rattle.rel_algebra.specs.Answer.{types_in, rows_in, columns_in, answer, answers}
 use Rattle.rel_algebra.specs.Batch.{unary_answer, binary_answer}
 use Rattle.rel_algebra.specs.Clauses.{union_rows}
-use Rattle.rel_algebra.specs.Rel.{Rel, Scan, One, Two, Many, rels}
+use Rattle.rel_algebra.specs.Rel.{Rel, Scan, rels}
 use Rattle.rel_algebra.specs.Sums.{plus}
 use Rattle.rel_algebra.specs.Types.{common_columns, columns_of, common_from}
 use Rattle.emission_rules.specs.Union.{rows_of_ports}

@@ -21,7 +21,7 @@ use Rattle.phys_plan.specs.declared.node.Op.{Op}
 use Rattle.phys_plan.specs.declared.node.Op.TheVariants as op
 use Rattle.phys_plan.proofs.laws.Reading.{read_append}
 use Rattle.plan_rules.specs.Answers.{TreesAreErased}
-use Rattle.plan_rules.specs.Pieces.{unary_way, binary_way, Piece, piece, full_piece, scan_pieces, source_pieces, topped, topped_both, pieces_of, pieces_of_all, roots_of, nodes_in, with_sink}
+use Rattle.plan_rules.specs.Pieces.{unary_way, binary_way, Piece, piece, scan_pieces, source_pieces, topped, topped_both, pieces_of, pieces_of_all, roots_of, nodes_in, with_sink}
 use Rattle.plan_rules.specs.Roles.{nothing, one_of, two_of, role, tree_of}
 use Rattle.plan_rules.proofs.laws.Numbers.{get_at, get_more}
 

@@ -8,7 +8,7 @@ use Rattle.std.specs.FinMap.{IsAntisymmetric}
 use Rattle.ct_value.specs.Order.{value_total, row_total, row_exact}
 use Rattle.rel_algebra.specs.declared.sort.SortCol.{SortCol}
 use Rattle.ct_field.specs.Typed.{cell}
-use Rattle.rel_algebra.specs.Ranks.{directed, sort_cmp, rank_cmp}
+use Rattle.rel_algebra.specs.Ranks.{directed, rank_cmp}
 
 directed_total : (desc : Bool) → IsTotalOrder (directed desc)
 directed_total true = back_total value_total

@@ -10,7 +10,7 @@ use Rattle.query_answer.specs.Answer.{types}
 use Rattle.binding.specs.Checked.{Checked, ◌>>=◌, or_code}
 use Rattle.binding.specs.Inserts.{Inserted, insert_bound, into_sink, is_table, scans, sources_for}
 use Rattle.binding.specs.Queries.{Relation, query_bound}
-use Rattle.binder.specs.Bound.{Bound, bound_of, names_bound, sink_bound}
+use Rattle.binder.specs.Bound.{bound_of, names_bound, sink_bound}
 use Rattle.rewrite.specs.Rewritten.{inserted}
 use Rattle.rewrite.proofs.Again.{Again, query_again}
 

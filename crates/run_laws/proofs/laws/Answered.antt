@@ -25,7 +25,7 @@ use Rattle.source_lines.specs.Taken.{nothing_taken, rows_of, take_records}
 use Rattle.source_lines.specs.Run.{Ran, ended, refused, stopped, printed_by, whole_run}
 use Rattle.run_laws.specs.Headline.{AreAdmitted, AreAnswered, Carries, IsAnswered, IsCarried, RunsCarryAdmitted, RunsPrintAnswers, with_rows}
 use Rattle.run_laws.proofs.laws.Ends.{take_whole, with_same}
-use Rattle.run_laws.proofs.laws.Reached.{Ends, Reached, Stands, Stopped, Told, ToldAt, no_quiet_in, run_ends, take_before}
+use Rattle.run_laws.proofs.laws.Reached.{Ends, Reached, Told, ToldAt, no_quiet_in, run_ends, take_before}
 
 module _ (fit : LinesFitColumns) (plan : Plan) (ruled : IsRuled plan) (limit : ℕ) (lines : List Record) where
   abbrev g : Network

@@ -1,44 +1,36 @@
 -- What a run that goes to its end has printed.
-use Rattle.std.specs.Prelude.{◌≡◌, ℕ, ◌+◌, ◌==◌, ◌&&◌, nat_le, nat_lt, Bool, cond, Option, Result, List, ◌++◌, length, slice_get, option_map, map, take}
-use Rattle.std.proofs.Common.{zero, suc, true, false, [], ◌∷◌, refl, sym, ap, subst, ◌∙◌, arith, Some, None, Ok, Err, inl, inr, append_assoc, append-nil}
-use Rattle.std.proofs.lemmas.List.{map-append}
+use Rattle.std.specs.Prelude.{◌≡◌, ℕ, ◌+◌, ◌==◌, ◌&&◌, nat_le, nat_lt, Bool, cond, Option, Result, List, ◌++◌, length, slice_get, option_map, take}
+use Rattle.std.proofs.Common.{zero, suc, true, false, [], ◌∷◌, refl, sym, ap, subst, ◌∙◌, arith, Some, None, Ok, Err}
 use Rattle.ct_value.specs.declared.codes.ChangeCode.{ChangeCode}
-use Rattle.ct_value.specs.declared.codes.OrderCode.TheVariants.{NoSuchPlace}
-use Rattle.ct_change.specs.declared.change.Change.{Change}
 use Rattle.ct_change.specs.Changelog.{Rows, fold}
 use Rattle.ct_catalog.specs.declared.table.TableDef.{TableDef}
 use Rattle.job_text.specs.declared.line.Line.{Line}
 use Rattle.job_text.specs.Lines.{Record, line_of, records_of}
-use Rattle.rel_algebra.specs.Rel.{Rel}
-use Rattle.rel_algebra.specs.Answer.{answer}
-use Rattle.op_rules.specs.History.{Arrival, joined}
-use Rattle.op_rules.specs.Rules.{Answer}
 use Rattle.phys_plan.specs.declared.plan.Plan.{Plan}
-use Rattle.stream_model.specs.declared.events.Event.TheVariants.{Take, Move, Flush}
+use Rattle.stream_model.specs.declared.events.Event.TheVariants.{Take}
 use Rattle.stream_model.specs.declared.events.StepFault.{StepFault}
 use Rattle.stream_model.specs.declared.events.StepFault.TheVariants.{Change as Refused, Order, Range, Limit, Memory}
 use Rattle.stream_model.specs.declared.events.PrintItem.{PrintItem}
 use Rattle.stream_model.specs.declared.events.PrintItem.TheVariants.{Quiet}
-use Rattle.stream_model.specs.Tables.{Table as Source, scanned_at, refusal}
-use Rattle.stream_model.specs.Network.{Feed, Network}
-use Rattle.stream_model.specs.Machine.{State, opened, send, print, joins, folded, answered, flushed, size_of, flushed_if_full, is_channel, move_front, move_to, flush_held, flush_bundle, is_place, scan_count, scanned, take_unless, take_of, IsQuiet}
+use Rattle.stream_model.specs.Tables.{Table as Source, scanned_at}
+use Rattle.stream_model.specs.Network.{Network}
+use Rattle.stream_model.specs.Machine.{State, opened, scan_count, scanned, take_unless, take_of}
 use Rattle.stream_model.specs.Machine as machine
-use Rattle.stream_model.specs.Runs.{Item, happens, quiet, told_quiet, step_item, state_in, after, IsTyped, AreTyped}
-use Rattle.stream_model.specs.Drain.{Leads, StopsBy, StopsAlong, Stage, delivers, flushes, moves, stage_items, drain_stages, stages, drain, RunsDrain}
+use Rattle.stream_model.specs.Runs.{Item, happens, step_item, IsTyped, AreTyped}
+use Rattle.stream_model.specs.Drain.{Leads, drain}
 use Rattle.plan_rules.specs.Plans.{table_of}
 use Rattle.ct_catalog.specs.Columns.{table_mode}
 use Rattle.plan_rules.specs.Doings.{network}
-use Rattle.plan_rules.specs.Answers.{Answers, tables_with}
+use Rattle.plan_rules.specs.Answers.{tables_with}
 use Rattle.source_lines.specs.Kept.{refusal_after}
-use Rattle.source_lines.specs.Taken.{Taken, RefusedLine, nothing_taken, with_line, line_refusal, take_line, take_records, unless_refused, rows_of}
+use Rattle.source_lines.specs.Taken.{Taken, RefusedLine, with_line, line_refusal, take_line, take_records, unless_refused, rows_of}
 use Rattle.source_lines.specs.Taken as l
 use Rattle.source_lines.specs.Fitting.{LinesFitColumns}
-use Rattle.source_lines.proofs.laws.Along.{ok_same, ended_same, leads_both, leads_after, typed_both, NoQuiet, drained_parts, typed_drain}
+use Rattle.source_lines.proofs.laws.Along.{ok_same, ended_same, drained_parts}
 use Rattle.source_lines.specs.Run as run
 use Rattle.source_lines.specs.Run.{Ran, ended, refused, stopped, and_then, stepped, took, whole_run}
 pub use Rattle.source_lines.specs.Run.{printed_by}
 use Rattle.run_laws.specs.Headline.{with_rows, RunsEndQuiet}
-use Rattle.source_lines.specs.Run.{Begins, IsStop}
 
 some_same : {A : Type 0} (o : Option A) (a b : A) → o ≡ Some a → o ≡ Some b → a ≡ b
 some_same o a b p q = cc (p, q)

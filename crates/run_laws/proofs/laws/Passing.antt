@@ -1,5 +1,5 @@
 -- A run each of whose lines may be taken goes to its end, or stops out of range or by the limit.
-use Rattle.std.specs.Prelude.{◌≡◌, ℕ, ◌+◌, ◌==◌, ◌&&◌, nat_le, nat_lt, Bool, cond, Option, Result, List, length, option_map, slice_get}
+use Rattle.std.specs.Prelude.{◌≡◌, ℕ, ◌+◌, ◌==◌, ◌&&◌, nat_le, nat_lt, Bool, cond, Option, Result, List, length, option_map}
 use Rattle.std.proofs.Common.{true, false, [], ◌∷◌, refl, sym, ap, subst, ◌∙◌, Some, None, Ok, Err, inl, inr}
 use Rattle.ct_value.specs.declared.codes.ChangeCode.{ChangeCode}
 use Rattle.ct_value.specs.declared.codes.OrderCode.TheVariants.{NoSuchPlace}
@@ -26,7 +26,7 @@ use Rattle.plan_rules.specs.Plans.{table_of}
 use Rattle.sound_plans.specs.Sound.{SoundPlansAreWired}
 use Rattle.source_lines.specs.Fitting.{LinesFitColumns}
 use Rattle.source_lines.specs.Kept.{refusal_after}
-use Rattle.source_lines.specs.Taken.{RefusedLine, Taken, line_refusal, nothing_taken, take_records, unless_refused, with_line}
+use Rattle.source_lines.specs.Taken.{Taken, line_refusal, take_records, unless_refused, with_line}
 use Rattle.source_lines.specs.Taken as l
 use Rattle.source_lines.specs.Run as run
 use Rattle.source_lines.specs.Run.{Ran, ended, refused, stopped, and_then, stepped, took}

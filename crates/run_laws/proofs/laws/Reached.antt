@@ -1,12 +1,12 @@
 -- A run over a change file, by the states that it reaches: it takes the lines in order, and tells each quiet moment in a quiet state.
-use Rattle.std.specs.Prelude.{◌≡◌, ℕ, ◌+◌, nat_le, Bool, cond, Option, Result, List, ◌++◌, length, map, take}
+use Rattle.std.specs.Prelude.{◌≡◌, ℕ, ◌+◌, nat_le, Bool, cond, Result, List, ◌++◌, length, map, take}
 use Rattle.std.proofs.Common.{suc, true, false, [], ◌∷◌, refl, sym, ap, subst, ◌∙◌, arith, Some, None, Ok, Err, inl, inr, ◌⊎◌, append_assoc}
 use Rattle.std.proofs.lemmas.List.{length-append}
 use Rattle.ct_value.specs.declared.codes.ChangeCode.{ChangeCode}
 use Rattle.ct_change.specs.declared.change.Change.{Change}
 use Rattle.ct_catalog.specs.declared.table.TableDef.{TableDef}
 use Rattle.job_text.specs.declared.line.Line.{Line}
-use Rattle.job_text.specs.Lines.{Record, line_of, records_of}
+use Rattle.job_text.specs.Lines.{Record, line_of}
 use Rattle.phys_plan.specs.declared.plan.Plan.{Plan}
 use Rattle.stream_model.specs.declared.events.Event.TheVariants.{Take}
 use Rattle.stream_model.specs.declared.events.StepFault.{StepFault}
@@ -23,9 +23,9 @@ use Rattle.source_lines.specs.Taken.{Taken, RefusedLine, nothing_taken, take_lin
 use Rattle.source_lines.specs.Taken as l
 use Rattle.source_lines.specs.Fitting.{LinesFitColumns}
 use Rattle.source_lines.specs.Run as run
-use Rattle.source_lines.specs.Run.{Ran, ended, refused, stopped, and_then, stepped, took, whole_run}
+use Rattle.source_lines.specs.Run.{Ran, ended, refused, stopped, and_then, stepped, took}
 use Rattle.source_lines.proofs.laws.Along.{AreMoves, Goes, GoesTo, IsMove, goes_item, moves_stages, moves_typed, ok_same}
-use Rattle.run_laws.proofs.laws.Ends.{TookOne, one_typed, take_whole, taken_one, took_one}
+use Rattle.run_laws.proofs.laws.Ends.{TookOne, one_typed, taken_one, took_one}
 
 -- ---- quiet items among printed ones
 

@@ -9,13 +9,13 @@ use Rattle.phys_plan.specs.declared.node.Node.{Node}
 use Rattle.phys_plan.specs.declared.node.Op.{Op}
 use Rattle.phys_plan.specs.declared.node.Op.TheVariants as op
 use Rattle.phys_plan.specs.Reading.{numbered}
-use Rattle.plan_rules.specs.Columns.{columns_by, numbered_columns, only, node_columns}
+use Rattle.plan_rules.specs.Columns.{columns_by, numbered_columns, node_columns}
 use Rattle.sound_plans.proofs.laws.Numbers.{columns_made}
 use Rattle.phys_plan.specs.Columns.{columns_in}
-use Rattle.plan_check.specs.Types.{all_types, input_columns, is_typed_by, keyed_columns, next_types, types_after, types_at, types_by}
+use Rattle.plan_check.specs.Types.{all_types, input_columns, is_typed_by, next_types, types_after, types_at, types_by}
 use Rattle.plan_check.specs.Sound.{columns_or_none, sent_columns}
 use Rattle.plan_rules.specs.Behaviours.{has_rule}
-use Rattle.sound_plans.proofs.laws.Lists.{the_same, map_same, of_each}
+use Rattle.sound_plans.proofs.laws.Lists.{the_same, map_same}
 
 -- ---- the columns of a node are made of those of its inputs
 

@@ -1,12 +1,12 @@
 -- The consumer of an edge: the one node that has its number among its inputs.
-use Rattle.std.specs.Prelude.{◌≡◌, ℕ, ◌+◌, ◌<◌, ◌==◌, Bool, cond, List, drop, slice_get, Option}
+use Rattle.std.specs.Prelude.{◌≡◌, ℕ, ◌+◌, ◌<◌, ◌==◌, Bool, cond, List, drop, slice_get}
 use Rattle.std.proofs.Common.{zero, suc, true, false, [], ◌∷◌, refl, sym, ap, subst, ◌∙◌, arith, Some, None}
-use Rattle.std.proofs.lemmas.Bool.{eqb-true, eqb-false, eq-eqb}
+use Rattle.std.proofs.lemmas.Bool.{eqb-true, eq-eqb}
 use Rattle.std.specs.List.{find}
 use Rattle.ct_catalog.specs.declared.table.TableDef.{TableDef}
 use Rattle.ct_change.specs.declared.update.Update.{Update}
 use Rattle.phys_plan.specs.declared.node.Node.{Node}
-use Rattle.phys_plan.specs.Reading.{Wire, wire, wires}
+use Rattle.phys_plan.specs.Reading.{wires}
 use Rattle.mode_infer.specs.Updates.{is_input, port_of, takes, takes_after}
 use Rattle.plan_inferred.specs.Rules.{consumer}
 use Rattle.plan_shape.specs.Shape.{has_input}

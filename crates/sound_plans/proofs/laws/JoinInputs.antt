@@ -9,7 +9,6 @@ use Rattle.op_rules.specs.Edges.{IsKeyedBy, KeepsKeys, hash, last_rows}
 use Rattle.emission_rules.specs.JoinFits.{SaysUpdates, SideFits}
 use Rattle.phys_plan.specs.declared.edge.Exchange.TheVariants.{Hash}
 use Rattle.ct_change.specs.declared.update.Update.{Update}
-use Rattle.ct_change.specs.declared.update.Update.TheVariants.{Absent, After, Both}
 use Rattle.phys_plan.specs.declared.node.Op.{Op}
 use Rattle.phys_plan.specs.declared.node.Op.TheVariants as op
 use Rattle.column_sets.specs.Sets.{is_within}

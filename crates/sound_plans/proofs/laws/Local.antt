@@ -2,7 +2,6 @@
 use Rattle.std.specs.Prelude.{◌≡◌, ℕ, ◌+◌, ◌-◌, ◌<◌, ◌≤◌, Bool, cond, List, drop, length, map, slice_get, Option, unwrap_or}
 use Rattle.std.proofs.Common.{zero, suc, true, false, [], ◌∷◌, refl, sym, ap, subst, ◌∙◌, arith, Some, None}
 use Rattle.std.specs.List.{AllByRecursion}
-use Rattle.ct_value.specs.declared.ty.ColTy.{ColTy}
 use Rattle.ct_change.specs.declared.kind.KindSet.{KindSet}
 use Rattle.ct_catalog.specs.declared.table.TableDef.{TableDef}
 use Rattle.phys_plan.specs.declared.edge.Edge.{Edge as PlanEdge}
@@ -24,18 +23,18 @@ use Rattle.mode_infer.specs.declared.kinds.Flow.{Flow}
 use Rattle.mode_infer.specs.declared.modes.EdgeMode.{EdgeMode}
 use Rattle.mode_infer.specs.Exchanges.{asked}
 use Rattle.mode_infer.specs.Kinds.{flow_of, flows, no_flow, plain}
-use Rattle.mode_infer.specs.Modes.{all_modes, edge_kinds, edge_modes, mode, modes_of, updates, with_sink, with_sinks}
+use Rattle.mode_infer.specs.Modes.{edge_modes, mode, modes_of, updates, with_sink}
 use Rattle.mode_infer.specs.UpdateKeys.{input_width, update_key_of, update_keys}
 use Rattle.mode_infer.specs.Updates.{is_input, is_taken, port_of, takes}
 use Rattle.plan_inferred.specs.Local.{AreOrdered, IsLocal}
 use Rattle.plan_inferred.specs.Same.{same_exchange, same_keys, same_kinds, same_sets, same_truth, same_update}
-use Rattle.plan_inferred.specs.Rules.{by_columns, exchange_by, has_keys, has_kinds, has_old_rows, has_update, is_exchanged, says_exchange, says_keys, says_kinds, says_update, suits_sink, width_at, consumer}
+use Rattle.plan_inferred.specs.Rules.{by_columns, exchange_by, has_old_rows, says_exchange, says_keys, says_kinds, says_update, width_at, consumer}
 use Rattle.plan_shape.specs.Shaped.{MeetsShape}
 use Rattle.plan_rules.specs.Columns.{columns_at, columns_by, node_columns}
 use Rattle.plan_check.specs.Sound.{inferred_of, meets}
-use Rattle.plan_check.specs.Types.{has_types, is_typed, is_typed_by, types_at, types_by}
+use Rattle.plan_check.specs.Types.{is_typed, is_typed_by, types_at, types_by}
 use Rattle.sound_plans.specs.Agrees.{taken_by, first_width}
-use Rattle.sound_plans.specs.Outputs.{Output, seen}
+use Rattle.sound_plans.specs.Outputs.{seen}
 use Rattle.plan_rules.specs.Behaviours.{has_rule}
 use Rattle.sound_plans.specs.Sound.{IsRuled}
 use Rattle.sound_plans.proofs.laws.Lists.{both, drop_at, found, is_somewhere, map_length, map_map, map_same, of_each, same_numbers, within}

@@ -1,8 +1,7 @@
 -- What the nodes of a plan send, by their numbers, and the edges of the network.
-use Rattle.std.specs.Prelude.{◌≡◌, ℕ, ◌<◌, ◌==◌, Bool, cond, List, length, map, slice_get, Option, unwrap_or}
+use Rattle.std.specs.Prelude.{◌≡◌, ℕ, ◌<◌, ◌==◌, Bool, cond, List, length, map, Option, unwrap_or}
 use Rattle.std.proofs.Common.{zero, suc, true, false, [], ◌∷◌, refl, sym, ap, subst, ◌∙◌, arith, Some, None}
 use Rattle.ct_value.specs.declared.ty.ColTy.{ColTy}
-use Rattle.ct_catalog.specs.declared.table.TableDef.{TableDef}
 use Rattle.ct_field.specs.Typed.{row_fits}
 use Rattle.op_rules.specs.Edges.{Edge, meaning_of}
 use Rattle.phys_plan.specs.declared.edge.Edge.{Edge as PlanEdge}
@@ -11,18 +10,17 @@ use Rattle.ct_change.specs.declared.update.Update.TheVariants.{Both}
 use Rattle.phys_plan.specs.declared.node.KeyInfo.{KeyInfo}
 use Rattle.phys_plan.specs.declared.node.Node.{Node}
 use Rattle.phys_plan.specs.declared.plan.Plan.{Plan}
-use Rattle.phys_plan.specs.Reading.{at, wires, numbered, first_input, no_keys}
+use Rattle.phys_plan.specs.Reading.{at, wires, numbered, no_keys}
 use Rattle.phys_plan.specs.Columns.{columns_in}
 use Rattle.mode_infer.specs.Kinds.{flows, no_flow}
 use Rattle.mode_infer.specs.UpdateKeys.{update_keys}
 use Rattle.plan_rules.specs.Plans.{exchange_in, kinds_in, keys_in, meaning_in, change_fits, no_kinds, route_by}
 use Rattle.ct_catalog.specs.Columns.{table_mode}
 use Rattle.plan_rules.specs.Columns.{columns_at}
-use Rattle.plan_rules.specs.Around.{Around, Side}
-use Rattle.plan_rules.specs.Doings.{around_of, network, other_inputs, side_of, update_in}
+use Rattle.plan_rules.specs.Doings.{around_of, network, side_of, update_in}
 use Rattle.plan_check.specs.Sound.{sent_columns}
 use Rattle.plan_check.specs.Types.{all_types}
-use Rattle.sound_plans.specs.Outputs.{Output, around_by, edge_of, others_of, printed_edge, side_of as output_side}
+use Rattle.sound_plans.specs.Outputs.{Output, around_by, edge_of, printed_edge, side_of as output_side}
 
 abbrev pub edge_or : Option PlanEdge → PlanEdge
 edge_or None = record { exchange = Forward; kinds = no_kinds; update = Both }

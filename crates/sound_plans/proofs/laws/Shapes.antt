@@ -1,16 +1,16 @@
 -- What the rule Shape says of a node, of what feeds it and of what it feeds.
-use Rattle.std.specs.Prelude.{◌≡◌, ℕ, ◌+◌, ◌<◌, ◌≤◌, ◌==◌, Bool, ◌&&◌, ◌||◌, not, cond, nat_lt, List, drop, length, max, slice_get, Option}
+use Rattle.std.specs.Prelude.{◌≡◌, ℕ, ◌+◌, ◌<◌, ◌≤◌, ◌==◌, Bool, ◌&&◌, ◌||◌, not, cond, List, length, max, slice_get}
 use Rattle.std.proofs.Common.{zero, suc, true, false, [], ◌∷◌, refl, sym, ap, subst, ◌∙◌, arith, Some, None}
-use Rattle.std.specs.List.{AllByRecursion, find, list_all}
-use Rattle.std.proofs.lemmas.Bool.{eqb-true, eqb-false, ltb-true, leb-true}
+use Rattle.std.specs.List.{AllByRecursion, list_all}
+use Rattle.std.proofs.lemmas.Bool.{eqb-true}
 use Rattle.ct_catalog.specs.declared.table.TableDef.{TableDef}
 use Rattle.phys_plan.specs.declared.node.Node.{Node}
 use Rattle.phys_plan.specs.declared.node.Op.{Op}
 use Rattle.phys_plan.specs.declared.node.Op.TheVariants as op
 use Rattle.phys_plan.specs.declared.plan.Plan.{Plan}
-use Rattle.plan_rules.specs.Plans.{HasInput, HasShape, kinds_in}
+use Rattle.plan_rules.specs.Plans.{HasShape, kinds_in}
 use Rattle.phys_plan.specs.Reading.{numbered, first_input}
-use Rattle.plan_shape.specs.Shape.{are_before, consumer, has_shape, has_sizes, is_consumed, is_fed, is_shaped, is_sink, is_whole, node_has_shape, op_in, suits_consumer, suits_input, suits_plan, takes, uses}
+use Rattle.plan_shape.specs.Shape.{are_before, consumer, has_sizes, is_consumed, is_fed, is_shaped, is_sink, is_whole, node_has_shape, op_in, suits_consumer, suits_input, suits_plan, takes, uses}
 use Rattle.plan_shape.specs.Shaped.{MeetsShape, ShapedPlansHaveShape}
 use Rattle.plan_shape.specs.Tables.{are_tables, is_declarable}
 use Rattle.sound_plans.proofs.laws.Lists.{both, found, is_somewhere, is_there, not_true, of_each, same_number, the_same, within}

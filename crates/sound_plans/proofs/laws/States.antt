@@ -8,7 +8,7 @@ use Rattle.ct_value.specs.declared.row.Row.{Row}
 use Rattle.ct_change.specs.declared.change.Change.{Change}
 use Rattle.op_rules.specs.Edges.{AreApartBy, Exchange, IsApart, IsKeyedBy, Meaning, bag, forward, goes_by, hash, last_rows, partials}
 use Rattle.plan_rules.specs.Doings.{network}
-use Rattle.stream_model.specs.Machine.{State, opened}
+use Rattle.stream_model.specs.Machine.{State}
 use Rattle.stream_model.specs.Network.{IsWired, Network}
 use Rattle.stream_model.specs.Theorem.{Composes, Holds}
 use Rattle.sound_plans.specs.Sound.{SoundPlansAreWired, SoundPlansMeetFacts}

@@ -1,5 +1,5 @@
 -- What the rule Shape says of the tables of a plan: the columns of a key are there, in the order of their positions.
-use Rattle.std.specs.Prelude.{◌≡◌, ℕ, ◌+◌, ◌<◌, ◌≤◌, Bool, ◌&&◌, ◌||◌, not, nat_le, List, ◌++◌, fold, length, slice_get, Option}
+use Rattle.std.specs.Prelude.{◌≡◌, ℕ, ◌+◌, ◌<◌, ◌≤◌, ◌&&◌, ◌||◌, nat_le, List, ◌++◌, fold, length, slice_get, Option}
 use Rattle.std.proofs.Common.{zero, suc, true, false, [], ◌∷◌, refl, sym, ap, subst, ◌∙◌, arith, Some, None, append-nil, append_assoc}
 use Rattle.std.specs.List.{AllByRecursion, list_all}
 use Rattle.std.specs.Ordering.{nat_cmp, match_ordering}
@@ -7,11 +7,9 @@ use Rattle.std.specs.Cmp.{nat_cmp_is}
 use Rattle.std.specs.BTreeSet.{insert_key}
 use Rattle.std.specs.declared.cmp.Ordering.TheVariants.{Greater}
 use Rattle.std.proofs.lemmas.Bool.{leb-true}
-use Rattle.ct_change.specs.declared.kind.Declared.{Declared}
-use Rattle.ct_change.specs.declared.kind.Declared.TheVariants.{Append, Retract, Upsert}
+use Rattle.ct_change.specs.declared.kind.Declared.TheVariants.{Upsert}
 use Rattle.ct_catalog.specs.declared.table.ColDef.{ColDef}
 use Rattle.ct_catalog.specs.declared.table.TableDef.{TableDef}
-use Rattle.column_sets.specs.Sets.{set_of}
 use Rattle.sound_plans.specs.Agrees.{IsOrdered}
 use Rattle.sound_plans.specs.Outputs.{AreWithin}
 use Rattle.plan_shape.specs.Tables.{has_columns, is_declarable, is_key, is_required, is_required_in, key_fits, rise_from}

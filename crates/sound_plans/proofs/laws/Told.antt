@@ -1,5 +1,5 @@
 -- Where an edge tells of a row that went its key alone, the key has the columns that fix a row's subtask.
-use Rattle.std.specs.Prelude.{◌≡◌, ℕ, Bool, List, Option}
+use Rattle.std.specs.Prelude.{◌≡◌, ℕ, Bool, List}
 use Rattle.std.proofs.Common.{true, sym, ap, subst, ◌∙◌, Some, None}
 use Rattle.std.specs.List.{AllByRecursion, Contains}
 use Rattle.ct_change.specs.declared.kind.KindSet.{KindSet}

@@ -1,8 +1,7 @@
 -- A sound plan is wired, each of its nodes meets its facts, and what it prints folds to its sink's answer.
-use Rattle.std.specs.Prelude.{◌≡◌, ℕ, ◌+◌, ◌<◌, ◌≤◌, ◌⊎◌, ◌==◌, Bool, cond, List, length, slice_get, Option, option_map, unwrap_or}
+use Rattle.std.specs.Prelude.{◌≡◌, ℕ, ◌+◌, ◌<◌, ◌≤◌, ◌⊎◌, ◌==◌, cond, List, length, slice_get, Option, option_map}
 use Rattle.std.proofs.Common.{zero, suc, true, false, [], ◌∷◌, refl, sym, ap, subst, ◌∙◌, arith, Some, None, inl, inr}
 use Rattle.std.proofs.lemmas.Bool.{eqb-true}
-use Rattle.ct_value.specs.declared.ty.ColTy.{ColTy}
 use Rattle.ct_change.specs.Changelog.{Mode, append, retract, upsert, has}
 use Rattle.op_rules.specs.Edges.{Edge, forward, meaning_of, IsKeyedBy}
 use Rattle.op_rules.specs.Tasks.{Facts}
@@ -39,7 +38,7 @@ use Rattle.sound_plans.proofs.laws.Local as l
 use Rattle.sound_plans.proofs.laws.Shapes as s
 use Rattle.sound_plans.proofs.laws.Sinks.{sinks_fit}
 use Rattle.sound_plans.proofs.laws.Outputs.{edge_or, output_at, printed_is}
-use Rattle.sound_plans.proofs.laws.Stands.{IsScanNode, IsWorker, NodeStands, edge_at, node_stands, proper_inputs, sink_is}
+use Rattle.sound_plans.proofs.laws.Stands.{IsScanNode, IsWorker, edge_at, node_stands, proper_inputs, sink_is}
 
 -- the consumer of an edge is a node that has it among its inputs
 consumer_there : (v : ℕ) (nodes : List Node) (node : Node) → consumer v nodes ≡ Some node → (n : ℕ) × (slice_get nodes n ≡ Some node) × (is_input v node.inputs ≡ true)

@@ -20,7 +20,7 @@ use Rattle.stream_model.specs.Machine.{State, send, print, joins, folded, answer
 use Rattle.stream_model.specs.Runs.{Item, happens, quiet, told_quiet, step_item, state_in, after, AreTyped}
 use Rattle.stream_model.specs.Drain.{Leads, StopsBy, StopsAlong, Stage, delivers, flushes, moves, stage_items, drain_stages, stages, drain}
 use Rattle.source_lines.specs.Run as run
-use Rattle.source_lines.specs.Run.{Ran, ended, refused, stopped, and_then, stepped, took, whole_run, printed_by, Begins, IsStop}
+use Rattle.source_lines.specs.Run.{ended, and_then, stepped, took, Begins, IsStop}
 
 pub ok_same : {A B : Type 0} (x y : A) → (let r : Result A B = Ok x in r ≡ Ok y) → x ≡ y
 ok_same x y e = cc

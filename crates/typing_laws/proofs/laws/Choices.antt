@@ -11,7 +11,7 @@ use Rattle.ct_value.specs.declared.ty.Ty.TheVariants.{Bool as Truths, Int, BigIn
 use Rattle.ct_value.specs.declared.ty.ColTy.{ColTy}
 use Rattle.ct_field.specs.Typed.{value_fits, is_null}
 use Rattle.ct_expr.specs.Types as t
-use Rattle.ct_expr.specs.Types.{common_ty, col, both_of, begun, joined, gather_some, case_col, coalesce_col, or_null}
+use Rattle.ct_expr.specs.Types.{common_ty, col, both_of, joined, gather_some, case_col, coalesce_col, or_null}
 use Rattle.ct_expr.specs.Values.{is_true, first_known, first_chosen}
 use Rattle.typing_laws.proofs.laws.Lifted.{Lift, LiftAll}
 use Rattle.typing_laws.proofs.laws.Kinds.{Holds, both_true, first_true, second_true, or_true, null_fits, same_null}

@@ -11,7 +11,7 @@ use Rattle.ct_field.specs.Typed.{value_fits, is_null, col_fits, row_fits}
 use Rattle.ct_expr.specs.Expr.{Expr, Exprs, Whens, OptionalExpr, Column, Literal, Neg, Arith, Compare, And, Or, Not, IsNull, InList, Case, Coalesce, NullIf, Cast, Concat, CharLength, Like, no_exprs, expr_and, no_whens, when_and, no_expr, some_expr}
 use Rattle.ct_expr.specs.Eval.{cell, typed, eval, evals, typed_evals, branches, otherwise}
 use Rattle.ct_expr.specs.Types as t
-use Rattle.ct_expr.specs.Types.{same_ty, col, both_of, gather, gather_some, column_col, literal_col, number_col, arith_col, compare_col, logic_col, truth_col, all_truths, null_test_col, in_list_col, case_col, coalesce_col, null_if_col, cast_col, texts_col, char_length_col, type_of, types_of, conds_of, results_of, otherwise_of, ty_of}
+use Rattle.ct_expr.specs.Types.{same_ty, col, both_of, gather, gather_some, literal_col, number_col, arith_col, compare_col, logic_col, truth_col, all_truths, null_test_col, in_list_col, case_col, coalesce_col, null_if_col, cast_col, texts_col, char_length_col, type_of, types_of, conds_of, results_of, otherwise_of, ty_of}
 use Rattle.ct_expr.specs.Values.{and_of, or_of, not_of, minus_of, arith_of, compare_of, null_if_of, in_list_of, concat_of, char_length_of, like_of, cast_of, first_chosen}
 use Rattle.typing_laws.specs.Meaning.{IsOf}
 use Rattle.typing_laws.proofs.laws.Lifted.{Lift, LiftAll, lift_out, lift_if, lift_then, lift_map, lift_gather}

@@ -1,14 +1,12 @@
 use Rattle.std.proofs.Common.{◌≡◌, ◌+◌, ℕ, List, [], ◌∷◌, drop, get_or, Some, None, Option, rules, sym, ap, ◌∙◌}
-use Rattle.std.specs.Prelude.{IsErrOf}
 use Rattle.ct_value.specs.Bag.{bag_of_counts}
 use Rattle.ct_value.specs.Order.{row_cmp}
 use Rattle.ct_value.specs.declared.value.Value.{Value}
-use Rattle.ct_expr.specs.declared.evaluate.EvalFault.{EvalFault}
 use Rattle.std.proofs.lemmas.List.{at_drop_more}
 use Rattle.rel_algebra.specs.GroupedCounts.{count_all}
 use Rattle.rel_algebra.specs.declared.agg.Agg.{Agg}
 use Rattle.rel_algebra.specs.Aggregates.{agg_result}
-use Rattle.batch_answer.proofs.Lists.{collected, collected-start, collected-more, collected-out, collected-end, drop_more, drop_end}
+use Rattle.batch_answer.proofs.Lists.{collected, collected-start, collected-more, collected-out, collected-end, drop_end}
 use Rattle.batch_answer.proofs.groups.call_results.Goals as goal
 
 pub loop-agg-init : goal.loop-agg-init

@@ -10,7 +10,6 @@ use Rattle.ct_expr.specs.declared.evaluate.EvalFault.{EvalFault}
 use Rattle.rel_algebra.specs.Aggregates.{agg_results}
 use Rattle.rel_algebra.specs.Keys.{keys_in}
 use Rattle.rel_algebra.specs.Sums.{one}
-use Rattle.batch_answer.specs.Indexes.{IsFilled}
 use Rattle.batch_answer.specs.Tallies.{AreCounted, OfRows}
 use Rattle.batch_answer.proofs.ByKey.{units, IsMember, keys-units, entries-are, group_made, groups-by_key}
 use Rattle.batch_answer.proofs.Sums.{unfit-same}

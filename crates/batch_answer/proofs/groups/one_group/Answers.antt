@@ -1,4 +1,4 @@
-use Rattle.std.proofs.Common.{◌≡◌, ◌+◌, ◌≤◌, ◌^◌, ℕ, List, [], take, Some, None, Option, rules, arith, sym, ap, ◌∙◌}
+use Rattle.std.proofs.Common.{◌≡◌, ◌+◌, ◌≤◌, ◌^◌, ℕ, List, [], Some, None, Option, rules, arith, sym, ap, ◌∙◌}
 use Rattle.std.specs.Prelude.{IsErrOf, option_map}
 use Rattle.ct_value.specs.Bag.{bag_of_counts, add_many, copies}
 use Rattle.ct_value.proofs.laws.Bags.{copies-none}

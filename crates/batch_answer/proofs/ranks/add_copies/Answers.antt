@@ -2,7 +2,6 @@ use Rattle.std.proofs.Common.{◌≡◌, ◌+◌, ◌-◌, ◌<◌, ◌≤◌, �
 use Rattle.std.specs.Prelude.{IsErrOf}
 use Rattle.ct_change.specs.Counts.{repeated}
 use Rattle.ct_value.specs.Bag.{copies}
-use Rattle.ct_value.specs.declared.row.Row.{Row}
 use Rattle.ct_expr.specs.declared.evaluate.EvalFault.{EvalFault}
 use Rattle.rel_algebra.specs.Sums.{together}
 use Rattle.batch_answer.specs.Ranking.{tail}

@@ -1,7 +1,6 @@
 use Rattle.std.proofs.Common.{◌≡◌, ◌+◌, ℕ, List, [], ◌∷◌, drop, Some, rules, sym, ap, ◌∙◌}
 use Rattle.std.specs.Prelude.{IsErrOf}
 use Rattle.ct_change.specs.Counts.{each_copy, repeated}
-use Rattle.ct_value.specs.Bag.{bag_of_counts}
 use Rattle.ct_value.specs.declared.row.Row.{Row}
 use Rattle.ct_expr.specs.declared.evaluate.EvalFault.{EvalFault}
 use Rattle.rel_algebra.specs.Sums.{together}

@@ -1,5 +1,4 @@
 use Rattle.std.specs.List.{AllByRecursion}
-use Rattle.ct_value.specs.Bag.{bag_of_counts}
 use Rattle.ct_value.specs.Rows.{project}
 use Rattle.rel_algebra.specs.Keys.{keys_in}
 use Rattle.batch_answer.proofs.ByKey.{units, IsMember}

@@ -1,4 +1,4 @@
-use Rattle.std.proofs.Common.{rules, ◌≡◌, ◌++◌, None, OnOk, option_map, map, drop, ◌+◌, arith, sym, ap, ◌∙◌, append_assoc}
+use Rattle.std.proofs.Common.{rules, ◌≡◌, ◌++◌, None, OnOk, option_map, map, ◌+◌, arith, sym, ap, ◌∙◌, append_assoc}
 use Rattle.std.proofs.lemmas.Result.{on_ok_weaker}
 use Rattle.sql_syntax.specs.declared.tree.Args.TheViews.{out-Over}
 use Rattle.sql_syntax.specs.Tree as t
@@ -7,7 +7,7 @@ use Rattle.sql_syntax.specs.View.{view, args_view, over_view, sorts_view, trees_
 use Rattle.query_answer.specs.Calls.{aggregate_of, all_calls, args_calls, calls, optional_calls, sort_calls, window_calls}
 use Rattle.query_answer.specs.Functions.{function_of}
 use Rattle.bind_names.specs.Calls.{call_view}
-use Rattle.bind_names.proofs.CallLists.{of_sorts, of_sums, of_products, of_whens, is_no_call, window, sorts_step, sums_step, products_step, whens_step, turned, turned_twice}
+use Rattle.bind_names.proofs.CallLists.{is_no_call, window, sorts_step, sums_step, products_step, whens_step, turned, turned_twice}
 use Rattle.bind_names.proofs.calls.+calls.Goals as goal
 
 pub push_sum-loop-tail-preserved : goal.push_sum-loop-tail-preserved

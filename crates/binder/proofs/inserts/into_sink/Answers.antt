@@ -1,4 +1,4 @@
-use Rattle.std.proofs.Common.{rules, ◌≡◌, ◌++◌, ◌∷◌, [], true, false, length, Ok, Err, ap, ◌∙◌}
+use Rattle.std.proofs.Common.{rules, ◌≡◌, ◌++◌, ◌∷◌, [], true, false, length, Err, ap, ◌∙◌}
 use Rattle.ct_value.specs.declared.codes.ScriptCode.TheVariants.{SinkShape}
 use Rattle.sql_syntax.specs.View.{query_view}
 use Rattle.binding.specs.Queries.{query_bound}

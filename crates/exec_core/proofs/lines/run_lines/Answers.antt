@@ -2,7 +2,6 @@ use Rattle.std.proofs.Common.{◌≡◌, ◌∙◌, [], ap, sym, subst}
 use Rattle.std.proofs.lemmas.Result.{err_from_is_err_and}
 use Rattle.plan_rules.specs.Doings.{network}
 use Rattle.stream_model.specs.Machine.{State, opened}
-use Rattle.stream_model.specs.Drain.{drain}
 use Rattle.source_lines.specs.Run.{and_then, drained, take_lines}
 use Rattle.exec_core.specs.declared.fault.RunFault.TheVariants.{Stopped}
 use Rattle.exec_core.specs.Faults.{IsRan}

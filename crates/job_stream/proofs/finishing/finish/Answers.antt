@@ -1,5 +1,5 @@
 use Rattle.std.proofs.Common.{Err, ap}
-use Rattle.job_stream.proofs.Ends.{all_put, failed_put, memory_put}
+use Rattle.job_stream.proofs.Ends.{failed_put, memory_put}
 use Rattle.job_stream.proofs.finishing.finish.Goals as goal
 
 pub returns-in-Err-Failed : goal.returns-in-Err-Failed

@@ -1,4 +1,4 @@
-use Rattle.std.proofs.Common.{◌≡◌, ℕ, ◌+◌, List, length, take}
+use Rattle.std.proofs.Common.{◌≡◌, ℕ, ◌+◌, List, take}
 use Rattle.ct_change.specs.declared.change.Change.{Change}
 use Rattle.op_rules.specs.Edges.{Edge}
 use Rattle.session_core.specs.Sending.{AllRoute, Carry, scanned_by}

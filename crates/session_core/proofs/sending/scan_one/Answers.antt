@@ -1,12 +1,11 @@
-use Rattle.std.proofs.Common.{◌≡◌, ℕ, ◌+◌, List, [], ◌∷◌, ◌++◌, Some, length, take, get_or, slice_get, arith, sym, ap, subst, ◌∙◌}
-use Rattle.std.specs.List.{fold}
+use Rattle.std.proofs.Common.{◌≡◌, ℕ, ◌+◌, List, [], ◌∷◌, ◌++◌, Some, take, get_or, slice_get, arith, sym, ap, subst, ◌∙◌}
 use Rattle.std.proofs.lemmas.List.{take_more}
 use Rattle.std.proofs.lemmas.List.Sums.{fold-append}
 use Rattle.std.proofs.lemmas.Option.{get_or_from_slice_get}
 use Rattle.ct_change.specs.declared.change.Change.{Change}
 use Rattle.session_core.specs.declared.exchange.Route.{Route}
 use Rattle.session_core.specs.Routes.{IsWide}
-use Rattle.session_core.specs.Sending.{Carry, MayScan, scanned_by, sent_by}
+use Rattle.session_core.specs.Sending.{Carry, scanned_by, sent_by}
 use Rattle.session_core.proofs.Sends.{carry_same, sent_none}
 use Rattle.session_core.proofs.sending.scan_one.Goals as goal
 

@@ -1,11 +1,10 @@
 use Rattle.std.proofs.Common.{◌≡◌, ℕ, ◌+◌, List, [], ◌∷◌, ◌++◌, length, refl, sym, ap, subst, ◌∙◌, arith}
 use Rattle.std.proofs.lemmas.List.{length-append}
 use Rattle.std.proofs.lemmas.Iterator.Adapters.{YieldsList-from_vec}
-use Rattle.std.proofs.lemmas.Iterator.Consumers.{YieldsList-turn, YieldsList-end}
+use Rattle.std.proofs.lemmas.Iterator.Consumers.{YieldsList-turn}
 use Rattle.ct_change.specs.declared.change.Change.{Change}
-use Rattle.op_rules.specs.Edges.{Edge}
 use Rattle.session_core.specs.Routes.{IsWide, RoutesFor}
-use Rattle.session_core.specs.Sending.{Carry, sent_by}
+use Rattle.session_core.specs.Sending.{sent_by}
 use Rattle.session_core.proofs.Sends.{carry_same, sent_none}
 use Rattle.session_core.proofs.sending.send_all.Goals as goal
 

@@ -1,6 +1,5 @@
 use Rattle.std.proofs.Common.{◌++◌, ap, sym, ◌∙◌}
 use Rattle.plan_rules.specs.Doings.{network}
-use Rattle.stream_model.specs.declared.events.PrintItem.{PrintItem}
 use Rattle.exec_core.proofs.session.Session.step.Goals as goal
 
 pub step-requires : goal.step-requires

@@ -6,7 +6,7 @@ use Rattle.ct_change.specs.Emission.{row_of}
 use Rattle.emission_rules.specs.Grouping.{members}
 use Rattle.op_group.specs.declared.groups.Results.{Results}
 use Rattle.op_group.specs.Groups.{grouping}
-use Rattle.op_group.proofs.Taken.{has_at, room_at, goes_at, turned_at, told_at, out_at, emits_told, grouped_after, can, if_range}
+use Rattle.op_group.proofs.Taken.{has_at, room_at, turned_at, told_at, out_at, emits_told, grouped_after, can, if_range}
 use Rattle.op_group.proofs.group.Group.take.Goals as goal
 
 pub turn_group-requires-clause-kept : goal.turn_group-requires-clause-kept

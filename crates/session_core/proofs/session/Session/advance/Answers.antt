@@ -1,9 +1,9 @@
-use Rattle.std.proofs.Common.{◌≡◌, ℕ, ◌+◌, ◌<◌, List, [], ◌∷◌, length, Result, Ok, Err, refl, sym, ap, subst, ◌∙◌, arith}
+use Rattle.std.proofs.Common.{◌≡◌, ℕ, ◌+◌, ◌<◌, List, [], ◌∷◌, refl, sym, ap, subst, ◌∙◌, arith}
 use Rattle.std.proofs.lemmas.Result.{err_from_is_err_and}
 use Rattle.op_rules.specs.History.{Arrival, arrival, joined}
 use Rattle.op_rules.specs.Rules.{Answer}
 use Rattle.stream_model.specs.declared.events.Event.TheVariants.{Move}
-use Rattle.stream_model.specs.Machine.{State, move, answered, hand_on}
+use Rattle.stream_model.specs.Machine.{move, answered, hand_on}
 use Rattle.stream_model.specs.Runs.{happens}
 use Rattle.session_core.specs.LaidOut.{port_of}
 use Rattle.session_core.specs.Runs.{AllRun, pieces_after}

@@ -3,7 +3,6 @@ use Rattle.stream_model.specs.declared.events.PrintItem.{PrintItem}
 use Rattle.stream_model.specs.Network.{Network}
 use Rattle.stream_model.specs.Machine.{State}
 use Rattle.stream_model.specs.Drain.{Leads, moves}
-use Rattle.session_core.specs.LaidOut.{IsThere}
 use Rattle.session_core.specs.Stands.{Keeps}
 use Rattle.session_core.proofs.session.Session.deliver.Given as goal
 

@@ -1,6 +1,5 @@
 use Rattle.std.proofs.Common.{◌≡◌, ℕ, ◌<◌, List, [], Some, sym, ap, subst, ◌∙◌}
-use Rattle.session_core.proofs.Wires.{fed_there}
-use Rattle.session_core.specs.LaidOut.{feed_of, port_of}
+use Rattle.session_core.specs.LaidOut.{port_of}
 use Rattle.session_core.proofs.traffic.Traffic.holds_nothing.Goals as goal
 
 pub returns-in-Some-clause-quiet : goal.returns-in-Some-clause-quiet
