@@ -1,7 +1,7 @@
 -- Items of a select list, and what each is read as.
 use Rattle.std.specs.Prelude.{ℕ, true, false, List, ◌++◌, Some, None, codes, [], ◌∷◌}
 use Rattle.ct_value.specs.declared.value.CompareOp.TheVariants.{Eq, Ne, Lt, Le, Gt, Ge}
-use Rattle.sql_syntax.specs.Tree.{Or, And, Not, Exists, Compare, IsNull, Between, InList, InQuery, Like, Sum, Product, Sign, Number, Str, Truth, Null, Name, Call, Cast, Paren, Sub, Case, Item, One, sort_of, sum_tail_of, product_tail_of, tree_when_of, Empty, Star, Values, over_of, no_tree, some_tree, no_over, some_over, sort_list, trees, sum_tails, product_tails, tree_whens}
+use Rattle.sql_syntax.specs.Tree.{Or, And, Not, Exists, Compare, IsNull, Between, InList, InQuery, Like, Sum, Product, Sign, Number, Str, Truth, Null, Name, Call, Cast, Paren, Sub, Case, Item, One, sort_of, sum_tail_of, product_tail_of, tree_when_of, Empty, Star, Values, over_of, no_tree, some_tree, no_over, some_over, items, sort_list, trees, sum_tails, product_tails, tree_whens}
 use Rattle.sql_syntax.specs.declared.tree.SumWord.TheVariants.{Plus, Minus, Concat}
 use Rattle.sql_syntax.specs.declared.tree.ProductWord.TheVariants.{Times, Divide, Modulo}
 use Rattle.text_examples.specs.Words.{a, b, c, d, name, pick, the, table}

@@ -1,6 +1,7 @@
 -- Texts that have no tree.
 use Rattle.std.specs.Prelude.{ℕ, List, ◌++◌, codes, [], ◌∷◌}
-use Rattle.text_examples.specs.Words.{a}
+use Rattle.sql_syntax.specs.Tree.{items}
+use Rattle.text_examples.specs.Words.{a, name, the}
 
 -- scripts with a bad place in their first statement
 abbrev pub bad_places : List (List ℕ)

@@ -1,6 +1,7 @@
 -- Whole scripts: their statements, or the first one that is refused, with its number.
 use Rattle.std.specs.Prelude.{ℕ, true, false, List, ◌++◌, None, codes, [], ◌∷◌}
-use Rattle.sql_syntax.specs.Tree.{Create, Set, Insert}
+use Rattle.sql_syntax.specs.Tree.{Sum, query_of, select_of, One, sum_tail_of, no_joins, no_sorts, no_trees, no_tree, selects, items, sum_tails, Create, Set, Insert}
+use Rattle.sql_syntax.specs.declared.tree.SumWord.TheVariants.{Minus}
 use Rattle.sql_syntax.specs.declared.statement.Element.TheVariants.{Column, Key}
 use Rattle.sql_grammar.specs.ReadsScripts.{Answer, answered, refused}
 use Rattle.ct_value.specs.declared.codes.ScriptCode.TheVariants.{BadToken, Syntax}

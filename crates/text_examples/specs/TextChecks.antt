@@ -1,7 +1,7 @@
 -- What it is that a table of examples holds: each text is read as what stands beside it.
 use Rattle.std.specs.Prelude.{◌≡◌, ℕ, false, List, [], ◌∷◌, ◌++◌, ◌+◌, map, None, codes}
 use Rattle.ct_value.specs.declared.codes.ScriptCode.{ScriptCode}
-use Rattle.sql_syntax.specs.Tree.{Query, Item, One, query_of, select_of, items, selects, no_joins, no_tree, no_trees, no_sorts, Insert}
+use Rattle.sql_syntax.specs.Tree.{Tree, Query, Item, One, Source, Table, query_of, select_of, items, selects, no_joins, no_tree, no_trees, no_sorts, Insert}
 use Rattle.sql_grammar.specs.ReadsScripts.{Answer, answered, refused, read_text}
 use Rattle.text_examples.specs.Nested.{Nest, nested, within}
 use Rattle.text_examples.specs.Words.{a, table}
