@@ -1,5 +1,5 @@
 -- The value of an option passed the option's parser.
-use Rattle.std.proofs.Common.{◌≡◌, ◌<◌, ◌≤◌, ◌∙◌, ◌&&◌, ◌==◌, ◌⊎◌, ℕ, zero, suc, Bool, true, false, List, [], ◌∷◌, Option, Some, None, ap, arith, codes, eqb, get_or, inl, inr, length, map, refl, subst, sym}
+use Rattle.std.proofs.Common.{◌≡◌, ◌<◌, ◌∙◌, ◌==◌, ℕ, zero, suc, Bool, true, false, List, [], ◌∷◌, Option, Some, None, ap, arith, codes, eqb, get_or, inl, inr, length, map, refl, subst, sym}
 use Rattle.std.specs.Prelude.{option_map, slice_get}
 use Rattle.std.specs.Borrow.{Bor}
 use Rattle.std.specs.List.{All, slice_index_or}
@@ -19,7 +19,7 @@ use Rattle.clap.specs.declared.parser.matches.ArgMatches.{ArgMatches}
 use Rattle.clap.specs.declared.parser.matches.MatchedArg.{MatchedArg}
 use Rattle.clap.proofs.CallerLemmas.{entry_by_id}
 use Rattle.clap.specs.declared.builder.value_parser.ValueParser.TheVariants as vp
-use Rattle.command_line.specs.Words.{IsWhole, the_app}
+use Rattle.command_line.specs.Words.{IsNumber, IsWhole, the_app}
 
 -- each rule with this id has this parser
 abbrev pub EachAt : Text → ValueParser → List Rule → Type 0
@@ -71,7 +71,7 @@ arg-accepts c m p id q t each help version pass =
     ]
 
 simple-rules : EachSimple the_app.top.rules
-simple-rules = (refl, (refl, (refl, (refl, tt))))
+simple-rules = (refl, (refl, (refl, (refl, (refl, (refl, tt))))))
 
 -- the value that the words give an option passed its parser
 pub accepted : (c : Command) (m : ArgMatches) (id : Text) (q : ValueParser) (t : Text) → app_of c ≡ the_app → IsParsedFrom c m → EachAt id q the_app.top.rules
@@ -119,10 +119,18 @@ apart : (s t : Text) (i : ℕ) → eqb (get_or s i 0) (get_or t i 0) ≡ false �
 apart s t i n e = let same : get_or s i 0 ≡ get_or t i 0 = ap (λ (u : Text). get_or u i 0) e in eqb-false _ _ n same
 
 first-rules : EachAt (codes "first") (vp.Unsigned 0 4294967295) the_app.top.rules
-first-rules = ((λ e. absurd (apart _ _ 0 refl e)), ((λ e. absurd (apart _ _ 0 refl e)), ((λ e. absurd (apart _ _ 0 refl e)), ((λ e. refl), tt))))
+first-rules =
+    ((λ e. absurd (apart _ _ 0 refl e)), ((λ e. absurd (apart _ _ 0 refl e)), ((λ e. absurd (apart _ _ 0 refl e)), ((λ e. absurd (apart _ _ 1 refl e)), ((λ e. absurd (apart _ _ 0 refl e)), ((λ e. refl), tt))))))
 
--- the value of `first` is a number
-pub first-whole : (c : Command) (m : ArgMatches) → app_of c ≡ the_app → IsParsedFrom c m → (t : Text) → first_value (found_of m) (codes "first") ≡ Some t → IsWhole t
+-- a value of `first` is a number
+first-whole : (c : Command) (m : ArgMatches) → app_of c ≡ the_app → IsParsedFrom c m → (t : Text) → first_value (found_of m) (codes "first") ≡ Some t → IsWhole t
 first-whole c m is_app p t has =
     let a = accepted c m (codes "first") (vp.Unsigned 0 4294967295) t is_app p first-rules (λ e. cc e) (apart _ _ 0 refl) (apart _ _ 0 refl) has in
     (a.1.0, omega (arith, a.1.1))
+
+pub first-number : (c : Command) (m : ArgMatches) → app_of c ≡ the_app → IsParsedFrom c m → IsNumber (first_value (found_of m) (codes "first"))
+first-number c m is_app p = by (first_value (found_of m) (codes "first")) (λ t has. first-whole c m is_app p t has)
+  where
+    by : (o : Option Text) → ((t : Text) → o ≡ Some t → IsWhole t) → IsNumber o
+    by None whole = tt
+    by (Some t) whole = whole t refl

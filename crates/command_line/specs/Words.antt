@@ -1,5 +1,5 @@
 -- The words of the command line: the command, and what the words ask of it.
-use Rattle.std.specs.Prelude.{ℕ, ◌<◌, ◌^◌, Bool, true, false, List, [], ◌∷◌, Option, Some, None, option_map, if◌then◌else◌, codes}
+use Rattle.std.specs.Prelude.{ℕ, ◌<◌, ◌^◌, true, List, [], ◌∷◌, Option, Some, None, option_and_then, option_map, if◌then◌else◌, codes}
 use Rattle.std.specs.Str.{bytes_eq}
 use Rattle.std.specs.Str.Parse.{IsNumeral, digits_value, without_leading_plus}
 use Rattle.clap.specs.Simple.{on_top}
@@ -22,14 +22,18 @@ number_option name most = record (text_option name) { parser = Some (vp.Unsigned
 abbrev pub bare_app : List ℕ → App
 bare_app name = on_top (λ s. record s { no_binary_name = true }) (new_app name)
 
--- the command and its options, each of which may be given once
-abbrev pub the_app : App
-the_app =
-    with_rule (with_rule (with_rule (with_rule (bare_app (codes "dyntab"))
-    (text_option (codes "do")))
+-- with the options that name files
+abbrev pub with_files : App → App
+with_files app =
+    with_rule (with_rule (with_rule (with_rule app
     (text_option (codes "script")))
     (text_option (codes "changes")))
-    (number_option (codes "first") 4294967295)
+    (text_option (codes "feeds")))
+    (text_option (codes "order"))
+
+-- the command and its options, each of which may be given once
+abbrev pub the_app : App
+the_app = with_rule (with_files (with_rule (bare_app (codes "dyntab")) (text_option (codes "do")))) (number_option (codes "first") 4294967295)
 
 -- the value that the words give an option
 abbrev pub value_of : List (List ℕ) → List ℕ → Option (List ℕ)
@@ -39,66 +43,86 @@ value_of words name = first_of name (matches_of the_app words)
 abbrev pub IsWhole : List ℕ → Type 0
 IsWhole text = IsNumeral 10 (without_leading_plus text) × (digits_value 10 (without_leading_plus text) < 2 ^ 64)
 
+-- a value, where there is one, is such a text
+abbrev pub IsNumber : Option (List ℕ) → Type 0
+IsNumber None = Unit {0}
+IsNumber (Some text) = IsWhole text
+
 -- the number that such a text is
 abbrev pub number_in : List ℕ → ℕ
 number_in text = digits_value 10 (without_leading_plus text)
 
 -- ---- what is asked for
 
--- the names of a script and of a change file
+-- the change files: one of all sources by its name, or one of each source by the prefix of their names
+pub data Input : Type 0 where
+  changes : List ℕ → Input
+  feeds : List ℕ → Input
+
+-- the names of a script and of the change files
 pub record FileNames : Type 0 where
   pub script : List ℕ
-  pub changes : List ℕ
+  pub input : Input
 
 pub data Request : Type 0 where
-  -- the changelog of the sink
-  run : FileNames → Request
+  -- the changelog of the sink, in the order of the file of this name where there is one
+  run : FileNames → Option (List ℕ) → Request
   -- the answer over the first so many changes, or over all
   batch : FileNames → Option ℕ → Request
   -- the plan of the script of this name
   explain : List ℕ → Request
 
--- both names, where both are given
-abbrev pub names_of : Option (List ℕ) → Option (List ℕ) → Option FileNames
-names_of None changes = None
-names_of (Some script) None = None
-names_of (Some script) (Some changes) = Some (record { script = script; changes = changes })
+-- what can be done
+pub data Command : Type 0 where
+  running : Command
+  answering : Command
+  explaining : Command
 
--- a run takes no number of changes
-abbrev pub run_of : Option FileNames → Option (List ℕ) → Option Request
-run_of names None = option_map run names
-run_of names (Some first) = None
-
-abbrev pub batch_of : Option FileNames → Option (List ℕ) → Option Request
-batch_of names first = option_map (λ n. batch n (option_map number_in first)) names
+-- the values that the words give the options
+pub record Given : Type 0 where
+  pub what : Option (List ℕ)
+  pub script : Option (List ℕ)
+  pub changes : Option (List ℕ)
+  pub feeds : Option (List ℕ)
+  pub order : Option (List ℕ)
+  pub first : Option (List ℕ)
 
 -- by the value of `--do`: a run where it isn't given
-abbrev pub asked_for : Option (List ℕ) → Option FileNames → Option (List ℕ) → Option Request
-asked_for None names first = run_of names first
-asked_for (Some word) names first =
-    if bytes_eq word (codes "run") then run_of names first
-    else (if bytes_eq word (codes "batch") then batch_of names first else None)
+abbrev pub command_of : Option (List ℕ) → Option Command
+command_of None = Some running
+command_of (Some word) =
+    if bytes_eq word (codes "run") then Some running
+    else (if bytes_eq word (codes "batch") then Some answering
+    else (if bytes_eq word (codes "explain") then Some explaining else None))
 
--- a plan is asked for by the script alone
-abbrev pub explain_of : Option (List ℕ) → Option (List ℕ) → Option (List ℕ) → Option Request
-explain_of None changes first = None
-explain_of (Some script) (Some changes) first = None
-explain_of (Some script) None (Some first) = None
-explain_of (Some script) None None = Some (explain script)
+abbrev pub names : List ℕ → Input → FileNames
+names script input = record { script = script; input = input }
 
-abbrev pub is_explain : Option (List ℕ) → Bool
-is_explain None = false
-is_explain (Some word) = bytes_eq word (codes "explain")
+-- the values that each command needs and those that it may have: of a script, changes, feeds, an order and a number of changes; each
+-- other use is wrong
+abbrev pub asked : Command → Option (List ℕ) → Option (List ℕ) → Option (List ℕ) → Option (List ℕ) → Option (List ℕ) → Option Request
+asked running (Some script) (Some name) None order None = Some (run (names script (changes name)) order)
+asked running (Some script) None (Some prefix) order None = Some (run (names script (feeds prefix)) order)
+asked answering (Some script) (Some name) None None first = Some (batch (names script (changes name)) (option_map number_in first))
+asked answering (Some script) None (Some prefix) None None = Some (batch (names script (feeds prefix)) None)
+asked explaining (Some script) None None None None = Some (explain script)
+asked command script name prefix order first = None
 
-abbrev pub asked_by : Option (List ℕ) → Option (List ℕ) → Option (List ℕ) → Option (List ℕ) → Option Request
-asked_by what script changes first = if is_explain what then explain_of script changes first else asked_for what (names_of script changes) first
+abbrev pub asked_of : Given → Command → Option Request
+asked_of given command = asked command given.script given.changes given.feeds given.order given.first
+
+abbrev pub asked_by : Given → Option Request
+asked_by given = option_and_then (asked_of given) (command_of given.what)
 
 -- nothing where the command finds a fault
 abbrev pub unless_fault : Kinds → Option Request → Option Request
 unless_fault [] request = request
 unless_fault (fault ∷ faults) request = None
 
+-- the values by the options' names
+abbrev pub given_by : (List ℕ → Option (List ℕ)) → Given
+given_by value = record { what = value (codes "do"); script = value (codes "script"); changes = value (codes "changes"); feeds = value (codes "feeds"); order = value (codes "order"); first = value (codes "first") }
+
 -- what these words ask for; None is a wrong use
 unfoldable pub request_of : List (List ℕ) → Option Request
-request_of words =
-    unless_fault (fault_of the_app words) (asked_by (value_of words (codes "do")) (value_of words (codes "script")) (value_of words (codes "changes")) (value_of words (codes "first")))
+request_of words = unless_fault (fault_of the_app words) (asked_by (given_by (value_of words)))

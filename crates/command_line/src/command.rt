@@ -1,6 +1,6 @@
 ghost use Rattle.std.specs.Prelude.{◌≡◌, false, codes, IfOk};
 ghost use Rattle.clap.specs.Words.{app_of, rule_of};
-ghost use Rattle.command_line.specs.Words.{number_option, text_option, the_app};
+ghost use Rattle.command_line.specs.Words.{number_option, text_option, the_app, with_files};
 
 use clap::builder::ValueParser;
 use clap::{Arg, ArgAction, Command};
@@ -22,14 +22,23 @@ fn number_option<'a>(alloc: Global, name: &'a str, most: u64) -> Arg<'a>
     text_option(alloc, name).value_parser(ValueParser::unsigned(0, most))
 }
 
+// With the options that name files.
+fn with_files<'a>(alloc: Global, command: Command<'a>) -> Result<Command<'a>, AllocError>
+    ensures { IfOk result (λ c. app_of c ≡ with_files (app_of command.entry)) }
+{
+    command
+        .arg(text_option(alloc, "script"))?
+        .arg(text_option(alloc, "changes"))?
+        .arg(text_option(alloc, "feeds"))?
+        .arg(text_option(alloc, "order"))
+}
+
 /// The command with its options. Its lifetime is the words', since a command's matches borrow from both.
 pub(crate) fn command<'a>(alloc: Global) -> Result<Command<'a>, AllocError>
     ensures { IfOk result (λ c. app_of c ≡ the_app) }
 {
-    Command::new(alloc, "dyntab")
+    let command = Command::new(alloc, "dyntab")
         .no_binary_name(true)
-        .arg(text_option(alloc, "do"))?
-        .arg(text_option(alloc, "script"))?
-        .arg(text_option(alloc, "changes"))?
-        .arg(number_option(alloc, "first", 4294967295))
+        .arg(text_option(alloc, "do"))?;
+    with_files(alloc, command)?.arg(number_option(alloc, "first", 4294967295))
 }

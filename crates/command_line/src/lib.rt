@@ -7,4 +7,4 @@
 mod command;
 mod words;
 
-pub use words::{FileNames, Request, WordsFault, request_of};
+pub use words::{FileNames, Input, Request, WordsFault, request_of};

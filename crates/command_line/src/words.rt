@@ -1,7 +1,7 @@
-ghost use Rattle.std.specs.Prelude.{◌≡◌, ◌≢◌, [], ℕ, List, Option, Some, None, codes, option_map, IfOk, IsErrOf};
+ghost use Rattle.std.specs.Prelude.{◌≡◌, ◌≢◌, [], Some, None, codes, option_map, IfOk, IsErrOf};
 ghost use Rattle.clap.specs.Words.{fault_of, first_value, found_of};
-ghost use Rattle.command_line.specs.Words.{IsWhole, asked_for, explain_of, is_explain, names_of, number_in, request_of, run_of, the_app, value_of};
-ghost use Rattle.command_line.specs.Requests.{names_view, request_view};
+ghost use Rattle.command_line.specs.Words.{IsNumber, answering, asked_by, asked_of, changes, explaining, feeds, given_by, names, number_in, request_of, running, the_app, value_of};
+ghost use Rattle.command_line.specs.Requests.{given_view, names_view, request_view};
 
 use crate::command::command;
 use clap::ArgMatches;
@@ -9,18 +9,30 @@ use clap::error::ErrorKind;
 use ct_value::{Memory, Text};
 use std::alloc::Global;
 
-/// The names of a script and of a change file.
+/// The change files.
+#[derive(Drop)]
+pub enum Input {
+    /// The name of the one change file of all sources.
+    Changes(Text),
+    /// What stands before each source's name in the name of its change file.
+    Feeds(Text),
+}
+
+/// The names of a script and of the change files.
 #[derive(Drop)]
 pub struct FileNames {
     pub script: Text,
-    pub changes: Text,
+    pub input: Input,
 }
 
 /// What the words ask for.
 #[derive(Drop)]
 pub enum Request {
-    /// The changelog of the sink.
-    Run(FileNames),
+    /// The changelog of the sink, in the order of the file of this name, or in that of the changes.
+    Run {
+        names: FileNames,
+        order: Option<Text>,
+    },
     /// The answer over the first so many changes, or over all.
     Batch {
         names: FileNames,
@@ -52,8 +64,8 @@ impl From<Memory> for WordsFault {
 // What the words give the options. Want of memory has a kind of its own among the command's errors: it is no wrong use.
 fn matches_of<'a>(alloc: Global, words: &'a [Text]) -> Result<ArgMatches<'a>, WordsFault>
     ensures fits { IfOk result (λ m. fault_of the_app words.entry.now ≡ []) }
-    ensures values { IfOk result (λ m. (name : List ℕ) → first_value (found_of m) name ≡ value_of words.entry.now name) }
-    ensures whole { IfOk result (λ m. (text : List ℕ) → first_value (found_of m) (codes "first") ≡ Some text → IsWhole text) }
+    ensures values { IfOk result (λ m. given_by (first_value (found_of m)) ≡ given_by (value_of words.entry.now)) }
+    ensures number { IfOk result (λ m. IsNumber (first_value (found_of m) (codes "first"))) }
     ensures usage { IsErrOf result WordsFault.Usage → fault_of the_app words.entry.now ≢ [] }
 {
     let Ok(command) = command(alloc) else {
@@ -71,88 +83,134 @@ fn matches_of<'a>(alloc: Global, words: &'a [Text]) -> Result<ArgMatches<'a>, Wo
     }
 }
 
-// The number that an option has.
-fn number_of(matches: &ArgMatches<'_>, name: &str) -> Option<u64>
-    requires { (text : List ℕ) → first_value (found_of matches.now) name.now ≡ Some text → IsWhole text }
-    ensures { result ≡ option_map number_in (first_value (found_of matches.now) name.now) }
-{
-    let text = matches.get_str(name)?;
-    text.parse::<u64>().ok()
+// The values that the words give the options.
+#[derive(Clone, Copy)]
+struct Given<'a> {
+    what: Option<&'a str>,
+    script: Option<&'a str>,
+    changes: Option<&'a str>,
+    feeds: Option<&'a str>,
+    order: Option<&'a str>,
+    first: Option<&'a str>,
 }
 
-// The names of both files, where both options are given.
-fn names_of(
-    alloc: Global,
-    script: Option<&str>,
-    changes: Option<&str>,
-) -> Result<FileNames, WordsFault>
-    ensures ok { IfOk result (λ names. names_of (option_map (λ s. s.now) script.entry) (option_map (λ s. s.now) changes.entry) ≡ Some (names_view names)) }
-    ensures usage { IsErrOf result WordsFault.Usage → names_of (option_map (λ s. s.now) script.entry) (option_map (λ s. s.now) changes.entry) ≡ None }
+fn given_by<'a>(matches: &'a ArgMatches<'_>) -> Given<'a>
+    ensures { given_view result ≡ given_by (first_value (found_of matches.now)) }
 {
-    match (script, changes) {
-        (Some(script), Some(changes)) => Ok(FileNames {
-            script: Text::from_str(alloc, script)?,
-            changes: Text::from_str(alloc, changes)?,
+    Given {
+        what: matches.get_str("do"),
+        script: matches.get_str("script"),
+        changes: matches.get_str("changes"),
+        feeds: matches.get_str("feeds"),
+        order: matches.get_str("order"),
+        first: matches.get_str("first"),
+    }
+}
+
+// The number that a value is.
+fn number_in(text: Option<&str>) -> Option<u64>
+    requires { IsNumber (option_map (λ s. s.now) text) }
+    ensures { result ≡ option_map number_in (option_map (λ s. s.now) text.entry) }
+{
+    text?.parse::<u64>().ok()
+}
+
+fn text_of(alloc: Global, text: Option<&str>) -> Result<Option<Text>, Memory>
+    ensures { IfOk result (λ copy. copy ≡ option_map (λ s. s.now) text.entry) }
+{
+    match text {
+        Some(text) => Ok(Some(Text::from_str(alloc, text)?)),
+        None => Ok(None),
+    }
+}
+
+// The names of a script and of one change file.
+fn names_of_changes(alloc: Global, script: &str, name: &str) -> Result<FileNames, Memory>
+    ensures { IfOk result (λ given. names_view given ≡ names script.now (changes name.now)) }
+{
+    Ok(FileNames {
+        script: Text::from_str(alloc, script)?,
+        input: Input::Changes(Text::from_str(alloc, name)?),
+    })
+}
+
+// The names of a script and of each source's change file.
+fn names_of_feeds(alloc: Global, script: &str, prefix: &str) -> Result<FileNames, Memory>
+    ensures { IfOk result (λ given. names_view given ≡ names script.now (feeds prefix.now)) }
+{
+    Ok(FileNames {
+        script: Text::from_str(alloc, script)?,
+        input: Input::Feeds(Text::from_str(alloc, prefix)?),
+    })
+}
+
+fn run_of(alloc: Global, given: &Given<'_>) -> Result<Request, WordsFault>
+    ensures ok { IfOk result (λ request. asked_of (given_view given.now) running ≡ Some (request_view request)) }
+    ensures usage { IsErrOf result WordsFault.Usage → asked_of (given_view given.now) running ≡ None }
+{
+    let names = match (given.script, given.changes, given.feeds, given.first) {
+        (Some(script), Some(name), None, None) => names_of_changes(alloc, script, name)?,
+        (Some(script), None, Some(prefix), None) => names_of_feeds(alloc, script, prefix)?,
+        _ => return Err(WordsFault::Usage),
+    };
+    let order = text_of(alloc, given.order)?;
+    Ok(Request::Run { names, order })
+}
+
+fn batch_of(alloc: Global, given: &Given<'_>) -> Result<Request, WordsFault>
+    requires { IsNumber (option_map (λ s. s.now) given.now.first) }
+    ensures ok { IfOk result (λ request. asked_of (given_view given.now) answering ≡ Some (request_view request)) }
+    ensures usage { IsErrOf result WordsFault.Usage → asked_of (given_view given.now) answering ≡ None }
+{
+    match (given.script, given.changes, given.feeds, given.order) {
+        (Some(script), Some(name), None, None) => Ok(Request::Batch {
+            names: names_of_changes(alloc, script, name)?,
+            first: number_in(given.first),
+        }),
+        (Some(script), None, Some(prefix), None) if given.first.is_none() => Ok(Request::Batch {
+            names: names_of_feeds(alloc, script, prefix)?,
+            first: None,
         }),
         _ => Err(WordsFault::Usage),
     }
 }
 
-// A run, which takes no number of changes.
-fn run_of(names: FileNames, first: Option<u64>) -> Result<Request, WordsFault>
-    ensures ok { IfOk result (λ request. (text : Option (List ℕ)) → first ≡ option_map number_in text → run_of (Some (names_view names)) text ≡ Some (request_view request)) }
-    ensures usage { IsErrOf result WordsFault.Usage → (text : Option (List ℕ)) → first ≡ option_map number_in text → run_of (Some (names_view names)) text ≡ None }
+fn explain_of(alloc: Global, given: &Given<'_>) -> Result<Request, WordsFault>
+    ensures ok { IfOk result (λ request. asked_of (given_view given.now) explaining ≡ Some (request_view request)) }
+    ensures usage { IsErrOf result WordsFault.Usage → asked_of (given_view given.now) explaining ≡ None }
 {
-    match first {
-        None => Ok(Request::Run(names)),
-        Some(_) => Err(WordsFault::Usage),
-    }
-}
-
-// A plan, which is asked for by a script alone.
-fn explain_of(
-    alloc: Global,
-    script: Option<&str>,
-    changes: Option<&str>,
-    first: Option<u64>,
-) -> Result<Request, WordsFault>
-    ensures ok { IfOk result (λ request. (text : Option (List ℕ)) → first ≡ option_map number_in text → explain_of (option_map (λ s. s.now) script.entry) (option_map (λ s. s.now) changes.entry) text ≡ Some (request_view request)) }
-    ensures usage { IsErrOf result WordsFault.Usage → (text : Option (List ℕ)) → first ≡ option_map number_in text → explain_of (option_map (λ s. s.now) script.entry) (option_map (λ s. s.now) changes.entry) text ≡ None }
-{
-    match (script, changes, first) {
-        (Some(script), None, None) => Ok(Request::Explain(Text::from_str(alloc, script)?)),
+    match (
+        given.script,
+        given.changes,
+        given.feeds,
+        given.order,
+        given.first,
+    ) {
+        (Some(script), None, None, None, None) => Ok(Request::Explain(Text::from_str(
+            alloc, script,
+        )?)),
         _ => Err(WordsFault::Usage),
     }
 }
 
-// Whether a plan is asked for.
-fn is_explain(what: Option<&str>) -> bool
-    ensures { result ≡ is_explain (option_map (λ s. s.now) what.entry) }
+// What is asked for by the value of `--do`: a run where it isn't given. The command could test that itself, by a list of values, but clauses
+// see such a list with its address, so no definition of the command could say which it is.
+fn asked_by(alloc: Global, given: &Given<'_>) -> Result<Request, WordsFault>
+    requires { IsNumber (option_map (λ s. s.now) given.now.first) }
+    ensures ok { IfOk result (λ request. asked_by (given_view given.now) ≡ Some (request_view request)) }
+    ensures usage { IsErrOf result WordsFault.Usage → asked_by (given_view given.now) ≡ None }
 {
-    match what {
-        None => false,
-        Some(word) => word == "explain",
-    }
-}
-
-// What is asked for by the value of `--do`, where that isn't a plan: a run where it isn't given. The command could test that itself, by a list of
-// values, but clauses see such a list with its address, so no definition of the command could say which it is.
-fn asked_for(
-    what: Option<&str>,
-    names: FileNames,
-    first: Option<u64>,
-) -> Result<Request, WordsFault>
-    ensures ok { IfOk result (λ request. (text : Option (List ℕ)) → first ≡ option_map number_in text → asked_for (option_map (λ s. s.now) what.entry) (Some (names_view names)) text ≡ Some (request_view request)) }
-    ensures usage { IsErrOf result WordsFault.Usage → (text : Option (List ℕ)) → first ≡ option_map number_in text → asked_for (option_map (λ s. s.now) what.entry) (Some (names_view names)) text ≡ None }
-{
-    let Some(word) = what else {
-        return run_of(names, first);
+    let Some(word) = given.what else {
+        return run_of(alloc, given);
     };
     if word == "run" {
-        return run_of(names, first);
+        return run_of(alloc, given);
     }
     if word == "batch" {
-        return Ok(Request::Batch { names, first });
+        return batch_of(alloc, given);
+    }
+    if word == "explain" {
+        return explain_of(alloc, given);
     }
     Err(WordsFault::Usage)
 }
@@ -165,12 +223,5 @@ pub fn request_of(alloc: Global, words: &[Text]) -> Result<Request, WordsFault>
     ensures usage { IsErrOf result WordsFault.Usage → request_of words.now ≡ None }
 {
     let matches = matches_of(alloc, words)?;
-    let what = matches.get_str("do");
-    let script = matches.get_str("script");
-    let changes = matches.get_str("changes");
-    let first = number_of(&matches, "first");
-    if is_explain(what) {
-        return explain_of(alloc, script, changes, first);
-    }
-    asked_for(what, names_of(alloc, script, changes)?, first)
+    asked_by(alloc, &given_by(&matches))
 }

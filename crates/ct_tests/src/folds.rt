@@ -3,10 +3,10 @@ ghost use Rattle.std.specs.Prelude.{◌≡◌, IfOk};
 ghost use Rattle.ct_change.specs.Changelog.{fold};
 ghost use Rattle.ct_catalog.specs.Columns.{table_mode};
 
-use crate::tables::words;
+use crate::tables::{row, words};
 use ct_catalog::TableDef;
 use ct_change::{Bag, Change, Changes, Declared, Kind};
-use ct_value::{ChangeCode, Memory, Row, Text, Value, Values};
+use ct_value::{ChangeCode, Memory, Row, Value, Values};
 use source_lines::{SourceChecks, SourceFault, SourceFold};
 use std::alloc::Global;
 use std::test::Fail;
@@ -29,13 +29,6 @@ fn checked(alloc: Global, table: &TableDef, changes: &[Change]) -> Result<(), So
         checks.check(change)?;
     }
     Ok(())
-}
-
-fn row(alloc: Global, word: &str, number: i128) -> Result<Row, Memory> {
-    let mut values = Values::new(alloc);
-    values.push(Value::Text(Text::from_str(alloc, word)?))?;
-    values.push(Value::Num(number))?;
-    Ok(Row::from_values(values))
 }
 
 // `a` comes with 1, `b` with 2, and `a` goes or comes again with 3, by the last change's kind.

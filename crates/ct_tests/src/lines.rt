@@ -31,12 +31,16 @@ fn some_sources(alloc: Global) -> Result<Sources, Memory> {
     Ok(sources)
 }
 
-// The lines of a file that holds this text, which isn't long.
-fn lines_of(alloc: Global, text: &[u8]) -> Result<ChangeLines, Memory> {
+// The lines of a file that holds this text, which isn't long: of the source of a place, or each of the one that it names.
+fn lines_in(alloc: Global, text: &[u8], feed: Option<u32>) -> Result<ChangeLines, Memory> {
     if text.len() > 1_000_000 {
         return Err(Memory);
     }
-    ChangeLines::new(alloc, Bytes::from_slice(alloc, text)?)
+    ChangeLines::new(alloc, Bytes::from_slice(alloc, text)?, feed)
+}
+
+fn lines_of(alloc: Global, text: &[u8]) -> Result<ChangeLines, Memory> {
+    lines_in(alloc, text, None)
 }
 
 // Whether a line adds this word with a number to the source at a place.
@@ -138,6 +142,21 @@ fn finds_each_source(alloc: Global) -> Result<bool, Memory> {
     )
 }
 
+// The lines of a source's own file don't name it.
+fn reads_a_feed(alloc: Global) -> Result<bool, Memory> {
+    let tables = some_sources(alloc)?;
+    let sources = NamedSources::new(alloc, &tables)?;
+    let mut lines = lines_in(alloc, b"+I,w,1\nb,+I,w,2\n\n+I,v,3", Some(1))?;
+    Ok(
+        adds_to(1, lines.next_line(&sources), b"w", 1)
+            && is_refused(lines.next_line(&sources), ChangeCode::FieldCount)
+            && adds_to(1, lines.next_line(&sources), b"v", 3)
+            && is_end(lines.next_line(&sources))
+            && lines.read() == 3
+            && lines.feed() == Some(1),
+    )
+}
+
 fn refuses_deletes(alloc: Global) -> Result<bool, Memory> {
     let tables = upserts(alloc)?;
     let sources = NamedSources::new(alloc, &tables)?;
@@ -189,6 +208,11 @@ fn lines_are_read_one_by_one(rt: HostRuntime) {
 #[test]
 fn each_source_is_found(rt: HostRuntime) {
     assert!(rt; matches!(finds_each_source(rt.alloc()), Ok(true)));
+}
+
+#[test]
+fn feed_is_read(rt: HostRuntime) {
+    assert!(rt; matches!(reads_a_feed(rt.alloc()), Ok(true)));
 }
 
 #[test]

@@ -1,7 +1,7 @@
-// Tables of words with numbers.
+// Tables of words with numbers, and their rows.
 use ct_catalog::{ColDef, ColDefs, TableDef};
 use ct_change::Declared;
-use ct_value::{ColTy, Cols, Memory, Text, Ty};
+use ct_value::{ColTy, Cols, Memory, Row, Text, Ty, Value, Values};
 use std::alloc::Global;
 
 fn column(alloc: Global, name: &str, ty: Ty, nullable: bool) -> Result<ColDef, Memory> {
@@ -44,4 +44,12 @@ pub fn pairs(alloc: Global) -> Result<TableDef, Memory> {
         key: Some(both),
         mode,
     })
+}
+
+/// The row of a word with a number.
+pub fn row(alloc: Global, word: &str, number: i128) -> Result<Row, Memory> {
+    let mut values = Values::new(alloc);
+    values.push(Value::Text(Text::from_str(alloc, word)?))?;
+    values.push(Value::Num(number))?;
+    Ok(Row::from_values(values))
 }

@@ -1,2 +1,4 @@
+pub mod Rows
+pub mod Standing
 pub mod Taking
 pub mod Theorems

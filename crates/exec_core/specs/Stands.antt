@@ -1,5 +1,5 @@
 -- What a session of a plan stands for: runs of the plan's own network.
-use Rattle.std.specs.Prelude.{◌≡◌, ℕ, List, [], ◌∷◌, ◌++◌, Ok}
+use Rattle.std.specs.Prelude.{◌≡◌, ℕ, ◌<◌, List, [], ◌∷◌, ◌++◌, length, Ok}
 use Rattle.phys_plan.specs.declared.plan.Plan.{Plan}
 use Rattle.plan_rules.specs.Doings.{network}
 use Rattle.sound_plans.specs.Sound.{IsRuled}
@@ -7,8 +7,8 @@ use Rattle.stream_model.specs.declared.events.Event.{Event}
 use Rattle.stream_model.specs.declared.events.PrintItem.{PrintItem}
 use Rattle.stream_model.specs.declared.events.StepFault.{StepFault}
 use Rattle.stream_model.specs.Machine.{State, step, IsQuiet}
-use Rattle.stream_model.specs.Runs.{Item, happens, IsTyped}
-use Rattle.stream_model.specs.Drain.{Leads, StopsAlong, IsDrainFault, drain}
+use Rattle.stream_model.specs.Runs.{Item, happens, quiet, IsTyped}
+use Rattle.stream_model.specs.Drain.{Leads, StopsAlong, IsDrainFault, drain, stages}
 use Rattle.session_core.specs.Stands as of_network
 use Rattle.session_open.specs.contracts.any.AnyOperatorOperator.TheImpl.{ghosts}
 use Rattle.exec_core.specs.declared.session.Session.{Session}
@@ -46,6 +46,14 @@ HasStepped session event next = ForSteps session event (λ plan limit handed ite
 abbrev pub HasDrained : Session → Session → Type 0
 HasDrained session next = ForRuns session (λ plan limit handed items. (now : State) × Leads (network plan) limit (reached plan limit items) (drain (network plan) limit (reached plan limit items)) now
     × Stands next plan limit handed (items ++ drain (network plan) limit (reached plan limit items)) × IsQuiet (network plan) now)
+
+-- a drain of some such run has a stage of this number, from 0
+abbrev pub HasStage : Session → ℕ → Type 0
+HasStage session number = (plan : Plan) × (limit : ℕ) × (handed : List PrintItem) × (items : List Item) × Stands session plan limit handed items × (number < length (stages (network plan)))
+
+-- the next session stands for the run at whose end the job is told to be quiet
+abbrev pub HasTold : Session → Session → Type 0
+HasTold session next = ForRuns session (λ plan limit handed items. Stands next plan limit handed (items ++ quiet ∷ []))
 
 -- the machine stops along a drain, by this fault and after these items, of which some were handed out before
 abbrev pub StopsDraining : Session → StepFault → List PrintItem → Type 0

@@ -1,40 +1,55 @@
-ghost use Rattle.std.specs.Prelude.{◌≡◌};
-ghost use Rattle.exec_core.specs.Faults.{at_line};
+ghost use Rattle.std.specs.Prelude.{◌≡◌, IfSome};
+ghost use Rattle.source_lines.specs.Supply.{table_told};
+ghost use Rattle.exec_core.specs.Faults.{IsFaultAt, RefusesLast};
 
-use ct_value::{ChangeCode, Memory};
-use stream_model::{StepFault, Stopped};
+use ct_value::ChangeCode;
+use job_text::ChangeLines;
+use stream_model::StepFault;
 
-/// Why a run doesn't go to its end.
+/// Why a line of a change file isn't taken.
 #[derive(Debug, Drop)]
 pub enum RunFault {
-    /// A line is refused; lines are counted from 1.
-    Refused { code: ChangeCode, line: u32 },
-    /// The session stopped: nothing is lost of what was printed before.
-    Stopped(Stopped),
-    Memory,
+    /// The line is refused. Lines are counted from 1 in their file; the table is 0 where each line names its own, else the number of the
+    /// file's table from 1.
+    Refused {
+        code: ChangeCode,
+        line: u32,
+        table: u32,
+    },
+    /// The job stopped.
+    Stopped(StepFault),
 }
 
-impl From<Memory> for RunFault {
-    ghost use Rattle.std.specs.Prelude.{◌≡◌};
-    ghost use Rattle.exec_core.specs.declared.fault.RunFault.TheVariants.{Memory as Wanting};
-
-    ghost from_gives = { λ _ given. given ≡ Wanting };
-
-    fn from(_: Memory) -> Self {
-        RunFault::Memory
+/// Why the last line that was read isn't taken, where the job stopped at it.
+pub(crate) fn fault_at(cause: StepFault, lines: &ChangeLines) -> RunFault
+    ensures { IsFaultAt cause result lines.now }
+{
+    match cause {
+        StepFault::Change(code) => refused(code, lines),
+        cause => RunFault::Stopped(cause),
     }
 }
 
-/// Why a line isn't taken, where a session stopped at it: the line is refused, or the session has stopped by itself.
-pub(crate) fn at_line(stopped: Stopped, line: u32) -> RunFault
-    ensures { result ≡ at_line stopped line }
+/// That the last line that was read is refused.
+pub(crate) fn refused(code: ChangeCode, lines: &ChangeLines) -> RunFault
+    ensures { RefusesLast result code lines.now }
 {
-    match stopped.cause {
-        StepFault::Change(code) => RunFault::Refused { code, line },
-        StepFault::Memory => RunFault::Memory,
-        cause => RunFault::Stopped(Stopped {
-            cause,
-            printed: stopped.printed,
-        }),
+    match table_told(lines.feed()) {
+        Some(table) => RunFault::Refused {
+            code,
+            line: lines.read(),
+            table,
+        },
+        None => RunFault::Stopped(StepFault::Memory),
+    }
+}
+
+// A file's table as a refusal tells it.
+fn table_told(feed: Option<u32>) -> Option<u32>
+    ensures { IfSome result (λ table. table ≡ table_told feed) }
+{
+    match feed {
+        Some(place) => place.checked_add(1),
+        None => Some(0),
     }
 }

@@ -1,21 +1,23 @@
 //! Sessions over plans.
-ghost use Rattle.std.specs.Prelude.{◌≡◌, ◌≤◌, ◌++◌, [], true, OnOk, IfOk, IfErr};
+ghost use Rattle.std.specs.Prelude.{◌≡◌, ◌+◌, ◌≤◌, ◌++◌, [], ◌∷◌, drop, length, true, OnOk, IfOk, IfErr};
 ghost use Rattle.ct_catalog.specs.Columns.{table_mode};
 ghost use Rattle.plan_rules.specs.Doings.{network};
 ghost use Rattle.sound_plans.specs.Sound.{IsRuled};
 ghost use Rattle.stream_model.specs.Machine as machine;
 ghost use Rattle.stream_model.specs.Machine.{IsQuiet, opened};
-ghost use Rattle.stream_model.specs.Drain.{StopsBy};
-ghost use Rattle.session_core.specs.Kept.{in_flight};
+ghost use Rattle.stream_model.specs.Drain.{StopsBy, stages};
+ghost use Rattle.stream_model.specs.Looks.{in_flight, taken_of};
+ghost use Rattle.stream_model.specs.declared.events.StepFault.TheVariants.{Memory};
+ghost use Rattle.session_core.specs.LaidOut.{IsThere, stage_of};
 ghost use Rattle.session_core.specs.Stands.{HasAnswered, buffer_at};
 ghost use Rattle.session_open.specs.Opening.{IsTooMany};
-ghost use Rattle.exec_core.specs.Stands.{ForRuns, ForSteps, HasDrained, HasStepped, MayStep, Stands, StandsForSome, StopsDraining, reached};
+ghost use Rattle.exec_core.specs.Stands.{ForRuns, ForSteps, HasDrained, HasStage, HasStepped, HasTold, MayStep, Stands, StandsForSome, StopsDraining, reached};
 
 use crate::TableCheck;
 use ct_change::Steps;
 use phys_plan::Plan;
 use plan_shape::columns_of;
-use session_core::Buffer;
+use session_core::{Buffer, Lane};
 use session_open::{AnyOperator, OpenFault, open_job};
 use std::alloc::Global;
 use std::sync::ledger::Ledger;
@@ -71,6 +73,36 @@ impl Session {
         }
     }
 
+    /// How many stages a drain has: the channels that it delivers whole, one after the other. It takes no memory.
+    pub fn stage_count(&self) -> usize
+        ensures { ForRuns self.now (λ plan limit handed items. result ≡ length (stages (network plan))) }
+    {
+        self.job.stage_count()
+    }
+
+    /// The channel of the stage of this number, from 0: to go through all of them and deliver each whole, and then to tell that the
+    /// job is quiet, is to drain. It takes no memory.
+    pub fn stage(&self, number: usize) -> Lane
+        requires { HasStage self.now number }
+        ensures there { ForRuns self.now (λ plan limit handed items. IsThere (network plan) result) }
+        ensures next { ForRuns self.now (λ plan limit handed items. drop number (stages (network plan)) ≡ stage_of result ∷ drop (number + 1) (stages (network plan))) }
+    {
+        self.job.stage(number)
+    }
+
+    /// The session with a quiet item behind what was printed. It stops for want of memory alone, and hands back what was printed
+    /// and not yet handed out.
+    pub fn tell_quiet(self) -> Result<Session, Stopped>
+        ensures ok { IfOk result (λ next. HasTold self next) }
+        ensures cause { IfErr result (λ stopped. stopped.cause ≡ Memory) }
+        ensures printed { IfErr result (λ stopped. ForRuns self (λ plan limit handed items. (reached plan limit items).printed ≡ handed ++ stopped.printed)) }
+    {
+        match self.job.tell_quiet() {
+            Ok(job) => Ok(Session { job }),
+            Err(stopped) => Err(stopped),
+        }
+    }
+
     /// Hands out the items that were printed and not yet handed out. It takes no memory.
     pub fn take_printed(&mut self) -> PrintList
         ensures items { ForRuns self.old (λ plan limit handed items. (reached plan limit items).printed ≡ handed ++ result) }
@@ -90,11 +122,11 @@ impl Session {
         self.job.is_quiet()
     }
 
-    /// How many changes were taken. It takes no memory.
-    pub fn taken(&self) -> u32
-        ensures { ForRuns self.now (λ plan limit handed items. result ≡ (reached plan limit items).took) }
+    /// How many changes were taken of a table, and `None` exactly where there is no such table. It takes no memory.
+    pub fn taken(&self, table: u32) -> Option<u32>
+        ensures { ForRuns self.now (λ plan limit handed items. result ≡ taken_of (network plan) (reached plan limit items) table) }
     {
-        self.job.taken()
+        self.job.taken(table)
     }
 
     /// How many changes are in flight in a channel, and `None` exactly where there is no such channel. It takes no memory.

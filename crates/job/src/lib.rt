@@ -24,12 +24,14 @@ pub use job_ending::{Ending, LimitName, status};
 use job_run::run;
 use std::alloc::Global;
 
-/// Does the job that the words name: it loads the script and the change file from the shelf, in this order, writes the changelog of the
-/// sink on `out`, or the rows of the batch answer, each line by itself, and where it doesn't end well one line on `err`. Or it loads the
-/// script alone and writes its plan.
+/// Does the job that the words name: it loads the script, the change files and the order from the shelf, in this order, writes the
+/// changelog of the sink on `out`, or the rows of the batch answer, each line by itself, and where it doesn't end well one line on `err`.
+/// Or it loads the script alone and writes its plan.
 ///
-/// The words are `--script NAME --changes NAME`, in any order; `--do run` may stand there too, or `--do batch` and, where only the
-/// first so many changes count, `--first COUNT`. Those for a plan are `--script NAME --do explain`.
+/// The words are `--script NAME --changes NAME`, in any order, or `--feeds PREFIX` in place of `--changes NAME`, where each table that is
+/// read has a change file of its own, named by the prefix, the table's name and `.csv`. `--order NAME` may stand there too: its lines say
+/// when how many changes are taken, which channels are moved, and when the job is drained. `--do run` may be told, or `--do batch` and,
+/// where only the first so many lines of the one change file count, `--first COUNT`. Those for a plan are `--script NAME --do explain`.
 pub fn run_job<F: Shelf, K: Sink, E: Sink>(
     alloc: Global,
     words: &[Text],
@@ -52,14 +54,14 @@ pub fn run_job<F: Shelf, K: Sink, E: Sink>(
     ensures part { (h : Holdings) → F.holdings shelf.old ≡ Some h → AppendsPart (K.written out.old) (K.written out.new) (outcome words.now h).bytes }
     ensures whole { is_free result ≡ false → (h : Holdings) → F.holdings shelf.old ≡ Some h → Appends (K.written out.old) (K.written out.new) (outcome words.now h).bytes }
 
-    // Whatever the ending: a run has written the lines of items and a first part of one more, and before each quiet line numbered n they
-    // fold to the query's answer over the tables that the first n lines leave.
+    // Whatever the ending: a run has written the lines of items and a first part of one more, and before each quiet line they fold to the
+    // query's answer over the tables that as many first lines of each change file leave as that line tells.
     ensures answers { (h : Holdings) → F.holdings shelf.old ≡ Some h → Wrote (K.written out.old) (K.written out.new) (AreAnswers words.now h) }
 
     // And they are what the script's sound plan printed on the machine, where every edge carried only the kinds of its mode.
     ensures edges { (h : Holdings) → F.holdings shelf.old ≡ Some h → Wrote (K.written out.old) (K.written out.new) (AreCarried words.now h) }
 
-    // A run that ends well has written its answers to the last line of the change file, and a batch answer that ends well is the query's.
+    // A run that ends well has written its answers to the last line of each change file, and a batch answer that ends well is the query's.
     ensures headline { result ≡ Ending.Done → (h : Holdings) → F.holdings shelf.old ≡ Some h → IsHeadline words.now h (outcome words.now h).bytes }
 
     // A run of a script without arithmetic never leaves a type's range.

@@ -8,6 +8,7 @@ use Rattle.rel_algebra.specs.Answer.{wide}
 use Rattle.query_answer.specs.Answer.{TableRows, answer}
 use Rattle.query_laws.specs.Statement.{filled, tables_of}
 use Rattle.source_lines.specs.Taken.{Taken, RefusedLine, rows_of, taken_of}
+use Rattle.source_lines.specs.declared.supply.ChangeFiles.{ChangeFiles}
 use Rattle.job_text.specs.Printed.{row_lines}
 use Rattle.job_ending.specs.declared.ending.Ending.TheVariants.{Done, Change, Range}
 use Rattle.job_ending.specs.Outcome.{Outcome, ends}
@@ -40,9 +41,9 @@ over_tables script tables =
     answered (sink_types script) (wide (tables_of tables) script.inserted.query.rel) (answer (tables ++ filled script.inserted.sink none ∷ []) script.query).rows
 
 abbrev pub after_lines : Accepted → Result Taken RefusedLine → Outcome
-after_lines script (Err refusal) = ends (Change refusal.code refusal.line)
+after_lines script (Err refusal) = ends (Change refusal.code refusal.line refusal.table)
 after_lines script (Ok taken) = over_tables script (with_rows script.inserted.sources (rows_of script.inserted.sources taken))
 
--- what a batch answer over a change file is, over its first lines or all
-abbrev pub with_changes : Accepted → Option ℕ → List ℕ → Outcome
-with_changes script first bytes = after_lines script (taken_of script.inserted.sources first bytes)
+-- what a batch answer over change files is, over the first lines of each or all
+abbrev pub with_changes : Accepted → Option ℕ → ChangeFiles → Outcome
+with_changes script first files = after_lines script (taken_of script.inserted.sources first files)

@@ -1,5 +1,5 @@
 //! The rows of a batch answer.
-ghost use Rattle.std.specs.Prelude.{◌≡◌, ◌≤◌, [], length, map, IfOk, IfErr, IsErrOf};
+ghost use Rattle.std.specs.Prelude.{◌≡◌, [], length, map, IfOk, IfErr, IsErrOf};
 ghost use Rattle.ct_catalog.specs.Columns.{column_types};
 ghost use Rattle.job_ending.specs.Endings.{IsPrintable};
 ghost use Rattle.job_ending.specs.Outcome.{ends};
@@ -8,6 +8,7 @@ ghost use Rattle.job_ending.specs.declared.ending.Ending.TheVariants as Ending;
 ghost use Rattle.job_judgement.specs.Judged.{IsJudged};
 ghost use Rattle.job_judgement.specs.Views.{accepted_view};
 ghost use Rattle.source_lines.specs.Fitting.{RowsFit};
+ghost use Rattle.source_lines.specs.Supply.{AreWithin};
 ghost use Rattle.job_batch.specs.Batch.{done, over_tables, sink_types, with_changes, with_rows};
 ghost use Rattle.job_batch.specs.Runs.{AreWide};
 
@@ -15,30 +16,30 @@ use batch_answer::{TypeLists, answer_of};
 use ct_catalog::TableDef;
 use ct_change::Bag;
 use ct_expr::EvalFault;
-use ct_value::{Bytes, ColTys, Memory, Row, Values};
+use ct_value::{ColTys, Memory, Row, Values};
 use job_ending::Halt;
 use job_judgement::Accepted;
-use source_lines::{Bags, TakeFault, bags_of};
+use source_lines::{Bags, ChangeFiles, TakeFault, bags_of};
 use std::alloc::Global;
 
-/// The rows of the answer of an accepted script over the first lines of a change file, or over all.
+/// The rows of the answer of an accepted script over the first lines of each change file, or over all.
 #[tactic(auto, using(crate::proofs::Taken::refused_line))]
 pub(crate) fn answer_rows(
     alloc: Global,
     script: &Accepted,
     first: Option<u64>,
-    bytes: Bytes,
+    files: ChangeFiles,
 ) -> Result<Bag, Halt>
     requires judged { IsJudged (accepted_view script.now) }
-    requires within { length bytes ≤ 67108864 }
-    ensures ok { IfOk result (λ rows. with_changes (accepted_view script.now) first bytes ≡ done (sink_types (accepted_view script.now)) rows) }
+    requires within { AreWithin files }
+    ensures ok { IfOk result (λ rows. with_changes (accepted_view script.now) first files ≡ done (sink_types (accepted_view script.now)) rows) }
     ensures wide { IfOk result (λ rows. AreWide (length (sink_types (accepted_view script.now))) rows) }
-    ensures halts { IfErr result (λ halt. IsBefore halt (with_changes (accepted_view script.now) first bytes)) }
+    ensures halts { IfErr result (λ halt. IsBefore halt (with_changes (accepted_view script.now) first files)) }
     ensures printable { IfErr result (λ halt. IsPrintable (ending_of_halt halt)) }
 {
-    match bags_of(alloc, bytes, &script.inserted.sources, first) {
+    match bags_of(alloc, files, &script.inserted.sources, first) {
         Ok(tables) => answer_over(alloc, script, &tables),
-        Err(TakeFault::Refused { code, line }) => Err(Halt::Change { code, line }),
+        Err(TakeFault::Refused { code, line, table }) => Err(Halt::Change { code, line, table }),
         Err(TakeFault::Memory) => Err(Halt::Memory),
     }
 }

@@ -1,10 +1,11 @@
 //! A batch answer from its script to its last line.
-ghost use Rattle.std.specs.Prelude.{◌≡◌, ◌≤◌, length, map, IfOk};
+ghost use Rattle.std.specs.Prelude.{◌≡◌, length, map, IfOk};
 ghost use Rattle.ct_io.specs.Counts.{Rose};
 ghost use Rattle.job_ending.specs.Endings.{IsPrintable};
 ghost use Rattle.job_ending.specs.Runs.{RunsThere, ending_of};
 ghost use Rattle.job_judgement.specs.Judged.{IsJudged};
 ghost use Rattle.job_judgement.specs.Views.{accepted_view};
+ghost use Rattle.source_lines.specs.Supply.{AreWithin};
 ghost use Rattle.job_batch.specs.Batch.{done, sink_types, with_changes};
 ghost use Rattle.job_batch.specs.Runs.{AreWide};
 
@@ -13,28 +14,29 @@ use crate::lines::{PutFault, put_rows};
 use ct_catalog::ColDef;
 use ct_change::Bag;
 use ct_io::Sink;
-use ct_value::{Bytes, Ty};
+use ct_value::Ty;
 use job_ending::Halt;
 use job_judgement::Accepted;
+use source_lines::ChangeFiles;
 use std::alloc::{AllocError, Global};
 use std::marker::Brand;
 use std::sync::ledger::Blank;
 
-/// Writes the batch answer of an accepted script over the first `first` lines of a change file, or over all: its rows in their order,
+/// Writes the batch answer of an accepted script over the first `first` lines of each change file, or over all: its rows in their order,
 /// each copy by itself. A file has at most 67,108,864 bytes.
 pub fn batch<K: Sink>(
     alloc: Global,
     script: &Accepted,
     first: Option<u64>,
-    bytes: Bytes,
+    files: ChangeFiles,
     out: &mut K,
 ) -> Result<(), Halt>
     requires judged { IsJudged (accepted_view script.now) }
-    requires within { length bytes ≤ 67108864 }
-    ensures runs { RunsThere (with_changes (accepted_view script.now) first bytes) (Rose (K.faults out.old) (K.faults out.new)) (K.written out.old) (K.written out.new) result }
+    requires within { AreWithin files }
+    ensures runs { RunsThere (with_changes (accepted_view script.now) first files) (Rose (K.faults out.old) (K.faults out.new)) (K.written out.old) (K.written out.new) result }
     ensures printable { IsPrintable (ending_of result) }
 {
-    let rows = answer_rows(alloc, script, first, bytes)?;
+    let rows = answer_rows(alloc, script, first, files)?;
     write_rows(alloc, script, &rows, out)
 }
 

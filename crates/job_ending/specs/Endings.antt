@@ -1,5 +1,5 @@
 -- The line that an ending writes.
-use Rattle.std.specs.Prelude.{◌≡◌, ℕ, IsTrue, List, [], ◌++◌, map, length, codes, Option, Some, None}
+use Rattle.std.specs.Prelude.{◌≡◌, ◌==◌, ℕ, IsTrue, if◌then◌else◌, List, [], ◌++◌, map, length, codes, Option, Some, None}
 use Rattle.std.specs.List.{AllByRecursion}
 use Rattle.std.specs.Fmt.{decimal}
 use Rattle.ct_value.specs.Codes.{script_code_text, change_code_text, order_code_text}
@@ -27,11 +27,16 @@ column_of_code (NullNotAllowed column) = Some column
 column_of_code _ = None
 
 abbrev pub column_text : Option ℕ → List ℕ
-column_text (Some column) = codes " column " ++ (decimal column ++ codes "\n")
-column_text None = codes "\n"
+column_text (Some column) = codes " column " ++ decimal column
+column_text None = []
 
-abbrev pub change_line : ChangeCode → ℕ → List ℕ
-change_line code line = codes "change " ++ (change_code_text code ++ (codes " line " ++ (decimal line ++ column_text (column_of_code code))))
+-- the source whose change file a refused line is in, where each source has one of its own
+abbrev pub table_text : ℕ → List ℕ
+table_text table = if table == 0 then [] else codes " table " ++ decimal table
+
+abbrev pub change_line : ChangeCode → ℕ → ℕ → List ℕ
+change_line code line table =
+    codes "change " ++ (change_code_text code ++ (codes " line " ++ (decimal line ++ (column_text (column_of_code code) ++ (table_text table ++ codes "\n")))))
 
 -- the number in flight that a refused order line's code carries
 abbrev pub in_flight_of : OrderCode → Option ℕ
@@ -59,7 +64,7 @@ abbrev pub ending_line : Ending → List ℕ
 ending_line Done = []
 ending_line Usage = codes "usage\n"
 ending_line (Script code statement) = script_line code statement
-ending_line (Change code line) = change_line code line
+ending_line (Change code line table) = change_line code line table
 ending_line (Order code line) = order_line code line
 ending_line (Range node subtask row columns) = range_line node subtask row columns
 ending_line (Limit name) = limit_text name

@@ -5,12 +5,13 @@ use Rattle.ct_io.specs.Written.{Appends, AppendsPart}
 use Rattle.job_ending.specs.declared.ending.Ending.{Ending}
 use Rattle.job_ending.specs.declared.ending.Ending.TheVariants as e
 use Rattle.job_ending.specs.declared.halt.Halt.{Halt}
-use Rattle.job_ending.specs.declared.halt.Halt.TheVariants.{Script, Change, Range, Limit, ReadFault, WriteFault, Memory}
+use Rattle.job_ending.specs.declared.halt.Halt.TheVariants.{Script, Change, Order, Range, Limit, ReadFault, WriteFault, Memory}
 use Rattle.job_ending.specs.Outcome.{Outcome, ends}
 
 abbrev pub ending_of_halt : Halt → Ending
 ending_of_halt (Script code statement) = e.Script code statement
-ending_of_halt (Change code line) = e.Change code line
+ending_of_halt (Change code line table) = e.Change code line table
+ending_of_halt (Order code line) = e.Order code line
 ending_of_halt (Range node subtask row tys) = e.Range node subtask row tys
 ending_of_halt (Limit name) = e.Limit name
 ending_of_halt ReadFault = e.ReadFault

@@ -7,7 +7,7 @@ abbrev pub status_of : Ending → ℕ
 status_of Done = 0
 status_of Usage = 1
 status_of (Script code statement) = 2
-status_of (Change code line) = 3
+status_of (Change code line table) = 3
 status_of (Order code line) = 4
 status_of (Range node subtask row tys) = 5
 status_of (Limit name) = 6

@@ -1,5 +1,6 @@
 ghost use Rattle.std.specs.Prelude.{◌≡◌, map, length, IfOk};
-ghost use Rattle.job_ending.specs.Endings.{AreTypes, IsPrintable, ending_line, script_line, change_line, column_of_code, order_line, in_flight_of, range_line, limit_text};
+ghost use Rattle.std.specs.String.{string_bytes};
+ghost use Rattle.job_ending.specs.Endings.{AreTypes, IsPrintable, ending_line, script_line, change_line, column_of_code, column_text, table_text, order_line, in_flight_of, range_line, limit_text};
 ghost use Rattle.job_ending.specs.Status.{status_of};
 
 use ct_value::{Bytes, ChangeCode, ColTy, ColTys, Memory, OrderCode, Row, ScriptCode, Ty};
@@ -18,10 +19,12 @@ pub enum Ending {
         code: ScriptCode,
         statement: u32,
     },
-    /// A change line is refused; lines are counted from 1.
+    /// A change line is refused; lines are counted from 1. The table is 0 where all sources have one change file, else the number of the
+    /// source, from 1, whose file the line is in.
     Change {
         code: ChangeCode,
         line: u32,
+        table: u32,
     },
     /// An order line is refused; lines are counted from 1.
     Order {
@@ -81,7 +84,7 @@ pub fn ending_line(alloc: Global, ending: &Ending) -> Result<Bytes, Memory>
         Ending::Done => Ok(Bytes::new(alloc)),
         Ending::Usage => Bytes::from_slice(alloc, b"usage\n"),
         Ending::Script { code, statement } => script_line(alloc, code, *statement),
-        Ending::Change { code, line } => change_line(alloc, code, *line),
+        Ending::Change { code, line, table } => change_line(alloc, code, *line, *table),
         Ending::Order { code, line } => order_line(alloc, code, *line),
         Ending::Range {
             node,
@@ -104,15 +107,32 @@ fn script_line(alloc: Global, code: &ScriptCode, statement: u32) -> Result<Bytes
     Bytes::from_slice(alloc, line.as_bytes())
 }
 
-fn change_line(alloc: Global, code: &ChangeCode, line: u32) -> Result<Bytes, Memory>
-    ensures { IfOk result (λ text. text ≡ change_line code.now line) }
+fn change_line(alloc: Global, code: &ChangeCode, line: u32, table: u32) -> Result<Bytes, Memory>
+    ensures { IfOk result (λ text. text ≡ change_line code.now line table) }
 {
     let text = code.text();
-    let line = match column_of(code) {
-        Some(column) => format!(in alloc; "change {text} line {line} column {column}\n")?,
-        None => format!(in alloc; "change {text} line {line}\n")?,
-    };
+    let column = column_text(alloc, column_of(code))?;
+    let table = table_text(alloc, table)?;
+    let line = format!(in alloc; "change {text} line {line}{column}{table}\n")?;
     Bytes::from_slice(alloc, line.as_bytes())
+}
+
+fn column_text(alloc: Global, column: Option<u32>) -> Result<String, AllocError>
+    ensures { IfOk result (λ text. string_bytes text ≡ column_text column) }
+{
+    match column {
+        Some(column) => format!(in alloc; " column {column}"),
+        None => Ok(String::new(alloc)),
+    }
+}
+
+fn table_text(alloc: Global, table: u32) -> Result<String, AllocError>
+    ensures { IfOk result (λ text. string_bytes text ≡ table_text table) }
+{
+    if table == 0 {
+        return Ok(String::new(alloc));
+    }
+    format!(in alloc; " table {table}")
 }
 
 fn column_of(code: &ChangeCode) -> Option<u32>

@@ -2,7 +2,7 @@ ghost use Rattle.std.specs.Prelude.{◌≡◌};
 ghost use Rattle.job_ending.specs.Runs.{ending_of};
 
 use crate::ending::{Ending, LimitName};
-use ct_value::{ChangeCode, ColTys, Row, ScriptCode};
+use ct_value::{ChangeCode, ColTys, OrderCode, Row, ScriptCode};
 
 /// Why a run halts before its end.
 #[derive(Debug, Drop)]
@@ -13,6 +13,11 @@ pub enum Halt {
     },
     Change {
         code: ChangeCode,
+        line: u32,
+        table: u32,
+    },
+    Order {
+        code: OrderCode,
         line: u32,
     },
     Range {
@@ -34,7 +39,8 @@ pub fn ending_of(ran: Result<(), Halt>) -> Ending
     match ran {
         Ok(()) => Ending::Done,
         Err(Halt::Script { code, statement }) => Ending::Script { code, statement },
-        Err(Halt::Change { code, line }) => Ending::Change { code, line },
+        Err(Halt::Change { code, line, table }) => Ending::Change { code, line, table },
+        Err(Halt::Order { code, line }) => Ending::Order { code, line },
         Err(
             Halt::Range {
                 node,

@@ -142,6 +142,7 @@ module _ (columns : ℕ → List ColTy) (doing : ℕ → Doing) (plan : Plan) wh
     subtasks = plan.parallelism;
     count = count_same i;
     tables = λ table. option_map (table_of plan.parallelism) (slice_get plan.sources table);
+    table_count = length plan.sources;
     scans = λ v. scan_same v i;
     ports = λ v. length (inputs_same v i);
     source = λ v port. slice_index_or (inputs_same v i) port 0;

@@ -1,19 +1,20 @@
 -- What a job has written, whatever its ending, and what one has written that ends well.
-use Rattle.std.proofs.Common.{◌≡◌, ◌≤◌, ◌<◌, ◌^◌, ◌++◌, ℕ, Bool, true, false, cond, List, [], ◌∷◌, length, Option, Some, None, Result, Ok, Err, inl, inr, refl, sym, ap, subst, ◌∙◌, arith, append_assoc, append-nil}
-use Rattle.std.specs.Prelude.{nat_le}
-use Rattle.std.proofs.lemmas.Bool.{leb-true}
-use Rattle.command_line.specs.Words.{FileNames, Request, run, batch, explain, request_of}
+use Rattle.std.proofs.Common.{◌≡◌, ◌≤◌, ◌+◌, ◌++◌, ℕ, suc, Bool, true, false, List, [], ◌∷◌, length, Option, Some, None, Result, Ok, Err, inl, inr, refl, sym, ap, subst, ◌∙◌, arith, append_assoc, append-nil}
+use Rattle.std.proofs.lemmas.List.Sums.{sum_by-cons}
+use Rattle.command_line.specs.Words.{FileNames, Input, Request, run, batch, explain, request_of}
 use Rattle.ct_value.specs.Bag.{items}
+use Rattle.ct_value.specs.declared.codes.OrderCode.TheVariants.{BadLine}
 use Rattle.ct_value.specs.declared.ty.Ty.{Ty}
 use Rattle.ct_catalog.specs.declared.table.TableDef.{TableDef}
 use Rattle.ct_change.specs.declared.change.Change.{Change}
 use Rattle.ct_change.specs.Changelog.{Mode, Rows}
 use Rattle.ct_field.proofs.laws.Numbers.{first_true}
-use Rattle.ct_io.specs.Holdings.{Holdings, Loaded, Missing, Long, Whole, found as found_within, held as held_at, loaded}
+use Rattle.ct_io.specs.Holdings.{Holdings, Loaded, Missing, Long, Whole, loaded}
 use Rattle.ct_io.specs.Written.{AppendsPart}
-use Rattle.job_text.specs.Lines.{records_of}
-use Rattle.job_text.specs.Printed.{item_lines, row_lines}
+use Rattle.job_text.specs.Lines.{LinesLeft, records_of}
+use Rattle.job_text.specs.Printed.{item_lines, numbers_told, row_lines, sum_of}
 use Rattle.job_text.specs.Told.{AreItemsOf}
+use Rattle.job_text.specs.declared.orders.OrderLine.{OrderLine}
 use Rattle.job_text.proofs.laws.Records.{few_records}
 use Rattle.judge.specs.Judgement.{Judged}
 use Rattle.rel_algebra.specs.Answer.{Table, answer}
@@ -22,11 +23,14 @@ use Rattle.rel_algebra.specs.Rel.{Rel}
 use Rattle.sql_syntax.specs.Tree.{Query}
 use Rattle.query_laws.specs.Statement.{tables_of}
 use Rattle.source_lines.specs.Fitting.{RowsFit}
-use Rattle.source_lines.specs.Taken.{RefusedLine, Taken, rows_of, taken_of}
-use Rattle.source_lines.specs.Run.{Ran, ended, refused, stopped, printed_by, whole_run}
+use Rattle.source_lines.specs.Supply.{AreFor, all_unread, is_by_table, unread_from}
+use Rattle.source_lines.specs.Taken.{RefusedLine, Taken, firsts, nothing_taken, rows_of, take_files, taken_of}
+use Rattle.source_lines.specs.Run.{At, Went, on, halts, refused, disordered, stopped, printed_by}
+use Rattle.source_lines.specs.declared.supply.ChangeFiles.{ChangeFiles}
+use Rattle.source_lines.specs.declared.supply.ChangeFiles.TheVariants.{One, Each}
 use Rattle.job_ending.specs.declared.ending.Ending.{Ending}
 use Rattle.job_ending.specs.declared.ending.Ending.TheVariants as e
-use Rattle.job_ending.specs.declared.ending.LimitName.TheVariants.{Script as ScriptLimit, Changes as ChangesLimit}
+use Rattle.job_ending.specs.declared.ending.LimitName.TheVariants.{Script as ScriptLimit}
 use Rattle.job_ending.specs.Outcome.{Outcome, ends}
 use Rattle.phys_plan.specs.declared.plan.Plan.{Plan}
 use Rattle.plan_check.specs.Types.{keep_nulls}
@@ -36,8 +40,7 @@ use Rattle.stream_model.specs.declared.events.StepFault.TheVariants as fault
 use Rattle.stream_model.specs.Machine.{State}
 use Rattle.stream_model.specs.Runs.{changes_in}
 use Rattle.ct_catalog.specs.Columns.{table_mode, column_types}
-use Rattle.plan_rules.specs.Doings.{network}
-use Rattle.run_laws.specs.Headline.{AreAnswered, IsAnswered, RunsCarryAdmitted, RunsEndQuiet, RunsPrintAnswers, with_rows as rows_in}
+use Rattle.run_laws.specs.Headline.{AreAnswered, AreWithin, IsAnswered, RunsCarryAdmitted, RunsEndQuiet, RunsPrintAnswers, with_rows as rows_in}
 use Rattle.run_laws.specs.Rows.{RunsPrintRows, SinksFit, sent_columns}
 use Rattle.job_judgement.specs.Judged.{IsJudged}
 use Rattle.job_judgement.specs.Judgement.{Accepted, judgement}
@@ -51,12 +54,12 @@ use Rattle.sound_plans.specs.Sound.{IsRuled}
 use Rattle.job_plan.specs.Promises.{IsScriptPlan, RunnableScriptsArePlanned}
 use Rattle.job_plan.specs.Planned.{laid, planned, runnable}
 use Rattle.job_run.specs.Answers.{AreAnswers, AreAnswersOf, HasAnswers, HasRun, Wrote}
-use Rattle.job_run.specs.Edges.{AreCarried, AreCarriedOf}
+use Rattle.job_run.specs.Edges.{AreCarried, AreCarriedOf, run_of}
 use Rattle.job_run.specs.Headline.{HasAnswered, HasExplained, IsHeadline, IsHeadlineOf}
-use Rattle.job_run.specs.Held.{AreHeld}
+use Rattle.job_run.specs.Held.{AreHeld, IsInput, IsOrder}
 use Rattle.job_run.specs.Insert.{Insert, answer_of, answer_over, sources_of}
-use Rattle.job_run.specs.Outcome.{after_judgement, after_load, batch_script, explain_script, over_changes, run_script, with_request, with_script, outcome}
-use Rattle.job_run.proofs.Carried.{run_carries}
+use Rattle.job_run.specs.Outcome.{after_judgement, after_load, batch_script, explain_script, over_input, run_plan, run_script, with_order, with_request, with_script, outcome}
+use Rattle.job_run.proofs.Inputs.{HoldsBefore, at_input, at_order, bytes_in, files_of, input_for, input_short}
 use Rattle.job_run.proofs.Inserted.{Found, IsInsertOf, Reads, TablesHaveTypes, found}
 use Rattle.job_run.proofs.Printed.{items_of_sink}
 use Rattle.job_run.proofs.Torn.{first_part, nothing_left}
@@ -69,36 +72,37 @@ same_rows (source ∷ sources) [] = refl
 same_rows (source ∷ sources) (rows ∷ others) = ap (λ (ts : List Table). (record { columns = column_types source; rows = rows }) ∷ ts) (same_rows sources others)
 
 abbrev RowsTakenFit : Type 0
-RowsTakenFit = (sources : List TableDef) (first : Option ℕ) (bytes : List ℕ) (taken : Taken) → taken_of sources first bytes ≡ Ok taken → RowsFit sources (rows_of sources taken)
+RowsTakenFit = (sources : List TableDef) (files : List LinesLeft) (taken : Taken) → take_files sources nothing_taken files ≡ Ok taken → RowsFit sources (rows_of sources taken)
 
-module _ (agree : AnswersAgree) (fit : RowsTakenFit) (script : Accepted) (judged : IsJudged script) (bytes : List ℕ) where
+module _ (agree : AnswersAgree) (fit : RowsTakenFit) (script : Accepted) (judged : IsJudged script) (files : ChangeFiles) where
   abbrev sources : List TableDef
   sources = script.inserted.sources
 
   abbrev rel : Rel
   rel = script.inserted.query.rel
 
-  answered_so : (mode : Mode) (n : ℕ) (printed : List Change) → IsAnswered mode sources (λ rows. answer (rows_in sources rows) rel) (records_of bytes) n printed → IsAnswered mode sources (query_answer script) (records_of bytes) n printed
-  answered_so mode n printed is = record {
+  answered_so : (mode : Mode) (counts : List ℕ) (printed : List Change) → IsAnswered mode sources (λ rows. answer (rows_in sources rows) rel) files counts printed → IsAnswered mode sources (query_answer script) files counts printed
+  answered_so mode counts printed is = record {
     within = is.within;
     taken = is.taken;
     is_taken = is.is_taken;
+    counted = is.counted;
     valid = is.valid;
     folds =
-        sym (agree script judged (rows_of sources is.taken) (fit sources (Some n) bytes is.taken is.is_taken))
+        sym (agree script judged (rows_of sources is.taken) (fit sources (firsts (numbers_told (is_by_table files) counts) (all_unread files)) is.taken is.is_taken))
         ∙ ap (λ (ts : List Table). answer ts rel) (sym (same_rows sources (rows_of sources is.taken))) ∙ is.folds;
   }
 
-  all_so : (mode : Mode) (items : List PrintItem) → AreAnswered mode sources (λ rows. answer (rows_in sources rows) rel) (records_of bytes) items → AreAnswered mode sources (query_answer script) (records_of bytes) items
-  all_so mode items all before after n is = answered_so mode n (changes_in before) (all before after n is)
+  all_so : (mode : Mode) (items : List PrintItem) → AreAnswered mode sources (λ rows. answer (rows_in sources rows) rel) files items → AreAnswered mode sources (query_answer script) files items
+  all_so mode items all before after counts is = answered_so mode counts (changes_in before) (all before after counts is)
 
   -- in the words of the text's INSERT
-  pub insert_so : {text : List ℕ} (insert : Insert text) → IsInsertOf script insert → (items : List PrintItem) → AreAnswered (table_mode script.inserted.sink) sources (λ rows. answer (rows_in sources rows) rel) (records_of bytes) items
-      → AreAnswered (table_mode insert.sink) (sources_of insert) (answer_of insert) (records_of bytes) items
+  pub insert_so : {text : List ℕ} (insert : Insert text) → IsInsertOf script insert → (items : List PrintItem) → AreAnswered (table_mode script.inserted.sink) sources (λ rows. answer (rows_in sources rows) rel) files items
+      → AreAnswered (table_mode insert.sink) (sources_of insert) (answer_of insert) files items
   insert_so insert of items all =
-      subst (λ (query : Query). AreAnswered (table_mode insert.sink) (sources_of insert) (answer_over (sources_of insert) insert.sink query) (records_of bytes) items) of.query
-      (subst (λ (sink : TableDef). AreAnswered (table_mode sink) (sources_of insert) (answer_over (sources_of insert) sink script.query) (records_of bytes) items) of.sink
-      (subst (λ (tables : List TableDef). AreAnswered (table_mode script.inserted.sink) tables (answer_over tables script.inserted.sink script.query) (records_of bytes) items) of.sources
+      subst (λ (query : Query). AreAnswered (table_mode insert.sink) (sources_of insert) (answer_over (sources_of insert) insert.sink query) files items) of.query
+      (subst (λ (sink : TableDef). AreAnswered (table_mode sink) (sources_of insert) (answer_over (sources_of insert) sink script.query) files items) of.sink
+      (subst (λ (tables : List TableDef). AreAnswered (table_mode script.inserted.sink) tables (answer_over tables script.inserted.sink script.query) files items) of.sources
       (all_so (table_mode script.inserted.sink) items all)))
 
 -- ---- the plan answers what the script's tree does
@@ -107,18 +111,37 @@ plan_answers : InferredPlansAnswer → (script : Accepted) (plan : Plan) → IsS
 plan_answers answers script plan is =
     subst (λ (p : Plan). Answers p script.inserted.query.rel) (sym is.is) (answers (laid script) script.inserted.query.rel is.laid_well.laid_out (subst IsRuled is.is is.ruled))
 
--- ---- files
+-- ---- how many changes a quiet moment tells
 
-within_limit : (limit : ℕ) (bytes changes : List ℕ) (b : Bool) → nat_le (length bytes) limit ≡ b → cond b (Whole bytes) Long ≡ Whole changes → length changes ≤ limit
-within_limit limit bytes changes true is e = let same : bytes ≡ changes = cc (e) in subst (λ xs. length xs ≤ limit) same (leb-true (length bytes) limit is)
-within_limit limit bytes changes false is e = absurd (cc (e))
+none_few : 0 ≤ 0
+none_few = omega arith
 
-found_short : (limit : ℕ) (o : Option (List ℕ)) (changes : List ℕ) → found_within limit o ≡ Whole changes → length changes ≤ limit
-found_short limit None changes e = absurd (cc (e))
-found_short limit (Some bytes) changes e = within_limit limit bytes changes (nat_le (length bytes) limit) refl e
+both_few : (a b c d e : ℕ) → a ≤ c → c ≤ d → b ≤ e → a + b ≤ d + e
+both_few a b c d e one lines others = omega (arith, one, lines, others)
 
-loaded_short : (h : Holdings) (name : List ℕ) (limit : ℕ) (changes : List ℕ) → loaded h name limit ≡ Whole changes → length changes ≤ limit
-loaded_short h name limit changes e = found_short limit (held_at h name) changes e
+one_few : (a c d : ℕ) → a ≤ c → c ≤ d → a ≤ d + 0
+one_few a c d one lines = omega (arith, one, lines)
+
+fed_few : (counts : List ℕ) (place : ℕ) (files : List (List ℕ)) → AreWithin counts (unread_from place files) → sum_of counts ≤ bytes_in files
+fed_few [] place [] within = none_few
+fed_few [] place (bytes ∷ files) within = absurd within
+fed_few (count ∷ counts) place [] within = absurd within
+fed_few (count ∷ counts) place (bytes ∷ files) within =
+    subst (λ (n : ℕ). n ≤ bytes_in (bytes ∷ files)) (sym (sum_by-cons (λ x. x) count counts))
+    (both_few count (sum_of counts) (length (records_of bytes)) (length bytes) (bytes_in files) within.0 (few_records bytes) (fed_few counts (suc place) files within.1))
+
+few_told : (files : ChangeFiles) (counts : List ℕ) → AreWithin (numbers_told (is_by_table files) counts) (all_unread files) → sum_of counts ≤ bytes_in (files_of files)
+few_told (One bytes) counts within = one_few (sum_of counts) (length (records_of bytes)) (length bytes) within.0 (few_records bytes)
+few_told (Each files) counts within = fed_few counts 0 files within
+
+-- ---- what halts before a run doesn't end well
+
+halts_before : (Q : Outcome → Type 0) → ((ending : Ending) → (ending ≡ e.Done → ⊥) → Q (ends ending)) → HoldsBefore Q
+halts_before Q none = record {
+  missing = none e.ReadFault (λ done. absurd (cc (done)));
+  long = λ name. none (e.Limit name) (λ done. absurd (cc (done)));
+  bad = λ line. none (e.Order BadLine line) (λ done. absurd (cc (done)));
+}
 
 -- ---- the laws that stand behind a run
 
@@ -135,23 +158,15 @@ pub record Laws : Type 0 where
   pub reads : Reads
   pub typed : TablesHaveTypes
 
-bytes_are : (tys : List Ty) (key : Option (List ℕ)) (ran : Ran) → (outcome_of tys key ran).bytes ≡ item_lines tys key (printed_by ran)
-bytes_are tys key (ended s) = refl
-bytes_are tys key (refused line code) = refl
-bytes_are tys key (stopped cause printed) = refl
-
 module _ (h : Holdings) (names : FileNames) (text : List ℕ) (script_held : loaded h names.script 262144 ≡ Whole text) (script : Accepted) (accepted : judgement text ≡ Ok script) where
-  held_with : (changes : List ℕ) → loaded h names.changes 67108864 ≡ Whole changes → AreHeld names h script changes
-  held_with changes is = record { script_text = text; script_held = script_held; accepted = accepted; changes_held = is }
-
   abbrev is_judged : IsJudged script
   is_judged = record { text = text; judged = accepted }
 
   -- ---- a run
 
-  module _ (laws : Laws) (plan : Plan) (runs : runnable script ≡ Ok plan) (changes : List ℕ) (held : loaded h names.changes 67108864 ≡ Whole changes) where
-    abbrev ran : Ran
-    ran = whole_run (network plan) most_sent plan.sources changes
+  module _ (laws : Laws) (order : Option (List ℕ)) (plan : Plan) (runs : runnable script ≡ Ok plan) (files : ChangeFiles) (held : IsInput h names.input plan.sources files) (orders : List OrderLine) (ordered : IsOrder h order (is_by_table files) orders) where
+    abbrev went : Went (At State)
+    went = run_of plan files orders
 
     of_plan : IsScriptPlan script plan
     of_plan = laws.can script is_judged plan runs
@@ -162,154 +177,164 @@ module _ (h : Holdings) (names : FileNames) (text : List ℕ) (script_held : loa
     sink_same : plan.sink ≡ script.inserted.sink
     sink_same = ap (λ (p : Plan). p.sink) of_plan.is
 
+    of_sources : AreFor files plan.sources
+    of_sources = input_for h names.input plan.sources files held
+
     abbrev Answered : TableDef → List TableDef → Type 0
-    Answered sink sources = AreAnswered (table_mode sink) sources (λ rows. answer (rows_in sources rows) script.inserted.query.rel) (records_of changes) (printed_by ran)
+    Answered sink sources = AreAnswered (table_mode sink) sources (λ rows. answer (rows_in sources rows) script.inserted.query.rel) files (printed_by went)
 
     module _ (f : Found text script) where
       sinks_same : plan.sink ≡ f.insert.sink
       sinks_same = sink_same ∙ f.of.sink
 
-      run_answered : AreAnswered (table_mode f.insert.sink) (sources_of f.insert) (answer_of f.insert) (records_of changes) (printed_by ran)
+      files_held : IsInput h names.input (sources_of f.insert) files
+      files_held = subst (λ (sources : List TableDef). IsInput h names.input sources files) (sources_same ∙ f.of.sources) held
+
+      run_answered : AreAnswered (table_mode f.insert.sink) (sources_of f.insert) (answer_of f.insert) files (printed_by went)
       run_answered =
-          insert_so laws.agree laws.fit script is_judged changes f.insert f.of (printed_by ran)
+          insert_so laws.agree laws.fit script is_judged files f.insert f.of (printed_by went)
           (subst (λ (sink : TableDef). Answered sink script.inserted.sources) sink_same
           (subst (λ (sources : List TableDef). Answered plan.sink sources) sources_same
-          (laws.prints plan script.inserted.query.rel of_plan.ruled (plan_answers laws.answers script plan of_plan) most_sent changes)))
+          (laws.prints plan script.inserted.query.rel of_plan.ruled (plan_answers laws.answers script plan of_plan) most_sent files orders of_sources)))
 
-      run_within : (before after : List PrintItem) (n : ℕ) → printed_by ran ≡ before ++ Quiet n ∷ after → n ≤ 67108864
-      run_within before after n is =
-          let few = (run_answered before after n is).within in
-          omega (arith, few, few_records changes, loaded_short h names.changes 67108864 changes held)
+      run_within : (before after : List PrintItem) (counts : List ℕ) → printed_by went ≡ before ++ Quiet counts ∷ after → sum_of counts ≤ 67108864
+      run_within before after counts is =
+          let few = few_told files counts (run_answered before after counts is).within in
+          omega (arith, few, input_short h names.input plan.sources files held)
 
-      run_typed : AreItemsOf (sink_types f.insert.sink) (sink_key f.insert.sink) (printed_by ran)
+      run_typed : AreItemsOf (sink_types f.insert.sink) (sink_key f.insert.sink) (printed_by went)
       run_typed =
-          subst (λ (sink : TableDef). AreItemsOf (sink_types sink) (sink_key sink) (printed_by ran)) sinks_same
+          subst (λ (sink : TableDef). AreItemsOf (sink_types sink) (sink_key sink) (printed_by went)) sinks_same
           (items_of_sink (sent_columns plan) plan.sink.cols (sink_key plan.sink) (first_true (go_into (sent_columns plan) (column_types plan.sink)) (keep_nulls (sent_columns plan) (column_types plan.sink)) (laws.sinks plan of_plan.ruled))
-          (printed_by ran) 67108864 (omega arith) run_within (laws.rows plan of_plan.ruled most_sent changes))
+          (printed_by went) 67108864 (omega arith) run_within (laws.rows plan of_plan.ruled most_sent files orders))
 
-      has_answers : (written rest : List ℕ) → item_lines (sink_types plan.sink) (sink_key plan.sink) (printed_by ran) ≡ written ++ rest → HasAnswers names h written
+      has_answers : (written rest : List ℕ) → item_lines (is_by_table files) (sink_types plan.sink) (sink_key plan.sink) (printed_by went) ≡ written ++ rest → HasAnswers names order h written
       has_answers written rest is =
-          let p = first_part (sink_types f.insert.sink) (sink_key f.insert.sink) (printed_by ran) written rest run_typed (ap (λ (sink : TableDef). item_lines (sink_types sink) (sink_key sink) (printed_by ran)) (sym sinks_same) ∙ is) in
+          let p = first_part (is_by_table files) (sink_types f.insert.sink) (sink_key f.insert.sink) (printed_by went) written rest run_typed
+          (ap (λ (sink : TableDef). item_lines (is_by_table files) (sink_types sink) (sink_key sink) (printed_by went)) (sym sinks_same) ∙ is) in
           record {
             text = text;
             script_held = script_held;
             insert = f.insert;
-            changes = changes;
-            changes_held = held;
+            files = files;
+            files_held = files_held;
+            orders = orders;
+            order_held = ordered;
             items = p.whole;
             torn = p.torn;
             reads = p.reads;
             is_torn = p.is_torn;
             types = f.types;
             typed = p.typed;
-            answered = λ before after n cut. run_answered before (after ++ p.others) n (p.split ∙ ap (λ items. items ++ p.others) cut ∙ append_assoc before (Quiet n ∷ after) p.others);
+            answered = λ before after counts cut. run_answered before (after ++ p.others) counts (p.split ∙ ap (λ items. items ++ p.others) cut ∙ append_assoc before (Quiet counts ∷ after) p.others);
           }
 
-      run_ended : (s : State) → ran ≡ ended s → HasRun names h (item_lines (sink_types plan.sink) (sink_key plan.sink) s.printed)
-      run_ended s is = record {
+      run_ended : (p : At State) → went ≡ on p → HasRun names order h (item_lines (is_by_table files) (sink_types plan.sink) (sink_key plan.sink) p.state.printed)
+      run_ended p is = record {
         answers = record {
           text = text;
           script_held = script_held;
           insert = f.insert;
-          changes = changes;
-          changes_held = held;
-          items = s.printed;
+          files = files;
+          files_held = files_held;
+          orders = orders;
+          order_held = ordered;
+          items = p.state.printed;
           torn = [];
-          reads = ap (λ (sink : TableDef). item_lines (sink_types sink) (sink_key sink) s.printed) sinks_same ∙ sym (append-nil (item_lines (sink_types f.insert.sink) (sink_key f.insert.sink) s.printed));
+          reads =
+              ap (λ (sink : TableDef). item_lines (is_by_table files) (sink_types sink) (sink_key sink) p.state.printed) sinks_same
+              ∙ sym (append-nil (item_lines (is_by_table files) (sink_types f.insert.sink) (sink_key f.insert.sink) p.state.printed));
           is_torn = inl refl;
           types = f.types;
-          typed = subst (λ r. AreItemsOf (sink_types f.insert.sink) (sink_key f.insert.sink) (printed_by r)) is run_typed;
-          answered = subst (λ r. AreAnswered (table_mode f.insert.sink) (sources_of f.insert) (answer_of f.insert) (records_of changes) (printed_by r)) is run_answered;
+          typed = subst (λ (w : Went (At State)). AreItemsOf (sink_types f.insert.sink) (sink_key f.insert.sink) (printed_by w)) is run_typed;
+          answered = subst (λ (w : Went (At State)). AreAnswered (table_mode f.insert.sink) (sources_of f.insert) (answer_of f.insert) files (printed_by w)) is run_answered;
         };
         whole = refl;
-        ends = laws.ends_quiet plan most_sent changes s is;
+        ends = laws.ends_quiet plan most_sent files orders of_sources p is;
       }
 
-      run_well : (r : Ran) → ran ≡ r → (outcome_of (sink_types plan.sink) (sink_key plan.sink) r).ending ≡ e.Done → HasRun names h (outcome_of (sink_types plan.sink) (sink_key plan.sink) r).bytes
-      run_well (ended s) is done = run_ended s is
-      run_well (refused line code) is done = absurd (cc (done))
-      run_well (stopped (fault.Change code) printed) is done = absurd (cc (done))
-      run_well (stopped (fault.Order code) printed) is done = absurd (cc (done))
-      run_well (stopped (fault.Range node subtask row types) printed) is done = absurd (cc (done))
-      run_well (stopped fault.Limit printed) is done = absurd (cc (done))
-      run_well (stopped fault.Memory printed) is done = absurd (cc (done))
+      run_well : (w : Went (At State)) → went ≡ w → (outcome_of (is_by_table files) (sink_types plan.sink) (sink_key plan.sink) w).ending ≡ e.Done
+          → HasRun names order h (outcome_of (is_by_table files) (sink_types plan.sink) (sink_key plan.sink) w).bytes
+      run_well (on p) is done = run_ended p is
+      run_well (halts (refused code line table) p) is done = absurd (cc (done))
+      run_well (halts (disordered code line) p) is done = absurd (cc (done))
+      run_well (halts (stopped (fault.Change code)) p) is done = absurd (cc (done))
+      run_well (halts (stopped (fault.Order code)) p) is done = absurd (cc (done))
+      run_well (halts (stopped (fault.Range node subtask row types)) p) is done = absurd (cc (done))
+      run_well (halts (stopped fault.Limit) p) is done = absurd (cc (done))
+      run_well (halts (stopped fault.Memory) p) is done = absurd (cc (done))
 
     abbrev is_found : Found text script
     is_found = found laws.reads laws.typed text script accepted
 
     -- whatever its ending
-    pub stream_answers : (written rest : List ℕ) → (streamed plan changes).bytes ≡ written ++ rest → HasAnswers names h written
-    stream_answers written rest is = has_answers is_found written rest (sym (bytes_are (sink_types plan.sink) (sink_key plan.sink) ran) ∙ is)
+    pub stream_answers : (written rest : List ℕ) → (streamed plan files orders).bytes ≡ written ++ rest → HasAnswers names order h written
+    stream_answers written rest is = has_answers is_found written rest is
 
-    pub stream_well : (streamed plan changes).ending ≡ e.Done → HasRun names h (streamed plan changes).bytes
-    stream_well done = run_well is_found ran refl done
+    pub stream_well : (streamed plan files orders).ending ≡ e.Done → HasRun names order h (streamed plan files orders).bytes
+    stream_well done = run_well is_found went refl done
 
-    pub stream_carried : (written rest : List ℕ) → (streamed plan changes).bytes ≡ written ++ rest → AreCarriedOf (Some (run names)) h written
+    pub stream_carried : (written rest : List ℕ) → (streamed plan files orders).bytes ≡ written ++ rest → AreCarriedOf (Some (run names order)) h written
     stream_carried written rest is = inr (record {
       script = script;
-      changes = changes;
-      held = held_with changes held;
       plan = plan;
+      files = files;
+      orders = orders;
+      held = record { script_text = text; script_held = script_held; accepted = accepted; input_held = held; order_held = ordered };
       runs = runs;
       sound = of_plan.ruled;
       rest = rest;
-      reads = sym (bytes_are (sink_types plan.sink) (sink_key plan.sink) ran) ∙ is;
-      carried = run_carries plan of_plan.ruled changes (laws.carries plan of_plan.ruled most_sent changes);
+      reads = is;
+      carried = laws.carries plan of_plan.ruled most_sent files orders;
     })
 
   -- what holds of a run holds where nothing is run
-  module _ (Q : Outcome → Type 0) (none : (ending : Ending) → (ending ≡ e.Done → ⊥) → Q (ends ending))
-      (ran : (plan : Plan) → runnable script ≡ Ok plan → (changes : List ℕ) → loaded h names.changes 67108864 ≡ Whole changes → Q (streamed plan changes)) where
-    over_load : (plan : Plan) → runnable script ≡ Ok plan → (l : Loaded) → loaded h names.changes 67108864 ≡ l → Q (after_load ChangesLimit (streamed plan) l)
-    over_load plan runs Missing is = none e.ReadFault (λ done. absurd (cc (done)))
-    over_load plan runs Long is = none (e.Limit ChangesLimit) (λ done. absurd (cc (done)))
-    over_load plan runs (Whole changes) is = ran plan runs changes is
-
-    over_plan : (j : Judged Plan) → runnable script ≡ j → Q (after_judgement (λ plan. over_changes h names.changes (streamed plan)) j)
+  module _ (order : Option (List ℕ)) (Q : Outcome → Type 0) (none : (ending : Ending) → (ending ≡ e.Done → ⊥) → Q (ends ending))
+      (ran : (plan : Plan) → runnable script ≡ Ok plan → (files : ChangeFiles) → IsInput h names.input plan.sources files → (orders : List OrderLine) → IsOrder h order (is_by_table files) orders → Q (streamed plan files orders)) where
+    over_plan : (j : Judged Plan) → runnable script ≡ j → Q (after_judgement (run_plan h names.input order) j)
     over_plan (Err refusal) is = none (e.Script refusal.code refusal.statement) (λ done. absurd (cc (done)))
-    over_plan (Ok plan) is = over_load plan is (loaded h names.changes 67108864) refl
+    over_plan (Ok plan) is =
+        at_input h Q (halts_before Q none) names.input plan.sources (λ files. with_order h order (is_by_table files) (streamed plan files))
+        (λ files held. at_order h Q (halts_before Q none) order (is_by_table files) (streamed plan files) (λ orders ordered. ran plan is files held orders ordered))
 
-    pub over_script : Q (run_script h names.changes script)
+    pub over_script : Q (run_script h names.input order script)
     over_script = over_plan (runnable script) refl
 
   -- ---- a batch answer
 
   module _ (first : Option ℕ) (f : Found text script) where
-    module _ (changes : List ℕ) (held : loaded h names.changes 67108864 ≡ Whole changes) where
-      batch_rows : (taken : Taken) → taken_of script.inserted.sources first changes ≡ Ok taken → (b : Bool) (o : Option Rows)
-          → query_answer script (rows_of script.inserted.sources taken) ≡ o
-          → (answered (answer_types script) b o).ending ≡ e.Done → HasAnswered names first h (answered (answer_types script) b o).bytes
+    abbrev WellAnswered : Outcome → Type 0
+    WellAnswered o = o.ending ≡ e.Done → HasAnswered names first h o.bytes
+
+    module _ (files : ChangeFiles) (held : IsInput h names.input script.inserted.sources files) where
+      batch_rows : (taken : Taken) → taken_of script.inserted.sources first files ≡ Ok taken → (b : Bool) (o : Option Rows) → query_answer script (rows_of script.inserted.sources taken) ≡ o → WellAnswered (answered (answer_types script) b o)
       batch_rows taken is true o answers done = absurd (cc (done))
       batch_rows taken is false None answers done = absurd (cc (done))
       batch_rows taken is false (Some rows) answers done = record {
         text = text;
         script_held = script_held;
         insert = f.insert;
-        changes = changes;
-        changes_held = held;
+        files = files;
+        files_held = subst (λ (sources : List TableDef). IsInput h names.input sources files) f.of.sources held;
         taken = taken;
         rows = rows;
-        lines_taken = ap (λ (tables : List TableDef). taken_of tables first changes) (sym f.of.sources) ∙ is;
+        lines_taken = ap (λ (tables : List TableDef). taken_of tables first files) (sym f.of.sources) ∙ is;
         answers = sym (λ i. answer_over (f.of.sources i) (f.of.sink i) (f.of.query i) (rows_of (f.of.sources i) taken)) ∙ answers;
         reads = ap (λ (sink : TableDef). row_lines (sink_types sink) (items rows)) f.of.sink;
       }
 
-      batch_lines : (r : Result Taken RefusedLine) → taken_of script.inserted.sources first changes ≡ r → (after_lines script r).ending ≡ e.Done → HasAnswered names first h (after_lines script r).bytes
+      batch_lines : (r : Result Taken RefusedLine) → taken_of script.inserted.sources first files ≡ r → WellAnswered (after_lines script r)
       batch_lines (Err refusal) is done = absurd (cc (done))
       batch_lines (Ok taken) is done = batch_rows taken is _ _ refl done
 
-    batch_loaded : (l : Loaded) → loaded h names.changes 67108864 ≡ l → (after_load ChangesLimit (batch_changes script first) l).ending ≡ e.Done → HasAnswered names first h (after_load ChangesLimit (batch_changes script first) l).bytes
-    batch_loaded Missing is done = absurd (cc (done))
-    batch_loaded Long is done = absurd (cc (done))
-    batch_loaded (Whole changes) is done = batch_lines changes is _ refl done
+    batch_planned : (j : Judged (Option Plan)) → WellAnswered (after_judgement (λ plan. over_input h names.input script.inserted.sources (batch_changes script first)) j)
+    batch_planned (Err refusal) = λ done. absurd (cc (done))
+    batch_planned (Ok plan) =
+        at_input h WellAnswered (halts_before WellAnswered (λ ending other done. absurd (other done))) names.input script.inserted.sources (batch_changes script first)
+        (λ files held. batch_lines files held (taken_of script.inserted.sources first files) refl)
 
-    batch_planned : (j : Judged (Option Plan)) → (after_judgement (λ plan. over_changes h names.changes (batch_changes script first)) j).ending ≡ e.Done
-        → HasAnswered names first h (after_judgement (λ plan. over_changes h names.changes (batch_changes script first)) j).bytes
-    batch_planned (Err refusal) done = absurd (cc (done))
-    batch_planned (Ok plan) done = batch_loaded _ refl done
-
-    pub batch_here : (batch_script h names.changes first script).ending ≡ e.Done → HasAnswered names first h (batch_script h names.changes first script).bytes
-    batch_here done = batch_planned (planned script) done
+    pub batch_here : WellAnswered (batch_script h names.input first script)
+    batch_here = batch_planned (planned script)
 
 -- ---- a plan
 
@@ -358,38 +383,38 @@ not_well : (P : List ℕ → Type 0) (ending : Ending) → (ending ≡ e.Done �
 not_well P ending other done = absurd (other done)
 
 module _ (laws : Laws) (h : Holdings) where
-  no_answers : (names : FileNames) (ending : Ending) → (ending ≡ e.Done → ⊥) → OfParts (AreAnswersOf (Some (run names)) h) (ends ending)
-  no_answers names ending other written rest is = inl (nothing_left written rest is)
+  no_answers : (names : FileNames) (order : Option (List ℕ)) (ending : Ending) → (ending ≡ e.Done → ⊥) → OfParts (AreAnswersOf (Some (run names order)) h) (ends ending)
+  no_answers names order ending other written rest is = inl (nothing_left written rest is)
 
-  none_carried : (names : FileNames) (ending : Ending) → (ending ≡ e.Done → ⊥) → OfParts (AreCarriedOf (Some (run names)) h) (ends ending)
-  none_carried names ending other written rest is = inl (nothing_left written rest is)
+  none_carried : (names : FileNames) (order : Option (List ℕ)) (ending : Ending) → (ending ≡ e.Done → ⊥) → OfParts (AreCarriedOf (Some (run names order)) h) (ends ending)
+  none_carried names order ending other written rest is = inl (nothing_left written rest is)
 
   answers_at : (o : Option Request) → OfParts (AreAnswersOf o h) (with_request h o)
   answers_at None = λ written rest is. nothing_left written rest is
-  answers_at (Some (run names)) =
-      at_name h names.script (run_script h names.changes) (OfParts (AreAnswersOf (Some (run names)) h)) (no_answers names)
-      (λ text held script is. over_script h names text held script is (OfParts (AreAnswersOf (Some (run names)) h)) (no_answers names)
-      (λ plan runs changes there written rest cut. inr (stream_answers h names text held script is laws plan runs changes there written rest cut)))
+  answers_at (Some (run names order)) =
+      at_name h names.script (run_script h names.input order) (OfParts (AreAnswersOf (Some (run names order)) h)) (no_answers names order)
+      (λ text held script is. over_script h names text held script is order (OfParts (AreAnswersOf (Some (run names order)) h)) (no_answers names order)
+      (λ plan runs files there orders ordered written rest cut. inr (stream_answers h names text held script is laws order plan runs files there orders ordered written rest cut)))
   answers_at (Some (batch names first)) = λ written rest is. tt
   answers_at (Some (explain name)) = λ written rest is. tt
 
   carried_at : (o : Option Request) → OfParts (AreCarriedOf o h) (with_request h o)
   carried_at None = λ written rest is. nothing_left written rest is
-  carried_at (Some (run names)) =
-      at_name h names.script (run_script h names.changes) (OfParts (AreCarriedOf (Some (run names)) h)) (none_carried names)
-      (λ text held script is. over_script h names text held script is (OfParts (AreCarriedOf (Some (run names)) h)) (none_carried names)
-      (λ plan runs changes there. stream_carried h names text held script is laws plan runs changes there))
+  carried_at (Some (run names order)) =
+      at_name h names.script (run_script h names.input order) (OfParts (AreCarriedOf (Some (run names order)) h)) (none_carried names order)
+      (λ text held script is. over_script h names text held script is order (OfParts (AreCarriedOf (Some (run names order)) h)) (none_carried names order)
+      (λ plan runs files there orders ordered. stream_carried h names text held script is laws order plan runs files there orders ordered))
   carried_at (Some (batch names first)) = λ written rest is. tt
   carried_at (Some (explain name)) = λ written rest is. tt
 
   well_at : (o : Option Request) → OfWell (IsHeadlineOf o h) (with_request h o)
   well_at None = λ done. absurd (cc (done))
-  well_at (Some (run names)) =
-      at_name h names.script (run_script h names.changes) (OfWell (HasRun names h)) (not_well (HasRun names h))
-      (λ text held script is. over_script h names text held script is (OfWell (HasRun names h)) (not_well (HasRun names h))
-      (λ plan runs changes there. stream_well h names text held script is laws plan runs changes there))
+  well_at (Some (run names order)) =
+      at_name h names.script (run_script h names.input order) (OfWell (HasRun names order h)) (not_well (HasRun names order h))
+      (λ text held script is. over_script h names text held script is order (OfWell (HasRun names order h)) (not_well (HasRun names order h))
+      (λ plan runs files there orders ordered. stream_well h names text held script is laws order plan runs files there orders ordered))
   well_at (Some (batch names first)) =
-      at_name h names.script (batch_script h names.changes first) (OfWell (HasAnswered names first h)) (not_well (HasAnswered names first h))
+      at_name h names.script (batch_script h names.input first) (OfWell (HasAnswered names first h)) (not_well (HasAnswered names first h))
       (λ text held script is. batch_here h names text held script is first (found laws.reads laws.typed text script is))
   well_at (Some (explain name)) =
       at_name h name explain_script (OfWell (HasExplained name h)) (not_well (HasExplained name h))

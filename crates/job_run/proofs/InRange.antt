@@ -5,7 +5,7 @@ use Rattle.ct_value.specs.declared.codes.ScriptCode.{ScriptCode}
 use Rattle.ct_value.specs.declared.row.Row.{Row}
 use Rattle.ct_value.specs.declared.ty.ColTy.{ColTy}
 use Rattle.command_line.specs.Words.{FileNames, Request}
-use Rattle.ct_io.specs.Holdings.{Holdings, Loaded, Missing, Long, Whole, loaded}
+use Rattle.ct_io.specs.Holdings.{Holdings, Loaded, Whole, loaded}
 use Rattle.sql_syntax.specs.Tree as t
 use Rattle.sql_grammar.specs.ReadsScripts as s
 use Rattle.sql_grammar.specs.Scripts.{IsScript}
@@ -16,18 +16,23 @@ use Rattle.binding.specs.Inserts.{Inserted, insert_bound}
 use Rattle.range_rules.specs.Arithmetic.{in_query, in_statement, in_statements}
 use Rattle.phys_plan.specs.declared.plan.Plan.{Plan}
 use Rattle.job_ending.specs.declared.ending.Ending.TheVariants as e
-use Rattle.job_ending.specs.declared.ending.LimitName.TheVariants.{Script as ScriptLimit, Changes as ChangesLimit}
+use Rattle.job_ending.specs.declared.ending.LimitName.TheVariants.{Script as ScriptLimit}
+use Rattle.job_ending.specs.Outcome.{Outcome}
 use Rattle.job_judgement.specs.Judged.{IsBound, IsJudged}
 use Rattle.job_judgement.specs.Judgement.{Accepted, accepted_of, at_statement, bound_insert, first_bound, judgement}
 use Rattle.job_stream.specs.Stream.{most_sent, sink_key, sink_types, streamed}
 use Rattle.plan_rules.specs.Doings.{network}
+use Rattle.job_text.specs.declared.orders.OrderLine.{OrderLine}
 use Rattle.source_lines.specs.Run.{whole_run}
+use Rattle.source_lines.specs.Supply.{is_by_table}
+use Rattle.source_lines.specs.declared.supply.ChangeFiles.{ChangeFiles}
 use Rattle.range_rules.specs.Statement.{InsertsAreTame}
 use Rattle.run_laws.specs.Runs.{RunsStayInRange, TreesHaveTamePlans, is_tame_plan}
 use Rattle.job_plan.specs.Promises.{RunnableScriptsArePlanned}
 use Rattle.job_plan.specs.Planned.{laid, runnable}
 use Rattle.job_run.specs.Complete.{HasNoArithmetic}
-use Rattle.job_run.specs.Outcome.{after_judgement, after_load, changes_limit, outcome, over_changes, run_script, script_limit, with_request}
+use Rattle.job_run.specs.Outcome.{after_judgement, after_load, outcome, run_plan, run_script, script_limit, with_order, with_request}
+use Rattle.job_run.proofs.Inputs.{HoldsBefore, at_input, at_order}
 use Rattle.job_run.proofs.Printable.{stopped_so}
 
 or_parts : (a b : Bool) → (a || b) ≡ false → (a ≡ false) × (b ≡ false)
@@ -80,33 +85,39 @@ free_query text statements script read none e =
 
 -- ---- the run
 
-module _ (bound : (script : Accepted) → IsJudged script → IsBound script) (tame : InsertsAreTame) (can : RunnableScriptsArePlanned) (trees : TreesHaveTamePlans) (stays : RunsStayInRange) (h : Holdings) (node subtask : ℕ) (row : Row) (columns : List ColTy) (names : FileNames)
+module _ (bound : (script : Accepted) → IsJudged script → IsBound script) (tame : InsertsAreTame) (can : RunnableScriptsArePlanned) (trees : TreesHaveTamePlans) (stays : RunsStayInRange) (h : Holdings) (node subtask : ℕ) (row : Row) (columns : List ColTy) (names : FileNames) (order : Option (List ℕ))
     (script_text : List ℕ) (statements : List t.Statement) (read : s.read_text script_text ≡ s.answered statements) (none : in_statements statements ≡ false) where
-  changes_stay : (script : Accepted) → judgement script_text ≡ Ok script → (plan : Plan) → runnable script ≡ Ok plan → (l : Loaded) → (after_load ChangesLimit (streamed plan) l).ending ≡ e.Range node subtask row columns → ⊥
-  changes_stay script judged plan runs Missing out = absurd (cc (out))
-  changes_stay script judged plan runs Long out = absurd (cc (out))
-  changes_stay script judged plan runs (Whole changes) out =
+  abbrev Stays : Outcome → Type 0
+  Stays o = o.ending ≡ e.Range node subtask row columns → ⊥
+
+  halts_before : HoldsBefore Stays
+  halts_before = record { missing = λ out. absurd (cc (out)); long = λ name out. absurd (cc (out)); bad = λ line out. absurd (cc (out)) }
+
+  run_stays : (script : Accepted) → judgement script_text ≡ Ok script → (plan : Plan) → runnable script ≡ Ok plan → (files : ChangeFiles) (orders : List OrderLine) → Stays (streamed plan files orders)
+  run_stays script judged plan runs files orders out =
       let is : IsJudged script = record { text = script_text; judged = judged } in
       let b = bound script is in
       let calculates_nothing = tame script.catalogue.tables b.table script.query script.inserted b.bound (free_query script_text statements script read none judged) in
-      let ran = stopped_so (sink_types plan.sink) (sink_key plan.sink) (whole_run (network plan) most_sent plan.sources changes) node subtask row columns out in
+      let ran = stopped_so (is_by_table files) (sink_types plan.sink) (sink_key plan.sink) (whole_run (network plan) most_sent plan.sources files orders) node subtask row columns out in
       let of = can script is plan runs in
       let tame_plan : is_tame_plan plan ≡ true = ap is_tame_plan of.is ∙ trees (laid script) script.inserted.query.rel of.laid_well.laid_out calculates_nothing in
-      stays plan of.ruled tame_plan most_sent (omega arith) changes node subtask row columns ran.0 ran.1
+      stays plan of.ruled tame_plan most_sent (omega arith) files orders node subtask row columns ran.0 ran.1
 
-  plan_stays : (script : Accepted) → judgement script_text ≡ Ok script → (j : Judged Plan) → runnable script ≡ j → (after_judgement (λ plan. over_changes h names.changes (streamed plan)) j).ending ≡ e.Range node subtask row columns → ⊥
-  plan_stays script judged (Err refusal) is out = absurd (cc (out))
-  plan_stays script judged (Ok plan) is out = changes_stay script judged plan is (loaded h names.changes changes_limit) out
+  plan_stays : (script : Accepted) → judgement script_text ≡ Ok script → (j : Judged Plan) → runnable script ≡ j → Stays (after_judgement (run_plan h names.input order) j)
+  plan_stays script judged (Err refusal) is = λ out. absurd (cc (out))
+  plan_stays script judged (Ok plan) is =
+      at_input h Stays halts_before names.input plan.sources (λ files. with_order h order (is_by_table files) (streamed plan files))
+      (λ files held. at_order h Stays halts_before order (is_by_table files) (streamed plan files) (λ orders ordered. run_stays script judged plan is files orders))
 
-  script_stays : (j : Judged Accepted) → judgement script_text ≡ j → (after_judgement (run_script h names.changes) j).ending ≡ e.Range node subtask row columns → ⊥
-  script_stays (Err refusal) is out = absurd (cc (out))
-  script_stays (Ok script) is out = plan_stays script is (runnable script) refl out
+  script_stays : (j : Judged Accepted) → judgement script_text ≡ j → Stays (after_judgement (run_script h names.input order) j)
+  script_stays (Err refusal) is = λ out. absurd (cc (out))
+  script_stays (Ok script) is = plan_stays script is (runnable script) refl
 
-  file_stays : (l : Loaded) → l ≡ Whole script_text → (after_load ScriptLimit (λ text. after_judgement (run_script h names.changes) (judgement text)) l).ending ≡ e.Range node subtask row columns → ⊥
-  file_stays l is out = script_stays (judgement script_text) refl (sym (ap (λ (x : Loaded). (after_load ScriptLimit (λ text. after_judgement (run_script h names.changes) (judgement text)) x).ending) is) ∙ out)
+  file_stays : (l : Loaded) → l ≡ Whole script_text → Stays (after_load ScriptLimit (λ text. after_judgement (run_script h names.input order) (judgement text)) l)
+  file_stays l is = subst (λ (x : Loaded). Stays (after_load ScriptLimit (λ text. after_judgement (run_script h names.input order) (judgement text)) x)) (sym is) (script_stays (judgement script_text) refl)
 
 pub stays_in_range : ((script : Accepted) → IsJudged script → IsBound script) → InsertsAreTame → RunnableScriptsArePlanned → TreesHaveTamePlans → RunsStayInRange → ((text : List ℕ) (x : t.Script) → (s.read_text text ≡ s.answered x.statements) ↔ IsScript text x)
     → (h : Holdings) (node subtask : ℕ) (row : Row) (columns : List ColTy) (words : List (List ℕ)) → HasNoArithmetic words h → (outcome words h).ending ≡ e.Range node subtask row columns → ⊥
 stays_in_range bound tame can trees stays reads h node subtask row columns words free out =
-    file_stays bound tame can trees stays h node subtask row columns free.names free.script_text free.script.statements ((reads free.script_text free.script).1 free.spelled) free.none
+    file_stays bound tame can trees stays h node subtask row columns free.names free.order free.script_text free.script.statements ((reads free.script_text free.script).1 free.spelled) free.none
     (loaded h free.names.script script_limit) free.script_held (sym (ap (λ (o : Option Request). (with_request h o).ending) free.named) ∙ out)

@@ -1,9 +1,10 @@
 pub mod Alike
 pub mod Asked
-pub mod Carried
 pub mod Headline
 pub mod InRange
+pub mod Inputs
 pub mod Inserted
+pub mod Loading
 pub mod Loads
 pub mod Printable
 pub mod Printed

@@ -3,7 +3,7 @@ use Rattle.std.proofs.Common.{◌≡◌, ◌⊎◌, inl, inr, ℕ, List, Option,
 use Rattle.ct_io.specs.Holdings.{Holdings, loaded, Missing, Whole}
 use Rattle.judge.specs.Judgement.{Judged}
 use Rattle.job_ending.specs.declared.halt.Halt.{Halt}
-use Rattle.job_ending.specs.declared.halt.Halt.TheVariants.{Script, Change, Range, Limit, ReadFault, WriteFault, Memory}
+use Rattle.job_ending.specs.declared.halt.Halt.TheVariants.{Script, Change, Order, Range, Limit, ReadFault, WriteFault, Memory}
 use Rattle.job_ending.specs.declared.ending.LimitName.{LimitName}
 use Rattle.job_ending.specs.declared.ending.LimitName.TheVariants.{Script as ScriptLimit}
 use Rattle.job_ending.specs.Outcome.{Outcome}
@@ -38,7 +38,8 @@ load_failed old new name limit over rose same (inr missing) next =
 pub judged_halt : {A : Type 0} (told : Option Holdings) (read : Type 0) (next : Holdings → A → Outcome) (judged : Judged A) (halt : Halt) → IsHalt halt judged → HaltsAs told (λ h. after_judgement (next h) judged) read halt
 judged_halt told read next judged Memory is = tt
 judged_halt told read next judged (Script code number) is = λ h told_is. ap (after_judgement (next h)) is
-judged_halt told read next judged (Change code line) is = absurd is
+judged_halt told read next judged (Change code line table) is = absurd is
+judged_halt told read next judged (Order code line) is = absurd is
 judged_halt told read next judged (Range node subtask row columns) is = absurd is
 judged_halt told read next judged (Limit name) is = absurd is
 judged_halt told read next judged ReadFault is = absurd is
@@ -48,29 +49,31 @@ judged_halt told read next judged WriteFault is = absurd is
 pub judged_before : {A : Type 0} (next : A → Outcome) (judged : Judged A) (halt : Halt) → IsHalt halt judged → IsBefore halt (after_judgement next judged)
 judged_before next judged Memory is = tt
 judged_before next judged (Script code number) is = ap (after_judgement next) is
-judged_before next judged (Change code line) is = absurd is
+judged_before next judged (Change code line table) is = absurd is
+judged_before next judged (Order code line) is = absurd is
 judged_before next judged (Range node subtask row columns) is = absurd is
 judged_before next judged (Limit name) is = absurd is
 judged_before next judged ReadFault is = absurd is
 judged_before next judged WriteFault is = absurd is
 
--- the same by a definition that agrees
-halts_moved : (told : Option Holdings) (read : Type 0) (of other : Holdings → Outcome) (halt : Halt) → ((h : Holdings) → told ≡ Some h → other h ≡ of h) → HaltsAs told of read halt → HaltsAs told other read halt
-halts_moved told read of other Memory same is = tt
-halts_moved told read of other WriteFault same is = absurd is
-halts_moved told read of other ReadFault same (inl rose) = inl rose
-halts_moved told read of other ReadFault same (inr at) = inr (at.0, at.1, same at.0 at.1 ∙ at.2)
-halts_moved told read of other (Script c n) same is = λ h told_is. same h told_is ∙ is h told_is
-halts_moved told read of other (Change c n) same is = λ h told_is. same h told_is ∙ is h told_is
-halts_moved told read of other (Range n m r tys) same is = λ h told_is. same h told_is ∙ is h told_is
-halts_moved told read of other (Limit l) same is = λ h told_is. same h told_is ∙ is h told_is
+-- the same by a definition that agrees, of calls that came later, between which no holdings changed
+pub halts_later : (told now : Option Holdings) (read later : Type 0) (of other : Holdings → Outcome) (halt : Halt) → now ≡ told → (later → read) → ((h : Holdings) → told ≡ Some h → other h ≡ of h) → HaltsAs now of later halt → HaltsAs told other read halt
+halts_later told now read later of other Memory held more same is = tt
+halts_later told now read later of other WriteFault held more same is = absurd is
+halts_later told now read later of other ReadFault held more same (inl rose) = inl (more rose)
+halts_later told now read later of other ReadFault held more same (inr at) = let told_is = sym held ∙ at.1 in inr (at.0, told_is, same at.0 told_is ∙ at.2)
+halts_later told now read later of other (Script c n) held more same is = λ h told_is. same h told_is ∙ is h (held ∙ told_is)
+halts_later told now read later of other (Change c n t) held more same is = λ h told_is. same h told_is ∙ is h (held ∙ told_is)
+halts_later told now read later of other (Order c n) held more same is = λ h told_is. same h told_is ∙ is h (held ∙ told_is)
+halts_later told now read later of other (Range n m r tys) held more same is = λ h told_is. same h told_is ∙ is h (held ∙ told_is)
+halts_later told now read later of other (Limit l) held more same is = λ h told_is. same h told_is ∙ is h (held ∙ told_is)
 
 script_is : (h : Holdings) (name text : List ℕ) (next : Accepted → Outcome) → loaded h name script_limit ≡ Whole text → with_script h name next ≡ after_judgement next (judgement text)
 script_is h name text next held = ap (after_load ScriptLimit (λ t. after_judgement next (judgement t))) held
 
 pub script_halt : (told : Option Holdings) (read : Type 0) (name text : List ℕ) (halt : Halt) → ((h : Holdings) → told ≡ Some h → loaded h name script_limit ≡ Whole text) → IsHalt halt (judgement text) → (next : Holdings → Accepted → Outcome) → HaltsAs told (λ h. with_script h name (next h)) read halt
 script_halt told read name text halt held is next =
-    halts_moved told read (λ h. after_judgement (next h) (judgement text)) (λ h. with_script h name (next h)) halt
+    halts_later told told read read (λ h. after_judgement (next h) (judgement text)) (λ h. with_script h name (next h)) halt refl (λ rose. rose)
     (λ h told_is. script_is h name text (next h) (held h told_is)) (judged_halt told read next (judgement text) halt is)
 
 pub script_loaded : (h : Holdings) (name text : List ℕ) (script : Accepted) (next : Accepted → Outcome) → loaded h name script_limit ≡ Whole text → judgement text ≡ Ok script → with_script h name next ≡ next script

@@ -1,5 +1,5 @@
--- What a run prints are items of its sink: the sink's columns are as wide as those that are sent, and no quiet moment has a number beyond the
--- lines of the change file.
+-- What a run prints are items of its sink: the sink's columns are as wide as those that are sent, and no quiet moment tells more changes than the
+-- change files have lines.
 use Rattle.std.specs.Prelude.{◌&&◌, ◌||◌, ◌+ℤ◌, ◌≤ℤ◌, ◌^◌, Bool, ℤ, int_le, int_lt, map, nat_le, neg_ℤ, pos, unsigned_abs}
 use Rattle.std.proofs.Common.{◌≡◌, ◌∙◌, ◌++◌, ◌<◌, ◌≤◌, ℕ, true, false, Option, List, [], ◌∷◌, refl, sym, ap, subst, arith, append_assoc, lit<}
 use Rattle.std.specs.List.{AllByRecursion}
@@ -24,6 +24,7 @@ use Rattle.stream_model.specs.declared.events.PrintItem.TheVariants.{Change as P
 use Rattle.stream_model.specs.KeysTold.{told_by, told_fits}
 use Rattle.stream_model.specs.Runs.{changes_in}
 use Rattle.stream_model.proofs.laws.KeysTold.{told-is, told-types}
+use Rattle.job_text.specs.Printed.{sum_of}
 use Rattle.job_text.specs.Told.{AreItemsOf}
 use Rattle.typing_laws.proofs.laws.Named.{same_types}
 
@@ -85,18 +86,21 @@ goes_row (column ∷ columns) (col ∷ cols) (v ∷ vs) e h =
 -- ---- items
 
 module _ (columns : List ColTy) (cols : List ColDef) (key : Option (List ℕ)) (goes : go_into columns (map (λ c. c.ty) cols) ≡ true) (all : List PrintItem) (most : ℕ) (few : most < 2 ^ 64)
-    (within : (before after : List PrintItem) (n : ℕ) → all ≡ before ++ Quiet n ∷ after → n ≤ most) where
+    (within : (before after : List PrintItem) (counts : List ℕ) → all ≡ before ++ Quiet counts ∷ after → sum_of counts ≤ most) where
   -- a change has the columns, and tells its key alone where it is a `-D` into an upsert sink
   abbrev pub IsTold : Change → Type 0
   IsTold change = told_fits (told_by key change.kind) columns change.row ≡ true
+
+  below : (n : ℕ) → n ≤ most → n < 2 ^ 64
+  below n le = omega (arith, few, le)
 
   behind : (before items : List PrintItem) → all ≡ before ++ items → AllByRecursion IsTold (changes_in items) → AreItemsOf (map (λ c. c.ty.ty) cols) key items
   behind before [] is fit = tt
   behind before (Printed change ∷ items) is fit =
       let told = told_by key change.kind in
       ((goes_row columns cols change.row goes (told-types told columns change.row fit.0), told-is told columns change.row fit.0), behind (before ++ Printed change ∷ []) items (is ∙ sym (append_assoc before (Printed change ∷ []) items)) fit.1)
-  behind before (Quiet n ∷ items) is fit =
-      (omega (arith, few, within before items n is), behind (before ++ Quiet n ∷ []) items (is ∙ sym (append_assoc before (Quiet n ∷ []) items)) fit)
+  behind before (Quiet counts ∷ items) is fit =
+      (below (sum_of counts) (within before items counts is), behind (before ++ Quiet counts ∷ []) items (is ∙ sym (append_assoc before (Quiet counts ∷ []) items)) fit)
 
   pub items_of_sink : AllByRecursion IsTold (changes_in all) → AreItemsOf (map (λ c. c.ty.ty) cols) key all
   items_of_sink fit = behind [] all refl fit

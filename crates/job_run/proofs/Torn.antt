@@ -1,5 +1,5 @@
 -- A first part of the lines of items is lines and a first part of one more.
-use Rattle.std.proofs.Common.{◌≡◌, ◌<◌, ◌⊎◌, ◌∙◌, ◌++◌, ℕ, Option, List, [], ◌∷◌, length, inl, inr, refl, sym, ap, arith, append_assoc}
+use Rattle.std.proofs.Common.{◌≡◌, ◌<◌, ◌⊎◌, ◌∙◌, ◌++◌, ℕ, Bool, Option, List, [], ◌∷◌, length, inl, inr, refl, sym, ap, arith, append_assoc}
 use Rattle.ct_value.specs.declared.ty.Ty.{Ty}
 use Rattle.stream_model.specs.declared.events.PrintItem.{PrintItem}
 use Rattle.job_text.specs.Printed.{item_line, item_lines}
@@ -26,18 +26,18 @@ pub nothing_left : (xs ys : List ℕ) → [] ≡ xs ++ ys → xs ≡ []
 nothing_left [] ys e = refl
 nothing_left (x ∷ xs) ys e = absurd (cc (e))
 
-pub record Part (tys : List Ty) (key : Option (List ℕ)) (items : List PrintItem) (written : List ℕ) : Type 0 where
+pub record Part (by_table : Bool) (tys : List Ty) (key : Option (List ℕ)) (items : List PrintItem) (written : List ℕ) : Type 0 where
   pub whole : List PrintItem
   pub others : List PrintItem
   pub torn : List ℕ
   pub split : items ≡ whole ++ others
-  pub reads : written ≡ item_lines tys key whole ++ torn
-  pub is_torn : IsTorn tys key torn
+  pub reads : written ≡ item_lines by_table tys key whole ++ torn
+  pub is_torn : IsTorn by_table tys key torn
   pub typed : AreItemsOf tys key whole
 
-module _ (tys : List Ty) (key : Option (List ℕ)) where
-  first_of : (item : PrintItem) (items : List PrintItem) (written rest : List ℕ) → AreItemsOf tys key (item ∷ items) → ((middle : List ℕ) → item_lines tys key items ≡ middle ++ rest → Part tys key items middle)
-      → Within (item_line tys key item) (item_lines tys key items) written rest ⊎ Beyond (item_line tys key item) written → Part tys key (item ∷ items) written
+module _ (by_table : Bool) (tys : List Ty) (key : Option (List ℕ)) where
+  first_of : (item : PrintItem) (items : List PrintItem) (written rest : List ℕ) → AreItemsOf tys key (item ∷ items) → ((middle : List ℕ) → item_lines by_table tys key items ≡ middle ++ rest → Part by_table tys key items middle)
+      → Within (item_line by_table tys key item) (item_lines by_table tys key items) written rest ⊎ Beyond (item_line by_table tys key item) written → Part by_table tys key (item ∷ items) written
   first_of item items written rest typed others (inl (middle, first, last)) =
       let p = others middle last in
       record {
@@ -45,7 +45,7 @@ module _ (tys : List Ty) (key : Option (List ℕ)) where
         others = p.others;
         torn = p.torn;
         split = ap (λ xs. item ∷ xs) p.split;
-        reads = first ∙ ap (λ xs. item_line tys key item ++ xs) p.reads ∙ sym (append_assoc (item_line tys key item) (item_lines tys key p.whole) p.torn);
+        reads = first ∙ ap (λ xs. item_line by_table tys key item ++ xs) p.reads ∙ sym (append_assoc (item_line by_table tys key item) (item_lines by_table tys key p.whole) p.torn);
         is_torn = p.is_torn;
         typed = (typed.0, p.typed);
       }
@@ -59,7 +59,7 @@ module _ (tys : List Ty) (key : Option (List ℕ)) where
     typed = tt;
   }
 
-  pub first_part : (items : List PrintItem) (written rest : List ℕ) → AreItemsOf tys key items → item_lines tys key items ≡ written ++ rest → Part tys key items written
+  pub first_part : (items : List PrintItem) (written rest : List ℕ) → AreItemsOf tys key items → item_lines by_table tys key items ≡ written ++ rest → Part by_table tys key items written
   first_part [] written rest typed e = record { whole = []; others = []; torn = []; split = refl; reads = nothing_left written rest e; is_torn = inl refl; typed = tt }
   first_part (item ∷ items) written rest typed e =
-      first_of item items written rest typed (λ middle last. first_part items middle rest typed.1 last) (splits (item_line tys key item) (item_lines tys key items) written rest e)
+      first_of item items written rest typed (λ middle last. first_part items middle rest typed.1 last) (splits (item_line by_table tys key item) (item_lines by_table tys key items) written rest e)

@@ -1,7 +1,8 @@
 -- What a job needs to end well, and which scripts never leave a type's range as they run.
-use Rattle.std.specs.Prelude.{◌≡◌, ℕ, false, List, Option, Some, None, Ok}
+use Rattle.std.specs.Prelude.{◌≡◌, ℕ, false, List, [], Option, Some, None, Ok}
 use Rattle.command_line.specs.Words.{FileNames, Request, run, batch, explain, request_of}
 use Rattle.ct_io.specs.Holdings.{Holdings, Whole, loaded}
+use Rattle.ct_value.specs.declared.codes.OrderCode.{OrderCode}
 use Rattle.ct_value.specs.declared.row.Row.{Row}
 use Rattle.ct_value.specs.declared.ty.ColTy.{ColTy}
 use Rattle.ct_change.specs.Changelog.{Rows}
@@ -11,42 +12,45 @@ use Rattle.rel_algebra.specs.Answer.{wide}
 use Rattle.query_laws.specs.Statement.{tables_of}
 use Rattle.source_lines.specs.Taken.{Taken, rows_of, taken_of}
 use Rattle.phys_plan.specs.declared.plan.Plan.{Plan}
-use Rattle.stream_model.specs.declared.events.PrintItem.{PrintItem}
 use Rattle.stream_model.specs.declared.events.StepFault.TheVariants.{Limit, Range}
-use Rattle.plan_rules.specs.Doings.{network}
-use Rattle.source_lines.specs.Run.{stopped, whole_run}
+use Rattle.stream_model.specs.Machine.{State}
+use Rattle.job_text.specs.declared.orders.OrderLine.{OrderLine}
+use Rattle.source_lines.specs.Run.{At, halts, disordered, stopped}
+use Rattle.source_lines.specs.declared.supply.ChangeFiles.{ChangeFiles}
 use Rattle.job_judgement.specs.Judgement.{Accepted, judgement}
 use Rattle.range_rules.specs.Arithmetic.{in_statements}
 use Rattle.job_batch.specs.Agree.{query_answer}
 use Rattle.job_batch.specs.Batch.{with_rows}
 use Rattle.job_plan.specs.Planned.{planned, runnable}
-use Rattle.job_stream.specs.Stream.{most_sent}
+use Rattle.job_run.specs.Edges.{run_of}
 use Rattle.job_run.specs.Held.{AreHeld}
 use Rattle.job_run.specs.Outcome.{script_limit}
 
--- nothing is refused: two files are held, each within its limit; the script is accepted and can be run; each line passes; and the machine's run
--- of its plan over the lines is nowhere out of range, nor would it pass the limit on changes
-pub record MayRun (names : FileNames) (h : Holdings) : Type 0 where
+-- nothing is refused: the files are held, each within its limit; the script is accepted and can be run; each line passes, and each line of the
+-- order can be read and begins; and the machine's run of its plan is nowhere out of range, nor would it pass the limit on changes
+pub record MayRun (names : FileNames) (order : Option (List ℕ)) (h : Holdings) : Type 0 where
   pub script : Accepted
   pub plan : Plan
-  pub changes : List ℕ
+  pub files : ChangeFiles
+  pub orders : List OrderLine
   pub taken : Taken
-  pub held : AreHeld names h script changes
+  pub held : AreHeld names order h script plan.sources files orders
   pub runs : runnable script ≡ Ok plan
-  pub lines_taken : taken_of script.inserted.sources None changes ≡ Ok taken
-  pub in_range : (node subtask : ℕ) (row : Row) (types : List ColTy) (printed : List PrintItem) → whole_run (network plan) most_sent plan.sources changes ≡ stopped (Range node subtask row types) printed → ⊥
-  pub few : (printed : List PrintItem) → whole_run (network plan) most_sent plan.sources changes ≡ stopped Limit printed → ⊥
+  pub lines_taken : taken_of script.inserted.sources None files ≡ Ok taken
+  pub lawful : (code : OrderCode) (line : ℕ) (p : At State) → run_of plan files orders ≡ halts (disordered code line) p → ⊥
+  pub in_range : (node subtask : ℕ) (row : Row) (types : List ColTy) (p : At State) → run_of plan files orders ≡ halts (stopped (Range node subtask row types)) p → ⊥
+  pub few : (p : At State) → run_of plan files orders ≡ halts (stopped Limit) p → ⊥
 
 -- the same of a batch answer: the script has a plan or waits for one, the first lines are taken, and nothing that is evaluated is out of range
 pub record MayAnswer (names : FileNames) (first : Option ℕ) (h : Holdings) : Type 0 where
   pub script : Accepted
-  pub changes : List ℕ
+  pub files : ChangeFiles
   pub taken : Taken
   pub rows : Rows
   pub plan : Option Plan
-  pub held : AreHeld names h script changes
+  pub held : AreHeld names None h script script.inserted.sources files []
   pub planned_so : planned script ≡ Ok plan
-  pub lines_taken : taken_of script.inserted.sources first changes ≡ Ok taken
+  pub lines_taken : taken_of script.inserted.sources first files ≡ Ok taken
   pub answers : query_answer script (rows_of script.inserted.sources taken) ≡ Some rows
   pub narrow : wide (tables_of (with_rows script.inserted.sources (rows_of script.inserted.sources taken))) script.inserted.query.rel ≡ false
 
@@ -61,7 +65,7 @@ pub record MayExplain (name : List ℕ) (h : Holdings) : Type 0 where
 
 abbrev pub MayEndWellBy : Option Request → Holdings → Type 0
 MayEndWellBy None h = ⊥
-MayEndWellBy (Some (run names)) h = MayRun names h
+MayEndWellBy (Some (run names order)) h = MayRun names order h
 MayEndWellBy (Some (batch names first)) h = MayAnswer names first h
 MayEndWellBy (Some (explain name)) h = MayExplain name h
 
@@ -72,9 +76,10 @@ MayEndWell words h = MayEndWellBy (request_of words) h
 -- the words ask for a run, and the script that they name has no arithmetic in it
 pub record HasNoArithmetic (words : List (List ℕ)) (h : Holdings) : Type 0 where
   pub names : FileNames
+  pub order : Option (List ℕ)
   pub script_text : List ℕ
   pub script : Script
-  pub named : request_of words ≡ Some (run names)
+  pub named : request_of words ≡ Some (run names order)
   pub script_held : loaded h names.script script_limit ≡ Whole script_text
   pub spelled : IsScript script_text script
   pub none : in_statements script.statements ≡ false

@@ -1,4 +1,4 @@
--- What a job that ends well has written. A run: its answers, to the last line of the change file. A batch answer: the rows of the query's
+-- What a job that ends well has written. A run: its answers, to the last line of its change files. A batch answer: the rows of the query's
 -- answer on its tree, over the tables that the first lines leave, in order, each copy by itself. A plan: its lines.
 use Rattle.std.specs.Prelude.{◌≡◌, ℕ, List, Option, Some, None, Ok}
 use Rattle.command_line.specs.Words.{FileNames, Request, run, batch, explain, request_of}
@@ -6,6 +6,7 @@ use Rattle.ct_io.specs.Holdings.{Holdings, Whole, loaded}
 use Rattle.ct_value.specs.Bag.{items}
 use Rattle.ct_change.specs.Changelog.{Rows}
 use Rattle.source_lines.specs.Taken.{Taken, rows_of, taken_of}
+use Rattle.source_lines.specs.declared.supply.ChangeFiles.{ChangeFiles}
 use Rattle.phys_plan.specs.declared.plan.Plan.{Plan}
 use Rattle.sound_plans.specs.Sound.{IsRuled}
 use Rattle.job_text.specs.Printed.{row_lines}
@@ -14,18 +15,19 @@ use Rattle.job_judgement.specs.Judgement.{Accepted, judgement}
 use Rattle.job_stream.specs.Stream.{sink_types}
 use Rattle.job_plan.specs.Planned.{runnable}
 use Rattle.job_run.specs.Answers.{HasRun}
+use Rattle.job_run.specs.Held.{IsInput}
 use Rattle.job_run.specs.Insert.{Insert, answer_of, sources_of}
-use Rattle.job_run.specs.Outcome.{changes_limit, script_limit}
+use Rattle.job_run.specs.Outcome.{script_limit}
 
 pub record HasAnswered (names : FileNames) (first : Option ℕ) (holdings : Holdings) (bytes : List ℕ) : Type 0 where
   pub text : List ℕ
   pub script_held : loaded holdings names.script script_limit ≡ Whole text
   pub insert : Insert text
-  pub changes : List ℕ
-  pub changes_held : loaded holdings names.changes changes_limit ≡ Whole changes
+  pub files : ChangeFiles
+  pub files_held : IsInput holdings names.input (sources_of insert) files
   pub taken : Taken
   pub rows : Rows
-  pub lines_taken : taken_of (sources_of insert) first changes ≡ Ok taken
+  pub lines_taken : taken_of (sources_of insert) first files ≡ Ok taken
   pub answers : answer_of insert (rows_of (sources_of insert) taken) ≡ Some rows
   pub reads : bytes ≡ row_lines (sink_types insert.sink) (items rows)
 
@@ -41,7 +43,7 @@ pub record HasExplained (name : List ℕ) (holdings : Holdings) (bytes : List �
 
 abbrev pub IsHeadlineOf : Option Request → Holdings → List ℕ → Type 0
 IsHeadlineOf None holdings bytes = ⊥
-IsHeadlineOf (Some (run names)) holdings bytes = HasRun names holdings bytes
+IsHeadlineOf (Some (run names order)) holdings bytes = HasRun names order holdings bytes
 IsHeadlineOf (Some (batch names first)) holdings bytes = HasAnswered names first holdings bytes
 IsHeadlineOf (Some (explain name)) holdings bytes = HasExplained name holdings bytes
 

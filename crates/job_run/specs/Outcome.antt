@@ -1,12 +1,20 @@
--- What a job answers and writes, composed of the script's judgement, its plan, and the run of that or the batch answer over its change file;
+-- What a job answers and writes, composed of the script's judgement, its plan, and the run of that or the batch answer over its change files;
 -- or the plan itself.
-use Rattle.std.specs.Prelude.{ℕ, List, Option, Some, None, Ok, Err}
-use Rattle.command_line.specs.Words.{FileNames, Request, run, batch, explain, request_of}
+use Rattle.std.specs.Prelude.{ℕ, ◌-◌, Bool, List, [], ◌∷◌, ◌++◌, length, Option, Some, None, Result, Ok, Err, codes}
+use Rattle.ct_value.specs.declared.codes.OrderCode.TheVariants.{BadLine}
+use Rattle.ct_catalog.specs.declared.table.TableDef.{TableDef}
+use Rattle.command_line.specs.Words.{FileNames, Input, changes, feeds, Request, run, batch, explain, request_of}
 use Rattle.ct_io.specs.Holdings.{Holdings, Loaded, Missing, Long, Whole, loaded}
 use Rattle.judge.specs.Judgement.{Judged}
-use Rattle.job_ending.specs.declared.ending.Ending.TheVariants.{Usage, Script, Limit, ReadFault}
+use Rattle.phys_plan.specs.declared.plan.Plan.{Plan}
+use Rattle.job_text.specs.Orders.{orders_of}
+use Rattle.job_text.specs.declared.orders.OrderLine.{OrderLine}
+use Rattle.source_lines.specs.Supply.{is_by_table}
+use Rattle.source_lines.specs.declared.supply.ChangeFiles.{ChangeFiles}
+use Rattle.source_lines.specs.declared.supply.ChangeFiles.TheVariants.{One, Each}
+use Rattle.job_ending.specs.declared.ending.Ending.TheVariants.{Usage, Script, Order, Limit, ReadFault}
 use Rattle.job_ending.specs.declared.ending.LimitName.{LimitName}
-use Rattle.job_ending.specs.declared.ending.LimitName.TheVariants.{Script as ScriptLimit, Changes as ChangesLimit}
+use Rattle.job_ending.specs.declared.ending.LimitName.TheVariants.{Script as ScriptLimit, Changes as ChangesLimit, Order as OrderLimit}
 use Rattle.job_ending.specs.Outcome.{Outcome, ends}
 use Rattle.job_judgement.specs.Judgement.{Accepted, judgement}
 use Rattle.job_batch.specs.Batch.{with_changes as batch_changes}
@@ -14,12 +22,15 @@ use Rattle.job_plan.specs.Shown.{shown}
 use Rattle.job_plan.specs.Planned.{planned, runnable}
 use Rattle.job_stream.specs.Stream.{streamed}
 
--- the largest script and change file, in bytes
+-- the largest script, change file and order, in bytes; all feeds together are no larger than a change file
 abbrev pub script_limit : ℕ
 script_limit = 262144
 
 abbrev pub changes_limit : ℕ
 changes_limit = 67108864
+
+abbrev pub order_limit : ℕ
+order_limit = 67108864
 
 abbrev pub after_load : LimitName → (List ℕ → Outcome) → Loaded → Outcome
 after_load over next Missing = ends ReadFault
@@ -34,24 +45,54 @@ after_judgement next (Ok script) = next script
 abbrev pub with_script : Holdings → List ℕ → (Accepted → Outcome) → Outcome
 with_script holdings name next = after_load ScriptLimit (λ text. after_judgement next (judgement text)) (loaded holdings name script_limit)
 
--- the change file of a name is loaded
-abbrev pub over_changes : Holdings → List ℕ → (List ℕ → Outcome) → Outcome
-over_changes holdings name next = after_load ChangesLimit next (loaded holdings name changes_limit)
+-- ---- change files
 
--- the changelog that a run of the script's plan prints, where the script can be run
-abbrev pub run_script : Holdings → List ℕ → Accepted → Outcome
-run_script holdings changes script = after_judgement (λ plan. over_changes holdings changes (streamed plan)) (runnable script)
+-- the file of a table, behind a prefix
+abbrev pub feed_name : List ℕ → TableDef → List ℕ
+feed_name prefix table = prefix ++ (table.name ++ codes ".csv")
+
+-- the feeds of tables are loaded one after the other, each within what the earlier ones left of a limit
+abbrev pub over_feeds : Holdings → List ℕ → ℕ → List TableDef → List (List ℕ) → (ChangeFiles → Outcome) → Outcome
+over_feeds holdings prefix limit [] before next = next (Each before)
+over_feeds holdings prefix limit (table ∷ tables) before next =
+    after_load ChangesLimit (λ bytes. over_feeds holdings prefix (limit - length bytes) tables (before ++ bytes ∷ []) next) (loaded holdings (feed_name prefix table) limit)
+
+-- the change file is loaded, or the feed of each source
+abbrev pub over_input : Holdings → Input → List TableDef → (ChangeFiles → Outcome) → Outcome
+over_input holdings (changes name) sources next = after_load ChangesLimit (λ bytes. next (One bytes)) (loaded holdings name changes_limit)
+over_input holdings (feeds prefix) sources next = over_feeds holdings prefix changes_limit sources [] next
+
+-- ---- the order
+
+abbrev pub after_order : (List OrderLine → Outcome) → Result (List OrderLine) ℕ → Outcome
+after_order next (Err line) = ends (Order BadLine line)
+after_order next (Ok orders) = next orders
+
+-- the order of a name is loaded and read; without one nothing is ordered
+abbrev pub with_order : Holdings → Option (List ℕ) → Bool → (List OrderLine → Outcome) → Outcome
+with_order holdings None by_table next = next []
+with_order holdings (Some name) by_table next = after_load OrderLimit (λ bytes. after_order next (orders_of by_table bytes)) (loaded holdings name order_limit)
+
+-- ---- requests
+
+-- the changelog that a run of a plan prints: its change files are loaded, then the order
+abbrev pub run_plan : Holdings → Input → Option (List ℕ) → Plan → Outcome
+run_plan holdings input order plan = over_input holdings input plan.sources (λ files. with_order holdings order (is_by_table files) (streamed plan files))
+
+-- that of the script's plan, where the script can be run
+abbrev pub run_script : Holdings → Input → Option (List ℕ) → Accepted → Outcome
+run_script holdings input order script = after_judgement (run_plan holdings input order) (runnable script)
 
 -- the batch answer, where the script has a plan or waits for one
-abbrev pub batch_script : Holdings → List ℕ → Option ℕ → Accepted → Outcome
-batch_script holdings changes first script = after_judgement (λ plan. over_changes holdings changes (batch_changes script first)) (planned script)
+abbrev pub batch_script : Holdings → Input → Option ℕ → Accepted → Outcome
+batch_script holdings input first script = after_judgement (λ plan. over_input holdings input script.inserted.sources (batch_changes script first)) (planned script)
 
 -- the same of the script of a name
-abbrev pub run_named : FileNames → Holdings → Outcome
-run_named names holdings = with_script holdings names.script (run_script holdings names.changes)
+abbrev pub run_named : FileNames → Option (List ℕ) → Holdings → Outcome
+run_named names order holdings = with_script holdings names.script (run_script holdings names.input order)
 
 abbrev pub batch_named : FileNames → Option ℕ → Holdings → Outcome
-batch_named names first holdings = with_script holdings names.script (batch_script holdings names.changes first)
+batch_named names first holdings = with_script holdings names.script (batch_script holdings names.input first)
 
 -- the script's plan
 abbrev pub explain_script : Accepted → Outcome
@@ -59,7 +100,7 @@ explain_script script = after_judgement shown (runnable script)
 
 abbrev pub with_request : Holdings → Option Request → Outcome
 with_request holdings None = ends Usage
-with_request holdings (Some (run names)) = run_named names holdings
+with_request holdings (Some (run names order)) = run_named names order holdings
 with_request holdings (Some (batch names first)) = batch_named names first holdings
 with_request holdings (Some (explain name)) = with_script holdings name explain_script
 

@@ -1,4 +1,4 @@
-//! The files of a job.
+//! A file of a job, and its script.
 ghost use Rattle.std.specs.Prelude.{◌≡◌, ◌≤◌, ℕ, List, Some, length, IfOk, IfErr};
 ghost use Rattle.ct_io.specs.Counts.{Rose};
 ghost use Rattle.ct_io.specs.Holdings.{Holdings, loaded, Whole};

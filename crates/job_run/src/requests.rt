@@ -22,9 +22,6 @@ use ct_value::Text;
 use job_ending::{Ending, ending_of};
 use std::alloc::Global;
 
-/// The largest change file, in bytes.
-pub const CHANGES_LIMIT: u64 = 67108864;
-
 /// Does what the words ask for, from the words to the last written line. It writes no line of its ending.
 pub fn run<F: Shelf, K: Sink>(alloc: Global, words: &[Text], shelf: &mut F, out: &mut K) -> Ending
     ensures runs { Runs (F.holdings shelf.old) (outcome words.now) (Rose (F.faults shelf.old) (F.faults shelf.new)) (Rose (K.faults out.old) (K.faults out.new)) (K.written out.old) (K.written out.new) result }
@@ -47,7 +44,9 @@ fn run_asked<F: Shelf, K: Sink>(alloc: Global, words: &[Text], shelf: &mut F, ou
     ensures wrong_use { request_of words.now ≡ None → (result ≡ Ending.Usage) ⊎ (result ≡ Ending.Memory) }
 {
     match request_of(alloc, words) {
-        Ok(Request::Run(names)) => ending_of(run_names(alloc, &names, shelf, out)),
+        Ok(Request::Run { names, order }) => {
+            ending_of(run_names(alloc, &names, &order, shelf, out))
+        }
         Ok(Request::Batch { names, first }) => {
             ending_of(batch_names(alloc, &names, first, shelf, out))
         }

@@ -1,26 +1,33 @@
 -- Lines of items, one after the other.
-use Rattle.std.proofs.Common.{◌≡◌, ℕ, List, [], ◌∷◌, ◌++◌, Option, refl, sym, ap, subst, ◌∙◌, append_assoc}
+use Rattle.std.proofs.Common.{◌≡◌, ℕ, Bool, List, [], ◌∷◌, ◌++◌, Option, refl, sym, ap, subst, ◌∙◌, append_assoc}
 use Rattle.std.specs.List.{AllByRecursion}
 use Rattle.ct_io.specs.Written.{Appends, AppendsUpTo, AppendsPart}
 use Rattle.ct_value.specs.declared.ty.Ty.{Ty}
-use Rattle.ct_io.proofs.laws.Pieces.{part_in_piece, up_to_piece, whole_at_end}
+use Rattle.ct_io.proofs.laws.Pieces.{part_in_piece, up_to_piece}
 use Rattle.stream_model.specs.declared.events.PrintItem.{PrintItem}
 use Rattle.job_text.specs.Printed.{IsWide, item_line, item_lines}
+use Rattle.job_stream.specs.declared.sheet.Sheet.{Sheet}
+use Rattle.job_stream.specs.Writing.{lines_on}
 
-module _ (tys : List Ty) (key : Option (List ℕ)) (a b c : Option (List ℕ)) (whole : List ℕ) (old left : List PrintItem) (item : PrintItem) (is : old ≡ item ∷ left) (so_far : AppendsUpTo a b whole (item_lines tys key old)) where
-  pub item_more : Appends b c (item_line tys key item) → AppendsUpTo a c whole (item_lines tys key left)
-  item_more more = up_to_piece a b c whole (item_lines tys key old) (item_line tys key item) (item_lines tys key left) so_far (ap (item_lines tys key) is) more
+module _ (sheet : Sheet) (a b c : Option (List ℕ)) (whole : List ℕ) (old left : List PrintItem) (item : PrintItem) (is : old ≡ item ∷ left) (so_far : AppendsUpTo a b whole (lines_on sheet old)) where
+  abbrev Line : List ℕ
+  Line = item_line sheet.by_table sheet.tys.items sheet.key item
 
-  pub item_part : AppendsPart b c (item_line tys key item) → AppendsPart a c whole
-  item_part more = part_in_piece a b c whole (item_lines tys key old) (item_line tys key item) (item_lines tys key left) so_far (ap (item_lines tys key) is) more
+  pub item_more : Appends b c Line → AppendsUpTo a c whole (lines_on sheet left)
+  item_more more = up_to_piece a b c whole (lines_on sheet old) Line (lines_on sheet left) so_far (ap (lines_on sheet) is) more
 
-pub items_end : (tys : List Ty) (key : Option (List ℕ)) (a b : Option (List ℕ)) (whole : List ℕ) (left : List PrintItem) → left ≡ [] → AppendsUpTo a b whole (item_lines tys key left) → Appends a b whole
-items_end tys key a b whole left is so_far = whole_at_end a b whole (item_lines tys key left) so_far (ap (item_lines tys key) is)
+  pub item_part : AppendsPart b c Line → AppendsPart a c whole
+  item_part more = part_in_piece a b c whole (lines_on sheet old) Line (lines_on sheet left) so_far (ap (lines_on sheet) is) more
 
 pub item_wide : (width : ℕ) (old left : List PrintItem) (item : PrintItem) → old ≡ item ∷ left → AllByRecursion (IsWide width) old → IsWide width item × AllByRecursion (IsWide width) left
 item_wide width old left item is wide = subst (AllByRecursion (IsWide width)) is wide
 
+-- those behind the first ones
+pub wide_behind : (width : ℕ) (items more : List PrintItem) → AllByRecursion (IsWide width) (items ++ more) → AllByRecursion (IsWide width) more
+wide_behind width [] more h = h
+wide_behind width (item ∷ items) more h = wide_behind width items more h.1
+
 -- lines of more items
-pub lines_both : (tys : List Ty) (key : Option (List ℕ)) (xs ys : List PrintItem) → item_lines tys key (xs ++ ys) ≡ item_lines tys key xs ++ item_lines tys key ys
-lines_both tys key [] ys = refl
-lines_both tys key (x ∷ xs) ys = ap (λ l. item_line tys key x ++ l) (lines_both tys key xs ys) ∙ sym (append_assoc (item_line tys key x) (item_lines tys key xs) (item_lines tys key ys))
+pub lines_both : (by_table : Bool) (tys : List Ty) (key : Option (List ℕ)) (xs ys : List PrintItem) → item_lines by_table tys key (xs ++ ys) ≡ item_lines by_table tys key xs ++ item_lines by_table tys key ys
+lines_both by_table tys key [] ys = refl
+lines_both by_table tys key (x ∷ xs) ys = ap (λ l. item_line by_table tys key x ++ l) (lines_both by_table tys key xs ys) ∙ sym (append_assoc (item_line by_table tys key x) (item_lines by_table tys key xs) (item_lines by_table tys key ys))

@@ -1,2 +1,13 @@
+pub mod Along
+pub mod Begins
+pub mod Chains
 pub mod Ends
+pub mod Going
 pub mod Items
+pub mod Looks
+pub mod Ordered
+pub mod Results
+pub mod Stages
+pub mod Stepped
+pub mod Taken
+pub mod Unfold

@@ -1,2 +1,4 @@
+pub mod Parts
+pub mod Stops
 pub mod Stream
 pub mod Writing

@@ -1,103 +1,109 @@
 //! The run, to its ending.
-ghost use Rattle.std.specs.Prelude.{◌≡◌, ◌≤◌, [], length, map, IfOk, option_copied};
+ghost use Rattle.std.specs.Prelude.{◌≡◌, ◌<◌};
 ghost use Rattle.ct_io.specs.Counts.{Rose};
 ghost use Rattle.sound_plans.specs.Sound.{IsRuled};
-ghost use Rattle.stream_model.specs.Drain.{IsDrainFault};
+ghost use Rattle.source_lines.specs.declared.supply.ChangeFiles.{ChangeFiles as Files};
+ghost use Rattle.source_lines.specs.Supply.{AreWithin, all_unread, is_by_table};
 ghost use Rattle.job_ending.specs.Runs.{RunsThere};
-ghost use Rattle.job_stream.specs.Stream.{IsHaltOf, sink_key, streamed, streamed_within};
+ghost use Rattle.job_stream.specs.Stream.{streamed, streamed_within};
+ghost use Rattle.job_stream.specs.Writing.{IsSheetOf};
 
-use crate::finishing::finish;
-use crate::opened::printed_of;
-use ct_catalog::{ColDef, TableDef};
-use ct_change::Declared;
+use crate::orders::go_over;
+use crate::sheet::{Sheet, sheet_of};
+use ct_change::Steps;
 use ct_io::Sink;
-use ct_value::{Bytes, Cols, Ty};
-use exec_core::RunFault;
+use exec_core::Session;
 use job_ending::{Halt, LimitName};
+use job_text::{ChangeLines, NamedSources, Orders};
 use phys_plan::Plan;
-use std::alloc::{AllocError, Global};
+use session_open::OpenFault;
+use source_lines::{ChangeFiles, read_files};
+use std::alloc::Global;
 use std::marker::Brand;
-use std::sync::ledger::Blank;
-use stream_model::StepFault;
+use std::sync::ledger::{Blank, Ledger};
 
 const MOST_SENT: u32 = 4294967295;
 
-/// Runs a sound plan over a change file of at most 67,108,864 bytes: all lines are taken, the job is drained, and what it printed is written on
-/// `out`, each item as a line by the types of the sink's columns, and a `-D` into an upsert sink by its key. It sends at most 4,294,967,295 changes.
-pub fn stream<K: Sink>(alloc: Global, plan: &Plan, bytes: Bytes, out: &mut K) -> Result<(), Halt>
+/// Runs a sound plan over change files of at most 67,108,864 bytes each, and an order: each line of the order is steps of the job, or lines
+/// that are taken; then all lines that are left are taken, file by file, and the job is drained. What a step printed is written on `out`
+/// right behind it, each item as a line by the types of the sink's columns, and a `-D` into an upsert sink by its key. It sends at most
+/// 4,294,967,295 changes.
+pub fn stream<K: Sink>(
+    alloc: Global,
+    plan: &Plan,
+    files: ChangeFiles,
+    orders: &Orders,
+    out: &mut K,
+) -> Result<(), Halt>
     requires ruled { IsRuled plan.now }
-    requires within { length bytes ≤ 67108864 }
-    ensures { RunsThere (streamed plan.now bytes) (Rose (K.faults out.old) (K.faults out.new)) (K.written out.old) (K.written out.new) result }
+    requires within { AreWithin files }
+    ensures { RunsThere (streamed plan.now files orders.now) (Rose (K.faults out.old) (K.faults out.new)) (K.written out.old) (K.written out.new) result }
 {
-    stream_within(alloc, plan, bytes, MOST_SENT, out)
+    stream_within(alloc, plan, files, orders, MOST_SENT, out)
 }
 
 /// The same of a run that sends at most so many changes.
 pub fn stream_within<K: Sink>(
     alloc: Global,
     plan: &Plan,
-    bytes: Bytes,
+    files: ChangeFiles,
+    orders: &Orders,
     sent_limit: u32,
     out: &mut K,
 ) -> Result<(), Halt>
     requires ruled { IsRuled plan.now }
-    requires within { length bytes ≤ 67108864 }
-    ensures { RunsThere (streamed_within sent_limit plan.now bytes) (Rose (K.faults out.old) (K.faults out.new)) (K.written out.old) (K.written out.new) result }
+    requires within { AreWithin files }
+    ensures { RunsThere (streamed_within sent_limit plan.now files orders.now) (Rose (K.faults out.old) (K.faults out.new)) (K.written out.old) (K.written out.new) result }
 {
-    let Ok(tys) = tys_of(alloc, plan.sink.cols.as_slice()) else {
+    let by_table = is_by_table(&files);
+    let Ok(sheet) = sheet_of(alloc, &plan.sink, by_table) else {
         return Err(Halt::Memory);
     };
-    let none = Cols::new(alloc);
-    let key = sink_key(&plan.sink, &none);
-    match printed_of::<Brand>(alloc, plan, bytes, sent_limit, Blank::new(1)) {
-        Ok(items) => finish(alloc, items, tys.as_slice(), key, Ok(()), out),
-        Err(RunFault::Refused { code, line }) => Err(Halt::Change { code, line }),
-        Err(RunFault::Stopped(stopped)) => {
-            let halt = halt_of(stopped.cause);
-            finish(alloc, stopped.printed, tys.as_slice(), key, Err(halt), out)
-        }
-        Err(RunFault::Memory) => Err(Halt::Memory),
+    let Ok(lines) = read_files(alloc, files) else {
+        return Err(Halt::Memory);
+    };
+    run_job::<K, Brand>(plan, lines, orders, sent_limit, &sheet, Blank::new(1), out)
+}
+
+// Whether each source has a change file of its own.
+fn is_by_table(files: &ChangeFiles) -> bool
+    ensures { result ≡ is_by_table files.now }
+{
+    match files {
+        ChangeFiles::One(_) => false,
+        ChangeFiles::Each(_) => true,
     }
 }
 
-// The key of an upsert sink; of one without a key no columns.
-fn sink_key<'k>(sink: &'k TableDef, none: &'k Cols) -> Option<&'k Cols>
-    requires { none.now ≡ [] }
-    ensures { option_copied result ≡ sink_key sink.now }
+// The job opens, and goes over its files, of which no line was read, by an order. Nobody reads how many steps that takes.
+fn run_job<K: Sink, L: Ledger>(
+    plan: &Plan,
+    files: Vec<ChangeLines>,
+    orders: &Orders,
+    sent_limit: u32,
+    sheet: &Sheet,
+    blank: Blank,
+    out: &mut K,
+) -> Result<(), Halt>
+    requires name { blank.name ≡ L.name }
+    requires parts { blank.parts ≡ L.parts }
+    requires some { 0 < L.parts }
+    requires ruled { IsRuled plan.now }
+    requires sheet { IsSheetOf plan.now.sink sheet.now }
+    ensures { (all : Files) → files.items ≡ all_unread all → sheet.now.by_table ≡ is_by_table all
+        → RunsThere (streamed_within sent_limit plan.now all orders.now) (Rose (K.faults out.old) (K.faults out.new)) (K.written out.old) (K.written out.new) result }
 {
-    match (sink.mode, &sink.key) {
-        (Declared::Append | Declared::Retract, _) => None,
-        (Declared::Upsert, Some(key)) => Some(key),
-        (Declared::Upsert, None) => Some(none),
-    }
-}
-
-// Why a run halts where its drain stops.
-fn halt_of(cause: StepFault) -> Halt
-    requires { IsDrainFault cause }
-    ensures { IsHaltOf cause result }
-{
-    match cause {
-        StepFault::Range {
-            node,
-            subtask,
-            row,
-            tys,
-        } => Halt::Range {
-            node,
-            subtask,
-            row,
-            tys,
+    let Ok(sources) = NamedSources::new(sheet.alloc, &plan.sources) else {
+        return Err(Halt::Memory);
+    };
+    let mut left = files;
+    let mut steps = Steps::<L>::new(blank);
+    match Session::open_job(sheet.alloc, plan, sent_limit) {
+        Ok(session) => match go_over(session, &mut left, orders, &sources, sheet, &mut steps, out) {
+            Ok(_) => Ok(()),
+            Err(halt) => Err(halt),
         },
-        StepFault::Limit => Halt::Limit(LimitName::Sent),
-        StepFault::Memory => Halt::Memory,
-        StepFault::Change(_) | StepFault::Order(_) => unreachable!(),
+        Err(OpenFault::Limit) => Err(Halt::Limit(LimitName::Sent)),
+        Err(OpenFault::Memory) => Err(Halt::Memory),
     }
-}
-
-// The types of columns.
-fn tys_of(alloc: Global, columns: &[ColDef]) -> Result<Vec<Ty>, AllocError>
-    ensures { IfOk result (λ tys. tys.items ≡ map (λ c. c.ty.ty) columns.now) }
-{
-    columns.iter().map(|column| column.ty.ty).collect(alloc)
 }

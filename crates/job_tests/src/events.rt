@@ -14,7 +14,7 @@ use session_core::{Session, SourceCheck};
 use session_open::{AnyOperator, OpenFault, open_job};
 use std::alloc::Global;
 use std::sync::ledger::{Blank, Ledger};
-use stream_model::{Event, PrintItem, PrintList, StepFault, Stopped};
+use stream_model::{Counts, Event, PrintItem, PrintList, StepFault, Stopped};
 
 /// What a session is told to do: to take the word `a`, or NULL, to move the front of an edge's only channel, to flush a node's
 /// bundle, or to be drained.
@@ -206,13 +206,17 @@ fn write_items(alloc: Global, log: &mut Bytes, items: PrintList) -> Result<(), M
 fn write_item(alloc: Global, log: &mut Bytes, item: &PrintItem) -> Result<(), Memory> {
     match item {
         PrintItem::Change(change) => write_change(alloc, log, change),
-        PrintItem::Quiet(taken) => write_quiet(alloc, log, *taken),
+        PrintItem::Quiet(counts) => write_quiet(alloc, log, counts),
     }
 }
 
-fn write_quiet(alloc: Global, log: &mut Bytes, taken: u32) -> Result<(), Memory> {
-    log.push(b'=')?;
-    write_number(alloc, log, taken as i128)
+// The number of each table's changes.
+fn write_quiet(alloc: Global, log: &mut Bytes, counts: &Counts) -> Result<(), Memory> {
+    for count in counts.as_slice() {
+        log.push(b'=')?;
+        write_number(alloc, log, *count as i128)?;
+    }
+    Ok(())
 }
 
 fn write_change(alloc: Global, log: &mut Bytes, change: &Change) -> Result<(), Memory> {

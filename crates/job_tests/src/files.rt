@@ -17,7 +17,8 @@ pub fn usual_words(alloc: Global) -> Result<Vec<Text>, Memory> {
     texts(alloc, &["--script", "s", "--changes", "c"])
 }
 
-fn hold(alloc: Global, files: &mut Files, name: &str, bytes: Bytes) -> Result<(), Memory> {
+/// Holds bytes under a name.
+pub fn hold(alloc: Global, files: &mut Files, name: &str, bytes: Bytes) -> Result<(), Memory> {
     let name = Text::from_str(alloc, name)?;
     files.set(name, bytes)
 }
@@ -27,6 +28,20 @@ pub fn files(alloc: Global, script: Bytes, changes: Bytes) -> Result<Files, Memo
     let mut files = Files::new(alloc);
     hold(alloc, &mut files, "s", script)?;
     hold(alloc, &mut files, "c", changes)?;
+    Ok(files)
+}
+
+/// Files of these names that hold these texts.
+pub fn held(alloc: Global, texts: &[(&str, &str)]) -> Result<Files, Memory> {
+    let mut files = Files::new(alloc);
+    for (name, text) in texts {
+        hold(
+            alloc,
+            &mut files,
+            name,
+            Bytes::from_slice(alloc, text.as_bytes())?,
+        )?;
+    }
     Ok(files)
 }
 

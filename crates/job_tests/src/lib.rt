@@ -1,7 +1,10 @@
-//! Tests of the upper floors: worked runs of the top call, with faults, limits and many lines; sessions that are driven event by event;
-//! made scripts, whose plans are checked again; and which INSERTs are bound. What the calls answer is in their contracts.
+//! Tests of the upper floors: worked runs of the top call, with orders, files of tables, faults, limits and many lines; runs by made
+//! orders; sessions that are driven event by event; made scripts, whose plans are checked again; and which INSERTs are bound. What the
+//! calls answer is in their contracts.
 #![tactic(auto)]
 
+#[cfg(test)]
+mod by_order;
 #[cfg(test)]
 mod changes;
 #[cfg(test)]
@@ -11,9 +14,13 @@ mod counts;
 #[cfg(test)]
 mod events;
 #[cfg(test)]
+mod feeds;
+#[cfg(test)]
 mod files;
 #[cfg(test)]
 mod inserts;
+#[cfg(test)]
+mod interleavings;
 #[cfg(test)]
 mod judging;
 #[cfg(test)]
@@ -34,3 +41,5 @@ mod scripts;
 mod sent;
 #[cfg(test)]
 mod tables;
+#[cfg(test)]
+mod told;

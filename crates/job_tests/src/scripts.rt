@@ -223,3 +223,26 @@ pub const NULL_INTO_KEY: &str = "CREATE TABLE t (word STRING);\
 pub const FIRST_OF_EQUALS: &str = "CREATE TABLE t (word STRING NOT NULL);\
     CREATE TABLE out_t (word STRING) WITH ('changelog' = 'retract');\
     INSERT INTO out_t SELECT word FROM (SELECT word, ROW_NUMBER() OVER (ORDER BY word) AS rn FROM t) WHERE rn <= 1;";
+
+/// Orders with their customers' cities, in two subtasks, into a table without a key.
+pub const LATE_RETRACTION: &str =
+    "CREATE TABLE orders (id INT PRIMARY KEY NOT ENFORCED, cust INT NOT NULL) WITH ('changelog' = 'retract');\
+    CREATE TABLE customers (cid INT PRIMARY KEY NOT ENFORCED, city STRING);\
+    CREATE TABLE out_t (id INT, city STRING) WITH ('changelog' = 'retract');\
+    SET 'table.exec.resource.default-parallelism' = '2';\
+    INSERT INTO out_t SELECT o.id, c.city FROM orders AS o JOIN customers AS c ON o.cust = c.cid;";
+
+/// The three cities whose orders were paid most, in four subtasks.
+pub const TOP_CITIES: &str =
+    "CREATE TABLE customers (cid INT PRIMARY KEY NOT ENFORCED, city STRING NOT NULL) WITH ('connector' = 'x', 'changelog' = 'upsert');\
+    CREATE TABLE orders (oid INT PRIMARY KEY NOT ENFORCED, cid INT, amount DECIMAL(10,2)) WITH ('changelog' = 'retract');\
+    CREATE TABLE payments (pid INT PRIMARY KEY NOT ENFORCED, oid INT, paid DECIMAL(10,2));\
+    CREATE TABLE top_cities (rn BIGINT PRIMARY KEY NOT ENFORCED, city STRING, total DECIMAL(38,2)) WITH ('changelog' = 'upsert');\
+    SET 'table.exec.resource.default-parallelism' = '4';\
+    INSERT INTO top_cities SELECT rn, city, total FROM (SELECT city, total, ROW_NUMBER() OVER (ORDER BY total DESC, city) AS rn \
+    FROM (SELECT c.city AS city, SUM(p.paid) AS total FROM orders AS o JOIN customers AS c ON o.cid = c.cid \
+    LEFT JOIN payments AS p ON p.oid = o.oid GROUP BY c.city)) WHERE rn <= 3;";
+
+/// A table whose name is a path.
+pub const NAMED_BY_PATH: &str = "CREATE TABLE `eu/t` (word STRING);\
+    CREATE TABLE out_t (word STRING) WITH ('changelog' = 'retract'); INSERT INTO out_t SELECT word FROM `eu/t`;";

@@ -9,8 +9,10 @@ use ct_io::SureSink;
 use job_ending::{Halt, LimitName};
 use job_plan::runnable;
 use job_stream::stream_within;
+use job_text::Orders;
 use phys_plan::Plan;
 use plan_check::CheckedPlan;
+use source_lines::ChangeFiles;
 use std::alloc::Global;
 
 // Runs a plan over the lines of a text, where so many changes are sent at most.
@@ -22,7 +24,17 @@ fn streams_within(alloc: Global, plan: &Plan, changes: &str, sent_limit: u32) ->
         return Err(Halt::Limit(LimitName::Changes));
     }
     match SureSink::new(alloc) {
-        Ok(mut out) => stream_within(alloc, plan, bytes, sent_limit, &mut out),
+        Ok(mut out) => {
+            let files = ChangeFiles::One(bytes);
+            stream_within(
+                alloc,
+                plan,
+                files,
+                &Orders::new(alloc),
+                sent_limit,
+                &mut out,
+            )
+        }
         Err(_) => Err(Halt::Memory),
     }
 }

@@ -1,7 +1,7 @@
 -- The values of a record, column by column.
 use Rattle.std.proofs.Common.{◌≡◌, ◌<◌, ◌≤◌, ◌+◌, ◌-◌, ◌∙◌, ◌==◌, ◌||◌, ℕ, zero, suc, Bool, true, false, cond, List, [], ◌∷◌, ◌++◌, length, drop, get_or, Option, Some, None, refl, sym, ap, arith, append_assoc}
 use Rattle.std.proofs.lemmas.List.{append-nil, drop_all, drop_more, get_or-drop, length-drop}
-use Rattle.std.specs.Prelude.{Result, Ok, Err, if◌then◌else◌}
+use Rattle.std.specs.Prelude.{IsErrAnd, IsErrOf, Result, Ok, Err, if◌then◌else◌}
 use Rattle.csv.specs.Records.{field_at}
 use Rattle.ct_value.specs.declared.ty.Ty.{Ty}
 use Rattle.ct_value.specs.declared.value.Value.{Value}
@@ -9,6 +9,7 @@ use Rattle.ct_value.specs.declared.codes.ChangeCode.{ChangeCode}
 use Rattle.ct_value.specs.declared.codes.ChangeCode.TheVariants.{BadField}
 use Rattle.ct_catalog.specs.declared.table.ColDef.{ColDef}
 use Rattle.ct_change.specs.KeyRows.{is_among}
+use Rattle.job_text.specs.declared.line.LineFault.{LineFault}
 use Rattle.job_text.specs.AtKey.{at_key}
 use Rattle.job_text.specs.Lines.{Field, Record, fields_left, key_cell, key_fields, key_values, spelled, value_before, values_from}
 
@@ -35,45 +36,47 @@ pub behind-value : (values : List Value) (column : ℕ) (value : Value) (rest : 
 behind-value values column value (Ok others) = ap Ok (sym (append_assoc values (value ∷ []) others))
 behind-value values column value (Err code) = refl
 
--- the values that are left from a column on
-abbrev pub left_from : List ColDef → Record → ℕ → Result (List Value) ChangeCode
-left_from cols fields i = values_from (i + 1) (drop i cols) (drop (i + 2) fields)
+-- the values that are left from a column on, where the fields stand from the first one's place on
+abbrev pub left_from : ℕ → List ColDef → Record → ℕ → Result (List Value) ChangeCode
+left_from first cols fields i = values_from (i + 1) (drop i cols) (drop (i + first) fields)
 
 -- the values of all columns are those that are left at the first
-pub left_from_first : (cols : List ColDef) (fields : Record) → values_from 1 cols (drop 2 fields) ≡ behind [] (left_from cols fields 0)
-left_from_first cols fields = by (values_from 1 cols (drop 2 fields))
+pub left_from_first : (first : ℕ) (cols : List ColDef) (fields : Record) → values_from 1 cols (drop first fields) ≡ behind [] (left_from first cols fields 0)
+left_from_first first cols fields =
+    let start : first ≡ 0 + first = omega arith in
+    ap (λ k. values_from 1 cols (drop k fields)) start ∙ by (values_from 1 cols (drop (0 + first) fields))
   where
     by : (r : Result (List Value) ChangeCode) → r ≡ behind [] r
     by (Ok values) = refl
     by (Err code) = refl
 
 -- those left from a column on are its own before those left from the next on
-pub left_from_next : (cols : List ColDef) (fields : Record) (i : ℕ) (col : ColDef) → length fields ≡ length cols + 2 → i < length cols → col ≡ get_or cols i col
-    → left_from cols fields i ≡ value_before (i + 1) (spelled col.ty.ty (get_or fields (i + 2) [])) (left_from cols fields (i + 1))
-left_from_next cols fields i col n h e =
-    let of_col = λ (cs : List ColDef). values_from (i + 1) cs (drop (i + 2) fields) in
+pub left_from_next : (first : ℕ) (cols : List ColDef) (fields : Record) (i : ℕ) (col : ColDef) → length fields ≡ length cols + first → i < length cols → col ≡ get_or cols i col
+    → left_from first cols fields i ≡ value_before (i + 1) (spelled col.ty.ty (get_or fields (i + first) [])) (left_from first cols fields (i + 1))
+left_from_next first cols fields i col n h e =
+    let of_col = λ (cs : List ColDef). values_from (i + 1) cs (drop (i + first) fields) in
     let of_field = λ (fs : Record). values_from (i + 1) (col ∷ drop (i + 1) cols) fs in
-    let of_place = λ (k : ℕ). value_before (i + 1) (spelled col.ty.ty (get_or fields (i + 2) [])) (values_from (i + 1 + 1) (drop (i + 1) cols) (drop k fields)) in
-    let next_place : i + 2 + 1 ≡ i + 1 + 2 = omega arith in
-    ap of_col (drop_more cols i col h ∙ ap (λ (c : ColDef). c ∷ drop (i + 1) cols) (sym e)) ∙ ap of_field (drop_more fields (i + 2) [] (omega (arith, n, h))) ∙ ap of_place next_place
+    let of_place = λ (k : ℕ). value_before (i + 1) (spelled col.ty.ty (get_or fields (i + first) [])) (values_from (i + 1 + 1) (drop (i + 1) cols) (drop k fields)) in
+    let next_place : i + first + 1 ≡ i + 1 + first = omega arith in
+    ap of_col (drop_more cols i col h ∙ ap (λ (c : ColDef). c ∷ drop (i + 1) cols) (sym e)) ∙ ap of_field (drop_more fields (i + first) [] (omega (arith, n, h))) ∙ ap of_place next_place
 
 -- a column whose field spells a value
-pub left_after : (cols : List ColDef) (fields : Record) (values : List Value) (i : ℕ) (col : ColDef) (value : Value) → length fields ≡ length cols + 2 → i < length cols
-    → col ≡ get_or cols i col → spelled col.ty.ty (get_or fields (i + 2) []) ≡ Some value
-    → behind values (left_from cols fields i) ≡ behind (values ++ value ∷ []) (left_from cols fields (i + 1))
-left_after cols fields values i col value n h e s =
-    rw (left_from_next cols fields i col n h e, s) (behind-value values (i + 1) value (left_from cols fields (i + 1)))
+pub left_after : (first : ℕ) (cols : List ColDef) (fields : Record) (values : List Value) (i : ℕ) (col : ColDef) (value : Value) → length fields ≡ length cols + first → i < length cols
+    → col ≡ get_or cols i col → spelled col.ty.ty (get_or fields (i + first) []) ≡ Some value
+    → behind values (left_from first cols fields i) ≡ behind (values ++ value ∷ []) (left_from first cols fields (i + 1))
+left_after first cols fields values i col value n h e s =
+    rw (left_from_next first cols fields i col n h e, s) (behind-value values (i + 1) value (left_from first cols fields (i + 1)))
 
 -- a column whose field spells none
-pub left_refused : (cols : List ColDef) (fields : Record) (values : List Value) (i : ℕ) (col : ColDef) → length fields ≡ length cols + 2 → i < length cols
-    → col ≡ get_or cols i col → spelled col.ty.ty (get_or fields (i + 2) []) ≡ None
-    → behind values (left_from cols fields i) ≡ Err (BadField (i + 1))
-left_refused cols fields values i col n h e s = rw (left_from_next cols fields i col n h e, s) refl
+pub left_refused : (first : ℕ) (cols : List ColDef) (fields : Record) (values : List Value) (i : ℕ) (col : ColDef) → length fields ≡ length cols + first → i < length cols
+    → col ≡ get_or cols i col → spelled col.ty.ty (get_or fields (i + first) []) ≡ None
+    → behind values (left_from first cols fields i) ≡ Err (BadField (i + 1))
+left_refused first cols fields values i col n h e s = rw (left_from_next first cols fields i col n h e, s) refl
 
 -- no column is left behind the last
-pub left_none : (cols : List ColDef) (fields : Record) (values : List Value) (i : ℕ) → i ≡ length cols → behind values (left_from cols fields i) ≡ Ok values
-left_none cols fields values i e =
-    ap (λ (cs : List ColDef). behind values (values_from (i + 1) cs (drop (i + 2) fields))) (drop_all i cols (omega (arith, e))) ∙ ap Ok (append-nil values)
+pub left_none : (first : ℕ) (cols : List ColDef) (fields : Record) (values : List Value) (i : ℕ) → i ≡ length cols → behind values (left_from first cols fields i) ≡ Ok values
+left_none first cols fields values i e =
+    ap (λ (cs : List ColDef). behind values (values_from (i + 1) cs (drop (i + first) fields))) (drop_all i cols (omega (arith, e))) ∙ ap Ok (append-nil values)
 
 -- ---- a key that is told alone
 
@@ -162,21 +165,26 @@ key_left_none key whole cols fields values i place e =
     ap (λ (cs : List ColDef). behind values (key_values key i cs (fields_from key whole i place fields))) (drop_all i cols (omega (arith, e))) ∙ ap Ok (append-nil values)
 
 -- at the first column nothing is read yet
-pub key_left_first : (key : List ℕ) (whole : Bool) (cols : List ColDef) (fields : Record) → (length fields - 2 == length cols) ≡ whole
-    → key_values key 0 cols (key_fields key (length cols) (drop 2 fields)) ≡ behind [] (key_left key whole cols fields 0 2)
-key_left_first key whole cols fields is =
-    let counted : (length (drop 2 fields) == length cols) ≡ whole = ap (λ n. n == length cols) (length-drop 2 fields) ∙ is in
-    ap (λ b. key_values key 0 cols (if b then at_key key 0 (drop 2 fields) else drop 2 fields)) counted ∙ by whole
+pub key_left_first : (key : List ℕ) (first : ℕ) (whole : Bool) (cols : List ColDef) (fields : Record) → (length fields - first == length cols) ≡ whole
+    → key_values key 0 cols (key_fields key (length cols) (drop first fields)) ≡ behind [] (key_left key whole cols fields 0 first)
+key_left_first key first whole cols fields is =
+    let counted : (length (drop first fields) == length cols) ≡ whole = ap (λ n. n == length cols) (length-drop first fields) ∙ is in
+    ap (λ b. key_values key 0 cols (if b then at_key key 0 (drop first fields) else drop first fields)) counted ∙ by whole
   where
     nothing : (r : Result (List Value) ChangeCode) → r ≡ behind [] r
     nothing (Ok values) = refl
     nothing (Err code) = refl
 
-    by : (b : Bool) → key_values key 0 cols (if b then at_key key 0 (drop 2 fields) else drop 2 fields) ≡ behind [] (key_left key b cols fields 0 2)
-    by true = nothing (key_values key 0 cols (at_key key 0 (drop 2 fields)))
-    by false = nothing (key_values key 0 cols (drop 2 fields))
+    by : (b : Bool) → key_values key 0 cols (if b then at_key key 0 (drop first fields) else drop first fields) ≡ behind [] (key_left key b cols fields 0 first)
+    by true = nothing (key_values key 0 cols (at_key key 0 (drop first fields)))
+    by false = nothing (key_values key 0 cols (drop first fields))
 
 -- the place of the next column's field
-pub place_within : (b : Bool) (place next i : ℕ) → next ≡ cond b (place + 1) place → place ≤ i + 2 → next ≤ i + 1 + 2
-place_within true place next i e h = omega (arith, e, h)
-place_within false place next i e h = omega (arith, e, h)
+pub place_within : (b : Bool) (place next i first : ℕ) → next ≡ cond b (place + 1) place → place ≤ i + first → next ≤ i + 1 + first
+place_within true place next i first e h = omega (arith, e, h)
+place_within false place next i first e h = omega (arith, e, h)
+
+-- a fault that a call passes on
+pub passed_on : {A : Type 0} (r : Result A LineFault) (fault other : LineFault) → IsErrAnd r (λ passed. passed ≡ fault) → IsErrOf r other → fault ≡ other
+passed_on (Ok x) fault other same is = absurd same
+passed_on (Err passed) fault other same is = let told : passed ≡ other = cc (is) in sym same ∙ told

@@ -1,7 +1,9 @@
 pub mod AtKey
+pub mod Cuts
 pub mod Fitting
 pub mod Lines
 pub mod Names
+pub mod Orders
 pub mod Printed
 pub mod Reading
 pub mod Told

@@ -130,9 +130,30 @@ line_of sources [] = Err FieldCount
 line_of sources (name ∷ []) = Err FieldCount
 line_of sources (name ∷ kind ∷ fields) = line_at sources kind fields (source_named sources name)
 
+-- the line of the source of this place, from 0, that a record is: a kind and the fields, behind no name
+abbrev pub feed_line : List TableDef → ℕ → Record → Result Line ChangeCode
+feed_line sources place [] = Err FieldCount
+feed_line sources place (kind ∷ fields) = line_at sources kind fields (Some place)
+
+-- the line that a record is, in a file whose lines are all of one source, or each name theirs
+abbrev pub line_in : List TableDef → Option ℕ → Record → Result Line ChangeCode
+line_in sources None fields = line_of sources fields
+line_in sources (Some place) fields = feed_line sources place fields
+
 -- the lines of a change file, one for each record
 abbrev pub lines_of : List TableDef → List ℕ → List (Result Line ChangeCode)
 lines_of sources bytes = map (line_of sources) (records_of bytes)
+
+-- the lines of a change file, of which so many were read and these are left; the feed is the source, from 0, of which all its lines
+-- are, and None where each line names its own
+pub record LinesLeft : Type 0 where
+  pub feed : Option ℕ
+  pub read : ℕ
+  pub records : List Record
+
+-- one more line is read, and these records are left
+abbrev pub one_read : LinesLeft → List Record → LinesLeft
+one_read lines rest = record lines { read = lines.read + 1; records = rest }
 
 -- what is answered for a line, or for the refusal of one
 abbrev pub answer_of : Result Line ChangeCode → Result (Option Line) LineFault

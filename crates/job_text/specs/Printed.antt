@@ -1,5 +1,5 @@
 -- What is printed: the one line of a change, of a row of an answer, and of a quiet moment.
-use Rattle.std.specs.Prelude.{◌≡◌, ℕ, List, [], ◌∷◌, ◌++◌, pred, length, take, Option, Some, None, codes}
+use Rattle.std.specs.Prelude.{◌≡◌, ℕ, Bool, true, false, List, [], ◌∷◌, ◌++◌, pred, length, sum, take, Option, Some, None, codes}
 use Rattle.std.specs.Fmt.{decimal}
 use Rattle.csv.specs.Writing as csv
 use Rattle.ct_value.specs.declared.ty.Ty.{Ty}
@@ -41,28 +41,45 @@ abbrev pub row_text : List Ty → List Value → List ℕ
 row_text tys [] = []
 row_text tys (value ∷ values) = but_last (row_line tys (value ∷ values))
 
-abbrev pub quiet_line : ℕ → List ℕ
-quiet_line taken = codes "=," ++ (decimal taken ++ codes "\n")
+-- the sum of numbers
+abbrev pub sum_of : List ℕ → ℕ
+sum_of numbers = sum numbers
+
+-- what the line of a quiet moment tells of how many changes were taken of each source: each number where each source has a change
+-- file of its own, and their sum alone where all have one
+abbrev pub numbers_told : Bool → List ℕ → List ℕ
+numbers_told true counts = counts
+numbers_told false counts = sum_of counts ∷ []
+
+-- each number behind a comma
+abbrev pub commaed : List ℕ → List ℕ
+commaed [] = []
+commaed (number ∷ numbers) = codes "," ++ (decimal number ++ commaed numbers)
+
+-- the line of a quiet moment, which tells these numbers
+abbrev pub quiet_line : List ℕ → List ℕ
+quiet_line numbers = codes "=" ++ (commaed numbers ++ codes "\n")
 
 -- the row of a change has so many values
 abbrev pub IsWide : ℕ → PrintItem → Type 0
 IsWide width (Change change) = length change.row ≡ width
-IsWide width (Quiet taken) = Unit {0}
+IsWide width (Quiet counts) = Unit {0}
 
 -- of the texts of a row all, or those of a key that is told alone
 abbrev pub told_texts : Option (List ℕ) → List (List ℕ) → List (List ℕ)
 told_texts None texts = texts
 told_texts (Some key) texts = at_key key 0 texts
 
--- the line of an item, whose change has columns of these types, into a sink that has this key where it is an upsert table
-abbrev pub item_line : List Ty → Option (List ℕ) → PrintItem → List ℕ
-item_line tys key (Change change) = record_line (kind_text change.kind ∷ told_texts (told_by key change.kind) (field_texts tys change.row))
-item_line tys key (Quiet taken) = quiet_line taken
+-- the line of an item, whose change has columns of these types, into a sink that has this key where it is an upsert table; a quiet
+-- moment is told by table where each source has a change file of its own
+abbrev pub item_line : Bool → List Ty → Option (List ℕ) → PrintItem → List ℕ
+item_line by_table tys key (Change change) = record_line (kind_text change.kind ∷ told_texts (told_by key change.kind) (field_texts tys change.row))
+item_line by_table tys key (Quiet counts) = quiet_line (numbers_told by_table counts)
 
 -- the lines of items
-abbrev pub item_lines : List Ty → Option (List ℕ) → List PrintItem → List ℕ
-item_lines tys key [] = []
-item_lines tys key (item ∷ items) = item_line tys key item ++ item_lines tys key items
+abbrev pub item_lines : Bool → List Ty → Option (List ℕ) → List PrintItem → List ℕ
+item_lines by_table tys key [] = []
+item_lines by_table tys key (item ∷ items) = item_line by_table tys key item ++ item_lines by_table tys key items
 
 -- the lines of rows
 abbrev pub row_lines : List Ty → List (List Value) → List ℕ

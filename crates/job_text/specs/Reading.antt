@@ -1,5 +1,5 @@
 -- What a reader of change lines has left.
-use Rattle.std.specs.Prelude.{◌≡◌, ◌+◌, ◌==◌, ◌∷◌, ℕ, true, false, List, [], length, Option, Some, IsSome, unwrap_or, if◌then◌else◌}
+use Rattle.std.specs.Prelude.{◌≡◌, ◌+◌, ◌==◌, ◌∷◌, ◌<◌, ◌≤◌, ℕ, true, false, List, [], length, Option, Some, IsSome, unwrap_or, if◌then◌else◌}
 use Rattle.std.specs.Io.Cursor.{cursor_remaining}
 use Rattle.std.specs.declared.io.impls.Cursor.{Cursor}
 use Rattle.csv.specs.Machine.{ends_at_end}
@@ -8,7 +8,7 @@ use Rattle.csv.specs.declared.parser.State.{State}
 use Rattle.csv.specs.declared.reader.Reader.{Reader}
 use Rattle.csv.specs.declared.reader.Trim.TheVariants as trim
 use Rattle.job_text.specs.declared.read.FileBytes.{FileBytes}
-use Rattle.job_text.specs.Lines.{Record}
+use Rattle.job_text.specs.Lines.{LinesLeft, Record}
 
 -- the records of a text, from a state between two records
 unfoldable pub records_after : State → List ℕ → List Record
@@ -40,6 +40,15 @@ pub record IsCounted (rdr : Reader (Cursor FileBytes)) (left : ℕ) : Type 0 whe
 -- the records that it has left: none once it was given up
 abbrev pub records_left : Reader (Cursor FileBytes) → ℕ → List Record
 records_left rdr left = if left == 0 then [] else left_in bytes_left rdr
+
+-- the lines that it has left, behind those that were read
+abbrev pub lines_left : Option ℕ → ℕ → Reader (Cursor FileBytes) → ℕ → LinesLeft
+lines_left feed read rdr left = record { feed = feed; read = read; records = records_left rdr left }
+
+-- it reads on from where records are left, and no file has more than so many
+pub record IsWithin (read : ℕ) (rdr : Reader (Cursor FileBytes)) (left : ℕ) : Type 0 where
+  pub within : read + left ≤ 67108864
+  pub reads_on : 0 < left → IsCounted rdr left
 
 -- a read took the first of the records that were left
 pub record Takes {R : Type 0} (rem : R → Option (List ℕ)) (old : Reader R) (fields : Record) (new : Reader R) : Type 0 where

@@ -5,7 +5,7 @@ ghost use Rattle.ct_value.specs.declared.codes.ChangeCode.TheVariants.{BadField}
 ghost use Rattle.job_text.specs.declared.line.LineFault.TheVariants.{Change as Refused};
 ghost use Rattle.ct_catalog.specs.Columns.{table_mode};
 ghost use Rattle.stream_model.specs.KeysTold.{told_key};
-ghost use Rattle.job_text.specs.Lines.{change_of, is_field_count, key_cell, key_fields, key_told, key_values, kind_of, line_of, row_values, spelled, values_from};
+ghost use Rattle.job_text.specs.Lines.{change_of, feed_line, is_field_count, key_cell, key_fields, key_told, key_values, kind_of, line_in, line_of, row_values, spelled, values_from};
 
 use crate::named::NamedSources;
 use csv::ByteRecord;
@@ -41,8 +41,24 @@ impl From<Memory> for LineFault {
     }
 }
 
-/// The line that a record is.
-pub(crate) fn line_of(
+/// The line that a record is, in a file whose lines are all of the source of one place, or each name theirs.
+pub(crate) fn line_in(
+    alloc: Global,
+    sources: &NamedSources<'_>,
+    feed: Option<u32>,
+    fields: &ByteRecord,
+) -> Result<Line, LineFault>
+    ensures line { IfOk result (λ line. line_in sources.now feed (fields_of fields.now) ≡ Ok line) }
+    ensures refused { (code : ChangeCode) → IsErrOf result (Refused code) → line_in sources.now feed (fields_of fields.now) ≡ Err code }
+{
+    match feed {
+        None => line_of(alloc, sources, fields),
+        Some(place) => feed_line(alloc, sources.as_slice(), place, fields),
+    }
+}
+
+// The line that a record is behind a source's name.
+fn line_of(
     alloc: Global,
     sources: &NamedSources<'_>,
     fields: &ByteRecord,
@@ -59,19 +75,49 @@ pub(crate) fn line_of(
     let Ok(table) = u32::try_from(place) else {
         return Err(LineFault::Memory);
     };
-    let change = change_of(alloc, source, fields)?;
+    let change = change_of(alloc, source, fields, 1)?;
     Ok(Line { table, change })
 }
 
-// The change of a table that a record is, whatever the record's name.
-fn change_of(alloc: Global, table: &TableDef, fields: &ByteRecord) -> Result<Change, LineFault>
-    requires { 2 ≤ length (fields_of fields.now) }
-    ensures change { IfOk result (λ change. change_of table.now (slice_index_or (fields_of fields.now) 1 []) (drop 2 (fields_of fields.now)) ≡ Ok change) }
-    ensures refused { (code : ChangeCode) → IsErrOf result (Refused code) → change_of table.now (slice_index_or (fields_of fields.now) 1 []) (drop 2 (fields_of fields.now)) ≡ Err code }
+// The line of the source of a place that a record is.
+fn feed_line(
+    alloc: Global,
+    sources: &[TableDef],
+    place: u32,
+    fields: &ByteRecord,
+) -> Result<Line, LineFault>
+    ensures line { IfOk result (λ line. feed_line sources.now place (fields_of fields.now) ≡ Ok line) }
+    ensures refused { (code : ChangeCode) → IsErrOf result (Refused code) → feed_line sources.now place (fields_of fields.now) ≡ Err code }
 {
-    let kind = kind_of(field(fields, 1));
+    if fields.is_empty() {
+        return Err(LineFault::Change(ChangeCode::FieldCount));
+    }
+    let Some(source) = sources.get(place as usize) else {
+        return Err(LineFault::Change(ChangeCode::UnknownTable));
+    };
+    let change = change_of(alloc, source, fields, 0)?;
+    Ok(Line {
+        table: place,
+        change,
+    })
+}
+
+// The change of a table that a record is from its kind on, whatever stands before that.
+fn change_of(
+    alloc: Global,
+    table: &TableDef,
+    fields: &ByteRecord,
+    kind_at: usize,
+) -> Result<Change, LineFault>
+    requires early { kind_at ≤ 1 }
+    requires there { kind_at < length (fields_of fields.now) }
+    ensures change { IfOk result (λ change. change_of table.now (slice_index_or (fields_of fields.now) kind_at []) (drop (kind_at + 1) (fields_of fields.now)) ≡ Ok change) }
+    ensures refused { (code : ChangeCode) → IsErrOf result (Refused code) → change_of table.now (slice_index_or (fields_of fields.now) kind_at []) (drop (kind_at + 1) (fields_of fields.now)) ≡ Err code }
+{
+    let kind = kind_of(field(fields, kind_at));
     let by_key = is_keyed(table, kind);
-    if !is_field_count(table, by_key, fields.len() - 2) {
+    let first = kind_at + 1;
+    if !is_field_count(table, by_key, fields.len() - first) {
         return Err(LineFault::Change(ChangeCode::FieldCount));
     }
     let Some(kind) = kind else {
@@ -80,7 +126,7 @@ fn change_of(alloc: Global, table: &TableDef, fields: &ByteRecord) -> Result<Cha
     if !table.mode.admits(kind) {
         return Err(LineFault::Change(ChangeCode::KindNotDeclared));
     }
-    let row = told_row(alloc, table, by_key, fields)?;
+    let row = told_row(alloc, table, by_key, fields, first)?;
     Ok(Change::new(kind, row))
 }
 
@@ -124,22 +170,30 @@ fn is_field_count(table: &TableDef, is_keyed: bool, count: usize) -> bool
     is_keyed && count == key_columns(table).len()
 }
 
-// The row that the fields behind the first two spell.
+// The row that the fields from a place on spell.
 fn told_row(
     alloc: Global,
     table: &TableDef,
     is_keyed: bool,
     fields: &ByteRecord,
+    first: usize,
 ) -> Result<Row, LineFault>
-    requires two { 2 ≤ length (fields_of fields.now) }
-    requires counted { is_field_count table.now (cond is_keyed (Some (unwrap_or table.now.key [])) None) (length (fields_of fields.now) - 2) ≡ true }
-    ensures row { IfOk result (λ row. row_values table.now (cond is_keyed (Some (unwrap_or table.now.key [])) None) (drop 2 (fields_of fields.now)) ≡ Ok row) }
-    ensures refused { (code : ChangeCode) → IsErrOf result (Refused code) → row_values table.now (cond is_keyed (Some (unwrap_or table.now.key [])) None) (drop 2 (fields_of fields.now)) ≡ Err code }
+    requires early { first ≤ 2 }
+    requires within { first ≤ length (fields_of fields.now) }
+    requires counted { is_field_count table.now (cond is_keyed (Some (unwrap_or table.now.key [])) None) (length (fields_of fields.now) - first) ≡ true }
+    ensures row { IfOk result (λ row. row_values table.now (cond is_keyed (Some (unwrap_or table.now.key [])) None) (drop first (fields_of fields.now)) ≡ Ok row) }
+    ensures refused { (code : ChangeCode) → IsErrOf result (Refused code) → row_values table.now (cond is_keyed (Some (unwrap_or table.now.key [])) None) (drop first (fields_of fields.now)) ≡ Err code }
 {
     if is_keyed {
-        key_row_of(alloc, table.cols.as_slice(), key_columns(table), fields)
+        key_row_of(
+            alloc,
+            table.cols.as_slice(),
+            key_columns(table),
+            fields,
+            first,
+        )
     } else {
-        row_of(alloc, table.cols.as_slice(), fields)
+        row_of(alloc, table.cols.as_slice(), fields, first)
     }
 }
 
@@ -161,16 +215,22 @@ fn kind_of(word: &[u8]) -> Option<Kind>
     None
 }
 
-// The values that the fields behind the first two spell.
+// The values that the fields from a place on spell.
 #[tactic(auto, using(crate::proofs::Values::left_after, crate::proofs::Values::left_refused, crate::proofs::Values::left_none, crate::proofs::Values::left_from_first))]
-fn row_of(alloc: Global, cols: &[ColDef], fields: &ByteRecord) -> Result<Row, LineFault>
-    requires { length (fields_of fields.now) ≡ length cols.now + 2 }
-    ensures row { IfOk result (λ row. values_from 1 cols.now (drop 2 (fields_of fields.now)) ≡ Ok row) }
-    ensures refused { (code : ChangeCode) → IsErrOf result (Refused code) → values_from 1 cols.now (drop 2 (fields_of fields.now)) ≡ Err code }
+fn row_of(
+    alloc: Global,
+    cols: &[ColDef],
+    fields: &ByteRecord,
+    first: usize,
+) -> Result<Row, LineFault>
+    requires early { first ≤ 2 }
+    requires counted { length (fields_of fields.now) ≡ length cols.now + first }
+    ensures row { IfOk result (λ row. values_from 1 cols.now (drop first (fields_of fields.now)) ≡ Ok row) }
+    ensures refused { (code : ChangeCode) → IsErrOf result (Refused code) → values_from 1 cols.now (drop first (fields_of fields.now)) ≡ Err code }
 {
     let mut values = Values::with_capacity(alloc, cols.len())?;
     for i in 0..cols.len() {
-        match spelled(alloc, cols[i].ty.ty, field(fields, i + 2)) {
+        match spelled(alloc, cols[i].ty.ty, field(fields, i + first)) {
             Ok(value) => values.push(value)?,
             Err(FieldFault::BadField) => return Err(bad_field(i)),
             Err(FieldFault::Memory) => return Err(LineFault::Memory),
@@ -179,21 +239,23 @@ fn row_of(alloc: Global, cols: &[ColDef], fields: &ByteRecord) -> Result<Row, Li
     Ok(Row::from_values(values))
 }
 
-// The key row that the key's fields spell.
+// The key row that the key's fields spell, which stand from a place on.
 fn key_row_of(
     alloc: Global,
     cols: &[ColDef],
     key: &[u32],
     fields: &ByteRecord,
+    first: usize,
 ) -> Result<Row, LineFault>
-    requires { 2 ≤ length (fields_of fields.now) }
-    ensures row { IfOk result (λ row. key_values key.now 0 cols.now (key_fields key.now (length cols.now) (drop 2 (fields_of fields.now))) ≡ Ok row) }
-    ensures refused { (code : ChangeCode) → IsErrOf result (Refused code) → key_values key.now 0 cols.now (key_fields key.now (length cols.now) (drop 2 (fields_of fields.now))) ≡ Err code }
+    requires early { first ≤ 2 }
+    requires within { first ≤ length (fields_of fields.now) }
+    ensures row { IfOk result (λ row. key_values key.now 0 cols.now (key_fields key.now (length cols.now) (drop first (fields_of fields.now))) ≡ Ok row) }
+    ensures refused { (code : ChangeCode) → IsErrOf result (Refused code) → key_values key.now 0 cols.now (key_fields key.now (length cols.now) (drop first (fields_of fields.now))) ≡ Err code }
 {
     let in_key = among(alloc, cols.len(), key)?;
-    let whole = fields.len() - 2 == cols.len();
+    let whole = fields.len() - first == cols.len();
     let mut values = Values::with_capacity(alloc, cols.len())?;
-    let mut place: usize = 2;
+    let mut place = first;
     'column: for i in 0..cols.len() {
         let is_key = in_key[i];
         let value = key_value(alloc, cols[i].ty.ty, is_key, field(fields, place), i)?;

@@ -5,7 +5,7 @@ ghost use Rattle.ct_field.specs.Numbers.{is_type};
 ghost use Rattle.ct_field.specs.Fields.{field_text};
 ghost use Rattle.stream_model.specs.KeysTold.{told_by};
 ghost use Rattle.job_text.specs.AtKey.{at_key};
-ghost use Rattle.job_text.specs.Printed.{IsWide, field_texts, item_line, kind_text, quiet_line, record_line, row_line, row_text, told_texts};
+ghost use Rattle.job_text.specs.Printed.{IsWide, commaed, field_texts, item_line, kind_text, numbers_told, quiet_line, record_line, row_line, row_text, sum_of, told_texts};
 
 use csv::{ByteRecord, WriterBuilder};
 use ct_change::{Kind, among};
@@ -15,16 +15,17 @@ use std::alloc::Global;
 use stream_model::PrintItem;
 
 /// The line of an item, whose change has columns of these types. The key is that of the sink where this is an upsert table: of a `-D` into
-/// that the key's texts are printed alone.
+/// that the key's texts are printed alone. By table, a quiet moment has the number of changes taken of each source, else their sum.
 pub fn item_line(
     alloc: Global,
     item: &PrintItem,
     tys: &[Ty],
     key: Option<&Cols>,
+    by_table: bool,
 ) -> Result<Vec<u8>, Memory>
     requires wide { IsWide (length tys.now) item.now }
     requires types { AllByRecursion (λ ty. IsTrue (is_type ty)) tys.now }
-    ensures { IfOk result (λ line. line.items ≡ item_line tys.now (option_copied key.entry) item.now) }
+    ensures { IfOk result (λ line. line.items ≡ item_line by_table tys.now (option_copied key.entry) item.now) }
 {
     match item {
         PrintItem::Change(change) => {
@@ -34,7 +35,7 @@ pub fn item_line(
             push_row(alloc, &mut record, tys, change.row.as_slice(), told)?;
             record_line(alloc, &record)
         }
-        PrintItem::Quiet(taken) => quiet_line(alloc, *taken),
+        PrintItem::Quiet(counts) => quiet_line(alloc, counts.as_slice(), by_table),
     }
 }
 
@@ -188,10 +189,51 @@ fn record_line(alloc: Global, fields: &ByteRecord) -> Result<Vec<u8>, Memory>
     }
 }
 
-fn quiet_line(alloc: Global, taken: u32) -> Result<Vec<u8>, Memory>
-    ensures { IfOk result (λ line. line.items ≡ quiet_line taken) }
+fn quiet_line(alloc: Global, counts: &[u32], by_table: bool) -> Result<Vec<u8>, Memory>
+    ensures { IfOk result (λ line. line.items ≡ quiet_line (numbers_told by_table counts.now)) }
 {
-    let line = format!(in alloc; "=,{taken}\n")?;
+    if by_table {
+        counts_line(alloc, counts)
+    } else {
+        sum_line(alloc, sum_of(counts))
+    }
+}
+
+fn counts_line(alloc: Global, counts: &[u32]) -> Result<Vec<u8>, Memory>
+    ensures { IfOk result (λ line. line.items ≡ quiet_line counts.now) }
+{
+    let mut line = Vec::from_slice(alloc, b"=")?;
+    for i in 0..counts.len() {
+        push_count(alloc, &mut line, counts[i])?;
+    }
+    line.push(b'\n')?;
+    Ok(line)
+}
+
+// Puts a number behind a comma.
+fn push_count(alloc: Global, line: &mut Vec<u8>, count: u32) -> Result<(), Memory>
+    ensures { OnOk result (line.new.items ≡ line.old.items ++ commaed (count ∷ [])) }
+{
+    let text = format!(in alloc; ",{count}")?;
+    line.extend_from_slice(text.as_bytes())?;
+    Ok(())
+}
+
+// The sum, for which 64 bits may be too few.
+fn sum_of(counts: &[u32]) -> u128
+    ensures { result ≡ sum_of counts.now }
+{
+    let mut sum: u128 = 0;
+    for count in counts {
+        sum += u128::from(*count);
+    }
+    sum
+}
+
+fn sum_line(alloc: Global, sum: u128) -> Result<Vec<u8>, Memory>
+    ensures { IfOk result (λ line. line.items ≡ quiet_line (sum ∷ [])) }
+{
+    let line = format!(in alloc; "=,{sum}\n")?;
     Ok(line.into_bytes())
 }
 

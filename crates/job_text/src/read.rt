@@ -1,11 +1,11 @@
-ghost use Rattle.std.specs.Prelude.{◌≡◌, ◌∷◌, ◌≤◌, ◌<◌, ◌⊎◌, [], IfOk, OnErr, length, List, Some, None, Ok, Err, IsSome, ℕ};
+ghost use Rattle.std.specs.Prelude.{◌≡◌, ◌+◌, ◌∷◌, ◌≤◌, ◌<◌, ◌⊎◌, [], IfOk, OnErr, length, List, Some, None, Ok, Err, IsSome, ℕ};
 ghost use Rattle.std.specs.Bool.{MatchBool};
 ghost use Rattle.csv.specs.Records.{fields_of};
-ghost use Rattle.job_text.specs.Lines.{Record, answer_of, line_of, records_of};
+ghost use Rattle.job_text.specs.Lines.{LinesLeft, Record, answer_of, line_in, one_read, records_of};
 ghost use Rattle.job_text.specs.Reading.{IsReading, Takes, left_in};
 
 use crate::fields::test_fields;
-use crate::line::{Line, LineFault, line_of};
+use crate::line::{Line, LineFault, line_in};
 use crate::named::NamedSources;
 use csv::{ByteRecord, Reader, ReaderBuilder};
 use ct_value::{Bytes, Memory};
@@ -68,32 +68,34 @@ fn count_records(alloc: Global, bytes: &[u8]) -> Result<u32, Memory>
     unreachable!()
 }
 
-/// The lines of a change file, of which some were read. It is seen as the list of the records that are left.
+/// The lines of a change file, of which some were read. It is seen as how many were read and the list of the records that are left.
 #[derive(Drop)]
 pub struct ChangeLines {
     alloc: Global,
     reader: Reader<Cursor<FileBytes>>,
     fields: ByteRecord,
+    feed: Option<u32>,
+    read: u32,
     left: u32,
 }
 
 impl Model for ChangeLines {
-    ghost use Rattle.std.specs.Prelude.{◌<◌, List};
-    ghost use Rattle.job_text.specs.Lines.{Record};
-    ghost use Rattle.job_text.specs.Reading.{IsCounted, records_left};
+    ghost use Rattle.job_text.specs.Lines.{LinesLeft};
+    ghost use Rattle.job_text.specs.Reading.{IsWithin, lines_left};
 
-    ghost Value = { List Record };
+    ghost Value = { LinesLeft };
 
-    ghost view = { λ a. records_left a.reader a.left };
+    ghost view = { λ a. lines_left a.feed a.read a.reader a.left };
 
-    ghost invariant = { λ a. 0 < a.left → IsCounted a.reader a.left };
+    ghost invariant = { λ a. IsWithin a.read a.reader a.left };
 }
 
 impl ChangeLines {
-    /// The lines of a file of at most 67,108,864 bytes, none of which was read.
-    pub fn new(alloc: Global, bytes: Bytes) -> Result<ChangeLines, Memory>
+    /// The lines of a file of at most 67,108,864 bytes, none of which was read. They are all of the source of the feed's place, from 0,
+    /// where there is a feed; else each names its source.
+    pub fn new(alloc: Global, bytes: Bytes, feed: Option<u32>) -> Result<ChangeLines, Memory>
         requires { length bytes ≤ 67108864 }
-        ensures { IfOk result (λ lines. lines ≡ records_of bytes) }
+        ensures { IfOk result (λ lines. lines ≡ record { feed = feed; read = 0; records = records_of bytes }) }
     {
         test_fields(bytes.as_slice())?;
         let left = count_records(alloc, bytes.as_slice())?;
@@ -101,13 +103,29 @@ impl ChangeLines {
             alloc,
             reader: reader_of(alloc, Cursor::new(FileBytes { bytes })),
             fields: ByteRecord::new(alloc),
+            feed,
+            read: 0,
             left,
         })
     }
 
+    /// The source, by its place from 0, of which all lines are. It takes no memory.
+    pub fn feed(&self) -> Option<u32>
+        ensures { result ≡ self.now.feed }
+    {
+        self.feed
+    }
+
+    /// How many records were read. It takes no memory.
+    pub fn read(&self) -> u32
+        ensures { result ≡ self.now.read }
+    {
+        self.read
+    }
+
     /// How many records were not read. It takes no memory.
     pub fn left(&self) -> u32
-        ensures { result ≡ length self.now }
+        ensures { result ≡ length self.now.records }
     {
         self.left
     }
@@ -115,9 +133,9 @@ impl ChangeLines {
     /// Reads the next record, and answers the line of one of the sources that it is, and `None` exactly at the end. After a
     /// refusal it stands behind the refused record, after want of memory at its end.
     pub fn next_line(&mut self, sources: &NamedSources<'_>) -> Result<Option<Line>, LineFault>
-        ensures end { self.old ≡ [] → (result ≡ Ok None) × (self.new ≡ []) }
-        ensures line { (first : Record) (rest : List Record) → self.old ≡ first ∷ rest
-            → ((result ≡ Err LineFault.Memory) × (self.new ≡ [])) ⊎ ((result ≡ answer_of (line_of sources.now first)) × (self.new ≡ rest)) }
+        ensures end { self.old.records ≡ [] → (result ≡ Ok None) × (self.new ≡ self.old) }
+        ensures line { (first : Record) (rest : List Record) → self.old.records ≡ first ∷ rest
+            → ((result ≡ Err LineFault.Memory) × (self.new.records ≡ [])) ⊎ ((result ≡ answer_of (line_in sources.now self.old.feed first)) × (self.new ≡ one_read self.old rest)) }
     {
         if self.left == 0 {
             return Ok(None);
@@ -126,8 +144,9 @@ impl ChangeLines {
             self.left = 0;
             return Err(LineFault::Memory);
         }
+        self.read += 1;
         self.left -= 1;
-        match line_of(self.alloc, sources, &self.fields) {
+        match line_in(self.alloc, sources, self.feed, &self.fields) {
             Ok(line) => Ok(Some(line)),
             Err(LineFault::Change(code)) => Err(LineFault::Change(code)),
             Err(LineFault::Memory) => {

@@ -181,6 +181,7 @@ module _ (columns : ℕ → List ColTy) (doing : ℕ → Doing) (plan : Plan) wh
     subtasks = plan.parallelism;
     count = length plan.nodes;
     tables = λ table. option_map (table_of plan.parallelism) (slice_get plan.sources table);
+    table_count = length plan.sources;
     scans = λ v. scan_in (node_at v);
     ports = λ v. length (inputs_in (node_at v));
     source = λ v port. slice_index_or (inputs_in (node_at v)) port 0;

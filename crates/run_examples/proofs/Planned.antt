@@ -112,7 +112,7 @@ delivered more =
 abbrev to_sink : State → List Item
 to_sink s = drain_stages g 100 s (delivers 2 0 0 ∷ []) ++ quiet ∷ []
 
-printed : printed_by g twice ≡ Printed (counted I 1) ∷ Printed (counted UB 1) ∷ Printed (counted UA 2) ∷ Quiet 2 ∷ []
+printed : printed_by g twice ≡ Printed (counted I 1) ∷ Printed (counted UB 1) ∷ Printed (counted UA 2) ∷ Quiet (2 ∷ []) ∷ []
 printed =
     ap (λ s. State.printed (after g 100 s0 (move 1 0 0 ∷ move 1 0 0 ∷ to_sink s))) (delivered [])
     ∙ ap State.printed (delivered (to_sink s2))

@@ -35,7 +35,7 @@ items_one row = items-add row_total none row ∙ ap (put row_cmp row) (items-non
 
 -- ---- words
 
-words_printed : printed_by word_network two_words ≡ Printed (word I 97) ∷ Printed (word I 98) ∷ Quiet 2 ∷ []
+words_printed : printed_by word_network two_words ≡ Printed (word I 97) ∷ Printed (word I 98) ∷ Quiet (2 ∷ []) ∷ []
 words_printed = refl
 
 -- ---- orders and customers
@@ -121,10 +121,10 @@ ends_as moved =
     ap (λ s. State.printed (run_order g 100 s (drains ∷ does (last_lines ++ moved) ∷ drains ∷ []))) first_taken
     ∙ ap (λ s. State.printed (run_order g 100 s (drains ∷ []))) (last_taken moved)
 
-new_first : printed_by join_network new_row_first ≡ result I rome ∷ Quiet 3 ∷ result UA oslo ∷ Quiet 5 ∷ []
+new_first : printed_by join_network new_row_first ≡ result I rome ∷ Quiet (1 ∷ 2 ∷ []) ∷ result UA oslo ∷ Quiet (3 ∷ 2 ∷ []) ∷ []
 new_first = ends_as (move 1 1 0 ∷ move 3 0 0 ∷ move 4 0 1 ∷ move 5 1 1 ∷ [])
 
-old_first : printed_by join_network old_row_first ≡ result I rome ∷ Quiet 3 ∷ result D Null ∷ result I oslo ∷ Quiet 5 ∷ []
+old_first : printed_by join_network old_row_first ≡ result I rome ∷ Quiet (1 ∷ 2 ∷ []) ∷ result D Null ∷ result I oslo ∷ Quiet (3 ∷ 2 ∷ []) ∷ []
 old_first = ends_as (move 1 1 1 ∷ move 3 1 1 ∷ move 4 1 1 ∷ move 5 1 1 ∷ [])
 
 -- ---- a word that doesn't stand

@@ -78,4 +78,4 @@ counted kind n = record { kind = kind; row = a_word ++ Num (pos n) ∷ [] }
 pub record CountsAsWorked : Type 0 where
   pub is_plan : plan_as_seen counts ≡ plan_of_tree (word_table ∷ []) count_table 1 counts_rel
   -- the first count, and then the second in its place
-  pub printed : printed_by (network counts) twice ≡ Printed (counted I 1) ∷ Printed (counted UB 1) ∷ Printed (counted UA 2) ∷ Quiet 2 ∷ []
+  pub printed : printed_by (network counts) twice ≡ Printed (counted I 1) ∷ Printed (counted UB 1) ∷ Printed (counted UA 2) ∷ Quiet (2 ∷ []) ∷ []

@@ -191,6 +191,7 @@ join_network = record {
   subtasks = 2;
   count = 6;
   tables = join_tables;
+  table_count = 2;
   scans = join_scans;
   ports = join_ports;
   source = join_source;
@@ -254,6 +255,7 @@ word_network = record {
   subtasks = 1;
   count = 2;
   tables = word_tables;
+  table_count = 1;
   scans = word_scans;
   ports = λ v. cond (v == 2) 1 0;
   source = λ v port. 1;
@@ -329,13 +331,13 @@ tallied kind n = Printed (record { kind = kind; row = tally n })
 -- ---- what is printed, and what is refused
 
 pub record RunsAsWorked : Type 0 where
-  pub new_first : printed_by join_network new_row_first ≡ result I rome ∷ Quiet 3 ∷ result UA oslo ∷ Quiet 5 ∷ []
-  pub old_first : printed_by join_network old_row_first ≡ result I rome ∷ Quiet 3 ∷ result D Null ∷ result I oslo ∷ Quiet 5 ∷ []
-  pub words_printed : printed_by word_network two_words ≡ Printed (word I 97) ∷ Printed (word I 98) ∷ Quiet 2 ∷ []
+  pub new_first : printed_by join_network new_row_first ≡ result I rome ∷ Quiet (1 ∷ 2 ∷ []) ∷ result UA oslo ∷ Quiet (3 ∷ 2 ∷ []) ∷ []
+  pub old_first : printed_by join_network old_row_first ≡ result I rome ∷ Quiet (1 ∷ 2 ∷ []) ∷ result D Null ∷ result I oslo ∷ Quiet (3 ∷ 2 ∷ []) ∷ []
+  pub words_printed : printed_by word_network two_words ≡ Printed (word I 97) ∷ Printed (word I 98) ∷ Quiet (2 ∷ []) ∷ []
   -- the removal of a word that doesn't stand is refused
   pub absent : step word_network 100 (run_order word_network 100 (opened word_network) two_words) (Take 0 (word D 99)) ≡ Err (Refused RowAbsent)
-  pub bundled : printed_by tally_network (does three_words ∷ drains ∷ []) ≡ tallied I 3 ∷ Quiet 3 ∷ []
-  pub flushed : printed_by tally_network flushed_early ≡ tallied I 2 ∷ tallied UB 2 ∷ tallied UA 3 ∷ Quiet 3 ∷ []
+  pub bundled : printed_by tally_network (does three_words ∷ drains ∷ []) ≡ tallied I 3 ∷ Quiet (3 ∷ []) ∷ []
+  pub flushed : printed_by tally_network flushed_early ≡ tallied I 2 ∷ tallied UB 2 ∷ tallied UA 3 ∷ Quiet (3 ∷ []) ∷ []
   pub no_place : step word_network 100 (opened word_network) (Move 9 0 0) ≡ Err (Order NoSuchPlace)
   pub too_few : step word_network 100 (opened word_network) (Move 1 0 0) ≡ Err (Order (TooFew 0))
   pub no_buffer : step word_network 100 (opened word_network) (Flush 2 0) ≡ Err (Order NoBuffer)

@@ -6,44 +6,37 @@ use Rattle.ct_value.specs.declared.codes.ChangeCode.{ChangeCode}
 use Rattle.ct_value.specs.declared.codes.OrderCode.TheVariants.{NoSuchPlace}
 use Rattle.ct_change.specs.declared.change.Change.{Change}
 use Rattle.ct_change.specs.Changelog.{fold}
-use Rattle.job_text.specs.declared.line.Line.{Line}
-use Rattle.job_text.specs.Lines.{Record, line_of, records_of}
 use Rattle.op_rules.specs.History.{Arrival, arrival, joined}
 use Rattle.op_rules.specs.Rules.{Answer}
 use Rattle.op_rules.specs.Tasks.{IsReady}
-use Rattle.phys_plan.specs.declared.plan.Plan.{Plan}
 use Rattle.stream_model.specs.declared.events.Event.TheVariants.{Take, Move, Flush}
 use Rattle.stream_model.specs.declared.events.StepFault.{StepFault}
 use Rattle.stream_model.specs.declared.events.StepFault.TheVariants.{Change as Refused, Order, Range, Limit, Memory}
 use Rattle.stream_model.specs.Tables.{Table as Source, scanned_at, refusal}
 use Rattle.stream_model.specs.Network.{Feed, Network, task}
-use Rattle.stream_model.specs.Machine.{State, put, opened, send, print, joins, folded, answered, flushed, size_of, is_channel, move_front, move_to, flush_held, flush_bundle, is_place, scan_count, scanned, take_unless, take_of}
-use Rattle.stream_model.specs.Machine as machine
-use Rattle.stream_model.specs.Runs.{Item, happens, quiet, step_item, state_in, after, IsTyped, AreTyped}
+use Rattle.stream_model.specs.Machine.{State, put, send, print, joins, folded, answered, flushed, size_of, is_channel, move_front, move_to, flush_held, flush_bundle, is_place, scan_count, scanned, take_unless, take_of}
+use Rattle.stream_model.specs.Runs.{Item, happens, quiet, step_item}
 use Rattle.stream_model.specs.Theorem.{Composes, Holds}
-use Rattle.stream_model.specs.Drain.{drain}
+use Rattle.stream_model.specs.Drain.{RunsDrain}
 use Rattle.plan_rules.specs.Doings.{network}
 use Rattle.sound_plans.specs.Sound.{SoundPlansAreWired, SoundPlansMeetFacts}
 use Rattle.source_lines.specs.Fitting.{LinesFitColumns}
-use Rattle.source_lines.specs.Run as run
-use Rattle.source_lines.specs.Run.{Ran, ended, refused, stopped, and_then, stepped, took, whole_run}
-use Rattle.run_laws.proofs.laws.Ends.{took_one, one_typed}
-use Rattle.source_lines.proofs.laws.Along.{typed_drain}
 use Rattle.run_laws.specs.Stops.{IsOutAt, RunsStopWhereOut}
+use Rattle.run_laws.proofs.laws.Going.{Ends, IsDone, StopsAt, run_ends}
 
 -- ---- steps
 
 -- a stop out of range has its cause, any other is not spoken of
-abbrev pub Stops : Network → StepFault → Type 0
-Stops g (Refused code) = Unit {0}
-Stops g (Order code) = Unit {0}
-Stops g (Range node subtask row types) = (types ≡ g.range_types node) × IsOutAt g node subtask row
-Stops g Limit = Unit {0}
-Stops g Memory = Unit {0}
+abbrev Causes : Network → StepFault → Type 0
+Causes g (Refused code) = Unit {0}
+Causes g (Order code) = Unit {0}
+Causes g (Range node subtask row types) = (types ≡ g.range_types node) × IsOutAt g node subtask row
+Causes g Limit = Unit {0}
+Causes g Memory = Unit {0}
 
 abbrev StopsIn : Network → Result State StepFault → Type 0
 StopsIn g (Ok t) = Unit {0}
-StopsIn g (Err cause) = Stops g cause
+StopsIn g (Err cause) = Causes g cause
 
 module _ (g : Network) (limit : ℕ) where
   within_stops : (b : Bool) (v j : ℕ) (changes : List Change) (s : State) → StopsIn g (cond b (Ok (send g v j changes s)) (Err Limit))
@@ -121,91 +114,13 @@ module _ (g : Network) (limit : ℕ) where
     item_stops (happens (Move e i j)) = move_stops e i j (g.fed e) refl
     item_stops (happens (Flush v j)) = place_stops (is_place g v j) v j refl
 
--- ---- runs
+-- ---- the law
 
-module _ (g : Network) (limit : ℕ) where
-  after_one : (s : State) (items : List Item) (item : Item) → after g limit s (items ++ item ∷ []) ≡ state_in (after g limit s items) (step_item g limit (after g limit s items) item)
-  after_one s [] item = refl
-  after_one s (first ∷ items) item = after_one (state_in s (step_item g limit s first)) items item
-
-one_more_typed : (g : Network) (items : List Item) (item : Item) → AreTyped g items → IsTyped g item → AreTyped g (items ++ item ∷ [])
-one_more_typed g [] item all one = (one, tt)
-one_more_typed g (first ∷ items) item all one = (all.0, one_more_typed g items item all.1 one)
-
-module _ (fit : LinesFitColumns) (plan : Plan) (all_hold : (limit : ℕ) (items : List Item) → AreTyped (network plan) items → Holds (network plan) (after (network plan) limit (opened (network plan)) items)) (limit : ℕ) where
-  abbrev g : Network
-  g = network plan
-
-  -- the run has come to a state
-  pub record Reached (s : State) : Type 0 where
-    pub items : List Item
-    pub typed : AreTyped g items
-    pub there : after g limit (opened g) items ≡ s
-
-  holds_at : (s : State) → Reached s → Holds g s
-  holds_at s r = subst (Holds g) r.there (all_hold limit r.items r.typed)
-
-  reached_one : (s t : State) (item : Item) → Reached s → IsTyped g item → step_item g limit s item ≡ Ok t → Reached t
-  reached_one s t item r one e = record {
-    items = r.items ++ item ∷ [];
-    typed = one_more_typed g r.items item r.typed one;
-    there = after_one g limit (opened g) r.items item ∙ ap (λ u. state_in u (step_item g limit u item)) r.there ∙ ap (state_in s) e;
-  }
-
-  -- a run that went on has come to a state, and one that stopped has its cause
-  abbrev pub Outs : Ran → Type 0
-  Outs (ended s) = Reached s
-  Outs (refused number code) = Unit {0}
-  Outs (stopped cause printed) = Stops g cause
-
-  outs_then : (ran : Ran) (next : State → Ran) → Outs ran → ((s : State) → Reached s → Outs (next s)) → Outs (and_then ran next)
-  outs_then (ended s) next r later = later s r
-  outs_then (refused number code) next r later = tt
-  outs_then (stopped cause printed) next r later = r
-
-  outs_step : (s : State) (item : Item) → Reached s → IsTyped g item → (result : Result State StepFault) → step_item g limit s item ≡ result → Outs (stepped s result)
-  outs_step s item r one (Ok t) e = reached_one s t item r one e
-  outs_step s item r one (Err cause) e = subst (StopsIn g) e (item_stops g limit s (holds_at s r) item)
-
-  outs_along : (items : List Item) → AreTyped g items → (s : State) → Reached s → Outs (run.go_along g limit plan.sources s items)
-  outs_along [] typed s r = r
-  outs_along (item ∷ items) typed s r =
-      outs_then (stepped s (step_item g limit s item)) (λ next. run.go_along g limit plan.sources next items)
-      (outs_step s item r typed.0 (step_item g limit s item) refl) (outs_along items typed.1)
-
-  outs_took : (number : ℕ) (s : State) (fields : Record) (line : Line) → line_of plan.sources fields ≡ Ok line → Reached s
-      → (result : Result State StepFault) → machine.take g limit s line.table line.change ≡ result → Outs (took number s result)
-  outs_took number s fields line is r (Ok t) e =
-      let one = took_one fit plan limit number s line t (ap (took number s) e) in
-      reached_one s t (happens (Take line.table line.change)) r (one_typed fit plan limit s fields line t is one) e
-  outs_took number s fields line is r (Err (Refused code)) e = tt
-  outs_took number s fields line is r (Err (Order code)) e = tt
-  outs_took number s fields line is r (Err (Range node subtask row types)) e = subst (StopsIn g) e (item_stops g limit s (holds_at s r) (happens (Take line.table line.change)))
-  outs_took number s fields line is r (Err Limit) e = tt
-  outs_took number s fields line is r (Err Memory) e = tt
-
-  outs_line : (number : ℕ) (s : State) (fields : Record) → Reached s → (result : Result Line ChangeCode) → line_of plan.sources fields ≡ result → Outs (run.take_line g limit plan.sources number s result)
-  outs_line number s fields r (Err code) is = tt
-  outs_line number s fields r (Ok line) is = outs_took number s fields line is r (machine.take g limit s line.table line.change) refl
-
-  outs_lines : (lines : List Record) (number : ℕ) (s : State) → Reached s → Outs (run.take_lines g limit plan.sources number s lines)
-  outs_lines [] number s r = r
-  outs_lines (fields ∷ rest) number s r =
-      outs_then (run.take_line g limit plan.sources number s (line_of plan.sources fields)) (λ next. run.take_lines g limit plan.sources (number + 1) next rest)
-      (outs_line number s fields r (line_of plan.sources fields) refl) (outs_lines rest (number + 1))
-
-  outs_opened : (b : Bool) → Outs (cond b (ended (opened g)) (stopped Limit []))
-  outs_opened true = record { items = []; typed = tt; there = refl }
-  outs_opened false = tt
-
-  pub outs_run : (bytes : List ℕ) → Outs (whole_run g limit plan.sources bytes)
-  outs_run bytes =
-      outs_then (run.opens g limit plan.sources) (λ s. and_then (run.take_lines g limit plan.sources 1 s (records_of bytes)) (run.drained g limit plan.sources))
-      (outs_opened (nat_le (opened g).sends limit))
-      (λ s r. outs_then (run.take_lines g limit plan.sources 1 s (records_of bytes)) (run.drained g limit plan.sources) (outs_lines (records_of bytes) 1 s r)
-      (λ t k. outs_along (drain g limit t) (typed_drain g limit t) t k))
-
-pub stops_where_out : LinesFitColumns → SoundPlansAreWired → SoundPlansMeetFacts → Composes → RunsStopWhereOut
-stops_where_out fit wired meets composes plan ruled limit bytes node subtask row types printed e =
-    let all_hold = composes (network plan) (wired plan ruled) (meets plan ruled) in
-    subst (Outs fit plan all_hold limit) e (outs_run fit plan all_hold limit bytes)
+pub stops_where_out : LinesFitColumns → SoundPlansAreWired → SoundPlansMeetFacts → Composes → RunsDrain → RunsStopWhereOut
+stops_where_out fit wired meets composes drains plan ruled limit files orders node subtask row types p e =
+    let g = network plan in
+    let ends = subst (Ends plan limit files (IsDone plan limit files)) e (run_ends plan limit files fit drains orders) in
+    let stop : StopsAt plan limit files (Range node subtask row types) p.state = ends.1.cause_is in
+    let reached = ends.0.is_at.reached in
+    let holds : Holds g p.state = subst (Holds g) reached.there (composes g (wired plan ruled) (meets plan ruled) limit reached.events reached.typed) in
+    subst (StopsIn g) stop.stops (item_stops g limit p.state holds stop.item)

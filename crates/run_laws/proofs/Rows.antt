@@ -236,7 +236,7 @@ module _ (plan : Plan) (ruled : IsRuled plan) (takes : SoundPortsTake) (suited :
   outs_at_rows = node_outs (numbered plan.nodes v) refl
 
 pub stop_at_rows : SoundPortsTake → SoundPlansSuit → RunsStopWhereOut → RunsStopAtRows
-stop_at_rows takes suited where_out plan ruled limit bytes node subtask row types printed e =
-    let stop = where_out plan ruled limit bytes node subtask row types printed e in
+stop_at_rows takes suited where_out plan ruled limit files orders node subtask row types p e =
+    let stop = where_out plan ruled limit files orders node subtask row types p e in
     let at = stop.1 in
     subst (λ (c : List ColTy). row_fits c row ≡ true) (sym stop.0) (outs_at_rows plan ruled takes suited node subtask at.before at.piece at.ready row at.out)

@@ -60,6 +60,6 @@ module _ (types_exist : ColumnsHaveTypes) (plan : Plan) (ruled : IsRuled plan) w
   range_types_exist v = node_types v (numbered plan.nodes v)
 
 pub stops_have_types : ColumnsHaveTypes → RunsStopWhereOut → StopsHaveTypes
-stops_have_types types_exist where_out plan ruled limit bytes node subtask row types printed e =
-    let stop = where_out plan ruled limit bytes node subtask row types printed e in
+stops_have_types types_exist where_out plan ruled limit files orders node subtask row types p e =
+    let stop = where_out plan ruled limit files orders node subtask row types p e in
     subst Exist (sym stop.0) (range_types_exist types_exist plan ruled node)

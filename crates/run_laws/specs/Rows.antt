@@ -1,4 +1,4 @@
--- The columns of what a run prints, whether it goes to its end or stops.
+-- The columns of what a run prints, however it ends.
 use Rattle.std.specs.Prelude.{◌≡◌, ℕ, true, List, length}
 use Rattle.std.specs.List.{AllByRecursion}
 use Rattle.ct_value.specs.declared.ty.ColTy.{ColTy}
@@ -10,7 +10,9 @@ use Rattle.plan_rules.specs.Columns.{columns_at}
 use Rattle.plan_rules.specs.Doings.{network}
 use Rattle.plan_check.specs.Types.{fit_sink}
 use Rattle.sound_plans.specs.Sound.{IsRuled}
+use Rattle.job_text.specs.declared.orders.OrderLine.{OrderLine}
 use Rattle.source_lines.specs.Run.{printed_by, whole_run}
+use Rattle.source_lines.specs.declared.supply.ChangeFiles.{ChangeFiles}
 
 -- the columns that a plan's sink sends
 abbrev pub sent_columns : Plan → List ColTy
@@ -22,6 +24,6 @@ SinksFit = (plan : Plan) → IsRuled plan → fit_sink (sent_columns plan) (colu
 
 -- each row that a run over a sound plan has printed has these columns; where a `-D` into an upsert sink tells its key alone, those of the key
 abbrev pub RunsPrintRows : Type 0
-RunsPrintRows = (plan : Plan) → IsRuled plan → (limit : ℕ) (bytes : List ℕ)
+RunsPrintRows = (plan : Plan) → IsRuled plan → (limit : ℕ) (files : ChangeFiles) (orders : List OrderLine)
     → AllByRecursion (λ change. told_fits (told_key (table_mode plan.sink) change.kind) (sent_columns plan) change.row ≡ true)
-    (changes_in (printed_by (whole_run (network plan) limit plan.sources bytes)))
+    (changes_in (printed_by (whole_run (network plan) limit plan.sources files orders)))

@@ -8,13 +8,15 @@ use Rattle.range_rules.specs.Tame.{is_tame_unary, is_tame_binary, is_tame_rel}
 use Rattle.phys_plan.specs.declared.node.Op.{Op}
 use Rattle.phys_plan.specs.declared.plan.Plan.{Plan}
 use Rattle.stream_model.specs.declared.events.StepFault.TheVariants.{Range}
-use Rattle.stream_model.specs.declared.events.PrintItem.{PrintItem}
+use Rattle.stream_model.specs.Machine.{State}
 use Rattle.plan_rules.specs.Doings.{network}
 use Rattle.plan_rules.specs.Roles.{Role, reads_table, one_of, two_of, all_of, same_as, not_told, role}
 use Rattle.sound_plans.specs.Sound.{IsRuled}
 use Rattle.laid_plans.specs.Inferred.{with_inferred}
 use Rattle.laid_plans.specs.Shapes.{IsLaidOut}
-use Rattle.source_lines.specs.Run.{stopped, whole_run}
+use Rattle.job_text.specs.declared.orders.OrderLine.{OrderLine}
+use Rattle.source_lines.specs.Run.{At, halts, stopped, whole_run}
+use Rattle.source_lines.specs.declared.supply.ChangeFiles.{ChangeFiles}
 
 -- an operator that calculates nothing, by its role
 abbrev pub is_tame_role : Role → Bool
@@ -40,5 +42,5 @@ TreesHaveTamePlans = (plan : Plan) (rel : Rel) → IsLaidOut plan rel → is_tam
 -- more changes than a BIGINT counts
 abbrev pub RunsStayInRange : Type 0
 RunsStayInRange = (plan : Plan) → IsRuled plan → is_tame_plan plan ≡ true → (limit : ℕ) → limit < 9223372036854775808
-    → (bytes : List ℕ) (node subtask : ℕ) (row : Row) (types : List ColTy) (printed : List PrintItem)
-    → whole_run (network plan) limit plan.sources bytes ≡ stopped (Range node subtask row types) printed → ⊥
+    → (files : ChangeFiles) (orders : List OrderLine) (node subtask : ℕ) (row : Row) (types : List ColTy) (p : At State)
+    → whole_run (network plan) limit plan.sources files orders ≡ halts (stopped (Range node subtask row types)) p → ⊥

@@ -1,3 +1,4 @@
+pub mod Counts
 pub mod Flights
 pub mod Lanes
 pub mod Routings

@@ -87,6 +87,8 @@ module _ (g : Network) (limit : ℕ) (s : State) (e i j : ℕ) (feed : Feed) (ch
     within = kept.within;
     took = kept.took;
     few = kept.few;
+    counted = kept.counted;
+    shares = kept.shares;
     printed = kept.printed;
   }
 

@@ -7,11 +7,11 @@ use Rattle.stream_model.specs.declared.events.StepFault.TheVariants.{Order}
 use Rattle.stream_model.specs.Tables.{Table}
 use Rattle.stream_model.specs.Network.{Feed, Network, IsWired}
 use Rattle.stream_model.specs.Machine.{State, has_channel, is_channel, move, move_front, move_to}
+use Rattle.stream_model.specs.Looks.{flight_at, in_flight}
 use Rattle.session_core.specs.declared.wiring.Lane.{Lane}
 use Rattle.session_core.specs.declared.wiring.TableWiring.{TableWiring}
 use Rattle.session_core.specs.declared.wiring.Wiring.{Wiring}
 use Rattle.session_core.specs.LaidOut.{IsLaidOut, IsTable, IsTableIn, stage_of}
-use Rattle.session_core.specs.Kept.{flight_at, in_flight}
 
 -- an edge that feeds a port
 pub record IsFed (g : Network) (e : ℕ) (feed : Feed) : Type 0 where

@@ -1,11 +1,12 @@
 -- What is kept of a state of the machine.
-use Rattle.std.specs.Prelude.{◌≡◌, ℕ, ◌+◌, ◌<◌, ◌≤◌, ◌==◌, true, cond, List, [], ◌∷◌, ◌++◌, length, Option, Some, None, Ok}
+use Rattle.std.specs.Prelude.{◌≡◌, ℕ, ◌+◌, ◌<◌, ◌≤◌, ◌==◌, true, cond, List, [], ◌∷◌, ◌++◌, length, Some, Ok}
 use Rattle.std.specs.List.{AllByRecursion}
 use Rattle.ct_change.specs.declared.change.Change.{Change}
 use Rattle.stream_model.specs.Tables.{Table, scanned_at}
 use Rattle.stream_model.specs.Network as network
 use Rattle.stream_model.specs.Network.{Network, IsNode}
 use Rattle.stream_model.specs.Machine.{State, put, is_channel, hand_on, scanned, take_within}
+use Rattle.stream_model.specs.Runs.{counts}
 use Rattle.stream_model.specs.declared.events.PrintItem.{PrintItem}
 use Rattle.session_core.specs.Sending.{Carry}
 use Rattle.session_core.specs.declared.wiring.Feed.{Feed}
@@ -13,8 +14,8 @@ use Rattle.session_core.specs.declared.wiring.Wiring.{Wiring}
 use Rattle.session_core.specs.declared.traffic.Traffic.{Traffic}
 use Rattle.session_core.specs.LaidOut.{IsLaidOut, port_of}
 
--- the channels hold what is in flight, the counts are the state's, and the items not yet handed out stand behind those
--- that were
+-- the channels hold what is in flight, the counts are the state's, of no table more changes were taken than of all, and the items
+-- not yet handed out stand behind those that were
 pub record Carries (t : Traffic) (g : Network) (limit : ℕ) (handed : List PrintItem) (s : State) : Type 0 where
   pub width : t.channels.width ≡ g.subtasks
   pub edges : t.channels.edges ≡ g.count + 1
@@ -23,6 +24,8 @@ pub record Carries (t : Traffic) (g : Network) (limit : ℕ) (handed : List Prin
   pub within : s.sends ≤ limit
   pub took : t.took ≡ s.took
   pub few : s.took ≤ limit
+  pub counted : t.counts.items ≡ counts g s
+  pub shares : (table : ℕ) → length (s.taken table) ≤ s.took
   pub printed : s.printed ≡ handed ++ t.printed
 
 -- the state in which the front of a channel is taken
@@ -62,14 +65,6 @@ pub record StaysConsumed (old new : State) : Type 0 where
   pub pieces : new.pieces ≡ old.pieces
   pub bundle : new.bundle ≡ old.bundle
   pub taken : new.taken ≡ old.taken
-
-abbrev pub flight_at : Network → State → ℕ → ℕ → ℕ → Option network.Feed → Option ℕ
-flight_at g s e i j None = None
-flight_at g s e i j (Some feed) = cond (is_channel g e i j) (Some (length (s.flight e i j))) None
-
--- how many changes are in flight in a channel, where there is one
-abbrev pub in_flight : Network → State → ℕ → ℕ → ℕ → Option ℕ
-in_flight g s e i j = flight_at g s e i j (g.fed e)
 
 -- an edge that feeds a port holds no change
 abbrev pub IsEdgeQuiet : Network → State → ℕ → Type 0

@@ -63,6 +63,7 @@ pub record IsLaidOut (w : Wiring) (g : Network) (limit : ℕ) : Type 0 where
   pub feeds : (e : ℕ) → feed_of (get_or w.feeds.items e None) ≡ g.fed e
   pub routes_many : length w.routes.items ≡ g.count + 1
   pub routes : AllRoute g.subtasks w.routes.items g.edge
+  pub tables_many : length w.tables.items ≡ g.table_count
   pub tables : (table : ℕ) → IsTableIn g table (slice_get w.tables.items table) (g.tables table)
   pub types_many : length w.types.items ≡ g.count + 1
   pub types : (v : ℕ) (types : List ColTy) → slice_get w.types.items v ≡ Some types → types ≡ g.range_types v

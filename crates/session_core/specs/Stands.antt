@@ -1,5 +1,5 @@
 -- What a session stands for.
-use Rattle.std.specs.Prelude.{◌≡◌, ℕ, ◌+◌, Bool, cond, List, [], ◌∷◌, ◌++◌, length, take, true, Option, Some, None, Result, Ok}
+use Rattle.std.specs.Prelude.{◌≡◌, ℕ, ◌+◌, ◌<◌, Bool, cond, List, [], ◌∷◌, ◌++◌, length, take, true, Option, Some, None, Result, Ok}
 use Rattle.ct_change.specs.declared.change.Change.{Change}
 use Rattle.ct_change.specs.declared.kind.Kind.{Kind}
 use Rattle.ct_change.specs.Changelog.{Mode, admits, fold, has}
@@ -13,8 +13,8 @@ use Rattle.stream_model.specs.declared.events.StepFault.{StepFault}
 use Rattle.stream_model.specs.Tables.{Table}
 use Rattle.stream_model.specs.Network.{Network, IsAnswer}
 use Rattle.stream_model.specs.Machine.{State, opened, is_place, step, IsQuiet}
-use Rattle.stream_model.specs.Runs.{Item, happens, after, changes_in, AreTyped, IsTyped}
-use Rattle.stream_model.specs.Drain.{Leads, IsSafe, StopsAlong, IsDrainFault, drain}
+use Rattle.stream_model.specs.Runs.{Item, happens, quiet, after, changes_in, AreTyped, IsTyped}
+use Rattle.stream_model.specs.Drain.{Leads, IsSafe, StopsAlong, IsDrainFault, drain, stages}
 use Rattle.stream_model.specs.Theorem.{table_rows}
 use Rattle.session_core.specs.LaidOut.{IsLaidOut}
 use Rattle.session_core.specs.Kept.{Carries, AllFit}
@@ -119,6 +119,14 @@ module _ {O S : Type 0} (rule_is : O → Rule) (is_broken : O → Bool) (stands 
   abbrev pub HasDrained : Session O S → Session O S → Type 0
   HasDrained session next = ForRuns session (λ g limit handed items. (now : State) × Leads g limit (reached g limit items) (drain g limit (reached g limit items)) now
       × StandsFor g limit next handed (items ++ drain g limit (reached g limit items)) × IsQuiet g now)
+
+  -- a drain of some such run has a stage of this number, from 0
+  abbrev pub HasStage : Session O S → ℕ → Type 0
+  HasStage session number = (g : Network) × (limit : ℕ) × (handed : List PrintItem) × (items : List Item) × StandsFor g limit session handed items × (number < length (stages g))
+
+  -- the next session stands for the run at whose end the job is told to be quiet
+  abbrev pub HasTold : Session O S → Session O S → Type 0
+  HasTold session next = ForRuns session (λ g limit handed items. StandsFor g limit next handed (items ++ quiet ∷ []))
 
   -- the machine stops along a drain, by this fault and after these items, of which some were handed out before
   abbrev pub StopsDraining : Session O S → StepFault → List PrintItem → Type 0

@@ -1,14 +1,16 @@
-ghost use Rattle.std.specs.Prelude.{◌++◌, ℕ, List, OnOk, IfOk, IfErr};
+ghost use Rattle.std.specs.Prelude.{◌≡◌, ◌+◌, ◌++◌, ◌∷◌, drop, length, ℕ, List, OnOk, IfOk, IfErr};
+ghost use Rattle.stream_model.specs.declared.events.StepFault.TheVariants.{Memory as Wanting};
 ghost use Rattle.stream_model.specs.declared.events.PrintItem.{PrintItem};
 ghost use Rattle.stream_model.specs.Network.{Network};
 ghost use Rattle.stream_model.specs.Machine.{State};
 ghost use Rattle.stream_model.specs.Drain as machine;
 ghost use Rattle.stream_model.specs.Drain.{StopsAlong, drain_stages, stage_items, stages};
 ghost use Rattle.session_core.specs.LaidOut.{IsThere, stage_of};
-ghost use Rattle.session_core.specs.Stands.{ForKept, HasDrained, Keeps, KeepsAlong, KeepsSome, StandsForSome, StopsDraining};
+ghost use Rattle.session_core.specs.Stands.{ForKept, ForRuns, HasDrained, HasStage, HasTold, Keeps, KeepsAlong, KeepsSome, StandsForSome, StopsDraining};
 
 use crate::{Lane, Session, SourceCheck};
 use ct_change::Steps;
+use ct_value::Memory;
 use op_rules::Operator;
 use std::sync::ledger::Ledger;
 use stream_model::{StepFault, Stopped};
@@ -50,6 +52,42 @@ impl<O: Operator + Drop, S: SourceCheck> Session<O, S> {
         self.deliver_all(steps)?;
         self.traffic.tell_quiet()?;
         Ok(())
+    }
+
+    /// How many stages a drain has: the channels that it delivers whole, one after the other. It takes no memory.
+    pub fn stage_count(&self) -> usize
+        ensures { ForRuns O.rule O.broken O.stands_for S.stands_for self.now (λ g limit handed items. result ≡ length (stages g)) }
+    {
+        self.wiring.lane_count()
+    }
+
+    /// The channel of the stage of this number, from 0: to go through all of them and deliver each whole, and then to tell that the
+    /// job is quiet, is to drain. It takes no memory.
+    pub fn stage(&self, number: usize) -> Lane
+        requires { HasStage O.rule O.broken O.stands_for S.stands_for self.now number }
+        ensures there { ForRuns O.rule O.broken O.stands_for S.stands_for self.now (λ g limit handed items. IsThere g result) }
+        ensures next { ForRuns O.rule O.broken O.stands_for S.stands_for self.now (λ g limit handed items. drop number (stages g) ≡ stage_of result ∷ drop (number + 1) (stages g)) }
+    {
+        self.wiring.lane(number)
+    }
+
+    /// The session with a quiet item behind what was printed. It stops for want of memory alone, and hands back what was printed
+    /// and not yet handed out.
+    pub fn tell_quiet(mut self) -> Result<Session<O, S>, Stopped>
+        ensures ok { IfOk result (λ next. HasTold O.rule O.broken O.stands_for S.stands_for self next) }
+        ensures cause { IfErr result (λ stopped. stopped.cause ≡ Wanting) }
+        ensures printed { IfErr result (λ stopped. stopped.printed ≡ self.traffic.printed) }
+    {
+        match self.traffic.tell_quiet() {
+            Ok(()) => Ok(self),
+            Err(Memory) => {
+                let traffic = self.traffic;
+                Err(Stopped {
+                    cause: StepFault::Memory,
+                    printed: traffic.printed,
+                })
+            }
+        }
     }
 
     /// The session after a drain's events, and a quiet item behind what was printed. It leaves the job quiet. A stop comes

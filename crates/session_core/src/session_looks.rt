@@ -2,7 +2,7 @@ ghost use Rattle.std.specs.Prelude.{◌≡◌, ◌++◌, true};
 ghost use Rattle.ct_change.specs.Changelog.{Mode};
 ghost use Rattle.stream_model.specs.Network.{MeetsFacts};
 ghost use Rattle.stream_model.specs.Machine.{IsQuiet};
-ghost use Rattle.session_core.specs.Kept.{in_flight};
+ghost use Rattle.stream_model.specs.Looks.{in_flight, taken_of};
 ghost use Rattle.session_core.specs.Stands.{ForRuns, HasAnswered, PrintsIn, StandsFor, StandsForSome, buffer_at, reached};
 
 use crate::{Buffer, Session, SourceCheck};
@@ -40,11 +40,11 @@ impl<O: Operator + Drop, S: SourceCheck> Session<O, S> {
         }
     }
 
-    /// How many changes were taken. It takes no memory.
-    pub fn taken(&self) -> u32
-        ensures { ForRuns O.rule O.broken O.stands_for S.stands_for self.now (λ g limit handed items. result ≡ (reached g limit items).took) }
+    /// How many changes were taken of a table, and `None` exactly where there is no such table. It takes no memory.
+    pub fn taken(&self, table: u32) -> Option<u32>
+        ensures { ForRuns O.rule O.broken O.stands_for S.stands_for self.now (λ g limit handed items. result ≡ taken_of g (reached g limit items) table) }
     {
-        self.traffic.took
+        self.traffic.taken(table)
     }
 
     /// Whether no channel and no bundle holds a change: then what was printed, in all, is the batch answer over what was taken. It

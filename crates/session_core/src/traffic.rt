@@ -1,4 +1,4 @@
-ghost use Rattle.std.specs.Prelude.{◌≡◌, ◌+◌, ◌<◌, ◌≤◌, ◌&&◌, nat_lt, nat_le, length, ℕ, List, OnOk, OnErr, IfOk, IfErr};
+ghost use Rattle.std.specs.Prelude.{◌≡◌, ◌+◌, ◌<◌, ◌≤◌, ◌&&◌, ◌^◌, nat_lt, nat_le, length, get_or, set, ℕ, List, OnOk, OnErr, IfOk, IfErr};
 ghost use Rattle.stream_model.specs.Network.{Network};
 ghost use Rattle.stream_model.specs.Machine as machine;
 ghost use Rattle.stream_model.specs.Machine.{State};
@@ -13,14 +13,15 @@ use crate::printing::print_all;
 use crate::{Channels, Feed, Lane, Wiring, scan_all, send_all};
 use ct_change::{Change, Changes};
 use ct_value::{Memory, OrderCode};
-use stream_model::{PrintItem, PrintList, StepFault};
+use stream_model::{Counts, PrintItem, PrintList, StepFault};
 
-/// What is in flight, what was printed and not yet handed out, and how many changes were taken.
+/// What is in flight, what was printed and not yet handed out, and how many changes were taken, in all and of each table.
 #[derive(Drop)]
 pub struct Traffic {
     pub channels: Channels,
     pub printed: PrintList,
     pub took: u32,
+    pub counts: Vec<u32>,
 }
 
 impl Traffic {
@@ -112,6 +113,7 @@ impl Traffic {
             change,
         )?;
         self.took += 1;
+        count_one(&mut self.counts, table);
         Ok(())
     }
 
@@ -123,13 +125,34 @@ impl Traffic {
         self.channels.in_flight(lane.edge, lane.from, lane.to)
     }
 
-    /// Prints that the job is quiet. After want of memory nothing is printed.
+    /// Prints that the job is quiet, with how many changes were taken of each table. After want of memory nothing is printed.
     pub fn tell_quiet(&mut self) -> Result<(), Memory>
-        ensures ok { OnOk result ((g : Network) (limit : ℕ) (handed : List PrintItem) (s : State) → Carries self.old g limit handed s → Carries self.new g limit handed (told_quiet s)) }
+        ensures ok { OnOk result ((g : Network) (limit : ℕ) (handed : List PrintItem) (s : State) → Carries self.old g limit handed s → Carries self.new g limit handed (told_quiet g s)) }
         ensures err { OnErr result (self.new.printed ≡ self.old.printed) }
     {
-        self.printed.push(PrintItem::Quiet(self.took))
+        let counts = listed(&self.counts)?;
+        self.printed.push(PrintItem::Quiet(counts))
     }
+}
+
+// One more change was taken of a table.
+fn count_one(counts: &mut Vec<u32>, table: u32)
+    requires table { table < length counts.old.items }
+    requires room { get_or counts.old.items table 0 + 1 < 2 ^ 32 }
+    ensures { counts.new.items ≡ set counts.old.items table (get_or counts.old.items table 0 + 1) }
+{
+    counts[table as usize] += 1;
+}
+
+// These counts, to be printed.
+fn listed(counts: &Vec<u32>) -> Result<Counts, Memory>
+    ensures { IfOk result (λ list. list ≡ counts.now.items) }
+{
+    let mut list = Counts::with_capacity(*counts.allocator(), counts.len())?;
+    for count in counts.as_slice() {
+        list.push(*count)?;
+    }
+    Ok(list)
 }
 
 // Whether one more change may be taken, and so many sent.

@@ -1,5 +1,6 @@
-ghost use Rattle.std.specs.Prelude.{◌≡◌, ◌<◌, true};
-ghost use Rattle.session_core.specs.Kept.{CarriesSome, ForCarried, IsEdgeQuiet, IsFlightQuiet, in_flight};
+ghost use Rattle.std.specs.Prelude.{◌≡◌, ◌<◌, true, slice_get};
+ghost use Rattle.stream_model.specs.Looks.{in_flight};
+ghost use Rattle.session_core.specs.Kept.{CarriesSome, ForCarried, IsEdgeQuiet, IsFlightQuiet};
 
 use crate::{Traffic, Wiring};
 
@@ -14,6 +15,13 @@ impl Traffic {
             return None;
         }
         Some(self.channels.in_flight(edge, from, to))
+    }
+
+    /// How many changes were taken of a table, and `None` exactly where there is no such table.
+    pub fn taken(&self, table: u32) -> Option<u32>
+        ensures { result ≡ slice_get self.now.counts.items table }
+    {
+        self.counts.get(table as usize).copied()
     }
 
     /// Whether no channel holds a change.

@@ -1,7 +1,8 @@
 -- Subtasks send what they open with, one behind the other.
-use Rattle.std.proofs.Common.{◌≡◌, ℕ, zero, suc, ◌+◌, ◌-◌, ◌*◌, ◌/◌, ◌%◌, ◌<◌, ◌≤◌, nat_lt, ◌==◌, ◌&&◌, Bool, true, false, cond, List, [], ◌∷◌, ◌++◌, length, Option, Some, None, refl, sym, ap, subst, ◌∙◌, arith, inl, inr, ◌⊎◌, eqb}
+use Rattle.std.proofs.Common.{◌≡◌, ℕ, zero, suc, ◌+◌, ◌-◌, ◌*◌, ◌/◌, ◌%◌, ◌<◌, ◌≤◌, nat_lt, ◌==◌, ◌&&◌, Bool, true, false, cond, List, [], ◌∷◌, ◌++◌, length, replicate, Option, Some, None, refl, sym, ap, subst, ◌∙◌, arith, inl, inr, ◌⊎◌, eqb}
 use Rattle.std.specs.List.{AllByRecursion, All, filter}
 use Rattle.std.proofs.lemmas.Bool.{cases_eq, cases_lt, eq-eqb, ne_eqb, lt-ltb, le-ltb}
+use Rattle.std.proofs.lemmas.List.{replicate_more}
 use Rattle.std.proofs.lemmas.Nat.{div-mul-add, mod-mul-add, mul-add-lt}
 use Rattle.ct_change.specs.declared.change.Change.{Change}
 use Rattle.op_rules.specs.Edges.{Edge, goes}
@@ -17,6 +18,7 @@ use Rattle.session_core.specs.Runs.{HasRunning}
 use Rattle.session_open.specs.declared.fault.OpenFault.{OpenFault}
 use Rattle.session_open.specs.declared.fault.OpenFault.TheVariants.{Limit, Memory}
 use Rattle.stream_model.specs.Machine.{opened}
+use Rattle.stream_model.specs.Runs.{counts_below}
 use Rattle.session_core.specs.declared.channels.Channels.{Channels}
 use Rattle.session_core.specs.declared.exchange.Route.{Route}
 use Rattle.session_core.specs.declared.exchange.Route.TheVariants.{Forward, Hash}
@@ -188,6 +190,12 @@ module _ (g : Network) (wired : IsWired g) where
         ∙ ap (λ b. cond b (filter (λ change. goes (g.edge e) i j change.row) (g.opening e i)) [])
         (lt-ltb (e * g.subtasks + i) ((g.count + 1) * g.subtasks) (in_table (g.count + 1) g.subtasks e i (omega (arith, le, have.edges)) (omega (arith, li, have.width))));
   }
+
+-- a zero for each table
+pub none_counted : (n : ℕ) → replicate n 0 ≡ counts_below (λ table. []) n
+none_counted zero = refl
+none_counted (suc n) =
+    ap (λ (m : ℕ). replicate m 0) (let e : suc n ≡ n + 1 = omega arith in e) ∙ (sym (replicate_more n 0) ∙ ap (λ (l : List ℕ). l ++ 0 ∷ []) (none_counted n))
 
 -- channels through which nothing was sent
 pub none_started : (g : Network) (limit : ℕ) (channels : Channels) → channels.width ≡ g.subtasks → channels.edges ≡ g.count + 1 → channels.sent ≡ 0

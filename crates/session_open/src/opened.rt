@@ -7,6 +7,7 @@ ghost use Rattle.session_open.specs.Opening.{IsOpenable, IsTooMany, MayOpen};
 
 use crate::opening::open_operators;
 use crate::sources::sources_of;
+use crate::tables::counts_of;
 use crate::wiring::wiring_of;
 use crate::{OpenFault, PlanOperator, PlanSource};
 use ct_value::{ColTys, List};
@@ -31,12 +32,14 @@ pub fn open_job<O: PlanOperator, S: PlanSource>(
 {
     let wiring = wiring_of::<O>(alloc, plan, columns, limit)?;
     let sources = sources_of(alloc, plan)?;
+    let counts = counts_of(alloc, plan)?;
     let mut channels = Channels::new(alloc, plan.nodes.len() as u32 + 1, plan.parallelism)?;
     let operators = open_operators(alloc, plan, columns, &wiring, &mut channels)?;
     let traffic = Traffic {
         channels,
         printed: PrintList::new(alloc),
         took: 0,
+        counts,
     };
     Ok(Session::new(operators, sources, traffic, wiring))
 }

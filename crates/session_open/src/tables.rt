@@ -5,6 +5,7 @@ ghost use Rattle.plan_rules.specs.Plans.{Doing, columns_from, network_of, scan_i
 ghost use Rattle.phys_plan.specs.Reading.{numbered};
 ghost use Rattle.ct_catalog.specs.Columns.{column_types};
 ghost use Rattle.stream_model.specs.Machine.{is_number};
+ghost use Rattle.stream_model.specs.Runs.{counts_below};
 ghost use Rattle.session_core.specs.LaidOut.{scans_below};
 ghost use Rattle.session_core.specs.declared.wiring.TableWiring.{TableWiring as Kept};
 ghost use Rattle.session_open.specs.Opening.{AreRoutable, IsKeyRoute};
@@ -30,6 +31,13 @@ pub(crate) fn tables_of(alloc: Global, plan: &Plan) -> Result<Vec<TableWiring>, 
         tables.push(TableWiring { spread, scans })?;
     }
     Ok(tables)
+}
+
+/// How many changes were taken of each table of a plan before the first: none.
+pub(crate) fn counts_of(alloc: Global, plan: &Plan) -> Result<Vec<u32>, Memory>
+    ensures { IfOk result (λ counts. counts.items ≡ counts_below (λ table. []) (length plan.now.sources)) }
+{
+    Ok(vec![in alloc; 0; plan.sources.len()]?)
 }
 
 // The columns by which a table's changes are spread.

@@ -46,10 +46,10 @@ changed_to (t ∷ ts) (f ∷ fs) taken more table zero folded stand at one other
 changed_to (t ∷ ts) (f ∷ fs) taken more table (suc i) folded stand at one others =
     (subst (FoldStands t f) (sym (others 0 (λ e. omega (arith, e)))) stand.0, changed_to ts fs (λ k. taken (suc k)) (λ k. more (suc k)) table i folded stand.1 at one (λ k other. others (suc k) (λ e. other (omega (arith, e)))))
 
-with_here : (taken : Taken) (line : Line) → with_line taken line line.table ≡ taken line.table ++ line.change ∷ []
+pub with_here : (taken : Taken) (line : Line) → with_line taken line line.table ≡ taken line.table ++ line.change ∷ []
 with_here taken line = let q : eqb line.table line.table ≡ true = eq-eqb line.table line.table refl in rw q refl
 
-with_other : (taken : Taken) (line : Line) (k : ℕ) → (k ≡ line.table → ⊥) → with_line taken line k ≡ taken k
+pub with_other : (taken : Taken) (line : Line) (k : ℕ) → (k ≡ line.table → ⊥) → with_line taken line k ≡ taken k
 with_other taken line k other = let q : eqb k line.table ≡ false = ne_eqb k line.table other in rw q refl
 
 -- one change more of the source at a place
@@ -62,9 +62,9 @@ changed sources folds taken table line folded stand at one =
 pub refusal_at : (sources : List TableDef) (taken : Taken) (line : Line) (table : TableDef) → slice_get sources line.table ≡ Some table → line_refusal sources taken line ≡ refusal_after table (taken line.table) line.change
 refusal_at sources taken line table at = ap (λ (o : Option TableDef). refusal_in o (taken line.table) line.change) at
 
-few_in : (test : Bool) (changes : List Change) (change : Change) (n : ℕ) → length changes ≤ n → length (cond test (changes ++ change ∷ []) changes) ≤ n + 1
-few_in true changes change n few = omega (arith, few, length-append changes (change ∷ []))
-few_in false changes change n few = omega (arith, few)
+few_in : (test : Bool) (changes : List Change) (change : Change) → length (cond test (changes ++ change ∷ []) changes) ≤ length changes + 1
+few_in true changes change = omega (arith, length-append changes (change ∷ []))
+few_in false changes change = omega arith
 
-pub few_more : (taken : Taken) (line : Line) (n : ℕ) → AreFew n taken → AreFew (n + 1) (with_line taken line)
-few_more taken line n few = λ source. few_in _ (taken source) line.change n (few source)
+pub few_more : (taken : Taken) (line : Line) → AreFew 1 taken (with_line taken line)
+few_more taken line = λ source. few_in _ (taken source) line.change

@@ -1,2 +1,4 @@
 pub mod Along
+pub mod Files
+pub mod Records
 pub mod Theorems

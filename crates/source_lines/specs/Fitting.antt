@@ -1,11 +1,11 @@
 -- That rows have their tables' columns, and lines their sources'.
-use Rattle.std.specs.Prelude.{◌≡◌, true, List, [], ◌∷◌, slice_get, Some, None, Ok}
+use Rattle.std.specs.Prelude.{◌≡◌, ℕ, true, List, [], ◌∷◌, slice_get, Option, Some, None, Ok}
 use Rattle.ct_change.specs.declared.change.Change.{Change}
 use Rattle.ct_change.specs.Changelog.{Rows}
 use Rattle.ct_catalog.specs.declared.table.TableDef.{TableDef}
 use Rattle.job_text.specs.declared.line.Line.{Line}
 use Rattle.job_text.specs.Fitting.{IsOfTable}
-use Rattle.job_text.specs.Lines.{Record, line_of}
+use Rattle.job_text.specs.Lines.{Record, line_in}
 use Rattle.ct_catalog.specs.Columns.{column_types, table_mode}
 use Rattle.rel_algebra.specs.Clauses.{Fits}
 use Rattle.rel_algebra.specs.Sums.{Each}
@@ -26,5 +26,5 @@ pub record FitsTable (table : TableDef) (change : Change) : Type 0 where
 
 -- a line that isn't refused is one of a source, and its change fits the source
 abbrev pub LinesFitColumns : Type 0
-LinesFitColumns = (sources : List TableDef) (fields : Record) (line : Line) (taken : Taken) → line_of sources fields ≡ Ok line → line_refusal sources taken line ≡ None
+LinesFitColumns = (sources : List TableDef) (feed : Option ℕ) (fields : Record) (line : Line) (taken : Taken) → line_in sources feed fields ≡ Ok line → line_refusal sources taken line ≡ None
     → (table : TableDef) × (slice_get sources line.table ≡ Some table) × FitsTable table line.change

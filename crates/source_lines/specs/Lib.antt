@@ -3,4 +3,5 @@ pub mod Folding
 pub mod Kept
 pub mod Run
 pub mod Standing
+pub mod Supply
 pub mod Taken

@@ -631,13 +631,13 @@ runs_drain g wired limit items typed =
           let tidy : (v j : ℕ) → g.bundle v ≡ None → u.bundle v j ≡ [] = subst (λ (x : State). (v j : ℕ) → g.bundle v ≡ None → x.bundle v j ≡ []) is (tidy_after g wired limit (opened g) (items ++ drain_stages g limit s (stages g)) (λ v j none. refl)) in
           let cleared = (stages_done g wired limit 0 (stages g) s u (in_order g wired limit) split.1).1 in
           let still : IsQuiet g u = quiet_where g wired limit u h tidy cleared in
-          let told : told_quiet u ≡ t = ok_is (told_quiet u) t (split.2.1 ∙ ap (λ (x : State). let r : Result State StepFault = Ok x in r) split.2.2) in
+          let told : told_quiet g u ≡ t = ok_is (told_quiet g u) t (split.2.1 ∙ ap (λ (x : State). let r : Result State StepFault = Ok x in r) split.2.2) in
           subst (IsQuiet g) told (record { flight = still.flight; bundle = still.bundle });
       stops = λ fault printed stopped.
           elim (stops_split g limit s (drain_stages g limit s (stages g)) (quiet ∷ []) fault printed stopped) [
             | inl here ↦ stages_stop g wired limit 0 (stages g) s (in_order g wired limit) fault printed here
             | inr there ↦ elim there.2 [
-              | inl q ↦ stops_is (Ok (told_quiet there.0)) fault tt q.0
+              | inl q ↦ stops_is (Ok (told_quiet g there.0)) fault tt q.0
               | inr later ↦ absurd later.2
             ]
           ];

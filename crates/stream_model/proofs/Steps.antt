@@ -20,7 +20,7 @@ use Rattle.op_rules.specs.Tasks.{total, emitted_by}
 use Rattle.stream_model.specs.Tables.{Table, scanned_at, refusal, AllTaken}
 use Rattle.stream_model.specs.Network.{Feed, Network, task, IsWired, scanned_by}
 use Rattle.stream_model.specs.Machine.{State, consumed, put, opened, send, print, joins, folded, answered, flushed, size_of, flushed_if_full, is_channel, move_front, move_to, flush_held, flush_bundle, is_place, is_number, is_scan_of, scan_count, scanned, take_unless, take_of, step}
-use Rattle.stream_model.specs.Runs.{Item, happens, quiet, told_quiet, step_item, state_in, after, changes_in, IsTyped, AreTyped}
+use Rattle.stream_model.specs.Runs.{Item, happens, quiet, counts, told_quiet, step_item, state_in, after, changes_in, IsTyped, AreTyped}
 use Rattle.stream_model.proofs.Sums.{total-sum, total-same, total_at}
 use Rattle.stream_model.proofs.Histories.{filter-append, joined-push, from_port-append, at_port-append, all-append, emitted-push, taken-push, changes_in-append, changes_in-map, all_from, at_port-all_from, from_port-all_from, within-all_from}
 
@@ -543,7 +543,7 @@ module _ (g : Network) (wired : IsWired g) where
           | false ↦ λ q. tt
         ] refl
 
-    hangs_told : (s : State) → HangsTogether s → HangsTogether (told_quiet s)
+    hangs_told : (s : State) → HangsTogether s → HangsTogether (told_quiet g s)
     hangs_told s h = record {
       runs = h.runs;
       scanned = h.scanned;
@@ -553,7 +553,7 @@ module _ (g : Network) (wired : IsWired g) where
       ports = h.ports;
       fed = h.fed;
       prints = h.prints;
-      printed = changes_in-append s.printed (Quiet s.took ∷ []) ∙ (append-nil (changes_in s.printed) ∙ h.printed);
+      printed = changes_in-append s.printed (Quiet (counts g s) ∷ []) ∙ (append-nil (changes_in s.printed) ∙ h.printed);
       printed_within = h.printed_within;
       printed_from = h.printed_from;
       counted = h.counted;

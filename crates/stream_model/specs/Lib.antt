@@ -1,5 +1,6 @@
 pub mod Drain
 pub mod KeysTold
+pub mod Looks
 pub mod Machine
 pub mod Network
 pub mod Runs

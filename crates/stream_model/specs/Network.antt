@@ -24,7 +24,9 @@ pub record Network : Type 0 where
   pub subtasks : ℕ
   -- how many nodes there are; the last is the sink
   pub count : ℕ
+  -- the tables, which are numbered from 0, and how many there are
   pub tables : ℕ → Option Table
+  pub table_count : ℕ
   -- the table that a node scans; none where it isn't a scan
   pub scans : ℕ → Option ℕ
   -- how many ports a node has, and the node that feeds a port

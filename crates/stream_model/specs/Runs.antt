@@ -1,5 +1,5 @@
 -- Runs of the machine.
-use Rattle.std.specs.Prelude.{◌≡◌, ℕ, true, List, [], ◌∷◌, ◌++◌, Some, Result, Ok, Err}
+use Rattle.std.specs.Prelude.{◌≡◌, ℕ, zero, suc, true, List, [], ◌∷◌, ◌++◌, length, Some, Result, Ok, Err}
 use Rattle.ct_change.specs.declared.change.Change.{Change}
 use Rattle.stream_model.specs.declared.events.Event.{Event}
 use Rattle.stream_model.specs.declared.events.Event.TheVariants.{Take, Move, Flush}
@@ -15,12 +15,20 @@ pub data Item : Type 0 where
   happens : Event → Item
   quiet : Item
 
-abbrev pub told_quiet : State → State
-told_quiet s = record s { printed = s.printed ++ Quiet s.took ∷ [] }
+-- how many changes were taken of each of so many first tables
+abbrev pub counts_below : (ℕ → List Change) → ℕ → List ℕ
+counts_below taken zero = []
+counts_below taken (suc n) = counts_below taken n ++ length (taken n) ∷ []
+
+abbrev pub counts : Network → State → List ℕ
+counts g s = counts_below s.taken g.table_count
+
+abbrev pub told_quiet : Network → State → State
+told_quiet g s = record s { printed = s.printed ++ Quiet (counts g s) ∷ [] }
 
 abbrev pub step_item : Network → ℕ → State → Item → Result State StepFault
 step_item g limit s (happens event) = step g limit s event
-step_item g limit s quiet = Ok (told_quiet s)
+step_item g limit s quiet = Ok (told_quiet g s)
 
 -- the changes among printed items
 abbrev pub changes_in : List PrintItem → List Change

@@ -1,5 +1,5 @@
 use ct_change::Change;
-use ct_value::{ChangeCode, ColTys, List, Memory, OrderCode, Row};
+use ct_value::{ChangeCode, ColTys, List, Memory, Numbers, OrderCode, Row};
 
 /// What may come next in a job: a change of a table is taken, the front of a channel is delivered, or a subtask's
 /// bundle is flushed. Tables are numbered from 0, nodes and edges from 1, subtasks from 0.
@@ -36,11 +36,14 @@ impl From<Memory> for StepFault {
     }
 }
 
-/// What a job prints: a change, or that it is quiet after so many changes taken.
+/// Numbers of changes, one for each table in the tables' order.
+pub type Counts = Numbers;
+
+/// What a job prints: a change, or that it is quiet after so many changes taken of each table.
 #[derive(Debug, Drop)]
 pub enum PrintItem {
     Change(Change),
-    Quiet(u32),
+    Quiet(Counts),
 }
 
 /// A list of what a job prints.

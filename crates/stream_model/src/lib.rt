@@ -5,5 +5,5 @@
 mod events;
 mod promises;
 
-pub use events::{Event, PrintItem, PrintList, StepFault, Stopped};
+pub use events::{Counts, Event, PrintItem, PrintList, StepFault, Stopped};
 pub use promises::{plans_compose, printed_folds_to_answer, runs_are_safe, runs_drain};

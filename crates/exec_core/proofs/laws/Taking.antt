@@ -1,41 +1,44 @@
 -- A session that takes lines goes along the machine's run over them.
-use Rattle.std.specs.Prelude.{◌≡◌, ◌⊎◌, ◌&&◌, nat_lt, nat_le, ℕ, ◌+◌, ◌<◌, cond, Bool, Option, Result, List, ◌++◌, length, option_map, IfOk, IfErr}
-use Rattle.std.proofs.Common.{[], ◌∷◌, refl, sym, ap, subst, ◌∙◌, Some, None, Ok, Err, true, false, inl, inr, arith}
+use Rattle.std.specs.Prelude.{◌≡◌, ◌⊎◌, ◌&&◌, nat_lt, nat_le, ℕ, ◌+◌, cond, set, slice_get, Bool, Option, Result, List, option_map}
+use Rattle.std.proofs.Common.{zero, suc, [], ◌∷◌, refl, sym, ap, subst, ◌∙◌, Some, None, Ok, Err, true, false, inl, inr, arith}
 use Rattle.ct_value.specs.declared.codes.ChangeCode.{ChangeCode}
-use Rattle.ct_value.specs.declared.codes.OrderCode.{OrderCode}
 use Rattle.ct_change.specs.declared.change.Change.{Change}
 use Rattle.ct_change.specs.Changelog.{fold}
 use Rattle.ct_catalog.specs.declared.table.TableDef.{TableDef}
 use Rattle.job_text.specs.declared.line.Line.{Line}
 use Rattle.job_text.specs.declared.line.LineFault.{LineFault}
 use Rattle.job_text.specs.declared.line.LineFault.TheVariants.{Change as NotRead, Memory as NoMemory}
-use Rattle.job_text.specs.Lines.{Record, line_of, answer_of}
+use Rattle.job_text.specs.Lines.{LinesLeft, Record, answer_of, line_in, one_read}
 use Rattle.job_text.proofs.laws.Fitting.{lines_fit}
+use Rattle.phys_plan.specs.declared.plan.Plan.{Plan}
+use Rattle.plan_rules.specs.Doings.{network}
+use Rattle.plan_rules.specs.Plans.{table_of}
 use Rattle.stream_model.specs.declared.events.Event.TheVariants.{Take}
 use Rattle.stream_model.specs.declared.events.StepFault.{StepFault}
 use Rattle.stream_model.specs.declared.events.StepFault.TheVariants.{Change as Refused, Order, Range, Limit, Memory}
-use Rattle.stream_model.specs.declared.events.Stopped.{Stopped}
 use Rattle.stream_model.specs.Tables.{Table, scanned_at, refusal}
 use Rattle.stream_model.specs.Network.{Network}
-use Rattle.stream_model.specs.Machine.{State, opened, scan_count, scanned, take, take_of, take_unless}
-use Rattle.stream_model.specs.Runs.{Item, happens, after, state_in, step_item, IsTyped}
-use Rattle.stream_model.specs.Drain.{StopsBy, StopsAlong, Leads, IsDrainFault, drain}
-use Rattle.plan_rules.specs.Plans.{table_of}
+use Rattle.stream_model.specs.Machine.{State, scan_count, scanned, take, take_of, take_unless}
+use Rattle.stream_model.specs.Runs.{happens, IsTyped}
+use Rattle.stream_model.specs.Drain.{StopsBy}
 use Rattle.source_lines.specs.Run as run
-use Rattle.source_lines.specs.Run.{Ran, ended, stopped, and_then, took, take_line, take_lines, drained}
-use Rattle.source_lines.specs.Run.{IsStop}
-use Rattle.source_lines.proofs.laws.Along.{leads_after, leads_along, stops_along}
+use Rattle.source_lines.specs.Run.{At, Went, on, halts, refused, stopped, job_of}
+use Rattle.source_lines.specs.Supply.{read_on, table_told}
+use Rattle.exec_core.specs.declared.session.Session.{Session}
 use Rattle.exec_core.specs.declared.fault.RunFault.{RunFault}
-use Rattle.exec_core.specs.declared.fault.RunFault.TheVariants.{Refused as RefusedAt, Stopped as Stops, Memory as Wanting}
-use Rattle.exec_core.specs.Faults.{fault_at, at_line, IsStopAt, IsLineRan, IsRan}
-use Rattle.exec_core.specs.Goes.{HasTables, IsOfSource}
+use Rattle.exec_core.specs.declared.fault.RunFault.TheVariants.{Refused as RefusedAt, Stopped as StoppedBy}
+use Rattle.exec_core.specs.Faults.{HaltsAt, IsFaultAt, IsLineFault, RefusesLast}
+use Rattle.exec_core.specs.Goes.{HasTables, HasTaken, HasTakenLine, IsOfSource, StandsIn, line_from}
 
 some_same : {A : Type 0} (o : Option A) (a b : A) → o ≡ Some a → o ≡ Some b → a ≡ b
 some_same o a b p q = cc (p, q)
 
+ok_is : {A B : Type 0} (x y : A) → (let r : Result A B = Ok x in r ≡ Ok y) → x ≡ y
+ok_is x y e = cc
+
 -- a line that is read may come to the machine
-pub of_source : (sources : List TableDef) (fields : Record) (line : Line) → line_of sources fields ≡ Ok line → IsOfSource sources line
-of_source sources fields line is = let one = lines_fit sources fields line is in record { table = one.0; is = one.1; fits = one.2.fits }
+pub of_source : (sources : List TableDef) (feed : Option ℕ) (fields : Record) (line : Line) → line_in sources feed fields ≡ Ok line → IsOfSource sources line
+of_source sources feed fields line is = let one = lines_fit sources feed fields line is in record { table = one.0; is = one.1; fits = one.2.fits }
 
 pub line_typed : (g : Network) (parallelism : ℕ) (sources : List TableDef) (line : Line) → HasTables g parallelism sources → IsOfSource sources line → IsTyped g (happens (Take line.table line.change))
 line_typed g parallelism sources line tables has table is =
@@ -43,92 +46,43 @@ line_typed g parallelism sources line tables has table is =
     let same : table_of parallelism has.table ≡ table = some_same (g.tables line.table) (table_of parallelism has.table) table own is in
     subst (λ (t : Table). t.fits line.change ≡ true) same has.fits
 
--- a change of a table that is there is put at a place that is there
-within_place : (b : Bool) (s : State) (code : OrderCode) → (let r : Result State StepFault = cond b (Ok s) (Err Limit) in r ≡ Err (Order code)) → ⊥
-within_place true s code e = cc (e)
-within_place false s code e = cc (e)
+-- ---- the machine prints nothing where it takes a line
 
-unless_place : (g : Network) (limit : ℕ) (s : State) (table : ℕ) (change : Change) (i : ℕ) (o : Option ChangeCode) (code : OrderCode) → take_unless g limit s table change i o ≡ Err (Order code) → ⊥
-unless_place g limit s table change i (Some refusal) code e = cc (e)
-unless_place g limit s table change i None code e = within_place (nat_lt s.took limit && nat_le (s.sends + scan_count g table) limit) (scanned g table i change s) code e
+within_silent : (b : Bool) (s u t : State) → u.printed ≡ s.printed → (let r : Result State StepFault = cond b (Ok u) (Err Limit) in r ≡ Ok t) → t.printed ≡ s.printed
+within_silent true s u t same e = ap (λ (v : State). v.printed) (sym (ok_is u t e)) ∙ same
+within_silent false s u t same e = absurd (cc (e))
 
-pub take_place : (g : Network) (limit parallelism : ℕ) (sources : List TableDef) (s : State) (line : Line) → HasTables g parallelism sources → IsOfSource sources line → (code : OrderCode) → take g limit s line.table line.change ≡ Err (Order code) → ⊥
-take_place g limit parallelism sources s line tables has code e =
-    let t = table_of parallelism has.table in
-    let own : g.tables line.table ≡ Some t = tables line.table ∙ ap (option_map (table_of parallelism)) has.is in
-    unless_place g limit s line.table line.change (scanned_at t line.change) (refusal t (fold t.mode (s.taken line.table)) line.change) code (sym (ap (take_of g limit s line.table line.change) own) ∙ e)
+unless_silent : (g : Network) (limit : ℕ) (s t : State) (table : ℕ) (change : Change) (i : ℕ) (o : Option ChangeCode) → take_unless g limit s table change i o ≡ Ok t → t.printed ≡ s.printed
+unless_silent g limit s t table change i (Some code) e = absurd (cc (e))
+unless_silent g limit s t table change i None e = within_silent (nat_lt s.took limit && nat_le (s.sends + scan_count g table) limit) s (scanned g table i change s) t refl e
 
--- a session that stopped at a line
-pub line_stopped : (number : ℕ) (s : State) (r : Result State StepFault) (stop : Stopped) → ((code : OrderCode) → r ≡ Err (Order code) → ⊥) → StopsBy r stop.cause → s.printed ≡ stop.printed → IsLineRan (at_line stop number) (took number s r)
-line_stopped number s r stop no_order stops printed = go stop.cause refl stops
-  where
-    go : (cause : StepFault) → stop.cause ≡ cause → StopsBy r cause → IsLineRan (fault_at cause stop number) (took number s r)
-    go (Refused code) is e = ap (took number s) e
-    go Memory is e = tt
-    go (Order code) is e = absurd (no_order code e)
-    go (Range node subtask row types) is e = subst (λ c. IsStopAt c stop (took number s r)) (sym is) (ap (took number s) e ∙ ap (stopped (Range node subtask row types)) printed)
-    go Limit is e = subst (λ c. IsStopAt c stop (took number s r)) (sym is) (ap (took number s) e ∙ ap (stopped Limit) printed)
+of_silent : (g : Network) (limit : ℕ) (s t : State) (table : ℕ) (change : Change) (o : Option Table) → take_of g limit s table change o ≡ Ok t → t.printed ≡ s.printed
+of_silent g limit s t table change None e = absurd (cc (e))
+of_silent g limit s t table change (Some own) e = unless_silent g limit s t table change (scanned_at own change) (refusal own (fold own.mode (s.taken table)) change) e
 
--- a line that isn't taken ends the run over it and all behind it
-pub line_then : (fault : RunFault) (ran : Ran) (next : State → Ran) → IsLineRan fault ran → IsLineRan fault (and_then ran next)
-line_then (RefusedAt code line) ran next e = ap (λ r. and_then r next) e
-line_then Wanting ran next e = tt
-line_then (Stops stop) ran next e = go stop.cause e
-  where
-    go : (cause : StepFault) → IsStopAt cause stop ran → IsStopAt cause stop (and_then ran next)
-    go (Refused code) e = e
-    go Memory e = e
-    go (Order code) e = e
-    go (Range node subtask row types) e = ap (λ r. and_then r next) e
-    go Limit e = ap (λ r. and_then r next) e
-
-pub line_ran : (fault : RunFault) (ran : Ran) → IsLineRan fault ran → IsRan fault ran
-line_ran (RefusedAt code line) ran e = e
-line_ran Wanting ran e = tt
-line_ran (Stops stop) ran e = go stop.cause e
-  where
-    go : (cause : StepFault) → IsStopAt cause stop ran → IsDrainFault cause × IsStop cause stop.printed ran
-    go (Refused code) e = absurd e
-    go Memory e = absurd e
-    go (Order code) e = absurd e
-    go (Range node subtask row types) e = (tt, e)
-    go Limit e = (tt, e)
-
--- ---- the states of a run
-
-after-append : (g : Network) (limit : ℕ) (s : State) (xs ys : List Item) → after g limit s (xs ++ ys) ≡ after g limit (after g limit s xs) ys
-after-append g limit s [] ys = refl
-after-append g limit s (x ∷ xs) ys = after-append g limit (state_in s (step_item g limit s x)) xs ys
-
-pub took_more : (g : Network) (limit : ℕ) (sources : List TableDef) (number : ℕ) (items : List Item) (fields : Record) (line : Line) (now : State) → line_of sources fields ≡ Ok line
-    → take g limit (after g limit (opened g) items) line.table line.change ≡ Ok now
-    → take_line g limit sources number (after g limit (opened g) items) (line_of sources fields) ≡ ended (after g limit (opened g) (items ++ happens (Take line.table line.change) ∷ []))
-took_more g limit sources number items fields line now is steps =
-    let s = after g limit (opened g) items in
-    ap (take_line g limit sources number s) is ∙ ap (took number s) steps
-    ∙ ap ended (sym (after-append g limit (opened g) items (happens (Take line.table line.change) ∷ []) ∙ ap (state_in s) steps))
-
--- the lines from one on, where that was taken
-pub lines_more : (g : Network) (limit : ℕ) (sources : List TableDef) (number : ℕ) (s t : State) (fields : Record) (rest : List Record) → take_line g limit sources number s (line_of sources fields) ≡ ended t
-    → take_lines g limit sources number s (fields ∷ rest) ≡ take_lines g limit sources (number + 1) t rest
-lines_more g limit sources number s t fields rest e = ap (λ r. and_then r (λ next. take_lines g limit sources (number + 1) next rest)) e
-
--- a drain that goes to its end, and one that stops
-pub drain_ended : (g : Network) (limit : ℕ) (sources : List TableDef) (s t : State) → Leads g limit s (drain g limit s) t → drained g limit sources s ≡ ended t
-drain_ended g limit sources s t leads = leads_along g limit sources s (drain g limit s) t leads
-
-pub drain_stopped : (g : Network) (limit : ℕ) (sources : List TableDef) (s : State) (stop : Stopped) → StopsAlong g limit s (drain g limit s) stop.cause stop.printed → IsDrainFault stop.cause → IsRan (Stops stop) (drained g limit sources s)
-drain_stopped g limit sources s stop stops is = (is, stops_along g limit sources s (drain g limit s) stop.cause stop.printed stops)
+pub take_silent : (g : Network) (limit : ℕ) (s t : State) (table : ℕ) (change : Change) → take g limit s table change ≡ Ok t → t.printed ≡ s.printed
+take_silent g limit s t table change e = of_silent g limit s t table change (g.tables table) e
 
 -- ---- what was read
 
-pub ok_weaker : {T E : Type 0} {P Q : T → Type 0} (r : Result T E) → IfOk r P → ((x : T) → P x → Q x) → IfOk r Q
-ok_weaker (Ok x) h f = f x h
-ok_weaker (Err y) h f = tt
+-- the first record that a file had left was read, and is this line, or refused so
+pub record HasRead (sources : List TableDef) (file new : LinesLeft) (r : Result Line ChangeCode) : Type 0 where
+  pub first : Record
+  pub rest : List Record
+  pub are : file.records ≡ first ∷ rest
+  pub line : line_in sources file.feed first ≡ r
+  pub new_is : new ≡ read_on file rest
 
-pub err_weaker : {T E : Type 0} {P Q : E → Type 0} (r : Result T E) → IfErr r P → ((y : E) → P y → Q y) → IfErr r Q
-err_weaker (Ok x) h f = tt
-err_weaker (Err y) h f = f y h
+-- what is told of a read
+abbrev pub ReadsEnd : LinesLeft → LinesLeft → Result (Option Line) LineFault → Type 0
+ReadsEnd file new answer = file.records ≡ [] → (answer ≡ Ok None) × (new ≡ file)
+
+abbrev pub ReadsLine : List TableDef → LinesLeft → LinesLeft → Result (Option Line) LineFault → Type 0
+ReadsLine sources file new answer = (first : Record) (rest : List Record) → file.records ≡ first ∷ rest
+    → ((answer ≡ Err NoMemory) × (new.records ≡ [])) ⊎ ((answer ≡ answer_of (line_in sources file.feed first)) × (new ≡ one_read file rest))
+
+same_read : (file : LinesLeft) (rest : List Record) → one_read file rest ≡ read_on file rest
+same_read file rest = let more : file.read + 1 ≡ suc file.read = omega arith in ap (λ n. record file { read = n; records = rest }) more
 
 answer_line : (r : Result Line ChangeCode) (line : Line) → answer_of r ≡ Ok (Some line) → r ≡ Ok line
 answer_line (Err code) line e = absurd (cc (e))
@@ -142,30 +96,100 @@ answer_refused : (r : Result Line ChangeCode) (code : ChangeCode) → answer_of 
 answer_refused (Err own) code e = let same : own ≡ code = cc (e) in ap Err same
 answer_refused (Ok own) code e = absurd (cc (e))
 
-pub read_line : {A B : Type 0} (answer : Result (Option Line) LineFault) (r : Result Line ChangeCode) (line : Line) → ((answer ≡ Err NoMemory) × A) ⊎ ((answer ≡ answer_of r) × B) → answer ≡ Ok (Some line) → (r ≡ Ok line) × B
-read_line answer r line (inl h) e = absurd (let both = sym h.0 ∙ e in cc (both))
-read_line answer r line (inr h) e = (answer_line r line (sym h.0 ∙ e), h.1)
+module _ (sources : List TableDef) (file new : LinesLeft) (answer : Result (Option Line) LineFault) (end : ReadsEnd file new answer) (reads : ReadsLine sources file new answer) where
+  pub read_line : (line : Line) → answer ≡ Ok (Some line) → HasRead sources file new (Ok line)
+  read_line line e = go file.records refl
+    where
+      one : (first : Record) (rest : List Record) → file.records ≡ first ∷ rest → ((answer ≡ Err NoMemory) × (new.records ≡ [])) ⊎ ((answer ≡ answer_of (line_in sources file.feed first)) × (new ≡ one_read file rest))
+          → HasRead sources file new (Ok line)
+      one first rest are (inl h) = absurd (let both = sym h.0 ∙ e in cc (both))
+      one first rest are (inr h) = record { first = first; rest = rest; are = are; line = answer_line (line_in sources file.feed first) line (sym h.0 ∙ e); new_is = h.1 ∙ same_read file rest }
 
-pub read_none : {A B : Type 0} (answer : Result (Option Line) LineFault) (r : Result Line ChangeCode) → ((answer ≡ Err NoMemory) × A) ⊎ ((answer ≡ answer_of r) × B) → answer ≡ Ok None → ⊥
-read_none answer r (inl h) e = let both = sym h.0 ∙ e in cc (both)
-read_none answer r (inr h) e = answer_none r (sym h.0 ∙ e)
+      go : (records : List Record) → file.records ≡ records → HasRead sources file new (Ok line)
+      go [] are = absurd (let both = sym (end are).0 ∙ e in cc (both))
+      go (first ∷ rest) are = one first rest are (reads first rest are)
 
-pub read_refused : {A B : Type 0} (answer : Result (Option Line) LineFault) (r : Result Line ChangeCode) (code : ChangeCode) → ((answer ≡ Err NoMemory) × A) ⊎ ((answer ≡ answer_of r) × B) → answer ≡ Err (NotRead code) → r ≡ Err code
-read_refused answer r code (inl h) e = absurd (let both = sym h.0 ∙ e in cc (both))
-read_refused answer r code (inr h) e = answer_refused r code (sym h.0 ∙ e)
+  pub read_refused : (code : ChangeCode) → answer ≡ Err (NotRead code) → HasRead sources file new (Err code)
+  read_refused code e = go file.records refl
+    where
+      one : (first : Record) (rest : List Record) → file.records ≡ first ∷ rest → ((answer ≡ Err NoMemory) × (new.records ≡ [])) ⊎ ((answer ≡ answer_of (line_in sources file.feed first)) × (new ≡ one_read file rest))
+          → HasRead sources file new (Err code)
+      one first rest are (inl h) = absurd (let both = sym h.0 ∙ e in cc (both))
+      one first rest are (inr h) = record { first = first; rest = rest; are = are; line = answer_refused (line_in sources file.feed first) code (sym h.0 ∙ e); new_is = h.1 ∙ same_read file rest }
 
--- there is a line where so many are left
-pub some_line : (lines : List Record) (left count : ℕ) → length lines + left ≡ count → left < count → (first : Record) × (rest : List Record) × (lines ≡ first ∷ rest)
-some_line [] left count e l = absurd (omega (arith, e, l))
-some_line (first ∷ rest) left count e l = (first, rest, refl)
+      go : (records : List Record) → file.records ≡ records → HasRead sources file new (Err code)
+      go [] are = absurd (let both = sym (end are).0 ∙ e in cc (both))
+      go (first ∷ rest) are = one first rest are (reads first rest are)
 
--- none is left at the end
-pub no_line : (lines : List Record) → length lines ≡ 0 → lines ≡ []
-no_line [] e = refl
-no_line (first ∷ rest) e = absurd (omega (arith, e))
+  pub read_none : answer ≡ Ok None → (file.records ≡ []) × (new ≡ file)
+  read_none e = go file.records refl
+    where
+      none : (first : Record) → {A : Type 0} (rest : List Record) → ((answer ≡ Err NoMemory) × (new.records ≡ [])) ⊎ ((answer ≡ answer_of (line_in sources file.feed first)) × (new ≡ one_read file rest)) → A
+      none first rest (inl h) = absurd (let both = sym h.0 ∙ e in cc (both))
+      none first rest (inr h) = absurd (answer_none (line_in sources file.feed first) (sym h.0 ∙ e))
 
-pub after_drain : (g : Network) (limit : ℕ) (items : List Item) (now : State) → Leads g limit (after g limit (opened g) items) (drain g limit (after g limit (opened g) items)) now
-    → after g limit (opened g) (items ++ drain g limit (after g limit (opened g) items)) ≡ now
-after_drain g limit items now leads =
-    let s = after g limit (opened g) items in
-    after-append g limit (opened g) items (drain g limit s) ∙ leads_after g limit s (drain g limit s) now leads
+      go : (records : List Record) → file.records ≡ records → (file.records ≡ []) × (new ≡ file)
+      go [] are = (are, (end are).1)
+      go (first ∷ rest) are = none first rest (reads first rest are)
+
+-- ---- a run that goes on by a line
+
+set_same : {A : Type 0} (xs : List A) (i : ℕ) (x : A) → slice_get xs i ≡ Some x → xs ≡ set xs i x
+set_same [] i x e = refl
+set_same (y ∷ xs) zero x e = let same : y ≡ x = cc (e) in ap (λ z. z ∷ xs) same
+set_same (y ∷ xs) (suc i) x e = ap (λ ys. y ∷ ys) (set_same xs i x e)
+
+module _ (plan : Plan) (limit : ℕ) (by_table : Bool) (p : At State) (place : ℕ) (file new : LinesLeft) where
+  abbrev Taking : LinesLeft → Result Line ChangeCode → Went (At State)
+  Taking next r = run.take_line (job_of (network plan) limit) plan.sources by_table p place next r
+
+  abbrev Took : LinesLeft → Result State StepFault → Went (At State)
+  Took next r = run.took (job_of (network plan) limit) plan.sources by_table p place next r
+
+  -- it goes on as the line does that was read
+  line_is : (r : Result Line ChangeCode) → HasRead plan.sources file new r → line_from plan limit by_table p place file ≡ Taking new r
+  line_is r read =
+      ap (λ records. run.take_first (job_of (network plan) limit) plan.sources by_table p place file records) read.are
+      ∙ ap (Taking (read_on file read.rest)) read.line
+      ∙ ap (λ next. Taking next r) (sym read.new_is)
+
+  pub line_taken : (next : Session) (line : Line) → HasRead plan.sources file new (Ok line) → HasTakenLine next line plan limit p.state → HasTaken next new plan limit p place (line_from plan limit by_table p place file)
+  line_taken next line read taken = record {
+    state = taken.state;
+    stands = taken.stands;
+    silent = taken.silent;
+    goes = line_is (Ok line) read ∙ ap (Took new) taken.takes;
+  }
+
+  -- there is no line
+  pub none_taken : (session : Session) → StandsIn session plan limit p.state.printed p.state → slice_get p.files place ≡ Some file → (file.records ≡ []) × (new ≡ file) → HasTaken session new plan limit p place (line_from plan limit by_table p place file)
+  none_taken session stands is none = record {
+    state = p.state;
+    stands = stands;
+    silent = refl;
+    goes = ap (λ records. run.take_first (job_of (network plan) limit) plan.sources by_table p place file records) none.0
+        ∙ ap (λ files. on (record p { files = files })) (set_same p.files place file is ∙ ap (set p.files place) (sym none.1));
+  }
+
+  -- ---- why a line isn't taken
+
+  refuses : (r : RunFault) (code : ChangeCode) (went : Went (At State)) → RefusesLast r code new → went ≡ halts (refused code new.read (table_told new.feed)) p → IsLineFault r p went
+  refuses (RefusedAt other line table) code went last e =
+      e ∙ ap (λ c. halts (refused c new.read (table_told new.feed)) p) (sym last.code_is) ∙ ap (λ n. halts (refused other n (table_told new.feed)) p) (sym last.line_is) ∙ ap (λ n. halts (refused other line n) p) (sym last.table_is)
+  refuses (StoppedBy cause) code went memory e = subst (λ c. HaltsAt c p went) (sym memory) tt
+
+  -- the line is none of a source
+  pub line_refused : (r : RunFault) (code : ChangeCode) → HasRead plan.sources file new (Err code) → RefusesLast r code new → IsLineFault r p (line_from plan limit by_table p place file)
+  line_refused r code read last = refuses r code (line_from plan limit by_table p place file) last (line_is (Err code) read)
+
+  faults : (cause : StepFault) (r : RunFault) (answer : Result State StepFault) → StopsBy answer cause → IsFaultAt cause r new → IsLineFault r p (Took new answer)
+  faults (Refused code) r answer e fault = refuses r code (Took new answer) fault (ap (Took new) e)
+  faults (Order code) r answer e fault = subst (λ f. IsLineFault f p (Took new answer)) (sym fault) (ap (Took new) e)
+  faults (Range node subtask row types) r answer e fault = subst (λ f. IsLineFault f p (Took new answer)) (sym fault) (ap (Took new) e)
+  faults Limit r answer e fault = subst (λ f. IsLineFault f p (Took new answer)) (sym fault) (ap (Took new) e)
+  faults Memory r answer e fault = subst (λ f. IsLineFault f p (Took new answer)) (sym fault) tt
+
+  -- the job stopped at it
+  pub line_stopped : (cause : StepFault) (r : RunFault) (line : Line) → HasRead plan.sources file new (Ok line) → StopsBy (take (network plan) limit p.state line.table line.change) cause → IsFaultAt cause r new
+      → IsLineFault r p (line_from plan limit by_table p place file)
+  line_stopped cause r line read stops fault = subst (IsLineFault r p) (sym (line_is (Ok line) read)) (faults cause r (take (network plan) limit p.state line.table line.change) stops fault)

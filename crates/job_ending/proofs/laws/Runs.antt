@@ -1,5 +1,5 @@
 -- Laws of runs: how the parts of a run go together.
-use Rattle.std.proofs.Common.{◌≡◌, ◌⊎◌, inl, inr, ℕ, ◌≤◌, false, List, [], Option, Some, None, Result, Ok, Err, refl, sym, ◌∙◌, ap, subst, arith}
+use Rattle.std.proofs.Common.{◌≡◌, ◌⊎◌, inl, inr, ℕ, ◌≤◌, false, List, [], Option, Some, Result, Ok, Err, refl, sym, ◌∙◌, ap, subst, arith}
 use Rattle.ct_io.specs.Counts.{Rose}
 use Rattle.ct_io.specs.Holdings.{Holdings}
 use Rattle.ct_io.specs.Written.{Appends, AppendsPart}
@@ -7,7 +7,7 @@ use Rattle.ct_io.proofs.laws.Appending.{appends_nothing, part_none}
 use Rattle.job_ending.specs.declared.ending.Ending.{Ending}
 use Rattle.job_ending.specs.declared.ending.Ending.TheVariants as e
 use Rattle.job_ending.specs.declared.halt.Halt.{Halt}
-use Rattle.job_ending.specs.declared.halt.Halt.TheVariants.{Script, Change, Range, Limit, ReadFault, WriteFault, Memory}
+use Rattle.job_ending.specs.declared.halt.Halt.TheVariants.{Script, Change, Order, Range, Limit, ReadFault, WriteFault, Memory}
 use Rattle.job_ending.specs.Outcome.{Outcome}
 use Rattle.job_ending.specs.Runs.{is_free, IsCaused, Runs, RunsThere, HaltsAs, IsBefore, IsCausedThere, ending_of, ending_of_halt}
 
@@ -24,7 +24,8 @@ module _ (told : Option Holdings) (of : Holdings → Outcome) (read write : Type
   cause_of_halt ReadFault (inl rose) = inl rose
   cause_of_halt ReadFault (inr at) = inr (at.0, at.1, ending_is at.2)
   cause_of_halt (Script c n) halts = λ h is. ending_is (halts h is)
-  cause_of_halt (Change c n) halts = λ h is. ending_is (halts h is)
+  cause_of_halt (Change c n t) halts = λ h is. ending_is (halts h is)
+  cause_of_halt (Order c n) halts = λ h is. ending_is (halts h is)
   cause_of_halt (Range n m r tys) halts = λ h is. ending_is (halts h is)
   cause_of_halt (Limit l) halts = λ h is. ending_is (halts h is)
 
@@ -33,7 +34,8 @@ module _ (told : Option Holdings) (of : Holdings → Outcome) (read write : Type
   no_bytes WriteFault halts free = absurd halts
   no_bytes ReadFault halts free = absurd (cc (free))
   no_bytes (Script c n) halts free = λ h is. ap (λ (o : Outcome). o.bytes) (halts h is)
-  no_bytes (Change c n) halts free = λ h is. ap (λ (o : Outcome). o.bytes) (halts h is)
+  no_bytes (Change c n t) halts free = λ h is. ap (λ (o : Outcome). o.bytes) (halts h is)
+  no_bytes (Order c n) halts free = λ h is. ap (λ (o : Outcome). o.bytes) (halts h is)
   no_bytes (Range n m r tys) halts free = λ h is. ap (λ (o : Outcome). o.bytes) (halts h is)
   no_bytes (Limit l) halts free = λ h is. ap (λ (o : Outcome). o.bytes) (halts h is)
 
@@ -54,7 +56,7 @@ module _ (told : Option Holdings) (of : Holdings → Outcome) (read write : Type
   cause_moved of' read' e.Done same more cause = λ h is. ending_is (same h is) ∙ cause h is
   cause_moved of' read' e.Usage same more cause = λ h is. ending_is (same h is) ∙ cause h is
   cause_moved of' read' (e.Script c n) same more cause = λ h is. ending_is (same h is) ∙ cause h is
-  cause_moved of' read' (e.Change c n) same more cause = λ h is. ending_is (same h is) ∙ cause h is
+  cause_moved of' read' (e.Change c n t) same more cause = λ h is. ending_is (same h is) ∙ cause h is
   cause_moved of' read' (e.Order c n) same more cause = λ h is. ending_is (same h is) ∙ cause h is
   cause_moved of' read' (e.Range n m r tys) same more cause = λ h is. ending_is (same h is) ∙ cause h is
   cause_moved of' read' (e.Limit l) same more cause = λ h is. ending_is (same h is) ∙ cause h is
@@ -77,7 +79,8 @@ cause_there told of read write there (Err Memory) same cause = tt
 cause_there told of read write there (Err WriteFault) same cause = cause
 cause_there told of read write there (Err ReadFault) same cause = absurd cause
 cause_there told of read write there (Err (Script c n)) same cause = λ h is. ending_is (same h is) ∙ cause
-cause_there told of read write there (Err (Change c n)) same cause = λ h is. ending_is (same h is) ∙ cause
+cause_there told of read write there (Err (Change c n t)) same cause = λ h is. ending_is (same h is) ∙ cause
+cause_there told of read write there (Err (Order c n)) same cause = λ h is. ending_is (same h is) ∙ cause
 cause_there told of read write there (Err (Range n m r tys)) same cause = λ h is. ending_is (same h is) ∙ cause
 cause_there told of read write there (Err (Limit l)) same cause = λ h is. ending_is (same h is) ∙ cause
 
@@ -102,7 +105,8 @@ halted_there there write o Memory is = memory_there there write o
 halted_there there write o WriteFault is = absurd is
 halted_there there write o ReadFault is = absurd is
 halted_there there write o (Script c n) is = record { cause = ending_is is; part = part_none o there.bytes; whole = λ free. subst (λ (x : Outcome). Appends o o x.bytes) (sym is) (appends_nothing o) }
-halted_there there write o (Change c n) is = record { cause = ending_is is; part = part_none o there.bytes; whole = λ free. subst (λ (x : Outcome). Appends o o x.bytes) (sym is) (appends_nothing o) }
+halted_there there write o (Change c n t) is = record { cause = ending_is is; part = part_none o there.bytes; whole = λ free. subst (λ (x : Outcome). Appends o o x.bytes) (sym is) (appends_nothing o) }
+halted_there there write o (Order c n) is = record { cause = ending_is is; part = part_none o there.bytes; whole = λ free. subst (λ (x : Outcome). Appends o o x.bytes) (sym is) (appends_nothing o) }
 halted_there there write o (Range n m r tys) is = record { cause = ending_is is; part = part_none o there.bytes; whole = λ free. subst (λ (x : Outcome). Appends o o x.bytes) (sym is) (appends_nothing o) }
 halted_there there write o (Limit l) is = record { cause = ending_is is; part = part_none o there.bytes; whole = λ free. subst (λ (x : Outcome). Appends o o x.bytes) (sym is) (appends_nothing o) }
 
@@ -127,7 +131,7 @@ completes told of read write e.ReadFault (inr at) no_read no_write h is = inl (s
 completes told of read write e.Done cause no_read no_write h is = inl (sym (cause h is))
 completes told of read write e.Usage cause no_read no_write h is = inl (sym (cause h is))
 completes told of read write (e.Script c n) cause no_read no_write h is = inl (sym (cause h is))
-completes told of read write (e.Change c n) cause no_read no_write h is = inl (sym (cause h is))
+completes told of read write (e.Change c n t) cause no_read no_write h is = inl (sym (cause h is))
 completes told of read write (e.Order c n) cause no_read no_write h is = inl (sym (cause h is))
 completes told of read write (e.Range n m r tys) cause no_read no_write h is = inl (sym (cause h is))
 completes told of read write (e.Limit l) cause no_read no_write h is = inl (sym (cause h is))

@@ -24,7 +24,7 @@ use Rattle.job_text.specs.declared.line.Line.{Line}
 use Rattle.op_rules.specs.Values.{types_fit}
 use Rattle.job_text.specs.Fitting.{IsOfTable, LinesFit}
 use Rattle.stream_model.specs.KeysTold.{is_told, told_key}
-use Rattle.job_text.specs.Lines.{Field, change_at, change_of, change_of_kind, change_of_row, fields_left, is_field_count, key_cell, key_fields, key_told, key_values, kind_of, line_at, line_of_change, row_values, source_named, spelled, value_before, values_from}
+use Rattle.job_text.specs.Lines.{Field, Record, change_at, change_of, change_of_kind, change_of_row, feed_line, fields_left, is_field_count, key_cell, key_fields, key_told, key_values, kind_of, line_at, line_of, line_of_change, row_values, source_named, spelled, value_before, values_from}
 use Rattle.ct_catalog.specs.Columns.{table_mode}
 
 -- a condition with something under it held
@@ -189,7 +189,15 @@ at-fits sources kind fields line (Some place) e = by (slice_get sources place) r
     by None g h = cc h
     by (Some table) g h = of_change table (change_of table kind fields) refl g h
 
+named-fits : (sources : List TableDef) (fields : Record) (line : Line) → line_of sources fields ≡ Ok line → (table : TableDef) × (slice_get sources line.table ≡ Some table) × IsOfTable table line.change
+named-fits sources [] line e = cc e
+named-fits sources (name ∷ []) line e = cc e
+named-fits sources (name ∷ kind ∷ fields) line e = at-fits sources kind fields line (source_named sources name) e
+
+feed-fits : (sources : List TableDef) (place : ℕ) (fields : Record) (line : Line) → feed_line sources place fields ≡ Ok line → (table : TableDef) × (slice_get sources line.table ≡ Some table) × IsOfTable table line.change
+feed-fits sources place [] line e = cc e
+feed-fits sources place (kind ∷ fields) line e = at-fits sources kind fields line (Some place) e
+
 pub lines_fit : LinesFit
-lines_fit sources [] line e = cc e
-lines_fit sources (name ∷ []) line e = cc e
-lines_fit sources (name ∷ kind ∷ fields) line e = at-fits sources kind fields line (source_named sources name) e
+lines_fit sources None fields line e = named-fits sources fields line e
+lines_fit sources (Some place) fields line e = feed-fits sources place fields line e

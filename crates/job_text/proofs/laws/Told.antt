@@ -1,11 +1,12 @@
 -- What is printed tells its items: a line is read back as the fields of a record, and these tell the kind and the values.
-use Rattle.std.specs.Prelude.{◌==◌, ◌<◌, ◌≤◌, ◌^◌, Bool, cond, codes}
-use Rattle.std.proofs.Common.{◌≡◌, ◌∙◌, ◌++◌, ℕ, suc, true, false, List, [], ◌∷◌, Option, Some, None, refl, sym, ap, subst, arith, append-nil}
-use Rattle.std.specs.List.{list_any}
+use Rattle.std.specs.Prelude.{◌==◌, ◌+◌, ◌<◌, ◌≤◌, ◌^◌, Bool, cond, codes, map}
+use Rattle.std.proofs.Common.{◌≡◌, ◌∙◌, ◌++◌, ℕ, suc, true, false, List, [], ◌∷◌, Option, Some, None, refl, sym, ap, subst, arith}
+use Rattle.std.specs.List.{AllByRecursion, list_any}
 use Rattle.std.specs.Fmt.{decimal}
 use Rattle.std.specs.Str.Parse.{AllDigits}
 use Rattle.std.proofs.lemmas.Bool.Decides.{nat_tests}
 use Rattle.std.proofs.lemmas.Fmt.{decimal_injective, decimal_is_IsNumeral}
+use Rattle.std.proofs.lemmas.List.Sums.{sum_by-cons}
 use Rattle.std.proofs.lemmas.Str.Parse.{digit_from_value}
 use Rattle.csv.specs.Machine.{Read, next_record}
 use Rattle.csv.specs.Reading.{default_config}
@@ -34,10 +35,10 @@ use Rattle.ct_change.specs.KeyRows.{is_among, key_row, keyed_from}
 use Rattle.ct_change.proofs.laws.Meanings.{same_row-true}
 use Rattle.stream_model.specs.KeysTold.{is_told, told_by}
 use Rattle.job_text.specs.AtKey.{at_key}
-use Rattle.job_text.specs.Printed.{field_texts, item_line, item_lines, kind_text, quiet_line, told_texts}
-use Rattle.job_text.specs.Told.{AreTypes, BytesTellItems, IsItemOf, LinesTellItems}
+use Rattle.job_text.specs.Printed.{commaed, field_texts, item_line, item_lines, kind_text, numbers_told, quiet_line, sum_of, told_texts}
+use Rattle.job_text.specs.Told.{AreSameItems, AreTypes, BytesTellItems, IsItemOf, IsSameItem, LinesTellItems}
 
--- ---- the line of a quiet moment is that of a record of two fields
+-- ---- the line of a quiet moment is that of a record of `=` and the numbers
 
 plain_digit : (b : ℕ) → 48 ≤ b → b ≤ 57 → needs_byte default_writer b ≡ false
 plain_digit b low high =
@@ -53,14 +54,51 @@ plain_digits (digit ∷ digits) all =
     let in_range = digit_from_value digit all.0 in
     rw (plain_digit digit in_range.0 in_range.1, plain_digits digits all.1) refl
 
-quiet_is : (taken : ℕ) → taken < 2 ^ 64 → quiet_line taken ≡ row_text default_writer (codes "=" ∷ decimal taken ∷ [])
-unfolding fields_text is_blank
-quiet_is taken few = rw (plain_digits (decimal taken) (decimal_is_IsNumeral taken few).0.1, append-nil (decimal taken)) refl
+-- each number is of 64 bits
+abbrev AreSmall : List ℕ → Type 0
+AreSmall numbers = AllByRecursion (λ n. n < 2 ^ 64) numbers
+
+numbers_text : (numbers : List ℕ) → AreSmall numbers → fields_text default_writer (map decimal numbers) ≡ commaed numbers
+unfolding fields_text
+numbers_text [] small = refl
+numbers_text (number ∷ numbers) small =
+    rw (plain_digits (decimal number) (decimal_is_IsNumeral number small.0).0.1, numbers_text numbers small.1) refl
+
+not_blank : (numbers : List ℕ) → is_blank default_writer (codes "=" ∷ map decimal numbers) ≡ false
+unfolding is_blank
+not_blank [] = refl
+not_blank (number ∷ numbers) = refl
+
+quiet_is : (numbers : List ℕ) → AreSmall numbers → quiet_line numbers ≡ row_text default_writer (codes "=" ∷ map decimal numbers)
+quiet_is numbers small = rw (not_blank numbers, numbers_text numbers small) refl
+
+-- the numbers of a quiet moment are told where their sum is small
+sum_next : (number : ℕ) (numbers : List ℕ) → sum_of (number ∷ numbers) ≡ number + sum_of numbers
+sum_next number numbers = sum_by-cons (λ n. n) number numbers
+
+all_small : (numbers : List ℕ) → sum_of numbers < 2 ^ 64 → AreSmall numbers
+all_small [] few = tt
+all_small (number ∷ numbers) few =
+    let next = sum_next number numbers in
+    (omega (arith, few, next), all_small numbers (omega (arith, few, next)))
+
+told_small : (by_table : Bool) (counts : List ℕ) → sum_of counts < 2 ^ 64 → AreSmall (numbers_told by_table counts)
+told_small true counts few = all_small counts few
+told_small false counts few = (few, tt)
+
+numbers_same : (numbers others : List ℕ) → AreSmall numbers → AreSmall others → map decimal numbers ≡ map decimal others → numbers ≡ others
+numbers_same [] [] small few e = refl
+numbers_same [] (other ∷ others) small few e = absurd (cc (e))
+numbers_same (number ∷ numbers) [] small few e = absurd (cc (e))
+numbers_same (number ∷ numbers) (other ∷ others) small few e =
+    let first = decimal_injective number other small.0 few.0 (let texts : decimal number ≡ decimal other = cc (e) in texts) in
+    let rest = numbers_same numbers others small.1 few.1 (let texts : map decimal numbers ≡ map decimal others = cc (e) in texts) in
+    rw (first, rest) refl
 
 -- the fields of an item's line
-abbrev fields_of : List Ty → Option (List ℕ) → PrintItem → List (List ℕ)
-fields_of tys key (Printed change) = kind_text change.kind ∷ told_texts (told_by key change.kind) (field_texts tys change.row)
-fields_of tys key (Quiet taken) = codes "=" ∷ decimal taken ∷ []
+abbrev fields_of : Bool → List Ty → Option (List ℕ) → PrintItem → List (List ℕ)
+fields_of by_table tys key (Printed change) = kind_text change.kind ∷ told_texts (told_by key change.kind) (field_texts tys change.row)
+fields_of by_table tys key (Quiet counts) = codes "=" ∷ map decimal (numbers_told by_table counts)
 
 -- ---- fields tell kinds and values
 
@@ -178,24 +216,27 @@ changes_told tys exist key change other h k kinds texts =
     let same : told_texts told (field_texts tys change.row) ≡ told_texts told (field_texts tys other.row) = texts ∙ sym (ap (λ (x : Kind). told_texts (told_by key x) (field_texts tys other.row)) kind) in
     change_same change other kind (told_same tys exist told change.row other.row h.0 k.0 h.1 others same)
 
-fields_told : (tys : List Ty) → AreTypes tys → (key : Option (List ℕ)) (a b : PrintItem) → IsItemOf tys key a → IsItemOf tys key b → fields_of tys key a ≡ fields_of tys key b → a ≡ b
-fields_told tys exist key (Printed change) (Printed other) h k e =
+fields_told : (tys : List Ty) → AreTypes tys → (by_table : Bool) (key : Option (List ℕ)) (a b : PrintItem) → IsItemOf tys key a → IsItemOf tys key b → fields_of by_table tys key a ≡ fields_of by_table tys key b → IsSameItem by_table a b
+fields_told tys exist by_table key (Printed change) (Printed other) h k e =
     let kinds : kind_text change.kind ≡ kind_text other.kind = cc (e) in
     let texts : told_texts (told_by key change.kind) (field_texts tys change.row) ≡ told_texts (told_by key other.kind) (field_texts tys other.row) = cc (e) in
-    ap Printed (changes_told tys exist key change other h k kinds texts)
-fields_told tys exist key (Printed change) (Quiet taken) h k e = absurd (no_kind change.kind (let first : kind_text change.kind ≡ codes "=" = cc (e) in first))
-fields_told tys exist key (Quiet taken) (Printed change) h k e = absurd (no_kind change.kind (let first : kind_text change.kind ≡ codes "=" = cc (e) in first))
-fields_told tys exist key (Quiet taken) (Quiet other) h k e = ap Quiet (decimal_injective taken other h k (let numbers : decimal taken ≡ decimal other = cc (e) in numbers))
+    changes_told tys exist key change other h k kinds texts
+fields_told tys exist by_table key (Printed change) (Quiet others) h k e = absurd (no_kind change.kind (let first : kind_text change.kind ≡ codes "=" = cc (e) in first))
+fields_told tys exist by_table key (Quiet counts) (Printed change) h k e = absurd (no_kind change.kind (let first : kind_text change.kind ≡ codes "=" = cc (e) in first))
+fields_told tys exist by_table key (Quiet counts) (Quiet others) h k e =
+    numbers_same (numbers_told by_table counts) (numbers_told by_table others) (told_small by_table counts h) (told_small by_table others k)
+    (let texts : map decimal (numbers_told by_table counts) ≡ map decimal (numbers_told by_table others) = cc (e) in texts)
 
 -- ---- lines tell fields
 
 read_line : (field : List ℕ) (fields : List (List ℕ)) (x : List ℕ) → next_record default_config StartRecord [] [] (row_text default_writer (field ∷ fields) ++ x) ≡ Some (field ∷ fields, StartRecord, x)
 read_line field fields x = read-write (field ∷ fields) x
 
-item_read : (tys : List Ty) (key : Option (List ℕ)) (item : PrintItem) → IsItemOf tys key item → (x : List ℕ) → next_record default_config StartRecord [] [] (item_line tys key item ++ x) ≡ Some (fields_of tys key item, StartRecord, x)
-item_read tys key (Printed change) is x = read_line (kind_text change.kind) (told_texts (told_by key change.kind) (field_texts tys change.row)) x
-item_read tys key (Quiet taken) few x =
-    ap (λ line. next_record default_config StartRecord [] [] (line ++ x)) (quiet_is taken few) ∙ read_line (codes "=") (decimal taken ∷ []) x
+item_read : (by_table : Bool) (tys : List Ty) (key : Option (List ℕ)) (item : PrintItem) → IsItemOf tys key item → (x : List ℕ) → next_record default_config StartRecord [] [] (item_line by_table tys key item ++ x) ≡ Some (fields_of by_table tys key item, StartRecord, x)
+item_read by_table tys key (Printed change) is x = read_line (kind_text change.kind) (told_texts (told_by key change.kind) (field_texts tys change.row)) x
+item_read by_table tys key (Quiet counts) few x =
+    let numbers = numbers_told by_table counts in
+    ap (λ line. next_record default_config StartRecord [] [] (line ++ x)) (quiet_is numbers (told_small by_table counts few)) ∙ read_line (codes "=") (map decimal numbers) x
 
 read_same : (fields others : List (List ℕ)) (x y : List ℕ) → (let r : Option Read = Some (fields, StartRecord, x) in r ≡ Some (others, StartRecord, y)) → (fields ≡ others) × (x ≡ y)
 read_same fields others x y e =
@@ -205,24 +246,40 @@ read_same fields others x y e =
     (ap (λ (p : Read). p.0) same, ap (λ (p : Read). p.2) same)
 
 pub lines_tell_items : LinesTellItems
-lines_tell_items tys exist key a b h k x y e =
-    let read = sym (item_read tys key a h x) ∙ ap (next_record default_config StartRecord [] []) e ∙ item_read tys key b k y in
-    let same = read_same (fields_of tys key a) (fields_of tys key b) x y read in
-    (fields_told tys exist key a b h k same.0, same.1)
+lines_tell_items tys exist by_table key a b h k x y e =
+    let read = sym (item_read by_table tys key a h x) ∙ ap (next_record default_config StartRecord [] []) e ∙ item_read by_table tys key b k y in
+    let same = read_same (fields_of by_table tys key a) (fields_of by_table tys key b) x y read in
+    (fields_told tys exist by_table key a b h k same.0, same.1)
 
 -- ---- all lines
 
-no_line : (tys : List Ty) (key : Option (List ℕ)) (item : PrintItem) → IsItemOf tys key item → (x : List ℕ) → [] ≡ item_line tys key item ++ x → ⊥
+no_line : (by_table : Bool) (tys : List Ty) (key : Option (List ℕ)) (item : PrintItem) → IsItemOf tys key item → (x : List ℕ) → [] ≡ item_line by_table tys key item ++ x → ⊥
 unfolding next_record
-no_line tys key item is x e =
-    let none : None ≡ Some (fields_of tys key item, StartRecord, x) = ap (next_record default_config StartRecord [] []) e ∙ item_read tys key item is x in
+no_line by_table tys key item is x e =
+    let none : None ≡ Some (fields_of by_table tys key item, StartRecord, x) = ap (next_record default_config StartRecord [] []) e ∙ item_read by_table tys key item is x in
     absurd (cc (none))
 
 pub bytes_tell_items : BytesTellItems
-bytes_tell_items tys exist key [] [] h k e = refl
-bytes_tell_items tys exist key [] (b ∷ others) h k e = absurd (no_line tys key b k.0 (item_lines tys key others) e)
-bytes_tell_items tys exist key (a ∷ more) [] h k e = absurd (no_line tys key a h.0 (item_lines tys key more) (sym e))
-bytes_tell_items tys exist key (a ∷ more) (b ∷ others) h k e =
-    let one = lines_tell_items tys exist key a b h.0 k.0 (item_lines tys key more) (item_lines tys key others) e in
-    let rest = bytes_tell_items tys exist key more others h.1 k.1 one.1 in
-    rw (one.0, rest) refl
+bytes_tell_items tys exist by_table key [] [] h k e = tt
+bytes_tell_items tys exist by_table key [] (b ∷ others) h k e = absurd (no_line by_table tys key b k.0 (item_lines by_table tys key others) e)
+bytes_tell_items tys exist by_table key (a ∷ more) [] h k e = absurd (no_line by_table tys key a h.0 (item_lines by_table tys key more) (sym e))
+bytes_tell_items tys exist by_table key (a ∷ more) (b ∷ others) h k e =
+    let one = lines_tell_items tys exist by_table key a b h.0 k.0 (item_lines by_table tys key more) (item_lines by_table tys key others) e in
+    (one.0, bytes_tell_items tys exist by_table key more others h.1 k.1 one.1)
+
+-- ---- where each source has a change file of its own, the items are one
+
+pub same_by_table : (a b : PrintItem) → IsSameItem true a b → a ≡ b
+same_by_table (Printed change) (Printed other) same = ap Printed same
+same_by_table (Printed change) (Quiet others) same = absurd same
+same_by_table (Quiet counts) (Printed other) same = absurd same
+same_by_table (Quiet counts) (Quiet others) same = ap Quiet same
+
+pub all_same_by_table : (items others : List PrintItem) → AreSameItems true items others → items ≡ others
+all_same_by_table [] [] same = refl
+all_same_by_table [] (other ∷ others) same = absurd same
+all_same_by_table (item ∷ items) [] same = absurd same
+all_same_by_table (item ∷ items) (other ∷ others) same =
+    let first = same_by_table item other same.0 in
+    let rest = all_same_by_table items others same.1 in
+    rw (first, rest) refl

@@ -18,7 +18,7 @@ use Rattle.ct_change.specs.KeyRows.{is_among}
 use Rattle.ct_catalog.specs.declared.table.ColDef.{ColDef}
 use Rattle.ct_catalog.specs.declared.table.TableDef.{TableDef}
 use Rattle.job_text.specs.declared.line.Line.{Line}
-use Rattle.job_text.specs.Lines.{Field, Record, kind_of, spelled, value_before, values_from, key_fields, key_cell, fields_left, key_values, key_told, is_field_count, row_values, change_of_row, change_of_kind, change_at, line_of_change, line_at, source_named, line_of}
+use Rattle.job_text.specs.Lines.{Field, Record, kind_of, spelled, value_before, values_from, key_fields, key_cell, fields_left, key_values, key_told, is_field_count, row_values, change_of_row, change_of_kind, change_at, line_of_change, line_at, source_named, line_of, feed_line, line_in}
 use Rattle.ct_catalog.specs.Columns.{table_mode}
 use Rattle.range_rules.specs.Tame.{is_short}
 use Rattle.range_rules.specs.Ranges.{IsShortRow, IsShort}
@@ -151,6 +151,14 @@ line_short sources [] = tt
 line_short sources (name ∷ []) = tt
 line_short sources (name ∷ kind ∷ fields) = at_short sources kind fields (source_named sources name)
 
+feed_short : (sources : List TableDef) (place : ℕ) (fields : Record) → LineIsShort (feed_line sources place fields)
+feed_short sources place [] = tt
+feed_short sources place (kind ∷ fields) = at_short sources kind fields (Some place)
+
+in_short : (sources : List TableDef) (feed : Option ℕ) (fields : Record) → LineIsShort (line_in sources feed fields)
+in_short sources None fields = line_short sources fields
+in_short sources (Some place) fields = feed_short sources place fields
+
 -- a record that is a line has a short row
-pub lines_are_short : (sources : List TableDef) (fields : Record) (line : Line) → line_of sources fields ≡ Ok line → IsShort line.change
-lines_are_short sources fields line is = subst LineIsShort is (line_short sources fields)
+pub lines_are_short : (sources : List TableDef) (feed : Option ℕ) (fields : Record) (line : Line) → line_in sources feed fields ≡ Ok line → IsShort line.change
+lines_are_short sources feed fields line is = subst LineIsShort is (in_short sources feed fields)

@@ -8,15 +8,13 @@ use Rattle.ct_value.specs.declared.ty.ColTy.{ColTy}
 use Rattle.ct_catalog.specs.Columns.{table_mode}
 use Rattle.ct_change.specs.declared.change.Change.{Change}
 use Rattle.ct_change.specs.Changelog.{Mode, append, retract, upsert, Rows, admits, apply, IsValidFrom, MayCome}
-use Rattle.job_text.specs.Lines.{Record, records_of}
 use Rattle.op_rules.specs.Edges.{Meaning, meaning_of}
 use Rattle.phys_plan.specs.declared.plan.Plan.{Plan}
 use Rattle.phys_plan.specs.Reading.{numbered}
 use Rattle.stream_model.specs.KeysTold.{told_fits, told_key}
-use Rattle.stream_model.specs.Network.{Network}
 use Rattle.stream_model.specs.Machine.{State, opened}
 use Rattle.stream_model.specs.Runs.{Item, after, changes_in, AreTyped}
-use Rattle.stream_model.specs.Theorem.{Composes, Holds}
+use Rattle.stream_model.specs.Theorem.{Composes}
 use Rattle.stream_model.specs.Drain.{RunsDrain}
 use Rattle.plan_rules.specs.Doings.{network}
 use Rattle.plan_rules.specs.Plans.{change_fits, meaning_in}
@@ -24,10 +22,10 @@ use Rattle.plan_rules.proofs.laws.ChangeFits.{key_told}
 use Rattle.plan_rules.proofs.laws.Reading.{retract_admits}
 use Rattle.sound_plans.specs.Sound.{IsRuled, SoundPlansAreWired, SoundPlansMeetFacts, SoundPlansPrint}
 use Rattle.source_lines.specs.Fitting.{LinesFitColumns}
-use Rattle.source_lines.specs.Run.{Ran, ended, refused, stopped, printed_by, whole_run}
+use Rattle.source_lines.specs.Run.{whole_run}
 use Rattle.run_laws.specs.Rows.{sent_columns, RunsPrintRows}
-use Rattle.run_laws.proofs.laws.Ends.{take_whole}
-use Rattle.run_laws.proofs.laws.Reached.{Ends, Reached, run_ends}
+use Rattle.run_laws.proofs.laws.Answered.{stands_at, take_whole}
+use Rattle.run_laws.proofs.laws.Going.{IsDone, run_ends}
 
 -- ---- what a mode tells
 
@@ -50,31 +48,26 @@ told_all mode columns rows (change ∷ changes) valid fit =
 last_meaning : (plan : Plan) → cond (length plan.nodes == length plan.nodes) (meaning_of (table_mode plan.sink)) (meaning_in (numbered plan.edges (length plan.nodes))) ≡ meaning_of (table_mode plan.sink)
 last_meaning plan = ap (λ b. cond b (meaning_of (table_mode plan.sink)) (meaning_in (numbered plan.edges (length plan.nodes)))) (eq-eqb (length plan.nodes) (length plan.nodes) refl)
 
-module _ (fit : LinesFitColumns) (prints : SoundPlansPrint) (plan : Plan) (ruled : IsRuled plan) (limit : ℕ) (holds : (items : List Item) → AreTyped (network plan) items → Holds (network plan) (after (network plan) limit (opened (network plan)) items)) where
-  abbrev g : Network
-  g = network plan
+-- in each state to which items lead, whose changes have their tables' columns, each row that was printed has the sink's
+abbrev pub PrintedRowsFit : Plan → Type 0
+PrintedRowsFit plan = (limit : ℕ) (items : List Item) → AreTyped (network plan) items
+    → AllByRecursion (λ change. told_fits (told_key (table_mode plan.sink) change.kind) (sent_columns plan) change.row ≡ true) (changes_in (after (network plan) limit (opened (network plan)) items).printed)
 
-  abbrev Fit : Change → Type 0
-  Fit change = told_fits (told_key (table_mode plan.sink) change.kind) (sent_columns plan) change.row ≡ true
-
-  fits_at : (lines rest : List Record) (s : State) → Reached fit plan limit lines rest s → AllByRecursion Fit (changes_in s.printed)
-  fits_at lines rest s r =
-      let printed = changes_in (after g limit (opened g) r.events).printed in
-      let all = (holds r.events r.typed).printed_fits in
-      let read = subst (λ (m : Meaning). AllByRecursion (λ change. change_fits m (sent_columns plan) change ≡ true) printed) (last_meaning plan) all in
-      let told = (prints plan ruled limit r.events r.typed).valid (length printed) in
-      let valid = subst (IsValidFrom (table_mode plan.sink) none) (take_whole printed) told.valid in
-      subst (λ (t : State). AllByRecursion Fit (changes_in t.printed)) r.there (told_all (table_mode plan.sink) (sent_columns plan) none printed valid read)
-
-  pub rows_fit : (lines rest : List Record) (ran : Ran) → Ends fit plan limit lines rest ran → AllByRecursion Fit (changes_in (printed_by ran))
-  rows_fit lines rest (ended s) h = fits_at lines rest s h.reached
-  rows_fit lines rest (refused number code) h = tt
-  rows_fit lines rest (stopped cause printed) h = subst (λ items. AllByRecursion Fit (changes_in items)) h.same (fits_at lines h.rest h.state h.stands.reached)
+pub printed_fit : SoundPlansAreWired → SoundPlansMeetFacts → SoundPlansPrint → Composes → (plan : Plan) → IsRuled plan → PrintedRowsFit plan
+printed_fit wired meets prints composes plan ruled limit items typed =
+    let g = network plan in
+    let printed = changes_in (after g limit (opened g) items).printed in
+    let all = (composes g (wired plan ruled) (meets plan ruled) limit items typed).printed_fits in
+    let read = subst (λ (m : Meaning). AllByRecursion (λ change. change_fits m (sent_columns plan) change ≡ true) printed) (last_meaning plan) all in
+    let told = (prints plan ruled limit items typed).valid (length printed) in
+    let valid = subst (IsValidFrom (table_mode plan.sink) none) (take_whole printed) told.valid in
+    told_all (table_mode plan.sink) (sent_columns plan) none printed valid read
 
 -- ---- the law
 
 pub prints_rows : LinesFitColumns → SoundPlansAreWired → SoundPlansMeetFacts → SoundPlansPrint → Composes → RunsDrain → RunsPrintRows
-prints_rows fit wired meets prints composes drains plan ruled limit bytes =
-    let g = network plan in
-    rows_fit fit prints plan ruled limit (composes g (wired plan ruled) (meets plan ruled) limit) (records_of bytes) [] (whole_run g limit plan.sources bytes)
-    (run_ends fit plan limit (records_of bytes) (drains g (wired plan ruled) limit))
+prints_rows fit wired meets prints composes drains plan ruled limit files orders =
+    let went = whole_run (network plan) limit plan.sources files orders in
+    let reached = (stands_at plan limit files (IsDone plan limit files) went (run_ends plan limit files fit drains orders)).is_at.reached in
+    subst (λ (s : State). AllByRecursion (λ change. told_fits (told_key (table_mode plan.sink) change.kind) (sent_columns plan) change.row ≡ true) (changes_in s.printed)) reached.there
+    (printed_fit wired meets prints composes plan ruled limit reached.events reached.typed)

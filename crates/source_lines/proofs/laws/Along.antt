@@ -1,4 +1,4 @@
--- What the items of a run do to its state and to what was printed, and where a run stops.
+-- What the items of a run do to its state and to what was printed, and where a run along them halts.
 use Rattle.std.specs.Prelude.{◌≡◌, ℕ, ◌+◌, ◌==◌, ◌&&◌, nat_le, nat_lt, Bool, cond, Option, Result, List, ◌++◌, length, map}
 use Rattle.std.proofs.Common.{zero, suc, true, false, [], ◌∷◌, refl, sym, ap, subst, ◌∙◌, Some, None, Ok, Err, inl, inr, append_assoc, append-nil}
 use Rattle.std.proofs.lemmas.List.{map-append}
@@ -17,16 +17,16 @@ use Rattle.stream_model.specs.declared.events.PrintItem.TheVariants.{Change as P
 use Rattle.stream_model.specs.Tables.{Table as Source, scanned_at, refusal}
 use Rattle.stream_model.specs.Network.{Feed, Network}
 use Rattle.stream_model.specs.Machine.{State, send, print, joins, folded, answered, flushed, size_of, flushed_if_full, is_channel, move_front, move_to, flush_held, flush_bundle, is_place, scan_count, scanned, take_unless, take_of}
-use Rattle.stream_model.specs.Runs.{Item, happens, quiet, told_quiet, step_item, state_in, after, AreTyped}
+use Rattle.stream_model.specs.Runs.{Item, happens, quiet, counts, counts_below, told_quiet, step_item, state_in, after, AreTyped}
 use Rattle.stream_model.specs.Drain.{Leads, StopsBy, StopsAlong, Stage, delivers, flushes, moves, stage_items, drain_stages, stages, drain}
 use Rattle.source_lines.specs.Run as run
-use Rattle.source_lines.specs.Run.{ended, and_then, stepped, took, Begins, IsStop}
+use Rattle.source_lines.specs.Run.{At, Went, on, halts, stopped, and_then, place_of, job_of, stepped, Begins, HaltsBy, IsStop}
 
 pub ok_same : {A B : Type 0} (x y : A) → (let r : Result A B = Ok x in r ≡ Ok y) → x ≡ y
 ok_same x y e = cc
 
-pub ended_same : (s t : State) → ended s ≡ ended t → s ≡ t
-ended_same s t e = cc
+pub on_same : {A : Type 0} (p q : A) → on p ≡ on q → p ≡ q
+on_same p q e = cc
 
 module _ (g : Network) (limit : ℕ) where
   pub leads_both : (s : State) (xs ys : List Item) (u t : State) → Leads g limit s xs u → Leads g limit u ys t → Leads g limit s (xs ++ ys) t
@@ -197,25 +197,25 @@ module _ (g : Network) (limit : ℕ) where
   pub record Drained (s t : State) : Type 0 where
     pub before : List PrintItem
     pub no_quiet : NoQuiet s.printed → NoQuiet before
-    pub printed : t.printed ≡ before ++ Quiet s.took ∷ []
+    pub printed : t.printed ≡ before ++ Quiet (counts g s) ∷ []
     pub taken : t.taken ≡ s.taken
 
   pub drained_parts : (s t : State) → Leads g limit s (drain g limit s) t → Drained s t
   drained_parts s t leads =
       let split = leads_split g limit s (drain_stages g limit s (stages g)) (quiet ∷ []) t leads in
       let goes = goes_along s (drain_stages g limit s (stages g)) split.0 (moves_stages s (stages g)) split.1 in
-      let told : told_quiet split.0 ≡ t = ok_same (told_quiet split.0) split.2.0 split.2.1 ∙ split.2.2 in
+      let told : told_quiet g split.0 ≡ t = ok_same (told_quiet g split.0) split.2.0 split.2.1 ∙ split.2.2 in
       record {
         before = split.0.printed;
         no_quiet = goes_no_quiet s split.0 goes;
-        printed = sym (ap (λ (u : State). u.printed) told) ∙ ap (λ n. split.0.printed ++ Quiet n ∷ []) goes.counted;
+        printed = sym (ap (λ (u : State). u.printed) told) ∙ ap (λ taken. split.0.printed ++ Quiet (counts_below taken g.table_count) ∷ []) goes.taken;
         taken = sym (ap (λ (u : State). u.taken) told) ∙ goes.taken;
       }
 
   pub typed_drain : (s : State) → AreTyped g (drain g limit s)
   typed_drain s = typed_both g (drain_stages g limit s (stages g)) (quiet ∷ []) (moves_typed g (drain_stages g limit s (stages g)) (moves_stages s (stages g))) (tt, tt)
 
-module _ (g : Network) (limit : ℕ) (sources : List TableDef) where
+module _ (g : Network) (limit : ℕ) where
   -- what a step that could be printed
   abbrev pub PrintsOn : State → Result State StepFault → Type 0
   PrintsOn s (Ok t) = (rest : List PrintItem) × (t.printed ≡ s.printed ++ rest)
@@ -238,36 +238,70 @@ module _ (g : Network) (limit : ℕ) (sources : List TableDef) where
   take_prints s table change (Some t) = unless_prints s table change (scanned_at t change) (refusal t (fold t.mode (s.taken table)) change)
 
   pub item_prints : (s : State) (item : Item) → PrintsOn s (step_item g limit s item)
-  item_prints s quiet = (Quiet s.took ∷ [], refl)
+  item_prints s quiet = (Quiet (counts g s) ∷ [], refl)
   item_prints s (happens (Take table change)) = take_prints s table change (g.tables table)
   item_prints s (happens (Move e i j)) = by_goes s (step_item g limit s (happens (Move e i j))) (goes_item g limit s (happens (Move e i j)) tt)
   item_prints s (happens (Flush v j)) = by_goes s (step_item g limit s (happens (Flush v j))) (goes_item g limit s (happens (Flush v j)) tt)
 
-  pub begins_step : (s : State) (items : List Item) (r : Result State StepFault) → PrintsOn s r → ((t : State) → Begins t.printed (run.go_along g limit sources t items)) → Begins s.printed (and_then (stepped s r) (λ next. run.go_along g limit sources next items))
-  begins_step s items (Err cause) prints others = ([], sym (append-nil s.printed))
-  begins_step s items (Ok t) prints others =
-      let rest = others t in
-      (prints.0 ++ rest.0, rest.1 ∙ ap (λ printed. printed ++ rest.0) prints.1 ∙ append_assoc s.printed prints.0 rest.0)
+-- ---- a run along items
 
-  pub begins_along : (items : List Item) (s : State) → Begins s.printed (run.go_along g limit sources s items)
-  begins_along [] s = ([], sym (append-nil s.printed))
-  begins_along (item ∷ items) s = begins_step s items (step_item g limit s item) (item_prints s item) (begins_along items)
+module _ (g : Network) (limit : ℕ) (sources : List TableDef) (by_table : Bool) where
+  abbrev pub Along : At State → List Item → Went (At State)
+  Along p items = run.go_along (job_of g limit) sources by_table p items
 
-  pub stop_here : (s : State) (item : Item) (items : List Item) (cause : StepFault) → StopsBy (step_item g limit s item) cause → IsStop cause s.printed (run.go_along g limit sources s (item ∷ items))
-  stop_here s item items (Refused code) is = ap (λ (r : Result State StepFault). and_then (stepped s r) (λ next. run.go_along g limit sources next items)) is
-  stop_here s item items (Order code) is = ap (λ (r : Result State StepFault). and_then (stepped s r) (λ next. run.go_along g limit sources next items)) is
-  stop_here s item items (Range node subtask row types) is = ap (λ (r : Result State StepFault). and_then (stepped s r) (λ next. run.go_along g limit sources next items)) is
-  stop_here s item items Limit is = ap (λ (r : Result State StepFault). and_then (stepped s r) (λ next. run.go_along g limit sources next items)) is
-  stop_here s item items Memory is = begins_along (item ∷ items) s
-
-  -- a run stops where its items do
-  pub stops_along : (s : State) (items : List Item) (cause : StepFault) (printed : List PrintItem) → StopsAlong g limit s items cause printed → IsStop cause printed (run.go_along g limit sources s items)
-  stops_along s [] cause printed stop = absurd stop
-  stops_along s (item ∷ items) cause printed (inl here) = subst (λ p. IsStop cause p (run.go_along g limit sources s (item ∷ items))) here.1 (stop_here s item items cause here.0)
-  stops_along s (item ∷ items) cause printed (inr later) =
-      subst (IsStop cause printed) (sym (ap (λ (r : Result State StepFault). and_then (stepped s r) (λ next. run.go_along g limit sources next items)) later.1)) (stops_along later.0 items cause printed later.2)
+  -- the items behind a step
+  abbrev pub Then : At State → List Item → Result State StepFault → Went (At State)
+  Then p items r = and_then (stepped (job_of g limit) sources by_table p r) (λ q. Along q items)
 
   -- items that lead to a state are gone along
-  pub leads_along : (s : State) (items : List Item) (t : State) → Leads g limit s items t → run.go_along g limit sources s items ≡ ended t
-  leads_along s [] t h = ap ended h
-  leads_along s (item ∷ items) t h = ap (λ (r : Result State StepFault). and_then (stepped s r) (λ next. run.go_along g limit sources next items)) h.1 ∙ leads_along h.0 items t h.2
+  pub leads_along : (p : At State) (items : List Item) (t : State) → Leads g limit p.state items t → Along p items ≡ on (record p { state = t })
+  leads_along p [] t h = ap (λ (s : State). on (record p { state = s })) h
+  leads_along p (item ∷ items) t h = ap (Then p items) h.1 ∙ leads_along (record p { state = h.0 }) items t h.2
+
+  -- and who goes along them is led
+  along_step : (p q : At State) (item : Item) (items : List Item) (r : Result State StepFault) → step_item g limit p.state item ≡ r → Then p items r ≡ on q
+      → ((s : State) → Along (record p { state = s }) items ≡ on q → Leads g limit s items q.state) → Leads g limit p.state (item ∷ items) q.state
+  along_step p q item items (Ok next) is e later = (next, is, later next e)
+  along_step p q item items (Err cause) is e later = absurd (cc (e))
+
+  pub along_leads : (p q : At State) (items : List Item) → Along p items ≡ on q → Leads g limit p.state items q.state
+  along_leads p q [] e = ap (λ (r : At State). r.state) (on_same p q e)
+  along_leads p q (item ∷ items) e = along_step p q item items (step_item g limit p.state item) refl e (λ s later. along_leads (record p { state = s }) q items later)
+
+  -- no line of a file is read on the way
+  files_then : (p : At State) (items : List Item) (r : Result State StepFault) → ((s : State) → (place_of (Along (record p { state = s }) items)).files ≡ p.files) → (place_of (Then p items r)).files ≡ p.files
+  files_then p items (Ok next) later = later next
+  files_then p items (Err cause) later = refl
+
+  pub along_files : (p : At State) (items : List Item) → (place_of (Along p items)).files ≡ p.files
+  along_files p [] = refl
+  along_files p (item ∷ items) = files_then p items (step_item g limit p.state item) (λ s. along_files (record p { state = s }) items)
+
+  -- what was printed stays
+  begins_then : (p : At State) (items : List Item) (r : Result State StepFault) → PrintsOn g limit p.state r → ((s : State) → Begins s.printed (Along (record p { state = s }) items)) → Begins p.state.printed (Then p items r)
+  begins_then p items (Err cause) more later = ([], sym (append-nil p.state.printed))
+  begins_then p items (Ok next) more later =
+      let rest = later next in
+      (more.0 ++ rest.0, rest.1 ∙ ap (λ printed. printed ++ rest.0) more.1 ∙ append_assoc p.state.printed more.0 rest.0)
+
+  pub begins_along : (p : At State) (items : List Item) → Begins p.state.printed (Along p items)
+  begins_along p [] = ([], sym (append-nil p.state.printed))
+  begins_along p (item ∷ items) = begins_then p items (step_item g limit p.state item) (item_prints g limit p.state item) (λ s. begins_along (record p { state = s }) items)
+
+  -- a step that can't be halts the run
+  halts_here : (p : At State) (item : Item) (items : List Item) (cause : StepFault) → step_item g limit p.state item ≡ Err cause → HaltsBy cause p.state.printed (Along p (item ∷ items))
+  halts_here p item items cause is = record { place = p; halted = ap (Then p items) is; same = refl }
+
+  pub stop_here : (p : At State) (item : Item) (items : List Item) (cause : StepFault) → StopsBy (step_item g limit p.state item) cause → IsStop cause p.state.printed (Along p (item ∷ items))
+  stop_here p item items (Refused code) is = halts_here p item items (Refused code) is
+  stop_here p item items (Order code) is = halts_here p item items (Order code) is
+  stop_here p item items (Range node subtask row types) is = halts_here p item items (Range node subtask row types) is
+  stop_here p item items Limit is = halts_here p item items Limit is
+  stop_here p item items Memory is = begins_along p (item ∷ items)
+
+  -- a run halts where its items stop
+  pub stops_along : (p : At State) (items : List Item) (cause : StepFault) (printed : List PrintItem) → StopsAlong g limit p.state items cause printed → IsStop cause printed (Along p items)
+  stops_along p [] cause printed stop = absurd stop
+  stops_along p (item ∷ items) cause printed (inl here) = subst (λ items_printed. IsStop cause items_printed (Along p (item ∷ items))) here.1 (stop_here p item items cause here.0)
+  stops_along p (item ∷ items) cause printed (inr later) =
+      subst (IsStop cause printed) (sym (ap (Then p items) later.1)) (stops_along (record p { state = later.0 }) items cause printed later.2)

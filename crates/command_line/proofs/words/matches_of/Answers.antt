@@ -1,8 +1,8 @@
 use Rattle.std.proofs.Common.{◌∙◌, ap, sym, map}
 use Rattle.std.proofs.lemmas.List.{map-id}
 use Rattle.clap.specs.Words.{App, fault_of, is_simple_and_free}
-use Rattle.command_line.specs.Words.{the_app, value_of}
-use Rattle.command_line.proofs.Accepted.{first-whole}
+use Rattle.command_line.specs.Words.{given_by, the_app, value_of}
+use Rattle.command_line.proofs.Accepted.{first-number}
 use Rattle.command_line.proofs.Matched.{app-is_free, value-found}
 use Rattle.command_line.proofs.words.matches_of.Goals as goal
 
@@ -13,10 +13,10 @@ returns-in-Ok-try_get_matches_from-clause-fits c =
     ∙ c.in-Ok-try_get_matches_from.ensures.kinds (ap is_simple_and_free c.in-Ok.ensures ∙ app-is_free))
 
 pub returns-in-Ok-try_get_matches_from-clause-values : goal.returns-in-Ok-try_get_matches_from-clause-values
-returns-in-Ok-try_get_matches_from-clause-values c name =
-    value-found c.in-Ok.command c.in-Ok-try_get_matches_from.matches _ name c.in-Ok.ensures c.in-Ok-try_get_matches_from.ensures.matches
-    ∙ ap (λ words. value_of words name) (map-id c.args.words.now)
+returns-in-Ok-try_get_matches_from-clause-values c =
+    (λ i. given_by (λ name. value-found c.in-Ok.command c.in-Ok-try_get_matches_from.matches _ name c.in-Ok.ensures c.in-Ok-try_get_matches_from.ensures.matches i))
+    ∙ ap (λ words. given_by (value_of words)) (map-id c.args.words.now)
 
-pub returns-in-Ok-try_get_matches_from-clause-whole : goal.returns-in-Ok-try_get_matches_from-clause-whole
-returns-in-Ok-try_get_matches_from-clause-whole c =
-    first-whole c.in-Ok.command c.in-Ok-try_get_matches_from.matches c.in-Ok.ensures c.in-Ok-try_get_matches_from.ensures.parsed
+pub returns-in-Ok-try_get_matches_from-clause-number : goal.returns-in-Ok-try_get_matches_from-clause-number
+returns-in-Ok-try_get_matches_from-clause-number c =
+    first-number c.in-Ok.command c.in-Ok-try_get_matches_from.matches c.in-Ok.ensures c.in-Ok-try_get_matches_from.ensures.parsed

@@ -15,4 +15,4 @@ returns-in_err-rows-clause-printable g c =
     rw (p.1, p.2) c.in_err-rows.ensures.printable
 
 pub returns-clause-runs : goal.returns-clause-runs
-returns-clause-runs g c = there_moved (with_changes (accepted_view c.args.script.now) c.args.first c.args.bytes) c.in_ok-rows.ensures.ok c.write_rows.ensures.runs
+returns-clause-runs g c = there_moved (with_changes (accepted_view c.args.script.now) c.args.first c.args.files) c.in_ok-rows.ensures.ok c.write_rows.ensures.runs

@@ -3,9 +3,9 @@ use Rattle.std.proofs.lemmas.Result.{err_from_is_err_and}
 use Rattle.plan_check.specs.Checked.{plan_in}
 use Rattle.sound_plans.specs.Sound.{IsRuled}
 use Rattle.job_ending.proofs.laws.Runs.{runs_halted, runs_moved}
-use Rattle.job_stream.specs.Stream.{streamed}
-use Rattle.job_run.specs.Outcome.{after_judgement, over_changes}
-use Rattle.job_run.proofs.Alike.{streamed_as_seen}
+use Rattle.command_line.specs.Requests.{input_view}
+use Rattle.job_run.specs.Outcome.{after_judgement, run_plan}
+use Rattle.job_run.proofs.Alike.{runs_as_seen}
 use Rattle.job_run.proofs.Loads.{judged_halt}
 use Rattle.job_run.proofs.Printable.{printable_halt}
 use Rattle.job_run.proofs.changelogs.run_script.Goals as goal
@@ -14,7 +14,7 @@ use Rattle.job_plan.proofs.laws.SeenNetworks.{plans_run_as_seen}
 pub returns-in_err-checked-clause-runs : goal.returns-in_err-checked-clause-runs
 returns-in_err-checked-clause-runs g c =
     let p = err_from_is_err_and c.from_residual.result c.from_residual.ensures.1 in
-    rw (p.1, p.2) (runs_halted _ _ _ _ _ _ (judged_halt _ _ (λ h plan. over_changes h c.args.changes.now (streamed plan)) _ _ c.in_err-checked.ensures.halts))
+    rw (p.1, p.2) (runs_halted _ _ _ _ _ _ (judged_halt _ _ (λ h. run_plan h (input_view c.args.input.now) c.args.order.now) _ _ c.in_err-checked.ensures.halts))
 
 pub returns-in_err-checked-clause-printable : goal.returns-in_err-checked-clause-printable
 returns-in_err-checked-clause-printable g c =
@@ -28,6 +28,7 @@ pub returns-clause-runs : goal.returns-clause-runs
 returns-clause-runs g c =
     runs_moved _ _ _ _ _ _ _ _ _ _ refl
     (λ h is.
-    ap (after_judgement (λ plan. over_changes h c.args.changes.now (streamed plan))) c.in_ok-checked.ensures.ok
-    ∙ ap (over_changes h c.args.changes.now) (streamed_as_seen plans_run_as_seen (plan_in c.in_ok-checked.checked) ∙ ap streamed (sym c.plan.ensures.same)))
+    ap (after_judgement (run_plan h (input_view c.args.input.now) c.args.order.now)) c.in_ok-checked.ensures.ok
+    ∙ runs_as_seen plans_run_as_seen (plan_in c.in_ok-checked.checked) h (input_view c.args.input.now) c.args.order.now
+    ∙ ap (run_plan h (input_view c.args.input.now) c.args.order.now) (sym c.plan.ensures.same))
     (λ rose. rose) c.run_plan.ensures.runs

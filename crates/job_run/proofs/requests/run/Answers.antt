@@ -11,7 +11,7 @@ use Rattle.job_batch.proofs.laws.Theorems.{accepted_queries_keep_their_answers}
 use Rattle.job_judgement.proofs.laws.Theorems.{accepted_is_bound}
 use Rattle.job_plan.proofs.laws.Theorems.{runnable_scripts_are_planned}
 use Rattle.laid_plans.proofs.laws.Theorems.{inferred_plans_answer}
-use Rattle.source_lines.proofs.laws.Theorems.{taken_rows_fit}
+use Rattle.source_lines.proofs.laws.Theorems.{taken_files_fit}
 use Rattle.sql_grammar.proofs.laws.Theorems.{text_is_script}
 use Rattle.judge.proofs.laws.DeclaredTables.{tables_are_well_declared_types}
 use Rattle.run_laws.proofs.laws.Theorems.{runs_carry_admitted, runs_end_quiet, runs_print_answers, runs_print_rows, sinks_take_columns}
@@ -29,7 +29,7 @@ laws = record {
   can = runnable_scripts_are_planned;
   answers = inferred_plans_answer;
   agree = accepted_queries_keep_their_answers;
-  fit = taken_rows_fit;
+  fit = taken_files_fit;
   reads = text_is_script;
   typed = tables_are_well_declared_types;
 }

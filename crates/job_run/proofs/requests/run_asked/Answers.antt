@@ -5,7 +5,7 @@ use Rattle.job_run.proofs.requests.run_asked.Goals as goal
 
 pub returns-in-Ok-Run-clause-runs : goal.returns-in-Ok-Run-clause-runs
 returns-in-Ok-Run-clause-runs g c =
-    rw c.ending_of.ensures (runs_moved _ _ _ _ _ _ _ _ _ _ refl (λ h is. of_run c.args.words.now c.in-Ok-Run.field-0 c.in-Ok-Run.ensures.ok c.in-Ok-Run.names c.in-Ok-Run.field-0-is h) (λ rose. rose) c.run_names.ensures.runs)
+    rw c.ending_of.ensures (runs_moved _ _ _ _ _ _ _ _ _ _ refl (λ h is. of_run c.args.words.now c.in-Ok-Run.field-0 c.in-Ok-Run.ensures.ok c.in-Ok-Run.names c.in-Ok-Run.order c.in-Ok-Run.field-0-is h) (λ rose. rose) c.run_names.ensures.runs)
 
 pub returns-in-Ok-Batch-clause-runs : goal.returns-in-Ok-Batch-clause-runs
 returns-in-Ok-Batch-clause-runs g c =

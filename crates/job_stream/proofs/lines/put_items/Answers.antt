@@ -3,18 +3,18 @@ use Rattle.job_stream.proofs.Items.{item_more, item_part, item_wide}
 use Rattle.job_stream.proofs.lines.put_items.Goals as goal
 
 pub returns-in_err-put_item-clause-part : goal.returns-in_err-put_item-clause-part
-returns-in_err-put_item-clause-part g c = item_part c.args.tys.now _ _ _ _ _ _ _ _ c.in-Some.ensures.steps.0 c.loop-item.invariant.taken c.in_err-put_item.ensures.part
+returns-in_err-put_item-clause-part g c = item_part c.args.sheet.now _ _ _ _ _ _ _ c.in-Some.ensures.steps.0 c.loop-item.invariant.taken c.in_err-put_item.ensures.part
 
 pub loop-item-preserved-in_ok-put_item : goal.loop-item-preserved-in_ok-put_item
 loop-item-preserved-in_ok-put_item g c = record {
-  taken = item_more c.args.tys.now _ _ _ _ _ _ _ _ c.in-Some.ensures.steps.0 c.loop-item.invariant.taken c.in_ok-put_item.ensures.whole;
+  taken = item_more c.args.sheet.now _ _ _ _ _ _ _ c.in-Some.ensures.steps.0 c.loop-item.invariant.taken c.in_ok-put_item.ensures.whole;
   later = omega (arith, c.loop-item.invariant.later, c.in_ok-put_item.ensures.later);
-  wide = (item_wide (length c.args.tys.now) _ _ _ c.in-Some.ensures.steps.0 c.loop-item.invariant.wide).1;
+  wide = (item_wide (length c.args.sheet.now.tys.items) _ _ _ c.in-Some.ensures.steps.0 c.loop-item.invariant.wide).1;
 }
 
 pub loop-item-preserved : goal.loop-item-preserved
 loop-item-preserved g c = record {
-  taken = item_more c.args.tys.now _ _ _ _ _ _ _ _ c.in-Some.ensures.steps.0 c.loop-item.invariant.taken c.in_ok-put_item.ensures.whole;
+  taken = item_more c.args.sheet.now _ _ _ _ _ _ _ c.in-Some.ensures.steps.0 c.loop-item.invariant.taken c.in_ok-put_item.ensures.whole;
   later = omega (arith, c.loop-item.invariant.later, c.in_ok-put_item.ensures.later);
-  wide = (item_wide (length c.args.tys.now) _ _ _ c.in-Some.ensures.steps.0 c.loop-item.invariant.wide).1;
+  wide = (item_wide (length c.args.sheet.now.tys.items) _ _ _ c.in-Some.ensures.steps.0 c.loop-item.invariant.wide).1;
 }

@@ -6,6 +6,6 @@ use Rattle.job_text.proofs.line.key_row_of.Given as goal
 
 abbrev pub invariant-column : goal.invariant-column
 invariant-column l = record {
-  place : l.place ≤ l.i + 2;
-  so_far : key_values l.key 0 l.cols (key_fields l.key (length l.cols) (drop 2 (fields_of l.fields))) ≡ behind l.values (key_left l.key l.whole l.cols (fields_of l.fields) l.i l.place);
+  place : l.place ≤ l.i + l.first;
+  so_far : key_values l.key 0 l.cols (key_fields l.key (length l.cols) (drop l.first (fields_of l.fields))) ≡ behind l.values (key_left l.key l.whole l.cols (fields_of l.fields) l.i l.place);
 }

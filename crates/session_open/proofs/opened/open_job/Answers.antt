@@ -74,6 +74,8 @@ returns-clause-ok b c = λ of doing job.
         within = omega (arith, sends, have.within);
         took = refl;
         few = omega arith;
+        counted = c.in_ok-counts.ensures;
+        shares = λ table. omega arith;
         printed = sym c.new-2.ensures;
       };
       runs = c.in_ok-operators.ensures.runs g c.args.limit opens none;

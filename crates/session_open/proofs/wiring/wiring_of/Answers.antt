@@ -21,6 +21,7 @@ returns b c = λ of doing job.
       feeds = wires.feeds;
       routes_many = wires.routes_many;
       routes = wires.routes;
+      tables_many = c.in_ok-tables.ensures.many;
       tables = tables_laid of doing plan c.in_ok-tables.tables.items c.in_ok-tables.ensures.many c.in_ok-tables.ensures.tables;
       types_many = c.in_ok-types.ensures.many;
       types = c.in_ok-types.ensures.types g job.runs_as;

@@ -1,5 +1,5 @@
-use Rattle.std.proofs.Common.{Err, ◌∙◌, ◌<◌, length, ap, refl, arith}
-use Rattle.source_lines.specs.Taken.{unless_refused}
+use Rattle.std.proofs.Common.{Err, ◌∙◌, ◌<◌, length, ap, refl, subst, sym, arith}
+use Rattle.source_lines.specs.Taken.{IsRefused, unless_refused}
 use Rattle.source_lines.proofs.Stand.{changed, found, refusal_at}
 use Rattle.source_lines.proofs.take.take_line.Goals as goal
 
@@ -25,4 +25,4 @@ returns-in-Err-Refused-clause-refused c = λ sources taken stand.
     let within : line.table < length c.args.folds.now.items = let there = c.in-Some.ensures.variant.0 refl in let many = c.args.folds.now.ok in omega (arith, there, many) in
     let f = found sources c.args.folds.now.items taken line.table c.in-Some.folded.now stand within c.in-Some.ensures.value in
     let told = c.in-Err-Refused.ensures.refused c.in-Err-Refused.code (ap Err c.in-Err-Refused.field-0-is) f.0 (taken line.table) f.2 in
-    ap (unless_refused c.args.number taken line) (refusal_at sources taken line f.0 f.1 ∙ told)
+    subst (IsRefused c.refusal.result) (sym (ap (unless_refused c.args.feed c.args.number taken line) (refusal_at sources taken line f.0 f.1 ∙ told))) c.refusal.ensures

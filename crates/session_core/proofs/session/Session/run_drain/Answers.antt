@@ -24,8 +24,8 @@ pub returns-clause-ok : goal.returns-clause-ok
 returns-clause-ok b c = λ g limit handed s keeps.
     let m = c.in_ok-deliver_all.ensures.ok g limit handed s keeps in
     let kept = m.2 in (
-      told_quiet m.0,
-      leads-append g limit s (drain_stages g limit s (stages g)) m.0 (quiet ∷ []) (told_quiet m.0) m.1 (told_quiet m.0, refl, refl),
+      told_quiet g m.0,
+      leads-append g limit s (drain_stages g limit s (stages g)) m.0 (quiet ∷ []) (told_quiet g m.0) m.1 (told_quiet g m.0, refl, refl),
       record {
         laid = kept.laid;
         nodes_are = kept.nodes_are;
@@ -34,6 +34,6 @@ returns-clause-ok b c = λ g limit handed s keeps.
         runs = kept.runs;
         sources = kept.sources;
         unbundled = kept.unbundled;
-        opens = open_after g limit m.0 quiet (told_quiet m.0) refl tt kept.opens;
+        opens = open_after g limit m.0 quiet (told_quiet g m.0) refl tt kept.opens;
       },
     )

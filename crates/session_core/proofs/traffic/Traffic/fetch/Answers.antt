@@ -49,6 +49,8 @@ returns-in-Some-take_front-clause-ok c = λ g limit handed s laid kept.
         within = kept.within;
         took = kept.took;
         few = kept.few;
+        counted = kept.counted;
+        shares = kept.shares;
         printed = kept.printed;
       };
     }

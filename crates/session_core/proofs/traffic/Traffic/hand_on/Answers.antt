@@ -24,6 +24,8 @@ returns-then-node-wiring-clause-ok c = λ g limit handed s may.
         within = kept.within;
         took = kept.took;
         few = kept.few;
+        counted = kept.counted;
+        shares = kept.shares;
         printed = ap (λ (l : List PrintItem). l ++ map Printed c.args.changes) kept.printed
             ∙ (append_assoc handed c.args.self.now.printed (map Printed c.args.changes) ∙ ap (λ (l : List PrintItem). handed ++ l) (sym c.in_ok-print_all.ensures.ok));
       },
@@ -69,6 +71,8 @@ returns-clause-ok c = λ g limit handed s may.
         within = within;
         took = kept.took;
         few = kept.few;
+        counted = kept.counted;
+        shares = kept.shares;
         printed = kept.printed;
       },
     )

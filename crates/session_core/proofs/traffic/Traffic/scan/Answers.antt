@@ -1,6 +1,6 @@
-use Rattle.std.proofs.Common.{◌≡◌, ℕ, ◌+◌, ◌<◌, ◌≤◌, List, length, get_or, refl, sym, ap, subst, ◌∙◌, arith}
+use Rattle.std.proofs.Common.{◌≡◌, ℕ, ◌+◌, ◌<◌, List, length, get_or, set, sym, ap, subst, ◌∙◌, arith}
 use Rattle.std.specs.List.{All}
-use Rattle.std.proofs.lemmas.Option.{slice_get-get_or}
+use Rattle.std.proofs.lemmas.Option.{slice_get-get_or, slice_get_within}
 use Rattle.ct_value.specs.Rows.{project}
 use Rattle.route.specs.Routing.{route_of, types_at}
 use Rattle.stream_model.specs.Tables.{scanned_at}
@@ -8,6 +8,7 @@ use Rattle.stream_model.specs.Machine.{scan_count, scanned}
 use Rattle.session_core.specs.declared.exchange.Route.TheVariants.{Forward}
 use Rattle.session_core.specs.Sending.{AllRoute, Carry, MayScan, scanned_by}
 use Rattle.session_core.specs.LaidOut.{scans_below}
+use Rattle.session_core.proofs.Counts.{count_at, counts_many, one_taken, shares_on}
 use Rattle.session_core.proofs.Wires.{is_table}
 use Rattle.session_core.proofs.Flights.{all_at, carry_scanned, each_scan, room_told, same_room, scan_fits, scans_at, scans_many, take_full, take_room, wide_for}
 use Rattle.session_core.proofs.traffic.Traffic.scan.Goals as goal
@@ -51,6 +52,32 @@ scan_all-requires-clause-scans c =
       wide = wide_for g.subtasks (get_or w.routes.items v Forward) (g.edge v) change (may.laid.routes v (get_or w.routes.items v Forward) there) (scan_fits g table i change s v fit scans li);
     })))
 
+pub count_one-requires-clause-table : goal.count_one-requires-clause-table
+count_one-requires-clause-table c =
+    let r = c.requires.ready in
+    let may = r.1.4 in
+    let within = slice_get_within c.args.wiring.now.tables.items c.args.table c.in-Some.kept.now c.in-Some.ensures.found in
+    omega (arith, within, may.laid.tables_many, ap length may.carries.counted, counts_many r.1.3.taken r.1.0.table_count)
+
+pub count_one-requires-clause-room : goal.count_one-requires-clause-room
+count_one-requires-clause-room c =
+    let r = c.requires.ready in
+    let g = r.1.0 in
+    let limit = r.1.1 in
+    let s = r.1.3 in
+    let may = r.1.4 in
+    let t = c.args.self.now in
+    let w = c.args.wiring.now in
+    let table = c.args.table in
+    let is = is_table w g limit table c.in-Some.kept.now r.0 may.laid c.in-Some.ensures.found may.is in
+    let count = c.len.ensures ∙ (ap length is.scans ∙ scans_many g table g.count) in
+    let room = room_told s.took limit s.sends (scan_count g table)
+    (sym (same_room t.took s.took w.limit limit t.channels.sent s.sends c.len.result (scan_count g table) may.carries.took may.laid.limit_is may.carries.sends count) ∙ (sym c.has_room.ensures ∙ c.if-not-has_room.false)) in
+    let there : table < g.table_count = omega (arith, slice_get_within w.tables.items table c.in-Some.kept.now c.in-Some.ensures.found, may.laid.tables_many) in
+    let here : get_or t.counts.items table 0 ≡ length (s.taken table) = ap (λ (l : List ℕ). get_or l table 0) may.carries.counted ∙ count_at s.taken g.table_count table there in
+    let share = may.carries.shares table in
+    omega (arith, here, share, room.0, may.laid.small)
+
 pub returns-clause-ok : goal.returns-clause-ok
 returns-clause-ok c = λ of g limit handed s may.
     let t = c.args.self.now in
@@ -62,6 +89,7 @@ returns-clause-ok c = λ of g limit handed s may.
     let count : c.len.result ≡ scan_count g table = c.len.ensures ∙ (ap length is.scans ∙ scans_many g table g.count) in
     let room = room_told s.took limit s.sends (scan_count g table)
     (sym (same_room t.took s.took w.limit limit t.channels.sent s.sends c.len.result (scan_count g table) may.carries.took may.laid.limit_is may.carries.sends count) ∙ (sym c.has_room.ensures ∙ c.if-not-has_room.false)) in
+    let there : table < g.table_count = omega (arith, slice_get_within w.tables.items table c.in-Some.kept.now c.in-Some.ensures.found, may.laid.tables_many) in
     let i = scanned_at of change in
     let key = c.in-Some.kept.now.spread in
     let at : c.in_ok-from.from ≡ i = scans_at of key.columns change c.in_ok-from.from is.spread
@@ -78,6 +106,8 @@ returns-clause-ok c = λ of g limit handed s may.
         within = room.1;
         took = omega (arith, may.carries.took);
         few = omega (arith, room.0);
+        counted = c.count_one.ensures ∙ (ap (λ (l : List ℕ). set l table (get_or l table 0 + 1)) may.carries.counted ∙ one_taken s.taken g.table_count table change there);
+        shares = shares_on s.taken s.took table change may.carries.shares;
         printed = may.carries.printed;
       },
     )

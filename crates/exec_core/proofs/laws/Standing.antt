@@ -1,0 +1,32 @@
+-- Where a session stands after one more item.
+use Rattle.std.specs.Prelude.{◌≡◌, ℕ, List, ◌++◌, Result}
+use Rattle.std.proofs.Common.{[], ◌∷◌, refl, sym, ap, subst, ◌∙◌, Ok}
+use Rattle.phys_plan.specs.declared.plan.Plan.{Plan}
+use Rattle.plan_rules.specs.Doings.{network}
+use Rattle.stream_model.specs.declared.events.PrintItem.{PrintItem}
+use Rattle.stream_model.specs.declared.events.StepFault.{StepFault}
+use Rattle.stream_model.specs.Network.{Network}
+use Rattle.stream_model.specs.Machine.{State, opened}
+use Rattle.stream_model.specs.Runs.{Item, after, state_in, step_item}
+use Rattle.exec_core.specs.declared.session.Session.{Session}
+use Rattle.exec_core.specs.Goes.{StandsIn}
+use Rattle.exec_core.specs.Stands.{Stands, reached}
+
+after-append : (g : Network) (limit : ℕ) (s : State) (xs ys : List Item) → after g limit s (xs ++ ys) ≡ after g limit (after g limit s xs) ys
+after-append g limit s [] ys = refl
+after-append g limit s (x ∷ xs) ys = after-append g limit (state_in s (step_item g limit s x)) xs ys
+
+-- one more item leads to the state that the machine answers
+reached_more : (plan : Plan) (limit : ℕ) (items : List Item) (item : Item) (s t : State) → reached plan limit items ≡ s → step_item (network plan) limit s item ≡ Ok t → reached plan limit (items ++ item ∷ []) ≡ t
+reached_more plan limit items item s t is steps =
+    let g = network plan in
+    after-append g limit (opened g) items (item ∷ []) ∙ ap (λ (u : State). after g limit u (item ∷ [])) is ∙ ap (state_in s) steps
+
+-- a session that stands for one more item stands in that state
+pub stands_more : (next : Session) (plan : Plan) (limit : ℕ) (handed : List PrintItem) (items : List Item) (item : Item) (s t : State) → reached plan limit items ≡ s
+    → step_item (network plan) limit s item ≡ Ok t → Stands next plan limit handed (items ++ item ∷ []) → StandsIn next plan limit handed t
+stands_more next plan limit handed items item s t is steps stands = record { items = items ++ item ∷ []; stands = stands; is = reached_more plan limit items item s t is steps }
+
+-- so it does where it has handed out as much
+pub handed_same : (session : Session) (plan : Plan) (limit : ℕ) (handed others : List PrintItem) (s : State) → handed ≡ others → StandsIn session plan limit handed s → StandsIn session plan limit others s
+handed_same session plan limit handed others s same stands = subst (λ (l : List PrintItem). StandsIn session plan limit l s) same stands

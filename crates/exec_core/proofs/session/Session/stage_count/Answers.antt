@@ -1,0 +1,5 @@
+use Rattle.plan_rules.specs.Doings.{network}
+use Rattle.exec_core.proofs.session.Session.stage_count.Goals as goal
+
+pub returns : goal.returns
+returns c = λ plan limit handed items stands. c.stage_count.ensures (network plan) limit handed items stands.stands_for

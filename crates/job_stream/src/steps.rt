@@ -1,0 +1,93 @@
+//! One step after the other, and behind each what it printed is written.
+ghost use Rattle.std.specs.Prelude.{◌≡◌, IfOk, IfErr};
+ghost use Rattle.phys_plan.specs.declared.plan.Plan.{Plan};
+ghost use Rattle.plan_rules.specs.Doings.{network};
+ghost use Rattle.stream_model.specs.Runs.{IsTyped, happens, quiet};
+ghost use Rattle.job_stream.specs.Parts.{item_run};
+ghost use Rattle.job_stream.specs.Stops.{halt_of};
+ghost use Rattle.job_stream.specs.Writing.{HandsOut, HaltsMoving, MayHandOut, MayMove, Moves, StopsHandingOut, told};
+
+use crate::lines::{PutFault, put_items};
+use crate::sheet::Sheet;
+use ct_change::Steps;
+use ct_io::Sink;
+use exec_core::Session;
+use job_ending::{Halt, LimitName};
+use std::sync::ledger::Ledger;
+use stream_model::{Event, StepFault};
+
+// What was printed and not yet handed out is handed out and written.
+fn hand_out<K: Sink>(session: Session, sheet: &Sheet, out: &mut K) -> Result<Session, Halt>
+    requires ready { MayHandOut sheet.now session }
+    ensures ok { IfOk result (λ next. HandsOut sheet.now session next (told K.written K.faults out.old) (told K.written K.faults out.new)) }
+    ensures halts { IfErr result (λ halt. StopsHandingOut sheet.now session (told K.written K.faults out.old) (told K.written K.faults out.new) halt) }
+{
+    let mut left = session;
+    match put_items(left.take_printed(), sheet, out) {
+        Ok(()) => Ok(left),
+        Err(PutFault::Failed) => Err(Halt::WriteFault),
+        Err(PutFault::Memory) => Err(Halt::Memory),
+    }
+}
+
+/// Why a run halts where the job stops.
+pub(crate) fn halt_of(cause: StepFault) -> Halt
+    ensures { result ≡ halt_of cause }
+{
+    match cause {
+        StepFault::Change(code) => Halt::Change {
+            code,
+            line: 0,
+            table: 0,
+        },
+        StepFault::Order(code) => Halt::Order { code, line: 0 },
+        StepFault::Range {
+            node,
+            subtask,
+            row,
+            tys,
+        } => Halt::Range {
+            node,
+            subtask,
+            row,
+            tys,
+        },
+        StepFault::Limit => Halt::Limit(LimitName::Sent),
+        StepFault::Memory => Halt::Memory,
+    }
+}
+
+/// One event, whose change would fit its table in every plan: one that takes none.
+pub(crate) fn go_step<K: Sink, L: Ledger>(
+    session: Session,
+    event: Event,
+    sheet: &Sheet,
+    steps: &mut Steps<L>,
+    out: &mut K,
+) -> Result<Session, Halt>
+    requires ready { MayMove sheet.now session }
+    requires typed { (plan : Plan) → IsTyped (network plan) (happens event) }
+    ensures ok { IfOk result (λ next. Moves sheet.now session (item_run (happens event)) next (told K.written K.faults out.old) (told K.written K.faults out.new)) }
+    ensures halts { IfErr result (λ halt. HaltsMoving sheet.now session (item_run (happens event)) (told K.written K.faults out.old) (told K.written K.faults out.new) halt) }
+{
+    match session.step(event, steps) {
+        Ok(next) => hand_out(next, sheet, out),
+        Err(stopped) => Err(halt_of(stopped.cause)),
+    }
+}
+
+/// The job is told to be quiet.
+pub(crate) fn tell_quiet<K: Sink>(
+    session: Session,
+    sheet: &Sheet,
+    out: &mut K,
+) -> Result<Session, Halt>
+    requires ready { MayMove sheet.now session }
+    ensures ok { IfOk result (λ next. Moves sheet.now session (item_run quiet) next (told K.written K.faults out.old) (told K.written K.faults out.new)) }
+    ensures halts { IfErr result (λ halt. HaltsMoving sheet.now session (item_run quiet) (told K.written K.faults out.old) (told K.written K.faults out.new) halt) }
+{
+    match session.tell_quiet() {
+        Ok(next) => hand_out(next, sheet, out),
+        Err(stopped) => Err(halt_of(stopped.cause)),
+    }
+}

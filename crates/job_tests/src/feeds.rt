@@ -1,0 +1,219 @@
+// Runs over one change file for each table.
+use crate::files::{filled, held, hold, texts};
+use crate::scripts::{LEFT_JOIN, NAMED_BY_PATH, SELECT_APPEND};
+use crate::told::{Left, is_told, told};
+use ct_io::{Calls, Files, MemShelf, SureShelf};
+use ct_value::{Bytes, Memory, Text};
+use std::alloc::Global;
+
+// A script, files beside it, the words behind those that name it, and what the run leaves.
+type Fed = (
+    &'static str,
+    &'static [(&'static str, &'static str)],
+    &'static [&'static str],
+    Left,
+);
+
+const A: (&str, &str) = ("d/a.csv", "+I,1,5\n");
+
+const B: (&str, &str) = ("d/b.csv", "+I,5,x\n-D,5,x\n");
+
+const BY_ORDER: &[&str] = &["--feeds", "d/", "--order", "o"];
+
+const USAGE: Left = ("", "usage\n", 1);
+
+// Each order of the tables, and each way to be refused.
+const RUNS: [Fed; 17] = [
+    (
+        LEFT_JOIN,
+        &[A, B, ("o", "take 1 1\ndrain\ntake 2 1\ndrain\n")],
+        BY_ORDER,
+        (
+            "+I,1,\\N\n=,1,0\n-D,1,\\N\n+I,1,x\n=,1,1\n-D,1,x\n+I,1,\\N\n=,1,2\n",
+            "",
+            0,
+        ),
+    ),
+    (
+        LEFT_JOIN,
+        &[A, B, ("o", "take 2 1\ndrain\ntake 1 1\n")],
+        BY_ORDER,
+        ("=,0,1\n+I,1,x\n-D,1,x\n+I,1,\\N\n=,1,2\n", "", 0),
+    ),
+    (
+        LEFT_JOIN,
+        &[A, B],
+        &["--feeds", "d/"],
+        (
+            "+I,1,\\N\n-D,1,\\N\n+I,1,x\n-D,1,x\n+I,1,\\N\n=,1,2\n",
+            "",
+            0,
+        ),
+    ),
+    (
+        LEFT_JOIN,
+        &[A, B],
+        &["--feeds", "d/", "--do", "batch"],
+        ("1,\\N\n", "", 0),
+    ),
+    (
+        LEFT_JOIN,
+        &[A, B, ("o", "take 3 1\n")],
+        BY_ORDER,
+        ("", "order O2 NoSuchPlace line 1\n", 4),
+    ),
+    (
+        LEFT_JOIN,
+        &[A, B, ("o", "\ntake 0 1\n")],
+        BY_ORDER,
+        ("", "order O2 NoSuchPlace line 2\n", 4),
+    ),
+    (
+        LEFT_JOIN,
+        &[A, B, ("o", "take 1 2\n")],
+        BY_ORDER,
+        ("", "order O4 NoMoreChanges line 1\n", 4),
+    ),
+    (
+        LEFT_JOIN,
+        &[A, B, ("o", "take 1\n")],
+        BY_ORDER,
+        ("", "order O1 BadLine line 1\n", 4),
+    ),
+    (
+        LEFT_JOIN,
+        &[("d/a.csv", "+I,1,5\n+I,1,6\n"), B],
+        &["--feeds", "d/"],
+        ("", "change C8 KeyPresent line 2 table 1\n", 3),
+    ),
+    (
+        LEFT_JOIN,
+        &[A, ("d/b.csv", "\n+I,x,y\n")],
+        &["--feeds", "d/"],
+        ("", "change C5 BadField line 1 column 1 table 2\n", 3),
+    ),
+    (
+        LEFT_JOIN,
+        &[A, ("d/b.csv", "+I,5,x\nb,-D,5,x\n")],
+        &["--feeds", "d/", "--do", "batch"],
+        ("", "change C1 FieldCount line 2 table 2\n", 3),
+    ),
+    (
+        NAMED_BY_PATH,
+        &[("d/eu/t.csv", "+I,a\n")],
+        &["--feeds", "d/"],
+        ("+I,a\n=,1\n", "", 0),
+    ),
+    (
+        LEFT_JOIN,
+        &[("c", "a,+I,1,5\n"), ("o", "take 1 1\n")],
+        &["--changes", "c", "--order", "o"],
+        ("", "order O1 BadLine line 1\n", 4),
+    ),
+    (
+        LEFT_JOIN,
+        &[A, B],
+        &["--feeds", "d/", "--changes", "c"],
+        USAGE,
+    ),
+    (
+        LEFT_JOIN,
+        &[A, B],
+        &["--feeds", "d/", "--do", "batch", "--first", "1"],
+        USAGE,
+    ),
+    (
+        SELECT_APPEND,
+        &[("o", "")],
+        &["--changes", "c", "--do", "batch", "--order", "o"],
+        USAGE,
+    ),
+    (
+        SELECT_APPEND,
+        &[("o", "")],
+        &["--do", "explain", "--order", "o"],
+        USAGE,
+    ),
+];
+
+// The words that name the script, and others behind them.
+fn words(alloc: Global, others: &[&str]) -> Result<Vec<Text>, Memory> {
+    let mut words = texts(alloc, &["--script", "s"])?;
+    for word in others {
+        words.push(Text::from_str(alloc, word)?)?;
+    }
+    Ok(words)
+}
+
+fn files(alloc: Global, script: &str, others: &[(&str, &str)]) -> Result<Files, Memory> {
+    let mut files = held(alloc, others)?;
+    hold(
+        alloc,
+        &mut files,
+        "s",
+        Bytes::from_slice(alloc, script.as_bytes())?,
+    )?;
+    Ok(files)
+}
+
+fn leaves(alloc: Global, run: &Fed) -> Result<bool, Memory> {
+    let words = words(alloc, run.2)?;
+    let mut shelf = SureShelf::new(files(alloc, run.0, run.1)?);
+    Ok(is_told(&told(alloc, words.as_slice(), &mut shelf), &run.3))
+}
+
+#[test]
+fn runs_take_of_each_table(rt: HostRuntime) {
+    for (place, run) in RUNS.iter().enumerate() {
+        let left = leaves(rt.alloc(), run);
+        assert!(rt; matches!(left, Ok(true)), "run {place}");
+    }
+}
+
+const READ_FAULT: Left = ("", "read fault\n", 7);
+
+// Whether a run is a read fault where only these files are held.
+fn is_read_fault(alloc: Global, others: &[(&str, &str)]) -> Result<bool, Memory> {
+    let words = words(alloc, &["--feeds", "d/"])?;
+    let files = files(alloc, LEFT_JOIN, others)?;
+    let mut shelf = MemShelf::new(files, Calls::new(alloc));
+    Ok(is_told(&told(alloc, words.as_slice(), &mut shelf), &READ_FAULT))
+}
+
+#[test]
+fn each_table_has_a_file(rt: HostRuntime) {
+    assert!(rt; matches!(is_read_fault(rt.alloc(), &[A]), Ok(true)));
+    assert!(rt; matches!(is_read_fault(rt.alloc(), &[B]), Ok(true)));
+    assert!(rt; matches!(is_read_fault(rt.alloc(), &[A, B]), Ok(false)));
+}
+
+// Lengths to which two files of blanks are filled, and what the run over them leaves.
+const FILLED: [(usize, usize, Left); 2] = [
+    (
+        40000000,
+        27108864,
+        ("", "change C1 FieldCount line 1 table 1\n", 3),
+    ),
+    (40000000, 27108865, ("", "limit changes\n", 6)),
+];
+
+fn filled_files(alloc: Global, first: usize, second: usize) -> Result<Files, Memory> {
+    let mut files = files(alloc, LEFT_JOIN, &[])?;
+    hold(alloc, &mut files, "d/a.csv", filled(alloc, "", first)?)?;
+    hold(alloc, &mut files, "d/b.csv", filled(alloc, "", second)?)?;
+    Ok(files)
+}
+
+fn filled_leaves(alloc: Global, first: usize, second: usize, left: &Left) -> Result<bool, Memory> {
+    let words = words(alloc, &["--feeds", "d/"])?;
+    let mut shelf = SureShelf::new(filled_files(alloc, first, second)?);
+    Ok(is_told(&told(alloc, words.as_slice(), &mut shelf), left))
+}
+
+#[test]
+fn files_of_tables_are_limited_together(rt: HostRuntime) {
+    for (first, second, left) in &FILLED {
+        let is_left = filled_leaves(rt.alloc(), *first, *second, left);
+        assert!(rt; matches!(is_left, Ok(true)), "lengths {first} and {second}");
+    }
+}
