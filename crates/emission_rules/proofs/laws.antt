@@ -17,6 +17,8 @@ pub mod JoinTold
 pub mod KeyCases
 pub mod Lists
 pub mod Made
+pub mod Materializes
+pub mod Materializing
 pub mod Members
 pub mod Moved
 pub mod Moves

@@ -6,6 +6,7 @@ pub mod Grouping
 pub mod JoinFits
 pub mod Joining
 pub mod Joins
+pub mod Materialize
 pub mod Normalize
 pub mod Project
 pub mod Ranking

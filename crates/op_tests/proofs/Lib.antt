@@ -4,6 +4,7 @@ pub mod GroupFitting
 pub mod GroupSound
 pub mod JoinArrivals
 pub mod JoinFitting
+pub mod MaterializeArrivals
 pub mod RowArrivals
 pub mod TopArrivals
 pub mod TopFitting

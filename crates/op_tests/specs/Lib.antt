@@ -2,5 +2,6 @@ pub mod GroupFed
 pub mod GroupTables
 pub mod JoinFed
 pub mod JoinTables
+pub mod MaterializeFed
 pub mod TopFed
 pub mod TopTables

@@ -29,6 +29,10 @@ mod many_joins;
 #[cfg(test)]
 mod many_tops;
 #[cfg(test)]
+mod materialize_feeding;
+#[cfg(test)]
+mod materialize_histories;
+#[cfg(test)]
 mod modes;
 #[cfg(test)]
 mod row_operators;
