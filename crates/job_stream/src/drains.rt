@@ -3,9 +3,8 @@ ghost use Rattle.std.specs.Prelude.{IfOk, IfErr};
 ghost use Rattle.job_stream.specs.Parts.{drain_run, moves_run, stage_run, stages_run};
 ghost use Rattle.job_stream.specs.Writing.{HaltsMoving, MayMove, MayMoveStage, Moves, told};
 
-use crate::sheet::Sheet;
+use crate::sheet::{Sheet, Tools};
 use crate::steps::{go_step, tell_quiet};
-use ct_change::Steps;
 use ct_io::Sink;
 use exec_core::Session;
 use job_ending::Halt;
@@ -19,7 +18,7 @@ pub(crate) fn move_all<K: Sink, L: Ledger>(
     lane: Lane,
     count: u32,
     sheet: &Sheet,
-    steps: &mut Steps<L>,
+    tools: &mut Tools<L>,
     out: &mut K,
 ) -> Result<Session, Halt>
     requires ready { MayMove sheet.now session }
@@ -34,7 +33,7 @@ pub(crate) fn move_all<K: Sink, L: Ledger>(
             from: lane.from,
             to: lane.to,
         };
-        moved = go_step(moved, event, sheet, steps, out)?;
+        moved = go_step(moved, event, sheet, tools, out)?;
         left -= 1;
     }
     Ok(moved)
@@ -45,7 +44,7 @@ fn deliver<K: Sink, L: Ledger>(
     session: Session,
     number: usize,
     sheet: &Sheet,
-    steps: &mut Steps<L>,
+    tools: &mut Tools<L>,
     out: &mut K,
 ) -> Result<Session, Halt>
     requires ready { MayMoveStage sheet.now session number }
@@ -54,7 +53,7 @@ fn deliver<K: Sink, L: Ledger>(
 {
     let lane = session.stage(number);
     match session.in_flight(lane.edge, lane.from, lane.to) {
-        Some(held) => move_all(session, lane, held, sheet, steps, out),
+        Some(held) => move_all(session, lane, held, sheet, tools, out),
         None => unreachable!(),
     }
 }
@@ -63,7 +62,7 @@ fn deliver<K: Sink, L: Ledger>(
 fn deliver_all<K: Sink, L: Ledger>(
     session: Session,
     sheet: &Sheet,
-    steps: &mut Steps<L>,
+    tools: &mut Tools<L>,
     out: &mut K,
 ) -> Result<Session, Halt>
     requires ready { MayMove sheet.now session }
@@ -73,7 +72,7 @@ fn deliver_all<K: Sink, L: Ledger>(
     let mut drained = session;
     let count = drained.stage_count();
     'stages: for number in 0..count {
-        drained = deliver(drained, number, sheet, steps, out)?;
+        drained = deliver(drained, number, sheet, tools, out)?;
     }
     Ok(drained)
 }
@@ -82,13 +81,13 @@ fn deliver_all<K: Sink, L: Ledger>(
 pub(crate) fn drain<K: Sink, L: Ledger>(
     session: Session,
     sheet: &Sheet,
-    steps: &mut Steps<L>,
+    tools: &mut Tools<L>,
     out: &mut K,
 ) -> Result<Session, Halt>
     requires ready { MayMove sheet.now session }
     ensures ok { IfOk result (λ next. Moves sheet.now session drain_run next (told K.written K.faults out.old) (told K.written K.faults out.new)) }
     ensures halts { IfErr result (λ halt. HaltsMoving sheet.now session drain_run (told K.written K.faults out.old) (told K.written K.faults out.new) halt) }
 {
-    let drained = deliver_all(session, sheet, steps, out)?;
-    tell_quiet(drained, sheet, out)
+    let drained = deliver_all(session, sheet, tools, out)?;
+    tell_quiet(drained, sheet, &mut tools.writer, out)
 }

@@ -10,7 +10,7 @@ ghost use Rattle.job_stream.specs.Writing.{lines_on};
 use crate::sheet::Sheet;
 use ct_io::{Sink, put_all};
 use ct_value::Memory;
-use job_text::item_line;
+use job_text::LineWriter;
 use stream_model::{PrintItem, PrintList};
 
 /// Why items aren't put.
@@ -35,6 +35,7 @@ impl From<Memory> for PutFault {
 pub(crate) fn put_items<K: Sink>(
     items: PrintList,
     sheet: &Sheet,
+    writer: &mut LineWriter,
     out: &mut K,
 ) -> Result<(), PutFault>
     requires wide { AllByRecursion (IsWide (length sheet.now.tys.items)) items }
@@ -45,13 +46,18 @@ pub(crate) fn put_items<K: Sink>(
     ensures failed { IsErrOf result PutFault.Failed → Rose (K.faults out.old) (K.faults out.new) }
 {
     for item in items.into_vec() {
-        put_item(&item, sheet, out)?;
+        put_item(&item, sheet, writer, out)?;
     }
     Ok(())
 }
 
 // Puts the line of an item.
-fn put_item<K: Sink>(item: &PrintItem, sheet: &Sheet, out: &mut K) -> Result<(), PutFault>
+fn put_item<K: Sink>(
+    item: &PrintItem,
+    sheet: &Sheet,
+    writer: &mut LineWriter,
+    out: &mut K,
+) -> Result<(), PutFault>
     requires wide { IsWide (length sheet.now.tys.items) item.now }
     requires types { AllByRecursion (λ ty. IsTrue (is_type ty)) sheet.now.tys.items }
     ensures whole { OnOk result (Appends (K.written out.old) (K.written out.new) (item_line sheet.now.by_table sheet.now.tys.items sheet.now.key item.now)) }
@@ -59,14 +65,13 @@ fn put_item<K: Sink>(item: &PrintItem, sheet: &Sheet, out: &mut K) -> Result<(),
     ensures later { K.faults out.old ≤ K.faults out.new }
     ensures failed { IsErrOf result PutFault.Failed → Rose (K.faults out.old) (K.faults out.new) }
 {
-    let line = item_line(
-        sheet.alloc,
+    writer.write_item(
         item,
         sheet.tys.as_slice(),
         sheet.key.as_ref(),
         sheet.by_table,
     )?;
-    match put_all(out, line.as_slice()) {
+    match put_all(out, writer.line()) {
         Ok(()) => Ok(()),
         Err(_) => Err(PutFault::Failed),
     }

@@ -9,7 +9,7 @@ ghost use Rattle.job_stream.specs.Stops.{buffer_refusal};
 ghost use Rattle.job_stream.specs.Writing.{ForPlaces, Goes, HaltsOn, HaltsTaking, MayMove, MayRun, MayTake, Takes, told};
 
 use crate::drains::{drain, move_all};
-use crate::sheet::Sheet;
+use crate::sheet::{Sheet, Tools};
 use crate::steps::go_step;
 use crate::takes::{take_many, take_rest};
 use ct_change::Steps;
@@ -130,7 +130,7 @@ fn act<K: Sink, L: Ledger>(
     verb: Verb,
     sources: &NamedSources<'_>,
     sheet: &Sheet,
-    steps: &mut Steps<L>,
+    tools: &mut Tools<L>,
     out: &mut K,
 ) -> Result<Session, Halt>
     requires ready { MayRun sheet.now sources.now session }
@@ -140,18 +140,18 @@ fn act<K: Sink, L: Ledger>(
     match verb {
         Verb::Take { table, count } => {
             let place = file_named(sheet.by_table, table);
-            take_named(session, files, place, count, sources, steps)
+            take_named(session, files, place, count, sources, &mut tools.steps)
         }
         Verb::Move {
             edge,
             from,
             to,
             count,
-        } => move_all(session, Lane { edge, from, to }, count, sheet, steps, out),
+        } => move_all(session, Lane { edge, from, to }, count, sheet, tools, out),
         Verb::Flush { node, subtask } => {
-            go_step(session, Event::Flush { node, subtask }, sheet, steps, out)
+            go_step(session, Event::Flush { node, subtask }, sheet, tools, out)
         }
-        Verb::Drain => drain(session, sheet, steps, out),
+        Verb::Drain => drain(session, sheet, tools, out),
     }
 }
 
@@ -162,7 +162,7 @@ fn follow_one<K: Sink, L: Ledger>(
     order: &OrderLine,
     sources: &NamedSources<'_>,
     sheet: &Sheet,
-    steps: &mut Steps<L>,
+    tools: &mut Tools<L>,
     out: &mut K,
 ) -> Result<Session, Halt>
     requires ready { MayRun sheet.now sources.now session }
@@ -174,7 +174,7 @@ fn follow_one<K: Sink, L: Ledger>(
             code,
             line: order.line,
         }),
-        None => act(session, files, order.verb, sources, sheet, steps, out),
+        None => act(session, files, order.verb, sources, sheet, tools, out),
     }
 }
 
@@ -185,7 +185,7 @@ fn follow<K: Sink, L: Ledger>(
     orders: &Orders,
     sources: &NamedSources<'_>,
     sheet: &Sheet,
-    steps: &mut Steps<L>,
+    tools: &mut Tools<L>,
     out: &mut K,
 ) -> Result<Session, Halt>
     requires ready { MayRun sheet.now sources.now session }
@@ -195,7 +195,7 @@ fn follow<K: Sink, L: Ledger>(
     let mut followed = session;
     let lines = orders.as_slice();
     'orders: for place in 0..lines.len() {
-        followed = follow_one(followed, files, &lines[place], sources, sheet, steps, out)?;
+        followed = follow_one(followed, files, &lines[place], sources, sheet, tools, out)?;
     }
     Ok(followed)
 }
@@ -206,15 +206,15 @@ fn finish<K: Sink, L: Ledger>(
     files: &mut Vec<ChangeLines>,
     sources: &NamedSources<'_>,
     sheet: &Sheet,
-    steps: &mut Steps<L>,
+    tools: &mut Tools<L>,
     out: &mut K,
 ) -> Result<Session, Halt>
     requires ready { MayRun sheet.now sources.now session }
     ensures ok { IfOk result (λ next. Goes sheet.now sources.now session files.old.items end_run next files.new.items (told K.written K.faults out.old) (told K.written K.faults out.new)) }
     ensures halts { IfErr result (λ halt. HaltsOn sheet.now sources.now session files.old.items end_run (told K.written K.faults out.old) (told K.written K.faults out.new) halt) }
 {
-    let taken = take_rest(session, files, sources, steps)?;
-    drain(taken, sheet, steps, out)
+    let taken = take_rest(session, files, sources, &mut tools.steps)?;
+    drain(taken, sheet, tools, out)
 }
 
 /// The lines of an order, and then the end.
@@ -224,13 +224,13 @@ pub(crate) fn go_over<K: Sink, L: Ledger>(
     orders: &Orders,
     sources: &NamedSources<'_>,
     sheet: &Sheet,
-    steps: &mut Steps<L>,
+    tools: &mut Tools<L>,
     out: &mut K,
 ) -> Result<Session, Halt>
     requires ready { MayRun sheet.now sources.now session }
     ensures ok { IfOk result (λ next. Goes sheet.now sources.now session files.old.items (opened_run orders.now) next files.new.items (told K.written K.faults out.old) (told K.written K.faults out.new)) }
     ensures halts { IfErr result (λ halt. HaltsOn sheet.now sources.now session files.old.items (opened_run orders.now) (told K.written K.faults out.old) (told K.written K.faults out.new) halt) }
 {
-    let followed = follow(session, files, orders, sources, sheet, steps, out)?;
-    finish(followed, files, sources, sheet, steps, out)
+    let followed = follow(session, files, orders, sources, sheet, tools, out)?;
+    finish(followed, files, sources, sheet, tools, out)
 }

@@ -8,22 +8,27 @@ ghost use Rattle.job_stream.specs.Stops.{halt_of};
 ghost use Rattle.job_stream.specs.Writing.{HandsOut, HaltsMoving, MayHandOut, MayMove, Moves, StopsHandingOut, told};
 
 use crate::lines::{PutFault, put_items};
-use crate::sheet::Sheet;
-use ct_change::Steps;
+use crate::sheet::{Sheet, Tools};
 use ct_io::Sink;
 use exec_core::Session;
 use job_ending::{Halt, LimitName};
+use job_text::LineWriter;
 use std::sync::ledger::Ledger;
 use stream_model::{Event, StepFault};
 
 // What was printed and not yet handed out is handed out and written.
-fn hand_out<K: Sink>(session: Session, sheet: &Sheet, out: &mut K) -> Result<Session, Halt>
+fn hand_out<K: Sink>(
+    session: Session,
+    sheet: &Sheet,
+    writer: &mut LineWriter,
+    out: &mut K,
+) -> Result<Session, Halt>
     requires ready { MayHandOut sheet.now session }
     ensures ok { IfOk result (λ next. HandsOut sheet.now session next (told K.written K.faults out.old) (told K.written K.faults out.new)) }
     ensures halts { IfErr result (λ halt. StopsHandingOut sheet.now session (told K.written K.faults out.old) (told K.written K.faults out.new) halt) }
 {
     let mut left = session;
-    match put_items(left.take_printed(), sheet, out) {
+    match put_items(left.take_printed(), sheet, writer, out) {
         Ok(()) => Ok(left),
         Err(PutFault::Failed) => Err(Halt::WriteFault),
         Err(PutFault::Memory) => Err(Halt::Memory),
@@ -62,7 +67,7 @@ pub(crate) fn go_step<K: Sink, L: Ledger>(
     session: Session,
     event: Event,
     sheet: &Sheet,
-    steps: &mut Steps<L>,
+    tools: &mut Tools<L>,
     out: &mut K,
 ) -> Result<Session, Halt>
     requires ready { MayMove sheet.now session }
@@ -70,8 +75,8 @@ pub(crate) fn go_step<K: Sink, L: Ledger>(
     ensures ok { IfOk result (λ next. Moves sheet.now session (item_run (happens event)) next (told K.written K.faults out.old) (told K.written K.faults out.new)) }
     ensures halts { IfErr result (λ halt. HaltsMoving sheet.now session (item_run (happens event)) (told K.written K.faults out.old) (told K.written K.faults out.new) halt) }
 {
-    match session.step(event, steps) {
-        Ok(next) => hand_out(next, sheet, out),
+    match session.step(event, &mut tools.steps) {
+        Ok(next) => hand_out(next, sheet, &mut tools.writer, out),
         Err(stopped) => Err(halt_of(stopped.cause)),
     }
 }
@@ -80,6 +85,7 @@ pub(crate) fn go_step<K: Sink, L: Ledger>(
 pub(crate) fn tell_quiet<K: Sink>(
     session: Session,
     sheet: &Sheet,
+    writer: &mut LineWriter,
     out: &mut K,
 ) -> Result<Session, Halt>
     requires ready { MayMove sheet.now session }
@@ -87,7 +93,7 @@ pub(crate) fn tell_quiet<K: Sink>(
     ensures halts { IfErr result (λ halt. HaltsMoving sheet.now session (item_run quiet) (told K.written K.faults out.old) (told K.written K.faults out.new) halt) }
 {
     match session.tell_quiet() {
-        Ok(next) => hand_out(next, sheet, out),
+        Ok(next) => hand_out(next, sheet, writer, out),
         Err(stopped) => Err(halt_of(stopped.cause)),
     }
 }

@@ -9,12 +9,12 @@ ghost use Rattle.job_stream.specs.Stream.{streamed, streamed_within};
 ghost use Rattle.job_stream.specs.Writing.{IsSheetOf};
 
 use crate::orders::go_over;
-use crate::sheet::{Sheet, sheet_of};
+use crate::sheet::{Sheet, Tools, sheet_of};
 use ct_change::Steps;
 use ct_io::Sink;
 use exec_core::Session;
 use job_ending::{Halt, LimitName};
-use job_text::{ChangeLines, NamedSources, Orders};
+use job_text::{ChangeLines, LineWriter, NamedSources, Orders};
 use phys_plan::Plan;
 use session_open::OpenFault;
 use source_lines::{ChangeFiles, read_files};
@@ -97,9 +97,12 @@ fn run_job<K: Sink, L: Ledger>(
         return Err(Halt::Memory);
     };
     let mut left = files;
-    let mut steps = Steps::<L>::new(blank);
+    let mut tools = Tools::<L> {
+        steps: Steps::new(blank),
+        writer: LineWriter::new(sheet.alloc),
+    };
     match Session::open_job(sheet.alloc, plan, sent_limit) {
-        Ok(session) => match go_over(session, &mut left, orders, &sources, sheet, &mut steps, out) {
+        Ok(session) => match go_over(session, &mut left, orders, &sources, sheet, &mut tools, out) {
             Ok(_) => Ok(()),
             Err(halt) => Err(halt),
         },

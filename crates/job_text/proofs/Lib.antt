@@ -1,6 +1,9 @@
+pub mod MadeLines
 pub mod Names
 pub mod Numerals
+pub mod Quotes
 pub mod Readers
+pub mod RecordLines
 pub mod Reading
 pub mod Texts
 pub mod Values

@@ -1,27 +1,50 @@
 -- The texts of values, column by column.
-use Rattle.std.proofs.Common.{◌≡◌, ◌<◌, ◌+◌, ◌∙◌, ℕ, zero, suc, Bool, true, false, cond, List, [], ◌∷◌, ◌++◌, length, drop, get_or, refl, sym, ap, arith, append_assoc, IsTrue}
+use Rattle.std.proofs.Common.{◌≡◌, ◌≤◌, ◌<◌, ◌+◌, ◌∙◌, ℕ, zero, suc, Bool, true, false, cond, List, [], ◌∷◌, ◌++◌, length, drop, get_or, refl, sym, ap, arith, append_assoc, codes, IsTrue}
 use Rattle.std.specs.List.{AllByRecursion}
 use Rattle.std.proofs.lemmas.List.{append-nil, drop_all, drop_more}
+use Rattle.csv.specs.Writing as csv
 use Rattle.ct_value.specs.declared.ty.Ty.{Ty}
 use Rattle.ct_value.specs.declared.value.Value.{Value}
 use Rattle.ct_field.specs.Numbers.{is_type}
 use Rattle.ct_field.specs.Fields.{field_text}
 use Rattle.ct_change.specs.KeyRows.{is_among}
 use Rattle.job_text.specs.AtKey.{at_key}
-use Rattle.job_text.specs.Printed.{field_texts}
+use Rattle.job_text.specs.Printed.{commaed, field_texts, fields_behind, quiet_line}
 
--- one more text behind the fields
-pub texts_step : (fields more total : List (List ℕ)) (tys : List Ty) (values : List Value) (i : ℕ) (d : Ty) (value : Value) → length values ≡ length tys → i < length values
-    → value ≡ get_or values i value → more ≡ fields ++ field_text (get_or tys i d) value ∷ [] → fields ++ field_texts (drop i tys) (drop i values) ≡ total
-    → more ++ field_texts (drop (i + 1) tys) (drop (i + 1) values) ≡ total
-texts_step fields more total tys values i d value same h value_is more_is so_far =
-    ap (λ xs. xs ++ field_texts (drop (i + 1) tys) (drop (i + 1) values)) more_is
-    ∙ append_assoc fields (field_text (get_or tys i d) value ∷ []) (field_texts (drop (i + 1) tys) (drop (i + 1) values))
-    ∙ sym (ap (λ xs. fields ++ field_texts xs (drop i values)) (drop_more tys i d (omega (arith, same, h))) ∙ ap (λ xs. fields ++ field_texts (get_or tys i d ∷ drop (i + 1) tys) xs) (drop_more values i value h ∙ ap (λ x. x ∷ drop (i + 1) values) (sym value_is)))
-    ∙ so_far
+-- a field, and others behind it
+pub field_behind : (field : List ℕ) (fields : List (List ℕ)) → fields_behind (field ∷ fields) ≡ fields_behind (field ∷ []) ++ fields_behind fields
+unfolding csv.fields_text
+field_behind field fields =
+    ap (λ xs. csv.comma ∷ (xs ++ fields_behind fields)) (sym (append-nil (csv.field_text csv.default_writer field)))
 
-pub texts_none : (fields : List (List ℕ)) (tys : List Ty) (values : List Value) (i : ℕ) → length values ≡ length tys → i ≡ length values → fields ++ field_texts (drop i tys) (drop i values) ≡ fields
-texts_none fields tys values i same e = ap (λ xs. fields ++ field_texts xs (drop i values)) (drop_all i tys (omega (arith, same, e))) ∙ append-nil fields
+-- no field
+pub none_behind : (line : List ℕ) → line ++ fields_behind [] ≡ line
+unfolding csv.fields_text
+none_behind line = append-nil line
+
+-- the texts that are left from a column on
+texts_next : (tys : List Ty) (values : List Value) (i : ℕ) (d : Ty) (value : Value) → length values ≡ length tys → i < length values → value ≡ get_or values i value
+    → field_texts (drop i tys) (drop i values) ≡ field_text (get_or tys i d) value ∷ field_texts (drop (i + 1) tys) (drop (i + 1) values)
+texts_next tys values i d value same h value_is =
+    ap (λ xs. field_texts xs (drop i values)) (drop_more tys i d (omega (arith, same, h)))
+    ∙ ap (λ xs. field_texts (get_or tys i d ∷ drop (i + 1) tys) xs) (drop_more values i value h ∙ ap (λ x. x ∷ drop (i + 1) values) (sym value_is))
+
+-- one more text behind a line
+one_more : (line more total field : List ℕ) (fields left : List (List ℕ)) → left ≡ field ∷ fields → more ≡ line ++ fields_behind (field ∷ []) → line ++ fields_behind left ≡ total
+    → more ++ fields_behind fields ≡ total
+one_more line more total field fields left left_is more_is so_far =
+    ap (λ xs. xs ++ fields_behind fields) more_is ∙ append_assoc line (fields_behind (field ∷ [])) (fields_behind fields)
+    ∙ ap (λ xs. line ++ xs) (sym (field_behind field fields) ∙ ap fields_behind (sym left_is)) ∙ so_far
+
+pub texts_step : (line more total : List ℕ) (tys : List Ty) (values : List Value) (i : ℕ) (d : Ty) (value : Value) → length values ≡ length tys → i < length values
+    → value ≡ get_or values i value → more ≡ line ++ fields_behind (field_text (get_or tys i d) value ∷ []) → line ++ fields_behind (field_texts (drop i tys) (drop i values)) ≡ total
+    → more ++ fields_behind (field_texts (drop (i + 1) tys) (drop (i + 1) values)) ≡ total
+texts_step line more total tys values i d value same h value_is more_is so_far =
+    one_more line more total (field_text (get_or tys i d) value) (field_texts (drop (i + 1) tys) (drop (i + 1) values)) (field_texts (drop i tys) (drop i values))
+    (texts_next tys values i d value same h value_is) more_is so_far
+
+pub texts_none : (line : List ℕ) (tys : List Ty) (values : List Value) (i : ℕ) → length values ≡ length tys → i ≡ length values → line ++ fields_behind (field_texts (drop i tys) (drop i values)) ≡ line
+texts_none line tys values i same e = ap (λ xs. line ++ fields_behind (field_texts xs (drop i values))) (drop_all i tys (omega (arith, same, e))) ∙ none_behind line
 
 -- each type is one that columns have
 pub type_at : (tys : List Ty) (i : ℕ) (ty : Ty) → AllByRecursion (λ t. IsTrue (is_type t)) tys → i < length tys → IsTrue (is_type (get_or tys i ty))
@@ -41,29 +64,33 @@ key_texts_next key tys values i d value same h value_is =
     let next : suc i ≡ i + 1 = omega arith in
     let text = field_text (get_or tys i d) value in
     let rest = field_texts (drop (i + 1) tys) (drop (i + 1) values) in
-    ap (λ xs. at_key key i (field_texts xs (drop i values))) (drop_more tys i d (omega (arith, same, h)))
-    ∙ ap (λ xs. at_key key i (field_texts (get_or tys i d ∷ drop (i + 1) tys) xs)) (drop_more values i value h ∙ ap (λ x. x ∷ drop (i + 1) values) (sym value_is))
+    ap (at_key key i) (texts_next tys values i d value same h value_is)
     ∙ ap (λ k. cond (is_among key i) (text ∷ at_key key k rest) (at_key key k rest)) next
 
--- nothing behind the fields
-pub texts_same : (fields : List (List ℕ)) → fields ++ [] ≡ fields
-texts_same fields = append-nil fields
-
--- one more column, whose text is behind the fields where it is one of the key's
-pub key_texts_step : (key : List ℕ) (fields more total : List (List ℕ)) (tys : List Ty) (values : List Value) (i : ℕ) (d : Ty) (value : Value) (b : Bool) → length values ≡ length tys → i < length values
-    → value ≡ get_or values i value → is_among key i ≡ b → more ≡ fields ++ cond b (field_text (get_or tys i d) value ∷ []) [] → fields ++ key_texts key tys values i ≡ total
-    → more ++ key_texts key tys values (i + 1) ≡ total
-key_texts_step key fields more total tys values i d value b same h value_is is more_is so_far =
+-- one more column, whose text is behind the line where it is one of the key's
+pub key_texts_step : (key line more total : List ℕ) (tys : List Ty) (values : List Value) (i : ℕ) (d : Ty) (value : Value) (b : Bool) → length values ≡ length tys → i < length values
+    → value ≡ get_or values i value → is_among key i ≡ b → more ≡ line ++ fields_behind (cond b (field_text (get_or tys i d) value ∷ []) [])
+    → line ++ fields_behind (key_texts key tys values i) ≡ total → more ++ fields_behind (key_texts key tys values (i + 1)) ≡ total
+key_texts_step key line more total tys values i d value b same h value_is is more_is so_far =
     let text = field_text (get_or tys i d) value in
     let rest = key_texts key tys values (i + 1) in
-    let next : fields ++ key_texts key tys values i ≡ fields ++ cond b (text ∷ rest) rest =
-    ap (λ xs. fields ++ xs) (key_texts_next key tys values i d value same h value_is ∙ ap (λ t. cond t (text ∷ rest) rest) is) in
-    ap (λ xs. xs ++ rest) more_is ∙ append_assoc fields (cond b (text ∷ []) []) rest ∙ ap (λ xs. fields ++ xs) (by b text rest) ∙ sym next ∙ so_far
+    by b text rest (key_texts_next key tys values i d value same h value_is ∙ ap (λ t. cond t (text ∷ rest) rest) is) more_is
   where
-    by : (t : Bool) (text : List ℕ) (rest : List (List ℕ)) → cond t (text ∷ []) [] ++ rest ≡ cond t (text ∷ rest) rest
-    by true text rest = refl
-    by false text rest = refl
+    by : (t : Bool) (text : List ℕ) (rest : List (List ℕ)) → key_texts key tys values i ≡ cond t (text ∷ rest) rest → more ≡ line ++ fields_behind (cond t (text ∷ []) []) → more ++ fields_behind rest ≡ total
+    by true text rest left_is more_is = one_more line more total text rest (key_texts key tys values i) left_is more_is so_far
+    by false text rest left_is more_is =
+        ap (λ xs. xs ++ fields_behind rest) (more_is ∙ none_behind line) ∙ ap (λ xs. line ++ fields_behind xs) (sym left_is) ∙ so_far
 
-pub key_texts_none : (key : List ℕ) (fields : List (List ℕ)) (tys : List Ty) (values : List Value) (i : ℕ) → length values ≡ length tys → i ≡ length values → fields ++ key_texts key tys values i ≡ fields
-key_texts_none key fields tys values i same e =
-    ap (λ xs. fields ++ at_key key i (field_texts xs (drop i values))) (drop_all i tys (omega (arith, same, e))) ∙ append-nil fields
+pub key_texts_none : (key line : List ℕ) (tys : List Ty) (values : List Value) (i : ℕ) → length values ≡ length tys → i ≡ length values → line ++ fields_behind (key_texts key tys values i) ≡ line
+key_texts_none key line tys values i same e =
+    ap (λ xs. line ++ fields_behind (at_key key i (field_texts xs (drop i values)))) (drop_all i tys (omega (arith, same, e))) ∙ none_behind line
+
+-- ---- the numbers of a quiet moment
+
+pub counts_start : (old line counts : List ℕ) → line ≡ old ++ codes "=" → line ++ commaed counts ≡ old ++ (codes "=" ++ commaed counts)
+counts_start old line counts is = ap (λ xs. xs ++ commaed counts) is ∙ append_assoc old (codes "=") (commaed counts)
+
+pub counts_end : (old line counts : List ℕ) (i : ℕ) → i ≡ length counts → line ++ commaed (drop i counts) ≡ old ++ (codes "=" ++ commaed counts) → line ++ codes "\n" ≡ old ++ quiet_line counts
+counts_end old line counts i e so_far =
+    let none : line ++ commaed (drop i counts) ≡ line = ap (λ xs. line ++ commaed xs) (drop_all i counts (omega (arith, e))) ∙ append-nil line in
+    ap (λ xs. xs ++ codes "\n") (sym none ∙ so_far) ∙ append_assoc old (codes "=" ++ commaed counts) (codes "\n")

@@ -2,6 +2,7 @@ pub mod AtKey
 pub mod Cuts
 pub mod Fitting
 pub mod Lines
+pub mod Made
 pub mod Names
 pub mod Orders
 pub mod Printed

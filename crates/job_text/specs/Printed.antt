@@ -5,16 +5,21 @@ use Rattle.csv.specs.Writing as csv
 use Rattle.ct_value.specs.declared.ty.Ty.{Ty}
 use Rattle.ct_value.specs.declared.value.Value.{Value}
 use Rattle.ct_field.specs.Fields.{field_text}
+use Rattle.ct_change.specs.declared.change.Change.{Change}
 use Rattle.ct_change.specs.declared.kind.Kind.{Kind}
 use Rattle.ct_change.specs.declared.kind.Kind.TheVariants.{I, UB, UA, D}
 use Rattle.stream_model.specs.KeysTold.{told_by}
 use Rattle.stream_model.specs.declared.events.PrintItem.{PrintItem}
-use Rattle.stream_model.specs.declared.events.PrintItem.TheVariants.{Change, Quiet}
+use Rattle.stream_model.specs.declared.events.PrintItem.TheVariants.{Change as Printed, Quiet}
 use Rattle.job_text.specs.AtKey.{at_key}
 
 -- the line of a record: a field is quoted where it holds a comma, a quote or the end of a line, and LF is behind the last
 abbrev pub record_line : List (List ℕ) → List ℕ
 record_line fields = csv.row_text csv.default_writer fields
+
+-- fields of a record behind others, each behind a comma
+abbrev pub fields_behind : List (List ℕ) → List ℕ
+fields_behind fields = csv.fields_text csv.default_writer fields
 
 -- the texts of values, each of the type beside it
 abbrev pub field_texts : List Ty → List Value → List (List ℕ)
@@ -62,7 +67,7 @@ quiet_line numbers = codes "=" ++ (commaed numbers ++ codes "\n")
 
 -- the row of a change has so many values
 abbrev pub IsWide : ℕ → PrintItem → Type 0
-IsWide width (Change change) = length change.row ≡ width
+IsWide width (Printed change) = length change.row ≡ width
 IsWide width (Quiet counts) = Unit {0}
 
 -- of the texts of a row all, or those of a key that is told alone
@@ -70,10 +75,13 @@ abbrev pub told_texts : Option (List ℕ) → List (List ℕ) → List (List ℕ
 told_texts None texts = texts
 told_texts (Some key) texts = at_key key 0 texts
 
--- the line of an item, whose change has columns of these types, into a sink that has this key where it is an upsert table; a quiet
--- moment is told by table where each source has a change file of its own
+-- the line of a change with columns of these types, into a sink that has this key where it is an upsert table
+abbrev pub change_line : List Ty → Option (List ℕ) → Change → List ℕ
+change_line tys key change = record_line (kind_text change.kind ∷ told_texts (told_by key change.kind) (field_texts tys change.row))
+
+-- the line of an item; a quiet moment is told by table where each source has a change file of its own
 abbrev pub item_line : Bool → List Ty → Option (List ℕ) → PrintItem → List ℕ
-item_line by_table tys key (Change change) = record_line (kind_text change.kind ∷ told_texts (told_by key change.kind) (field_texts tys change.row))
+item_line by_table tys key (Printed change) = change_line tys key change
 item_line by_table tys key (Quiet counts) = quiet_line (numbers_told by_table counts)
 
 -- the lines of items

@@ -1,41 +1,78 @@
-ghost use Rattle.std.specs.Prelude.{◌≡◌, ◌++◌, ◌∷◌, [], length, cond, IsTrue, OnOk, IfOk, codes, option_copied};
+ghost use Rattle.std.specs.Prelude.{◌≡◌, ◌++◌, ◌∷◌, [], length, cond, IsTrue, List, ℕ, OnOk, IfOk, codes, option_copied};
 ghost use Rattle.std.specs.List.{AllByRecursion};
-ghost use Rattle.csv.specs.Records.{fields_of, partial_of};
 ghost use Rattle.ct_field.specs.Numbers.{is_type};
 ghost use Rattle.ct_field.specs.Fields.{field_text};
 ghost use Rattle.stream_model.specs.KeysTold.{told_by};
 ghost use Rattle.job_text.specs.AtKey.{at_key};
-ghost use Rattle.job_text.specs.Printed.{IsWide, commaed, field_texts, item_line, kind_text, numbers_told, quiet_line, record_line, row_line, row_text, sum_of, told_texts};
+ghost use Rattle.job_text.specs.Printed.{IsWide, change_line, commaed, field_texts, fields_behind, item_line, kind_text, numbers_told, quiet_line, record_line, row_line, row_text, sum_of, told_texts};
 
-use csv::{ByteRecord, WriterBuilder};
-use ct_change::{Kind, among};
+use crate::quoting::push_behind_comma;
+use ct_change::{Change, Kind, among};
 use ct_field::push_field;
 use ct_value::{Bytes, Cols, Memory, Row, Ty, Value};
 use std::alloc::Global;
+use std::marker::Model;
 use stream_model::PrintItem;
 
-/// The line of an item, whose change has columns of these types. The key is that of the sink where this is an upsert table: of a `-D` into
-/// that the key's texts are printed alone. By table, a quiet moment has the number of changes taken of each source, else their sum.
-pub fn item_line(
+/// Makes the lines of items, one after the other, in room that it keeps. It is seen as the line that it made last.
+#[derive(Drop)]
+pub struct LineWriter {
     alloc: Global,
-    item: &PrintItem,
-    tys: &[Ty],
-    key: Option<&Cols>,
-    by_table: bool,
-) -> Result<Vec<u8>, Memory>
-    requires wide { IsWide (length tys.now) item.now }
-    requires types { AllByRecursion (λ ty. IsTrue (is_type ty)) tys.now }
-    ensures { IfOk result (λ line. line.items ≡ item_line by_table tys.now (option_copied key.entry) item.now) }
-{
-    match item {
-        PrintItem::Change(change) => {
-            let mut record = ByteRecord::new(alloc);
-            record.push_field(kind_text(change.kind).as_bytes())?;
-            let told = told_key(key, change.kind);
-            push_row(alloc, &mut record, tys, change.row.as_slice(), told)?;
-            record_line(alloc, &record)
+    line: Vec<u8>,
+    // the text of the value that is being written
+    text: Bytes,
+}
+
+impl Model for LineWriter {
+    ghost use Rattle.std.specs.Prelude.{List, ℕ};
+
+    ghost Value = { List ℕ };
+
+    ghost view = { λ w. w.line.items };
+}
+
+impl LineWriter {
+    /// One that has made no line. It takes no memory.
+    pub fn new(alloc: Global) -> Self
+        ensures { result ≡ [] }
+    {
+        LineWriter {
+            alloc,
+            line: Vec::new(alloc),
+            text: Bytes::new(alloc),
         }
-        PrintItem::Quiet(counts) => quiet_line(alloc, counts.as_slice(), by_table),
+    }
+
+    /// The line that it made last.
+    pub fn line(&self) -> &[u8]
+        ensures { result.now ≡ self.now }
+    {
+        self.line.as_slice()
+    }
+
+    /// Makes the line of an item, whose change has columns of these types. The key is that of the sink where this is an upsert table: of a
+    /// `-D` into that the key's texts are printed alone. By table, a quiet moment has the number of changes taken of each source, else their
+    /// sum.
+    pub fn write_item(
+        &mut self,
+        item: &PrintItem,
+        tys: &[Ty],
+        key: Option<&Cols>,
+        by_table: bool,
+    ) -> Result<(), Memory>
+        requires wide { IsWide (length tys.now) item.now }
+        requires types { AllByRecursion (λ ty. IsTrue (is_type ty)) tys.now }
+        ensures { OnOk result (self.new ≡ item_line by_table tys.now (option_copied key.entry) item.now) }
+    {
+        self.line.clear();
+        match item {
+            PrintItem::Change(change) => {
+                push_change(self.alloc, &mut self.line, &mut self.text, change, tys, key)
+            }
+            PrintItem::Quiet(counts) => {
+                push_quiet(self.alloc, &mut self.line, counts.as_slice(), by_table)
+            }
+        }
     }
 }
 
@@ -45,9 +82,10 @@ pub fn row_line(alloc: Global, row: &Row, tys: &[Ty]) -> Result<Vec<u8>, Memory>
     requires types { AllByRecursion (λ ty. IsTrue (is_type ty)) tys.now }
     ensures { IfOk result (λ line. line.items ≡ row_line tys.now row.now) }
 {
-    let mut record = ByteRecord::new(alloc);
-    push_values(alloc, &mut record, tys, row.as_slice())?;
-    record_line(alloc, &record)
+    let mut fields = Vec::new(alloc);
+    let mut text = Bytes::new(alloc);
+    push_values(alloc, &mut fields, &mut text, tys, row.as_slice())?;
+    record_line(alloc, fields.as_slice())
 }
 
 /// The row without the end of its line; the empty row is nothing.
@@ -64,6 +102,40 @@ pub fn row_text(alloc: Global, row: &Row, tys: &[Ty]) -> Result<Vec<u8>, Memory>
     Ok(line)
 }
 
+// The line of a record whose fields each stand behind a comma. No field, or an empty one alone, is two quotes.
+#[tactic(auto, using(crate::proofs::RecordLines::blank_record, crate::proofs::RecordLines::shown_record))]
+fn record_line(alloc: Global, behind: &[u8]) -> Result<Vec<u8>, Memory>
+    ensures { (fields : List (List ℕ)) → behind.now ≡ fields_behind fields → IfOk result (λ line. line.items ≡ record_line fields) }
+{
+    if behind.len() <= 1 {
+        return Ok(Vec::from_slice(alloc, b"\"\"\n")?);
+    }
+    let mut line = Vec::from_slice(alloc, &behind[1..])?;
+    line.push(b'\n')?;
+    Ok(line)
+}
+
+// Puts the line of a change.
+#[tactic(auto, using(crate::proofs::RecordLines::change_put))]
+fn push_change(
+    alloc: Global,
+    line: &mut Vec<u8>,
+    text: &mut Bytes,
+    change: &Change,
+    tys: &[Ty],
+    key: Option<&Cols>,
+) -> Result<(), Memory>
+    requires wide { length change.now.row ≡ length tys.now }
+    requires types { AllByRecursion (λ ty. IsTrue (is_type ty)) tys.now }
+    ensures { OnOk result (line.new.items ≡ line.old.items ++ change_line tys.now (option_copied key.entry) change.now) }
+{
+    line.extend_from_slice(kind_text(change.kind).as_bytes())?;
+    let told = told_key(key, change.kind);
+    push_row(alloc, line, text, tys, change.row.as_slice(), told)?;
+    line.push(b'\n')?;
+    Ok(())
+}
+
 // The key that a change of this kind tells alone, into a sink with this key.
 fn told_key(key: Option<&Cols>, kind: Kind) -> Option<&Cols>
     ensures { option_copied result ≡ told_by (option_copied key.entry) kind }
@@ -75,139 +147,126 @@ fn told_key(key: Option<&Cols>, kind: Kind) -> Option<&Cols>
     }
 }
 
-// Puts the texts of a row behind the fields of a record, or those of a key that is told alone.
+// Puts the texts of a row, or those of a key that is told alone.
 fn push_row(
     alloc: Global,
-    fields: &mut ByteRecord,
+    line: &mut Vec<u8>,
+    text: &mut Bytes,
     tys: &[Ty],
     values: &[Value],
     key: Option<&Cols>,
 ) -> Result<(), Memory>
     requires types { AllByRecursion (λ ty. IsTrue (is_type ty)) tys.now }
     requires wide { length values.now ≡ length tys.now }
-    requires whole { partial_of fields.old ≡ [] }
-    ensures { OnOk result (fields_of fields.new ≡ fields_of fields.old ++ told_texts (option_copied key.entry) (field_texts tys.now values.now)) }
+    ensures { OnOk result (line.new.items ≡ line.old.items ++ fields_behind (told_texts (option_copied key.entry) (field_texts tys.now values.now))) }
 {
     match key {
-        None => push_values(alloc, fields, tys, values),
-        Some(key) => push_key_values(alloc, fields, tys, values, key.as_slice()),
+        None => push_values(alloc, line, text, tys, values),
+        Some(key) => push_key_values(alloc, line, text, tys, values, key.as_slice()),
     }
 }
 
-// Puts the texts of values behind the fields of a record.
+// Puts the texts of values.
 #[tactic(auto, using(crate::proofs::Texts::texts_none, crate::proofs::Texts::type_at))]
 fn push_values(
     alloc: Global,
-    fields: &mut ByteRecord,
+    line: &mut Vec<u8>,
+    text: &mut Bytes,
     tys: &[Ty],
     values: &[Value],
 ) -> Result<(), Memory>
     requires types { AllByRecursion (λ ty. IsTrue (is_type ty)) tys.now }
     requires wide { length values.now ≡ length tys.now }
-    requires whole { partial_of fields.old ≡ [] }
-    ensures { OnOk result (fields_of fields.new ≡ fields_of fields.old ++ field_texts tys.now values.now) }
+    ensures { OnOk result (line.new.items ≡ line.old.items ++ fields_behind (field_texts tys.now values.now)) }
 {
-    let mut text = Bytes::new(alloc);
     for i in 0..values.len() {
-        push_value(alloc, fields, &mut text, tys[i], &values[i])?;
+        push_value(alloc, line, text, tys[i], &values[i])?;
     }
     Ok(())
 }
 
-// Puts the texts of the values in a key's columns behind the fields of a record.
+// Puts the texts of the values in a key's columns.
 #[tactic(auto, using(crate::proofs::Texts::key_texts_none, crate::proofs::Texts::type_at))]
 fn push_key_values(
     alloc: Global,
-    fields: &mut ByteRecord,
+    line: &mut Vec<u8>,
+    text: &mut Bytes,
     tys: &[Ty],
     values: &[Value],
     key: &[u32],
 ) -> Result<(), Memory>
     requires types { AllByRecursion (λ ty. IsTrue (is_type ty)) tys.now }
     requires wide { length values.now ≡ length tys.now }
-    requires whole { partial_of fields.old ≡ [] }
-    ensures { OnOk result (fields_of fields.new ≡ fields_of fields.old ++ at_key key.now 0 (field_texts tys.now values.now)) }
+    ensures { OnOk result (line.new.items ≡ line.old.items ++ fields_behind (at_key key.now 0 (field_texts tys.now values.now))) }
 {
     let in_key = among(alloc, values.len(), key)?;
-    let mut text = Bytes::new(alloc);
     for i in 0..values.len() {
-        push_at_key(alloc, fields, &mut text, tys[i], &values[i], in_key[i])?;
+        push_at_key(alloc, line, text, tys[i], &values[i], in_key[i])?;
     }
     Ok(())
 }
 
-// Puts the text of a value behind the fields of a record where its column is one of the key's.
-#[tactic(auto, using(crate::proofs::Texts::texts_same))]
+// Puts the text of a value where its column is one of the key's.
+#[tactic(auto, using(crate::proofs::Texts::none_behind))]
 fn push_at_key(
     alloc: Global,
-    fields: &mut ByteRecord,
+    line: &mut Vec<u8>,
     text: &mut Bytes,
     ty: Ty,
     value: &Value,
     is_key: bool,
 ) -> Result<(), Memory>
     requires ty { IsTrue (is_type ty) }
-    requires whole { partial_of fields.old ≡ [] }
-    ensures field { OnOk result (fields_of fields.new ≡ fields_of fields.old ++ cond is_key (field_text ty value.now ∷ []) []) }
-    ensures whole { OnOk result (partial_of fields.new ≡ []) }
+    ensures { OnOk result (line.new.items ≡ line.old.items ++ fields_behind (cond is_key (field_text ty value.now ∷ []) [])) }
 {
     if is_key {
-        return push_value(alloc, fields, text, ty, value);
+        return push_value(alloc, line, text, ty, value);
     }
     Ok(())
 }
 
-// Puts the text of a value, which is made in `text`, behind the fields of a record.
+// Puts the text of a value, which is made in `text`.
 fn push_value(
     alloc: Global,
-    fields: &mut ByteRecord,
+    line: &mut Vec<u8>,
     text: &mut Bytes,
     ty: Ty,
     value: &Value,
 ) -> Result<(), Memory>
     requires ty { IsTrue (is_type ty) }
-    requires whole { partial_of fields.old ≡ [] }
-    ensures field { OnOk result (fields_of fields.new ≡ fields_of fields.old ++ field_text ty value.now ∷ []) }
-    ensures whole { OnOk result (partial_of fields.new ≡ []) }
+    ensures { OnOk result (line.new.items ≡ line.old.items ++ fields_behind (field_text ty value.now ∷ [])) }
 {
     text.clear();
     push_field(alloc, text, ty, value)?;
-    fields.push_field(text.as_slice())?;
-    Ok(())
+    push_behind_comma(line, text.as_slice())
 }
 
-fn record_line(alloc: Global, fields: &ByteRecord) -> Result<Vec<u8>, Memory>
-    ensures { IfOk result (λ line. line.items ≡ record_line (fields_of fields.now)) }
-{
-    let mut writer = WriterBuilder::new().from_writer(Vec::new(alloc));
-    if writer.write_byte_record(fields).is_err() {
-        return Err(Memory);
-    }
-    match writer.into_inner() {
-        Ok(line) => Ok(line),
-        Err(_) => Err(Memory),
-    }
-}
-
-fn quiet_line(alloc: Global, counts: &[u32], by_table: bool) -> Result<Vec<u8>, Memory>
-    ensures { IfOk result (λ line. line.items ≡ quiet_line (numbers_told by_table counts.now)) }
+// Puts the line of a quiet moment.
+fn push_quiet(
+    alloc: Global,
+    line: &mut Vec<u8>,
+    counts: &[u32],
+    by_table: bool,
+) -> Result<(), Memory>
+    ensures { OnOk result (line.new.items ≡ line.old.items ++ quiet_line (numbers_told by_table counts.now)) }
 {
     if by_table {
-        counts_line(alloc, counts)
+        push_counts(alloc, line, counts)
     } else {
-        sum_line(alloc, sum_of(counts))
+        push_sum(alloc, line, sum_of(counts))
     }
 }
 
-fn counts_line(alloc: Global, counts: &[u32]) -> Result<Vec<u8>, Memory>
-    ensures { IfOk result (λ line. line.items ≡ quiet_line counts.now) }
+#[tactic(auto, using(crate::proofs::Texts::counts_start, crate::proofs::Texts::counts_end))]
+fn push_counts(alloc: Global, line: &mut Vec<u8>, counts: &[u32]) -> Result<(), Memory>
+    ensures { OnOk result (line.new.items ≡ line.old.items ++ quiet_line counts.now) }
 {
-    let mut line = Vec::from_slice(alloc, b"=")?;
+    line.push(b'=')?;
     for i in 0..counts.len() {
-        push_count(alloc, &mut line, counts[i])?;
+        push_count(alloc, line, counts[i])?;
     }
     line.push(b'\n')?;
-    Ok(line)
+    Ok(())
 }
 
 // Puts a number behind a comma.
@@ -230,11 +289,12 @@ fn sum_of(counts: &[u32]) -> u128
     sum
 }
 
-fn sum_line(alloc: Global, sum: u128) -> Result<Vec<u8>, Memory>
-    ensures { IfOk result (λ line. line.items ≡ quiet_line (sum ∷ [])) }
+fn push_sum(alloc: Global, line: &mut Vec<u8>, sum: u128) -> Result<(), Memory>
+    ensures { OnOk result (line.new.items ≡ line.old.items ++ quiet_line (sum ∷ [])) }
 {
-    let line = format!(in alloc; "=,{sum}\n")?;
-    Ok(line.into_bytes())
+    let text = format!(in alloc; "=,{sum}\n")?;
+    line.extend_from_slice(text.as_bytes())?;
+    Ok(())
 }
 
 fn kind_text(kind: Kind) -> &'static str

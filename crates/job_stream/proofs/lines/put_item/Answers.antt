@@ -1,5 +1,5 @@
 use Rattle.ct_io.proofs.laws.Appending.{part_none}
 use Rattle.job_stream.proofs.lines.put_item.Goals as goal
 
-pub returns-in_err-line-clause-part : goal.returns-in_err-line-clause-part
-returns-in_err-line-clause-part g c = part_none _ _
+pub returns-in_err-write_item-clause-part : goal.returns-in_err-write_item-clause-part
+returns-in_err-write_item-clause-part g c = part_none _ _

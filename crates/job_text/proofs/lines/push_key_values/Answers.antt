@@ -13,7 +13,4 @@ loop-i-preserved c =
     let b = c.index.result.now in
     let marked : i < length marks = omega (arith, within, c.in_ok-in_key.ensures.len) in
     let is : is_among key i ≡ b = sym (c.in_ok-in_key.ensures.told i within) ∙ get_or_default marks i false b marked ∙ sym c.index.ensures in
-    record {
-      whole = c.in_ok-push_at_key.ensures.whole;
-      fields = key_texts_step key _ _ _ c.args.tys.now c.args.values.now i _ _ b c.requires.wide within c.index-values-i.is is c.in_ok-push_at_key.ensures.field c.loop-i.invariant.fields;
-    }
+    key_texts_step key _ _ _ c.args.tys.now c.args.values.now i _ _ b c.requires.wide within c.index-values-i.is is c.in_ok-push_at_key.ensures c.loop-i.invariant
