@@ -176,6 +176,11 @@ module _ (types : ColumnsHaveTypes) (laws : Laws) (plan : Plan) (ruled : IsRuled
       let are = is_only v node p input e h (op.TopN partition order bound ranked) is (λ n. refl) in
       subst (λ (inputs : List ℕ). AreThere (first_input inputs) partition) are (suited.ranks laws plan ruled v node e partition order bound ranked is).within
 
+  shown_there : (v : ℕ) (node : Node) (p input : ℕ) → numbered plan.nodes v ≡ Some node → slice_get node.inputs p ≡ Some input → (key : List ℕ) → node.op ≡ op.Materialize key → AreThere input key
+  shown_there v node p input e h key is =
+      let are = is_only v node p input e h (op.Materialize key) is (λ n. refl) in
+      (agreed.materialize_agrees laws plan ruled v node key input e is are (proper_inputs laws plan ruled v node e)).within
+
   at_port : (left right input p : ℕ) (on : List Pair) → pairs_fit (columns_of left) (columns_of right) on ≡ true → slice_get (left ∷ (right ∷ [])) p ≡ Some input → AreThere input (side_columns on p)
   at_port left right input zero on fits h = subst (λ (n : ℕ). AreThere n (side_columns on zero)) (the_same left input h) (left_within (columns_of left) (columns_of right) on fits)
   at_port left right input (suc zero) on fits h = subst (λ (n : ℕ). AreThere n (side_columns on (suc zero))) (the_same right input h) (right_within (columns_of left) (columns_of right) on fits)
@@ -206,6 +211,7 @@ module _ (types : ColumnsHaveTypes) (laws : Laws) (plan : Plan) (ruled : IsRuled
   asked_by v node p input e h there (op.Semi anti on rest) is r =
       routable (columns_of input) (side_columns on p) (sides_there v node p input e h (op.Semi anti on rest) is (λ n. refl) on (option_map expr_view rest) (λ left right. left) (λ inputs. refl)) there
   asked_by v node p input e h there (op.TopN partition order bound ranked) is r = routable (columns_of input) partition (partition_there v node p input e h partition order bound ranked is) there
+  asked_by v node p input e h there (op.Materialize key) is r = routable (columns_of input) key (shown_there v node p input e h key is) there
   asked_by v node p input e h there op.Sink is r = tt
   asked_by v node p input e h there _ is r = absurd (cc)
 

@@ -16,18 +16,20 @@ use Rattle.judge.specs.Judgement.{Judged, then}
 use Rattle.phys_plan.specs.declared.plan.Plan.{Plan}
 use Rattle.planner.specs.Faults.{lacks_table}
 use Rattle.plan_rules.specs.Seen.{plan_as_seen}
-use Rattle.plan_rules.specs.Pieces.{plan_of_tree}
+use Rattle.plan_rules.specs.Pieces.{Top, bare, plan_of_tree}
 use Rattle.plan_inferred.specs.declared.inferred.Inferred.{Inferred}
 use Rattle.plan_check.specs.declared.checked.CheckedPlan.{CheckedPlan}
 use Rattle.plan_check.specs.Checked.{plan_in}
 use Rattle.plan_check.specs.Sound.{inferred_of}
-use Rattle.planner.specs.Refusals.{has_materializer, refusal, sink_way}
+use Rattle.planner.specs.Refusals.{refusal, sink_way}
 use Rattle.sound_plans.specs.Sound.{IsRuled}
 use Rattle.laid_plans.specs.Inferred.{with_inferred}
 use Rattle.job_plan.specs.Seen.{InferredAsSeen, PlansInferAsSeen, RefusedAsSeen, TakenAsSeen}
 use Rattle.planner.specs.declared.fault.PlannerFault.{PlannerFault}
 use Rattle.planner.specs.declared.fault.PlannerFault.TheVariants as fault
-use Rattle.planner.specs.Planned.{IsLaidPlan, Made, Refused, Waits, Planned, PlannedPlansAreRuled, Says, made, made_by}
+use Rattle.planner.specs.Planned.{IsLaidPlan, Made, Refused, Planned, PlannedPlansAreRuled, Says, ToppedPlansAreLaidOut, made, made_by, sink_top}
+use Rattle.planner.specs.Tops.{top_by, topped_plan}
+use Rattle.planner.proofs.laws.Topped.{topped_seen}
 use Rattle.job_plan.specs.Inserts.{InsertsHaveLaidPlans}
 use Rattle.job_judgement.specs.Judged.{IsBound, IsJudged}
 use Rattle.job_judgement.specs.Judgement.{Accepted}
@@ -64,7 +66,7 @@ module _ (script : Accepted) (bound : IsBound script) where
         asked = bound.asked;
         is_asked = bound.asks;
         is_bound = ap (λ (c : Catalogue). insert_bound c.tables bound.table script.query) bound.tables ∙ bound.bound;
-        laid_out = is ∙ sym (λ i. plan_of_tree (sources i) (sink i) (parallelism i) script.inserted.query.rel);
+        laid_out = is ∙ sym (λ i. plan_of_tree (sources i) (sink i) (parallelism i) bare script.inserted.query.rel);
         sources = sources;
         sink = sink;
         parallelism = parallelism ∙ sym (ap (λ (c : Catalogue). c.settings.parallelism) bound.tables);
@@ -74,14 +76,12 @@ module _ (script : Accepted) (bound : IsBound script) where
 
 abbrev made_seen : Made → Made
 made_seen (Refused code) = Refused code
-made_seen Waits = Waits
 made_seen (Planned plan) = Planned (plan_as_seen plan)
 
 module _ (infers : PlansInferAsSeen) (with : InferredAsSeen) (refuses : RefusedAsSeen) (takes : TakenAsSeen) where
-  seen_by : (plan : Plan) (code : Option ScriptCode) (materialized : Bool) → made_by (plan_as_seen plan) code materialized ≡ made_seen (made_by plan code materialized)
-  seen_by plan (Some code) materialized = refl
-  seen_by plan None true = refl
-  seen_by plan None false = ap Planned (with plan)
+  seen_by : (plan : Plan) (code : Option ScriptCode) (top : Top) → made_by (plan_as_seen plan) code top ≡ made_seen (made_by plan code top)
+  seen_by plan (Some code) top = refl
+  seen_by plan None top = ap (λ (p : Plan). Planned (with_inferred p)) (topped_seen top plan) ∙ ap Planned (with (topped_plan top plan))
 
   made_as_seen : (plan : Plan) (setting : Materialize) → made (plan_as_seen plan) setting ≡ made_seen (made plan setting)
   made_as_seen plan setting =
@@ -89,7 +89,7 @@ module _ (infers : PlansInferAsSeen) (with : InferredAsSeen) (refuses : RefusedA
       ap (λ (i : Inferred). refusal i (plan_as_seen plan) setting) (infers plan) ∙ refuses (inferred_of plan) plan setting in
       let way : sink_way (inferred_of (plan_as_seen plan)) (plan_as_seen plan) setting ≡ sink_way (inferred_of plan) plan setting =
       ap (λ (i : Inferred). sink_way i (plan_as_seen plan) setting) (infers plan) ∙ takes (inferred_of plan) plan setting in
-      (λ i. made_by (plan_as_seen plan) (code i) (has_materializer (way i))) ∙ seen_by plan (refusal (inferred_of plan) plan setting) (has_materializer (sink_way (inferred_of plan) plan setting))
+      (λ i. made_by (plan_as_seen plan) (code i) (top_by (way i) plan.sink.key)) ∙ seen_by plan (refusal (inferred_of plan) plan setting) (sink_top plan setting)
 
   -- so it makes of the definition's what it makes of the code's
   made_of : (script : Accepted) (plan : Plan) → plan_as_seen plan ≡ laid script → (setting : Materialize) → made (laid script) setting ≡ made_seen (made plan setting)
@@ -102,7 +102,6 @@ module _ (infers : PlansInferAsSeen) (with : InferredAsSeen) (refuses : RefusedA
 
     says_seen : (f : PlannerFault) → Says (made plan setting) f → Says (made (laid script) setting) f
     says_seen (fault.Refused code) e = made_of script plan is setting ∙ ap made_seen e
-    says_seen fault.Waits e = made_of script plan is setting ∙ ap made_seen e
     says_seen fault.Memory e = tt
 
     pub faults : (r : Result CheckedPlan PlannerFault) → IfErr r (λ f. Says (made plan setting) f) → IfErr r (λ f. Says (made (laid script) setting) f)
@@ -136,7 +135,7 @@ ruled_unless false checked o is e own f = let same : checked ≡ own = cc (e, f)
 -- ---- the law
 
 abbrev pub PlansOfTreesAreSeen : Type 0
-PlansOfTreesAreSeen = (sources : List TableDef) (sink : TableDef) (parallelism : ℕ) (rel : Rel) → plan_as_seen (plan_of_tree sources sink parallelism rel) ≡ plan_of_tree sources sink parallelism rel
+PlansOfTreesAreSeen = (sources : List TableDef) (sink : TableDef) (parallelism : ℕ) (top : Top) (rel : Rel) → plan_as_seen (plan_of_tree sources sink parallelism top rel) ≡ plan_of_tree sources sink parallelism top rel
 
 built_plan : (statement : ℕ) (bundles : Bool) (own plan : Plan) → then (built statement) (Ok (cond bundles None (Some own))) ≡ Ok plan → Planned own ≡ Planned plan
 built_plan statement true own plan e = absurd (cc (e))
@@ -144,22 +143,21 @@ built_plan statement false own plan e = let same : own ≡ plan = cc (e) in ap P
 
 of_built : (script : Accepted) (m : Made) (plan : Plan) → made (laid script) script.catalogue.settings.materialize ≡ m → then (built script.statement) (planned_by script.statement (keeps_bundles script) m) ≡ Ok plan → m ≡ Planned plan
 of_built script (Refused code) plan is e = absurd (cc (e))
-of_built script Waits plan is e = absurd (cc (e))
 of_built script (Planned own) plan is e = built_plan script.statement (keeps_bundles script) own plan e
 
-inferred_is : (p plan : Plan) (code : Option ScriptCode) (materialized : Bool) → made_by p code materialized ≡ Planned plan → plan ≡ with_inferred p
-inferred_is p plan (Some code) materialized e = absurd (cc)
-inferred_is p plan None true e = absurd (cc)
-inferred_is p plan None false e = sym (let same : with_inferred p ≡ plan = cc (e) in same)
+inferred_is : (p plan : Plan) (code : Option ScriptCode) (top : Top) → made_by p code top ≡ Planned plan → plan ≡ with_inferred (topped_plan top p)
+inferred_is p plan (Some code) top e = absurd (cc)
+inferred_is p plan None top e = sym (let same : with_inferred (topped_plan top p) ≡ plan = cc (e) in same)
 
-pub are_planned : ((script : Accepted) → IsJudged script → IsBound script) → InsertsHaveLaidPlans → PlannedPlansAreRuled → PlansOfTreesAreSeen → RunnableScriptsArePlanned
-are_planned bound inserts rules seen script judged plan e =
+pub are_planned : ((script : Accepted) → IsJudged script → IsBound script) → InsertsHaveLaidPlans → PlannedPlansAreRuled → ToppedPlansAreLaidOut → PlansOfTreesAreSeen → RunnableScriptsArePlanned
+are_planned bound inserts rules tops seen script judged plan e =
     let b = bound script judged in
     let setting = script.catalogue.settings.materialize in
     let m : made (laid script) setting ≡ Planned plan = of_built script (made (laid script) setting) plan refl e in
-    let well = laid_well script b inserts (laid script) (seen script.inserted.sources script.inserted.sink script.catalogue.settings.parallelism script.inserted.query.rel) in
+    let well = laid_well script b inserts (laid script) (seen script.inserted.sources script.inserted.sink script.catalogue.settings.parallelism bare script.inserted.query.rel) in
     record {
       laid_well = well;
-      is = inferred_is (laid script) plan (refusal (inferred_of (laid script)) (laid script) setting) (has_materializer (sink_way (inferred_of (laid script)) (laid script) setting)) m;
+      laid_out = tops (laid script) script.inserted.query.rel setting well;
+      is = inferred_is (laid script) plan (refusal (inferred_of (laid script)) (laid script) setting) (sink_top (laid script) setting) m;
       ruled = rules (laid script) script.inserted.query.rel setting plan well m;
     }

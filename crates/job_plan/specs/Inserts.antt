@@ -4,7 +4,8 @@ use Rattle.sql_syntax.specs.Tree.{Query, Text}
 use Rattle.binding.specs.Inserts.{Inserted, insert_bound}
 use Rattle.judge.specs.Judgement.{Asked, asked_of}
 use Rattle.phys_plan.specs.declared.plan.Plan.{Plan}
-use Rattle.laid_plans.specs.Shapes.{IsLaidOut}
+use Rattle.plan_rules.specs.Pieces.{bare}
+use Rattle.laid_plans.specs.Shapes.{IsLaidWith}
 use Rattle.planner.specs.Planned.{IsLaidPlan}
 
 -- a text asks for some tables, an INSERT over them is bound, and this is the plan that is laid of its query over its sources into its
@@ -13,7 +14,7 @@ pub record IsPlanOfInsert (text : List ℕ) (name : Text) (query : Query) (bound
   pub asked : Asked
   pub is_asked : asked_of text ≡ Ok asked
   pub is_bound : insert_bound asked.catalogue.tables name query ≡ Ok bound
-  pub laid_out : IsLaidOut plan bound.query.rel
+  pub laid_out : IsLaidWith bare plan bound.query.rel
   pub sources : plan.sources ≡ bound.sources
   pub sink : plan.sink ≡ bound.sink
   pub parallelism : plan.parallelism ≡ asked.catalogue.settings.parallelism

@@ -5,8 +5,9 @@ use Rattle.rel_algebra.specs.Rel.{Group, Rel, Rels}
 use Rattle.rel_algebra.specs.Walks.{some_part, some_part_of_any}
 use Rattle.judge.specs.Judgement.{Judged, refused, then}
 use Rattle.phys_plan.specs.declared.plan.Plan.{Plan}
-use Rattle.plan_rules.specs.Pieces.{plan_of_tree}
-use Rattle.planner.specs.Planned.{Made, Refused, Waits, Planned, made}
+use Rattle.plan_rules.specs.Pieces.{bare, plan_of_tree}
+use Rattle.planner.specs.Planned.{Made, Refused, Planned, made, sink_top}
+use Rattle.planner.specs.Tops.{topped_plan}
 use Rattle.job_judgement.specs.Judgement.{Accepted}
 
 -- it groups by keys
@@ -27,12 +28,15 @@ keeps_bundles script = script.catalogue.settings.batching && has_keyed_group scr
 
 -- the plan that is laid of what the script's query is bound to
 abbrev pub laid : Accepted → Plan
-laid script = plan_of_tree script.inserted.sources script.inserted.sink script.catalogue.settings.parallelism script.inserted.query.rel
+laid script = plan_of_tree script.inserted.sources script.inserted.sink script.catalogue.settings.parallelism bare script.inserted.query.rel
+
+-- and with what stands before its sink, by the script's setting for materializers
+abbrev pub topped : Accepted → Plan
+topped script = topped_plan (sink_top (laid script) script.catalogue.settings.materialize) (laid script)
 
 -- the script is refused at its statement; or it is planned: its plan, or none where that waits for what isn't built
 abbrev pub planned_by : ℕ → Bool → Made → Judged (Option Plan)
 planned_by statement bundles (Refused code) = refused code statement
-planned_by statement bundles Waits = Ok None
 planned_by statement bundles (Planned plan) = Ok (cond bundles None (Some plan))
 
 abbrev pub planned : Accepted → Judged (Option Plan)

@@ -20,8 +20,8 @@ use plan_check::CheckedPlan;
 use planner::{LayingFault, PlannerFault, plan, plan_of};
 use std::alloc::Global;
 
-/// The plan of an accepted script, or none where that waits for what isn't built: for a materializer, or for groups that keep bundles. The
-/// script is refused at its statement by the first of the planner's refusals.
+/// The plan of an accepted script, or none where that waits for what isn't built: for groups that keep bundles. The script is refused at its
+/// statement by the first of the planner's refusals.
 pub fn planned(alloc: Global, script: &Accepted) -> Result<Option<CheckedPlan>, Halt>
     requires judged { IsJudged (accepted_view script.now) }
     ensures ok { IfOk result (λ made. planned (accepted_view script.now) ≡ Ok (planned_view made)) }
@@ -31,7 +31,6 @@ pub fn planned(alloc: Global, script: &Accepted) -> Result<Option<CheckedPlan>, 
     match made(alloc, script) {
         Ok(checked) => Ok(unless_bundled(script, checked)),
         Err(PlannerFault::Refused(code)) => Err(halt_at(script, code)),
-        Err(PlannerFault::Waits) => Ok(None),
         Err(PlannerFault::Memory) => Err(Halt::Memory),
     }
 }

@@ -52,7 +52,7 @@ use Rattle.laid_plans.specs.Erased.{InferredPlansAnswer}
 use Rattle.plan_rules.specs.Answers.{Answers}
 use Rattle.sound_plans.specs.Sound.{IsRuled}
 use Rattle.job_plan.specs.Promises.{IsScriptPlan, RunnableScriptsArePlanned}
-use Rattle.job_plan.specs.Planned.{laid, planned, runnable}
+use Rattle.job_plan.specs.Planned.{planned, runnable, topped}
 use Rattle.job_run.specs.Answers.{AreAnswers, AreAnswersOf, HasAnswers, HasRun, Wrote}
 use Rattle.job_run.specs.Edges.{AreCarried, AreCarriedOf, run_of}
 use Rattle.job_run.specs.Headline.{HasAnswered, HasExplained, IsHeadline, IsHeadlineOf}
@@ -109,7 +109,7 @@ module _ (agree : AnswersAgree) (fit : RowsTakenFit) (script : Accepted) (judged
 
 plan_answers : InferredPlansAnswer → (script : Accepted) (plan : Plan) → IsScriptPlan script plan → Answers plan script.inserted.query.rel
 plan_answers answers script plan is =
-    subst (λ (p : Plan). Answers p script.inserted.query.rel) (sym is.is) (answers (laid script) script.inserted.query.rel is.laid_well.laid_out (subst IsRuled is.is is.ruled))
+    subst (λ (p : Plan). Answers p script.inserted.query.rel) (sym is.is) (answers (topped script) script.inserted.query.rel is.laid_out (subst IsRuled is.is is.ruled))
 
 -- ---- how many changes a quiet moment tells
 

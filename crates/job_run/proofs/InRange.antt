@@ -29,7 +29,7 @@ use Rattle.source_lines.specs.declared.supply.ChangeFiles.{ChangeFiles}
 use Rattle.range_rules.specs.Statement.{InsertsAreTame}
 use Rattle.run_laws.specs.Runs.{RunsStayInRange, TreesHaveTamePlans, is_tame_plan}
 use Rattle.job_plan.specs.Promises.{RunnableScriptsArePlanned}
-use Rattle.job_plan.specs.Planned.{laid, runnable}
+use Rattle.job_plan.specs.Planned.{runnable, topped}
 use Rattle.job_run.specs.Complete.{HasNoArithmetic}
 use Rattle.job_run.specs.Outcome.{after_judgement, after_load, outcome, run_plan, run_script, script_limit, with_order, with_request}
 use Rattle.job_run.proofs.Inputs.{HoldsBefore, at_input, at_order}
@@ -100,7 +100,7 @@ module _ (bound : (script : Accepted) → IsJudged script → IsBound script) (t
       let calculates_nothing = tame script.catalogue.tables b.table script.query script.inserted b.bound (free_query script_text statements script read none judged) in
       let ran = stopped_so (is_by_table files) (sink_types plan.sink) (sink_key plan.sink) (whole_run (network plan) most_sent plan.sources files orders) node subtask row columns out in
       let of = can script is plan runs in
-      let tame_plan : is_tame_plan plan ≡ true = ap is_tame_plan of.is ∙ trees (laid script) script.inserted.query.rel of.laid_well.laid_out calculates_nothing in
+      let tame_plan : is_tame_plan plan ≡ true = ap is_tame_plan of.is ∙ trees (topped script) script.inserted.query.rel of.laid_out calculates_nothing in
       stays plan of.ruled tame_plan most_sent (omega arith) files orders node subtask row columns ran.0 ran.1
 
   plan_stays : (script : Accepted) → judgement script_text ≡ Ok script → (j : Judged Plan) → runnable script ≡ j → Stays (after_judgement (run_plan h names.input order) j)

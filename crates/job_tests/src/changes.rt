@@ -2,16 +2,17 @@
 use ct_catalog::{ColDef, ColDefs, TableDef};
 use ct_change::{Declared, KindSet, Update};
 use ct_value::{ColTy, Cols, List, Memory, Ty};
-use phys_plan::{Edge, Edges, Exchange, KeyInfo, Node, Nodes, Plan};
+use phys_plan::{Edge, Edges, Exchange, KeyInfo, Node, Nodes, Op, Plan};
 use std::alloc::Global;
 
-/// What is changed: the subtasks, the types of the sink's columns, its mode, or the keys of a node, the kinds of its edge, how this tells
-/// updates or how it goes on, by the node's place from 0.
+/// What is changed: the subtasks, the types of the sink's columns, its mode, the key of the materializer before it, or the keys of a node,
+/// the kinds of its edge, how this tells updates or how it goes on, by the node's place from 0.
 #[derive(Clone, Copy, Debug)]
 pub(crate) enum Change {
     Subtasks,
     SinkTypes,
     SinkMode,
+    ShownKey,
     Keys(usize),
     Kinds(usize),
     Update(usize),
@@ -90,11 +91,22 @@ fn nodes_with(alloc: Global, nodes: Nodes, change: Change) -> Result<Nodes, Memo
 // A node says a key more, of a column that no node has.
 fn node_with(alloc: Global, node: Node, place: usize, change: Change) -> Result<Node, Memory> {
     let Node { op, inputs, keys } = node;
+    let op = match (op, change) {
+        (Op::Materialize { key }, Change::ShownKey) => with_column(key)?,
+        (op, _) => op,
+    };
     let keys = match change {
         Change::Keys(at) if at == place => keys_with(alloc, keys)?,
         _ => keys,
     };
     Ok(Node { op, inputs, keys })
+}
+
+// A materializer by a column more, of the sink's too.
+fn with_column(key: Cols) -> Result<Op, Memory> {
+    let mut key = key;
+    key.push(1)?;
+    Ok(Op::Materialize { key })
 }
 
 fn keys_with(alloc: Global, keys: KeyInfo) -> Result<KeyInfo, Memory> {

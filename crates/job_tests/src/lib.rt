@@ -28,6 +28,8 @@ mod long_runs;
 #[cfg(test)]
 mod made;
 #[cfg(test)]
+mod materialized;
+#[cfg(test)]
 mod orders;
 #[cfg(test)]
 mod plans;

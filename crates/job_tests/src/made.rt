@@ -1,4 +1,4 @@
-// Scripts that are made: a table in each mode, a query of each form, and a sink in each mode, in turn.
+// Scripts that are made: a table in each mode, a query of each form, and a sink in each mode, also behind a materializer, in turn.
 use ct_value::{Bytes, Memory};
 use std::alloc::Global;
 
@@ -14,11 +14,13 @@ const OTHERS: [&str; 2] = [
     "CREATE TABLE u (id INT PRIMARY KEY NOT ENFORCED, w INT) WITH ('changelog' = 'upsert');",
 ];
 
-const SINKS: [&str; 4] = [
+const SINKS: [&str; 5] = [
     "CREATE TABLE s (a INT, b STRING, c INT);",
     "CREATE TABLE s (a INT, b STRING, c INT) WITH ('changelog' = 'retract');",
     "CREATE TABLE s (a INT PRIMARY KEY NOT ENFORCED, b STRING, c INT) WITH ('changelog' = 'upsert');",
     "CREATE TABLE s (a INT NOT NULL, b STRING, c INT) WITH ('changelog' = 'retract');",
+    "CREATE TABLE s (a INT PRIMARY KEY NOT ENFORCED, b STRING, c INT) WITH ('changelog' = 'upsert');\
+    SET 'table.exec.sink.upsert-materialize' = 'FORCE';",
 ];
 
 const QUERIES: [&str; 16] = [
@@ -41,7 +43,7 @@ const QUERIES: [&str; 16] = [
 ];
 
 /// How many scripts there are.
-pub(crate) const SCRIPTS: usize = 512;
+pub(crate) const SCRIPTS: usize = 640;
 
 // A part by the number of a script, which is divided by the number of parts.
 fn part<'a>(parts: &[&'a str], number: &mut usize) -> &'a str {

@@ -6,7 +6,7 @@ use ct_change::Declared;
 use ct_value::Memory;
 use job_ending::Halt;
 use job_plan::planned;
-use phys_plan::{Plan, Rule};
+use phys_plan::{Op, Plan, Rule};
 use plan_check::{PlanFault, check_plan};
 use std::alloc::Global;
 
@@ -66,6 +66,21 @@ fn names_sink(alloc: Global, number: usize, last: usize, updates: bool) -> bool 
         && (!updates || breaks(alloc, number, Change::SinkMode, Rule::SinkKey))
 }
 
+// Whether a materializer stands before the sink.
+fn has_materializer(plan: &Plan) -> bool {
+    for node in plan.nodes.as_slice() {
+        if let Op::Materialize { .. } = &node.op {
+            return true;
+        }
+    }
+    false
+}
+
+// Whether another key of it is named by its rule, where there is one.
+fn names_shown_key(alloc: Global, number: usize, shown: bool) -> bool {
+    !shown || breaks(alloc, number, Change::ShownKey, Rule::Shape)
+}
+
 fn is_sound(alloc: Global, plan: Plan) -> bool {
     matches!(broken(alloc, plan), Ok(None))
 }
@@ -74,17 +89,20 @@ fn is_sound(alloc: Global, plan: Plan) -> bool {
 fn made_plans_are_checked_again(rt: HostRuntime) {
     let alloc = rt.alloc();
     let mut plans = 0u32;
+    let mut shown = 0u32;
     for number in 0..SCRIPTS {
         match plan_of(alloc, number) {
             Ok(Some(plan)) => {
                 plans = plans.saturating_add(1);
+                shown = shown.saturating_add(has_materializer(&plan) as u32);
                 assert!(rt; is_sound(alloc, plan), "script {number}");
             }
             Ok(None) => {}
             Err(halt) => assert!(rt; matches!(halt, Halt::Script { .. }), "script {number}"),
         }
     }
-    assert!(rt; plans > 200, "{plans} plans");
+    assert!(rt; plans > 250, "{plans} plans");
+    assert!(rt; shown > 40, "{shown} with a materializer");
 }
 
 #[test]
@@ -94,6 +112,7 @@ fn changes_are_named_by_their_rules(rt: HostRuntime) {
         if let Ok(Some(plan)) = plan_of(alloc, number) {
             let nodes = plan.nodes.len();
             let updates = takes_updates(&plan);
+            let shown = has_materializer(&plan);
             assert!(rt;
                 breaks(alloc, number, Change::Subtasks, Rule::Shape),
                 "script {number}"
@@ -102,6 +121,7 @@ fn changes_are_named_by_their_rules(rt: HostRuntime) {
                 names_sink(alloc, number, nodes.saturating_sub(1), updates),
                 "script {number}"
             );
+            assert!(rt; names_shown_key(alloc, number, shown), "script {number}");
             for place in 0..nodes {
                 assert!(rt;
                     names_changes(alloc, number, place),

@@ -12,6 +12,7 @@ use crate::scripts::{
 use ct_io::{Calls, Files, MemShelf, MemSink, SureShelf, SureSink};
 use ct_value::{Memory, Text};
 use job::{run_job, status};
+use job_text::make_lines;
 use std::alloc::Global;
 
 // What a run leaves on `out` and on `err`, and its status.
@@ -443,7 +444,7 @@ fn bad_scripts_and_lines_are_refused(rt: HostRuntime) {
     }
 }
 
-const WRONG_WORDS: [&[&str]; 9] = [
+const WRONG_WORDS: [&[&str]; 13] = [
     &[],
     &["--script", "s"],
     &["--script", "s", "--changes"],
@@ -453,6 +454,12 @@ const WRONG_WORDS: [&[&str]; 9] = [
     &["-h", "--script", "s", "--changes", "c"],
     &["--script", "s", "--changes", "c", "--do", "explain"],
     &["--script", "-x", "--changes", "c"],
+    &["--do", "load", "--lines", "1"],
+    &["--do", "load", "--seed", "1", "--lines", "1000001"],
+    &[
+        "--do", "load", "--seed", "1", "--lines", "1", "--script", "s",
+    ],
+    &["--script", "s", "--changes", "c", "--seed", "1"],
 ];
 
 const RIGHT_WORDS: [&[&str]; 3] = [
@@ -485,6 +492,21 @@ fn wrong_words_are_a_wrong_use_and_others_stand_in_any_order(rt: HostRuntime) {
         let is_right = words_leave(rt.alloc(), words, "t,+I,a\n", &RIGHT_USE);
         assert!(rt; is_right, "{} words", words.len());
     }
+}
+
+const FIVE_LINES: &str =
+    "t,+I,w807,934\nt,+I,w424,171\nt,+I,w937,-179\nt,+I,w236,-9\nt,-D,w807,934\n";
+
+fn five_are_made(alloc: Global) -> bool {
+    match make_lines(alloc, 0, 5) {
+        Ok(lines) => lines.as_slice() == FIVE_LINES.as_bytes(),
+        Err(_) => false,
+    }
+}
+
+#[test]
+fn lines_are_made_of_a_seed(rt: HostRuntime) {
+    assert!(rt; five_are_made(rt.alloc()));
 }
 
 // Runs of which the third `put` fails, and what they wrote before.

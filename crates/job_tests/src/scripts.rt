@@ -246,3 +246,28 @@ pub const TOP_CITIES: &str =
 /// A table whose name is a path.
 pub const NAMED_BY_PATH: &str = "CREATE TABLE `eu/t` (word STRING);\
     CREATE TABLE out_t (word STRING) WITH ('changelog' = 'retract'); INSERT INTO out_t SELECT word FROM `eu/t`;";
+
+/// A materializer before each upsert table that may have one.
+pub const FORCED: &str = "SET 'table.exec.sink.upsert-materialize' = 'FORCE';";
+
+/// No materializer.
+pub const OFF: &str = "SET 'table.exec.sink.upsert-materialize' = 'NONE';";
+
+/// The last city of each order: its number is a key of the answer, under which two rows may stand for a moment.
+pub const LAST_CITIES: &str =
+    "CREATE TABLE orders (id INT PRIMARY KEY NOT ENFORCED, cust INT NOT NULL) WITH ('changelog' = 'retract');\
+    CREATE TABLE customers (cid INT PRIMARY KEY NOT ENFORCED, city STRING);\
+    CREATE TABLE out_t (id INT PRIMARY KEY NOT ENFORCED, city STRING) WITH ('changelog' = 'upsert');\
+    INSERT INTO out_t SELECT o.id, c.city FROM orders AS o JOIN customers AS c ON o.cust = c.cid;";
+
+/// The last city of each customer, whose number is a key at every moment.
+pub const LAST_BY_CUSTOMER: &str =
+    "CREATE TABLE c (id INT PRIMARY KEY NOT ENFORCED, city STRING NOT NULL) WITH ('changelog' = 'retract');\
+    CREATE TABLE out_t (id INT PRIMARY KEY NOT ENFORCED, city STRING) WITH ('changelog' = 'upsert');\
+    INSERT INTO out_t SELECT id, city FROM c WHERE city <> 'Lima';";
+
+/// The same by a key in which that lies.
+pub const LAST_BY_PAIR: &str =
+    "CREATE TABLE c (id INT PRIMARY KEY NOT ENFORCED, city STRING NOT NULL) WITH ('changelog' = 'retract');\
+    CREATE TABLE out_t (id INT, city STRING, PRIMARY KEY (id, city) NOT ENFORCED) WITH ('changelog' = 'upsert');\
+    INSERT INTO out_t SELECT id, city FROM c WHERE city <> 'Lima';";

@@ -1,4 +1,4 @@
--- The plan that is laid of a tree, into a table of any mode, and which rules of sound plans it meets.
+-- The plan that is laid of a tree, into a table of any mode, which a materializer may stand before, and which rules of sound plans it meets.
 use Rattle.std.specs.Prelude.{◌≡◌, ℕ, ◌<◌, ◌≤◌, true, List, ◌∷◌, length, map, Some}
 use Rattle.ct_value.specs.declared.ty.ColTy.{ColTy}
 use Rattle.ct_catalog.specs.declared.table.TableDef.{TableDef}
@@ -10,8 +10,9 @@ use Rattle.phys_plan.specs.declared.plan.Plan.{Plan}
 use Rattle.phys_plan.specs.declared.plan.Rule.TheVariants as rule
 use Rattle.phys_plan.specs.Reading.{numbered}
 use Rattle.ct_catalog.specs.Columns.{column_types}
-use Rattle.plan_rules.specs.Pieces.{plan_of_tree}
+use Rattle.plan_rules.specs.Pieces.{Top, bare, shown, plan_of_tree}
 use Rattle.plan_rules.specs.Seen.{plan_as_seen}
+use Rattle.plan_shape.specs.Shape.{is_sink_key}
 use Rattle.plan_shape.specs.Tables.{are_tables}
 use Rattle.plan_check.specs.Sound.{Meets}
 use Rattle.plan_check.specs.Types.{fit_sink}
@@ -21,9 +22,20 @@ use Rattle.plan_rules.specs.Behaviours.{has_rule}
 abbrev pub types_of : List TableDef → List (List ColTy)
 types_of sources = map column_types sources
 
--- as it is seen, it is the tree's plan over its tables, into its sink, in as many subtasks
-abbrev pub IsLaidOut : Plan → Rel → Type 0
-IsLaidOut plan rel = plan_as_seen plan ≡ plan_of_tree plan.sources plan.sink plan.parallelism rel
+-- what stands before the sink suits its table: a materializer, an upsert table with its key
+abbrev pub SuitsTop : TableDef → Top → Type 0
+SuitsTop sink bare = Unit {0}
+SuitsTop sink (shown key) = is_sink_key sink key sink.key ≡ true
+
+-- as it is seen, it is the tree's plan over its tables, into its sink, in as many subtasks, with this before the sink
+abbrev pub IsLaidWith : Top → Plan → Rel → Type 0
+IsLaidWith top plan rel = plan_as_seen plan ≡ plan_of_tree plan.sources plan.sink plan.parallelism top rel
+
+-- and that suits its table
+pub record IsLaidOut (plan : Plan) (rel : Rel) : Type 0 where
+  pub top : Top
+  pub suits : SuitsTop plan.sink top
+  pub laid : IsLaidWith top plan rel
 
 -- and the tree is well-typed over tables that may be declared, its unions have two inputs or more, its rows may go into the sink's
 -- table, and its plan has at most 128 nodes in at most 16 subtasks

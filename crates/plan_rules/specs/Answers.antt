@@ -12,7 +12,7 @@ use Rattle.stream_model.specs.Network.{IsAnswer}
 use Rattle.plan_rules.specs.Behaviours.{has_rule}
 use Rattle.plan_rules.specs.Doings.{network}
 use Rattle.plan_rules.specs.Erased.{erased, erased_at}
-use Rattle.plan_rules.specs.Pieces.{plan_of_tree}
+use Rattle.plan_rules.specs.Pieces.{Top, plan_of_tree}
 use Rattle.plan_rules.specs.Plans.{HasShape}
 use Rattle.plan_rules.specs.Roles.{role, takes}
 
@@ -36,6 +36,6 @@ PlansAnswerAsErased = (plan : Plan) → HasRoles plan → (rows : ℕ → Rows) 
 abbrev pub Answers : Plan → Rel → Type 0
 Answers plan rel = (rows : ℕ → Rows) (result : Rows) → IsAnswer (network plan) rows (network plan).count result → answer (tables_with plan.sources rows) rel ≡ Some result
 
--- the tree of the plan of a tree is that tree
+-- the tree of the plan of a tree is that tree, whatever stands before the sink
 abbrev pub TreesAreErased : Type 0
-TreesAreErased = (sources : List TableDef) (sink : TableDef) (parallelism : ℕ) (rel : Rel) → erased (plan_of_tree sources sink parallelism rel) ≡ rel
+TreesAreErased = (sources : List TableDef) (sink : TableDef) (parallelism : ℕ) (top : Top) (rel : Rel) → erased (plan_of_tree sources sink parallelism top rel) ≡ rel

@@ -10,6 +10,7 @@ use Rattle.emission_rules.specs.Filter.{filter_rule}
 use Rattle.emission_rules.specs.Project.{project_rule}
 use Rattle.emission_rules.specs.Union.{union_rule}
 use Rattle.emission_rules.specs.Normalize.{normalize_rule, TellsKey}
+use Rattle.emission_rules.specs.Materialize.{materialize_rule}
 use Rattle.emission_rules.specs.Sink.{sink_rule}
 use Rattle.emission_rules.specs.Grouping.{group_rule, IsSound as GroupsWell}
 use Rattle.emission_rules.specs.Joining.{joins, matched, join_rule}
@@ -34,7 +35,7 @@ rule_of (op.BatchGroup keys aggs) = None
 rule_of (op.Join kind on rest) = Some (λ around. join_rule (joining_of (joins kind) on (option_map expr_view rest) around))
 rule_of (op.Semi anti on rest) = Some (λ around. join_rule (joining_of (matched anti) on (option_map expr_view rest) around))
 rule_of (op.TopN partition order bound ranked) = Some (λ around. topn_rule (ranking_of partition order bound ranked around))
-rule_of (op.Materialize key) = None
+rule_of (op.Materialize key) = Some (λ around. materialize_rule key)
 rule_of op.Sink = Some (λ around. sink_rule (sink_of around))
 rule_of (op.LocalGroup keys aggs) = None
 rule_of (op.MultiJoin on) = None

@@ -1,4 +1,5 @@
--- The plan of a tree of the algebra as a function of it: its nodes one behind the other, each behind its inputs, and the sink behind them.
+-- The plan of a tree of the algebra as a function of it: its nodes one behind the other, each behind its inputs, and behind them the sink,
+-- which a materializer may stand before.
 use Rattle.std.specs.Prelude.{ℕ, ◌+◌, List, [], ◌∷◌, ◌++◌, length, map, slice_get, Option, Some, None, option_map, unwrap_or}
 use Rattle.ct_change.specs.Changelog.{retract, upsert, kinds_of}
 use Rattle.ct_change.specs.declared.kind.Declared.{Declared}
@@ -119,6 +120,20 @@ nodes_in pieces = map (λ piece. piece.node) pieces
 abbrev pub edges_in : List Piece → List Edge
 edges_in pieces = map (λ piece. piece.edge) pieces
 
+-- what stands between a tree and the sink: nothing, or a materializer by a key
+pub data Top : Type 0 where
+  bare : Top
+  shown : List ℕ → Top
+
+-- what it asks of the tree's root
+abbrev pub asks_of : Top → Exchange
+asks_of bare = Forward
+asks_of (shown key) = Hash key
+
+abbrev pub with_top : Top → List Piece → List Piece
+with_top bare pieces = pieces
+with_top (shown key) pieces = topped 0 pieces (op.Materialize key) Forward
+
 -- the sink behind a tree
 abbrev pub with_sink : List Piece → List Piece
 with_sink pieces = pieces ++ piece op.Sink (length pieces ∷ []) Forward (kinds_of retract) Absent ∷ []
@@ -133,5 +148,5 @@ plan_of_pieces sources sink parallelism pieces = record {
   mini_batch = 0;
 }
 
-abbrev pub plan_of_tree : (sources : List TableDef) (sink : TableDef) (parallelism : ℕ) → Rel → Plan
-plan_of_tree sources sink parallelism rel = plan_of_pieces sources sink parallelism (with_sink (pieces_of sources 0 Forward rel))
+abbrev pub plan_of_tree : (sources : List TableDef) (sink : TableDef) (parallelism : ℕ) → Top → Rel → Plan
+plan_of_tree sources sink parallelism top rel = plan_of_pieces sources sink parallelism (with_sink (with_top top (pieces_of sources 0 (asks_of top) rel)))

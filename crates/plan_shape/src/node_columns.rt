@@ -45,6 +45,7 @@ pub fn next_columns(
             *with_rank,
             only_input(done, &node.inputs),
         ),
+        Op::Materialize { .. } => same_columns(only_input(done, &node.inputs)),
         Op::Sink => same_columns(only_input(done, &node.inputs)),
         _ => Ok(None),
     }

@@ -1,6 +1,6 @@
--- A plan that isn't refused, and that needs no materializer, is sound with what is inferred of it.
+-- A plan that isn't refused and has no materializer is sound with what is inferred of it.
 use Rattle.std.specs.Prelude.{◌≡◌, ℕ, ◌+◌, ◌<◌, ◌≤◌, ◌==◌, Bool, ◌&&◌, ◌||◌, not, cond, List, length, slice_get, Option}
-use Rattle.std.proofs.Common.{zero, suc, true, false, [], ◌∷◌, refl, sym, ap, subst, ◌∙◌, arith, Some, None}
+use Rattle.std.proofs.Common.{zero, suc, true, false, [], ◌∷◌, refl, sym, ap, ◌∙◌, arith, Some, None}
 use Rattle.std.specs.List.{list_all, list_any}
 use Rattle.std.proofs.lemmas.Bool.{eqb-true, eqb-false, ltb-false}
 use Rattle.ct_value.specs.declared.codes.ScriptCode.{ScriptCode}
@@ -29,24 +29,23 @@ use Rattle.ct_catalog.specs.Columns.{column_types}
 use Rattle.plan_shape.specs.Shape.{is_sink}
 use Rattle.plan_shape.specs.Shaped.{ShapedPlansHaveShape}
 use Rattle.plan_shape.specs.Tables.{is_declarable}
-use Rattle.plan_check.specs.Sound.{inferred_of, IsSound, Meets}
+use Rattle.plan_check.specs.Sound.{inferred_of, Meets}
 use Rattle.rel_algebra.specs.GoesInto.{go_into}
-use Rattle.plan_check.specs.Types.{keep_nulls, types_at}
+use Rattle.plan_check.specs.Types.{fit_sink, keep_nulls, types_at}
 use Rattle.planner.specs.Refusals.{below_sink, brings_null, changes_rows, has_materializer, inputs_in, is_forced, is_large, is_large_with, is_refused, or_else, refusal, sink_way, tells_more, way_into}
-use Rattle.plan_rules.specs.Behaviours.{has_rule}
-use Rattle.sound_plans.specs.Sound.{IsRuled}
+use Rattle.plan_rules.specs.Pieces.{bare}
+use Rattle.sound_plans.proofs.laws.Agreed.{materializes}
 use Rattle.sound_plans.proofs.laws.Columns.{inferred_columns}
 use Rattle.sound_plans.proofs.laws.Consumers.{by_test}
 use Rattle.sound_plans.proofs.laws.Lists.{both, the_same}
 use Rattle.sound_plans.proofs.laws.Local.{alike}
 use Rattle.sound_plans.proofs.laws.Shapes.{among, inner_no_sink, node_there}
-use Rattle.laid_plans.specs.Inferred.{InferredPlansAreSound, with_inferred}
-use Rattle.laid_plans.proofs.laws.Nodes.{node_read}
 use Rattle.laid_plans.specs.Shapes.{HasTreeShape, IsLaidWell, LaidPlansHaveShape}
 use Rattle.laid_plans.proofs.laws.LaidTrees.{LaysOut}
-use Rattle.laid_plans.proofs.laws.Placed.{lays_out}
+use Rattle.laid_plans.proofs.laws.Placed.{lays_out_with}
 use Rattle.laid_plans.proofs.laws.Trees.{tree}
-use Rattle.planner.specs.Planned.{IsLaidPlan, Planned, PlannedPlansAreRuled, made_by}
+use Rattle.planner.proofs.laws.Topped.{root_other}
+use Rattle.planner.specs.Planned.{IsLaidPlan}
 
 -- ---- no refusal
 
@@ -105,13 +104,13 @@ unforced : (inferred : Inferred) (force : Bool) (key : List ℕ) (input : ℕ) �
 unforced inferred false key input e = e
 unforced inferred true key input e = absurd (let n : true ≡ false = sym e ∙ asked_is_not_direct key (item inferred.flows input) (item inferred.update_keys input) (item inferred.keys input) in cc)
 
--- a node with a rule isn't a materializer
-comes_direct : (inferred : Inferred) (key : List ℕ) (input : ℕ) (o : Op) (inputs : List ℕ) → has_rule o ≡ true → comes_by inferred key input o inputs ≡ is_direct (way_at inferred false key input)
+-- a node that is no materializer
+comes_direct : (inferred : Inferred) (key : List ℕ) (input : ℕ) (o : Op) (inputs : List ℕ) → materializes o ≡ false → comes_by inferred key input o inputs ≡ is_direct (way_at inferred false key input)
 comes_direct inferred key input (op.Materialize shown) inputs r = absurd (cc)
 comes_direct inferred key input _ inputs r = refl
 
 -- what comes to a table suits it
-suits : (inferred : Inferred) (nodes : List Node) (mode : Declared) (key : Option (List ℕ)) (force : Bool) (input : ℕ) (below : Node) → item nodes input ≡ Some below → has_rule below.op ≡ true
+suits : (inferred : Inferred) (nodes : List Node) (mode : Declared) (key : Option (List ℕ)) (force : Bool) (input : ℕ) (below : Node) → item nodes input ≡ Some below → materializes below.op ≡ false
     → changes_rows mode inferred.modes ≡ false → is_refused (way_into inferred force mode key input) ≡ false → has_materializer (way_into inferred force mode key input) ≡ false
     → suits_table inferred nodes mode key input ≡ true
 suits inferred nodes Append key force input below e r c a m = alone_at inferred.modes input c
@@ -132,17 +131,48 @@ few_nodes : (n : ℕ) (m : Bool) → m ≡ false → is_large_with m n ≡ false
 few_nodes n true e l = absurd (cc)
 few_nodes n false e l = ltb-false 128 n l
 
-module _ (laid : Plan) (rel : Rel) (is : IsLaidPlan laid rel) (setting : Materialize) (accepted : refusal (inferred_of laid) laid setting ≡ None)
-    (bare : has_materializer (sink_way (inferred_of laid) laid setting) ≡ false) where
+pub both_true : (a b : Bool) → a ≡ true → b ≡ true → (a && b) ≡ true
+both_true true b e f = f
+both_true false b e f = absurd (cc)
+
+-- ---- where what comes to the sink suits its table, the rule SinkKey is met
+
+module _ (shaped : ShapedPlansHaveShape) (plan : Plan) (has : HasTreeShape plan) (sink : Node) (input : ℕ) (there : numbered plan.nodes (length plan.nodes) ≡ Some sink) (over : sink.inputs ≡ input ∷ [])
+    (suits_it : suits_table (inferred_of plan) plan.nodes plan.sink.mode plan.sink.key input ≡ true) where
+  -- a sink is the last node
+  last : (v : ℕ) (node : Node) → numbered plan.nodes v ≡ Some node → node.op ≡ op.Sink → v ≡ length plan.nodes
+  last v node e sinks =
+      by_test (v == length plan.nodes) (λ t. eqb-true v (length plan.nodes) t)
+      (λ f.
+      let few = (among plan.nodes v node e).few in
+      let apart = eqb-false v (length plan.nodes) f in
+      absurd (let h = inner_no_sink plan has.shape shaped v node e (omega arith) in let k : true ≡ false = sym (ap (λ o. is_sink (Some o)) sinks) ∙ h in cc))
+
+  filled : (v : ℕ) (node : Node) → numbered plan.nodes v ≡ Some node → (o : Op) → node.op ≡ o → fills (inferred_of plan) plan o node.inputs ≡ true
+  filled v node e op.Sink sinks =
+      let same : node ≡ sink = the_same node sink (sym e ∙ ap (numbered plan.nodes) (last v node e sinks) ∙ there) in
+      ap (λ xs. suits_table (inferred_of plan) plan.nodes plan.sink.mode plan.sink.key (first_input xs)) (ap (λ (n : Node). n.inputs) same ∙ over) ∙ suits_it
+  filled v node e _ sinks = refl
+
+  pub meets_sink_key : Meets rule.SinkKey plan
+  meets_sink_key v low most = go (numbered plan.nodes v) refl
+    where
+      go : (o : Option Node) → numbered plan.nodes v ≡ o → suits_sink (inferred_of plan) plan v ≡ true
+      go None e = ap (fills_sink (inferred_of plan) plan) (alike plan.nodes v ∙ e)
+      go (Some node) e = ap (fills_sink (inferred_of plan) plan) (alike plan.nodes v ∙ e) ∙ filled v node e node.op refl
+
+-- ---- a plan that isn't refused
+
+module _ (laid : Plan) (rel : Rel) (is : IsLaidPlan laid rel) (setting : Materialize) (accepted : refusal (inferred_of laid) laid setting ≡ None) where
   abbrev inferred : Inferred
   inferred = inferred_of laid
 
   abbrev way : Way
   way = sink_way (inferred_of laid) laid setting
 
-  -- the tree's nodes
-  out : LaysOut laid rel
-  out = lays_out laid rel is.laid_out
+  -- its nodes
+  abbrev out : LaysOut laid bare rel
+  out = lays_out_with laid bare rel is.laid_out
 
   abbrev root : ℕ
   root = out.root
@@ -164,19 +194,22 @@ module _ (laid : Plan) (rel : Rel) (is : IsLaidPlan laid rel) (setting : Materia
       let f = passed _ _ _ e.1 in
       record { mode = b.0; key = c.0; nulls = d.0; size = f.0 }
 
+  pub not_large : is_large laid way ≡ false
+  not_large = tests.size
+
   tables : (source : ℕ) (table : TableDef) → slice_get laid.sources source ≡ Some table → is_declarable table ≡ true
   tables source table e =
       let all = (both (list_all is_declarable (laid.sink ∷ laid.sources)) _ is.tables).0 in
       each_declarable laid.sources source table (both (is_declarable laid.sink) (list_all is_declarable laid.sources) all).1 e
 
-  high : root < length laid.nodes
-  high = let n = out.nodes in omega arith
-
   types : types_at laid.sources laid.nodes root ≡ Some is.columns
-  types = (tree laid tables rel 0 Forward root out.laid high is.unions is.columns is.typed).columns_are
+  types =
+      let same : out.root ≡ out.below = out.topped in
+      let high : out.below < length laid.nodes = let n = out.nodes in omega (arith, n, same) in
+      ap (types_at laid.sources laid.nodes) same ∙ (tree laid tables rel 0 Forward out.below out.laid high is.unions is.columns is.typed).columns_are
 
   -- the node below the sink is the tree's root
-  below_is : below_sink laid.nodes ≡ root
+  pub below_is : below_sink laid.nodes ≡ root
   below_is =
       let has = out.sink_node in
       ap (λ o. first_input (inputs_in o)) (alike laid.nodes (length laid.nodes) ∙ ap (numbered laid.nodes) out.nodes ∙ has.is_there) ∙ ap first_input has.inputs_are
@@ -187,25 +220,25 @@ module _ (laid : Plan) (rel : Rel) (is : IsLaidPlan laid rel) (setting : Materia
       let same : columns_in inferred.columns (below_sink laid.nodes) ≡ is.columns = ap (columns_in inferred.columns) below_is ∙ inferred_columns laid.sources laid.nodes root is.columns types in
       sym (ap (λ c. keep_nulls c (column_types laid.sink)) same) ∙ all
 
-  both_true : (a b : Bool) → a ≡ true → b ≡ true → (a && b) ≡ true
-  both_true true b e f = f
-  both_true false b e f = absurd (cc)
+  -- its rows may go into the sink's table
+  pub fits : fit_sink is.columns (column_types laid.sink) ≡ true
+  fits = both_true (go_into is.columns (column_types laid.sink)) (keep_nulls is.columns (column_types laid.sink)) is.goes keeps
 
-  well : IsLaidWell laid rel
-  well = record {
-    laid_out = is.laid_out;
-    columns = is.columns;
-    typed = is.typed;
-    unions = is.unions;
-    fits = both_true (go_into is.columns (column_types laid.sink)) (keep_nulls is.columns (column_types laid.sink)) is.goes keeps;
-    tables = is.tables;
-    few = few_nodes (length laid.nodes) (has_materializer way) bare tests.size;
-    parallel = is.parallel;
-    narrow = is.narrow;
-  }
+  module _ (shapes : LaidPlansHaveShape) (shaped : ShapedPlansHaveShape) (plain : has_materializer (sink_way (inferred_of laid) laid setting) ≡ false) where
+    well : IsLaidWell laid rel
+    well = record {
+      laid_out = record { top = bare; suits = tt; laid = is.laid_out };
+      columns = is.columns;
+      typed = is.typed;
+      unions = is.unions;
+      fits = fits;
+      tables = is.tables;
+      few = few_nodes (length laid.nodes) (has_materializer way) plain tests.size;
+      parallel = is.parallel;
+      narrow = is.narrow;
+    }
 
-  module _ (shapes : LaidPlansHaveShape) (shaped : ShapedPlansHaveShape) where
-    has : HasTreeShape laid
+    pub has : HasTreeShape laid
     has = shapes laid rel well
 
     some_root : 0 < root
@@ -213,68 +246,18 @@ module _ (laid : Plan) (rel : Rel) (is : IsLaidPlan laid rel) (setting : Materia
         let sink = out.sink_node in
         ((shaped laid has.shape).before (root + 1) 0 root (record { node = sink.node; is_node = sink.is_there; is_input = ap (λ (xs : List ℕ). slice_get xs 0) sink.inputs_are })).0
 
+    root_is_other : (v : ℕ) (below : Node) → v ≡ root → numbered laid.nodes v ≡ Some below → materializes below.op ≡ false
+    root_is_other zero below is_root e = absurd (let l = some_root in omega (arith, is_root))
+    root_is_other (suc n) below is_root e = root_other laid rel is.laid_out n below (let many = out.nodes in omega (arith, many, is_root)) e
+
     suits_root : suits_table inferred laid.nodes laid.sink.mode laid.sink.key root ≡ true
     suits_root =
-        let below = node_there laid.nodes root some_root (let h = high in omega arith) in
-        suits inferred laid.nodes laid.sink.mode laid.sink.key (is_forced setting) root below.0 (alike laid.nodes root ∙ below.1) (has.rules root below.0 below.1) tests.mode
+        let below = node_there laid.nodes root some_root (let n = out.nodes in omega (arith, n)) in
+        suits inferred laid.nodes laid.sink.mode laid.sink.key (is_forced setting) root below.0 (alike laid.nodes root ∙ below.1) (root_is_other root below.0 refl below.1) tests.mode
         (sym (ap (λ input. is_refused (way_into inferred (is_forced setting) laid.sink.mode laid.sink.key input)) below_is) ∙ tests.key)
-        (sym (ap (λ input. has_materializer (way_into inferred (is_forced setting) laid.sink.mode laid.sink.key input)) below_is) ∙ bare)
+        (sym (ap (λ input. has_materializer (way_into inferred (is_forced setting) laid.sink.mode laid.sink.key input)) below_is) ∙ plain)
 
-    -- a sink is the last node
-    last : (v : ℕ) (node : Node) → numbered laid.nodes v ≡ Some node → node.op ≡ op.Sink → v ≡ length laid.nodes
-    last v node e sinks =
-        by_test (v == length laid.nodes) (λ t. eqb-true v (length laid.nodes) t)
-        (λ f.
-        let few = (among laid.nodes v node e).few in
-        let apart = eqb-false v (length laid.nodes) f in
-        absurd (let h = inner_no_sink laid has.shape shaped v node e (omega arith) in let k : true ≡ false = sym (ap (λ o. is_sink (Some o)) sinks) ∙ h in cc))
-
-    filled : (v : ℕ) (node : Node) → numbered laid.nodes v ≡ Some node → (o : Op) → node.op ≡ o → fills inferred laid o node.inputs ≡ true
-    filled v node e op.Sink sinks =
-        let own = out.sink_node in
-        let same : node ≡ own.node = the_same node own.node (sym e ∙ ap (numbered laid.nodes) (last v node e sinks ∙ out.nodes) ∙ own.is_there) in
-        ap (λ xs. suits_table inferred laid.nodes laid.sink.mode laid.sink.key (first_input xs)) (ap (λ (n : Node). n.inputs) same ∙ own.inputs_are) ∙ suits_root
-    filled v node e _ sinks = refl
-
-    sink_key : Meets rule.SinkKey laid
-    sink_key v low most = go (numbered laid.nodes v) refl
-      where
-        go : (o : Option Node) → numbered laid.nodes v ≡ o → suits_sink inferred laid v ≡ true
-        go None e = ap (fills_sink inferred laid) (alike laid.nodes v ∙ e)
-        go (Some node) e = ap (fills_sink inferred laid) (alike laid.nodes v ∙ e) ∙ filled v node e node.op refl
-
--- an operator has a rule, whatever keys its node says
-abbrev ruled_in : Option Node → Bool
-ruled_in None = true
-ruled_in (Some node) = has_rule node.op
-
-module _ (shapes : LaidPlansHaveShape) (sound : InferredPlansAreSound) (shaped : ShapedPlansHaveShape) (laid : Plan) (rel : Rel) (is : IsLaidPlan laid rel) (setting : Materialize)
-    (accepted : refusal (inferred_of laid) laid setting ≡ None) (bare : has_materializer (sink_way (inferred_of laid) laid setting) ≡ false) where
-  -- the plan with what is inferred of it is sound
-  pub made_is_sound : IsSound (with_inferred laid)
-  made_is_sound =
-      let h = has laid rel is setting accepted bare shapes shaped in
-      sound laid h.rules h.shape h.types h.exchanged (sink_key laid rel is setting accepted bare shapes shaped)
-
-  each_ruled : (v : ℕ) (node : Node) → numbered (with_inferred laid).nodes v ≡ Some node → has_rule node.op ≡ true
-  each_ruled v node e =
-      let h = has laid rel is setting accepted bare shapes shaped in
-      sym (ap ruled_in e) ∙ node_read (inferred_of laid).keys ruled_in (λ node keys. refl) laid.nodes v ∙ below (numbered laid.nodes v) refl
-    where
-      below : (o : Option Node) → numbered laid.nodes v ≡ o → ruled_in o ≡ true
-      below None i = refl
-      below (Some own) i = (has laid rel is setting accepted bare shapes shaped).rules v own i
-
-  made_is_ruled : IsRuled (with_inferred laid)
-  made_is_ruled = record { sound = made_is_sound; rules = each_ruled }
-
--- what is planned isn't refused and doesn't wait
-by_made : (laid plan : Plan) (code : Option ScriptCode) (materialized : Bool) → made_by laid code materialized ≡ Planned plan → (code ≡ None) × (materialized ≡ false) × (with_inferred laid ≡ plan)
-by_made laid plan (Some code) materialized e = absurd (cc)
-by_made laid plan None true e = absurd (cc)
-by_made laid plan None false e = (refl, refl, cc)
-
-pub planned_is_ruled : LaidPlansHaveShape → InferredPlansAreSound → ShapedPlansHaveShape → PlannedPlansAreRuled
-planned_is_ruled shapes sound shaped laid rel setting plan is e =
-    let m = by_made laid plan (refusal (inferred_of laid) laid setting) (has_materializer (sink_way (inferred_of laid) laid setting)) e in
-    subst IsRuled m.2 (made_is_ruled shapes sound shaped laid rel is setting m.0 m.1)
+    pub sink_key : Meets rule.SinkKey laid
+    sink_key =
+        let sink = out.sink_node in
+        meets_sink_key shaped laid has sink.node root (ap (numbered laid.nodes) out.nodes ∙ sink.is_there) sink.inputs_are suits_root

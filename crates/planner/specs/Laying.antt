@@ -13,6 +13,7 @@ use Rattle.planner.specs.declared.laying_fault.LayingFault.{LayingFault}
 use Rattle.planner.specs.declared.laying_fault.LayingFault.TheVariants.{NoTable, Memory}
 use Rattle.planner.specs.declared.laying.Laying.{Laying}
 use Rattle.planner.specs.Faults.{lacks_table, any_lacks}
+use Rattle.planner.specs.Tops.{shown_nodes, shown_edges}
 
 -- ---- a node
 
@@ -57,6 +58,14 @@ Begun old mid below (Many inputs) = old ≡ mid
 -- the rest of it is laid behind its first input
 pub record Tops (mid new : Laying) (below : ℕ) (exchange : Exchange) (rel : Rel) (root : ℕ) : Type 0 where
   pub tops : (old : Laying) → Begun old mid below rel → Lays old new exchange rel root
+
+-- ---- what stands before the sink
+
+-- a materializer is laid over the last of the nodes, and the sink over it
+pub record Shows (key : List ℕ) (old new : Laying) : Type 0 where
+  pub sources : new.sources ≡ old.sources
+  pub nodes : new.nodes ≡ shown_nodes key old.nodes
+  pub edges : new.edges ≡ shown_edges old.edges
 
 -- ---- faults
 

@@ -5,8 +5,6 @@ use ct_value::{Memory, ScriptCode};
 pub enum PlannerFault {
     /// The first refusal.
     Refused(ScriptCode),
-    /// The sink needs a materializer, which isn't built yet.
-    Waits,
     Memory,
 }
 

@@ -1,10 +1,10 @@
 //! What is laid of a plan, and nodes that are put behind it.
-ghost use Rattle.std.specs.Prelude.{◌≡◌, ◌+◌, [], ◌∷◌, IfOk, IfErr};
+ghost use Rattle.std.specs.Prelude.{◌≡◌, ◌+◌, [], ◌∷◌, IfOk, IfErr, OnOk};
 ghost use Rattle.ct_change.specs.Changelog.{retract, upsert, kinds_of};
 ghost use Rattle.phys_plan.specs.declared.edge.Exchange.TheVariants.{Forward as ToSame, Hash as ByHash};
 ghost use Rattle.ct_change.specs.declared.update.Update.TheVariants.{Absent as NoUpdate, After as AfterKey, Both as BothRows};
 ghost use Rattle.phys_plan.specs.declared.node.Op.TheVariants as op;
-ghost use Rattle.planner.specs.Laying.{Pushed};
+ghost use Rattle.planner.specs.Laying.{Pushed, Shows};
 
 use crate::laying_fault::LayingFault;
 use crate::parts::{all_kinds, no_keys, upsert_kinds};
@@ -104,5 +104,18 @@ impl Laying {
             update: Update::Absent,
         };
         self.push(Op::Sink, inputs, edge)
+    }
+
+    // A materializer by this key over the last of the nodes, and the sink over it.
+    #[tactic(auto, using(crate::proofs::laws::Laid::shows))]
+    pub(crate) fn push_shown(&mut self, key: Cols) -> Result<(), LayingFault>
+        ensures { OnOk result (Shows key self.old self.new) }
+    {
+        let Ok(root) = u32::try_from(self.nodes.len()) else {
+            return Err(LayingFault::Memory);
+        };
+        let shown = self.push_over(root, Op::Materialize { key }, Exchange::Forward)?;
+        self.push_sink(shown)?;
+        Ok(())
     }
 }

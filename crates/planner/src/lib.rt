@@ -5,15 +5,16 @@
 //! fault says what is so of the tree (`specs/Faults`).
 //! `refusal` answers the first of the refusals that `specs/Refusals` tells, in the order in which they count: ties in a Top-N,
 //! changes into an append table, an upsert table whose key isn't unique, NULL where it may not stand, a materializer that is needed
-//! and off, and too many nodes. `plan` answers a checked plan, which is the plan as it is laid with what is inferred of it, or
-//! exactly the first refusal, or that a materializer is needed, which isn't built yet. That such a plan is sound is proved, so its
-//! check never refuses it. It stands on the algebra, on what is inferred of plans and on their check.
+//! and off, and too many nodes. `plan` answers a checked plan, or exactly the first refusal: the plan is the one that is laid, with a
+//! materializer before its sink where that takes what comes by one (`specs/Tops`), and with what is inferred of it so. That such a
+//! plan is sound is proved, so its check never refuses it. It stands on the algebra, on what is inferred of plans and on their check.
 #![tactic(auto)]
 
 mod fault;
 mod laying;
 mod laying_fault;
 mod make;
+mod materializer;
 mod operators;
 mod parts;
 mod planning;

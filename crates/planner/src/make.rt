@@ -1,7 +1,7 @@
 //! The plan of a tree.
 ghost use Rattle.std.specs.Prelude.{◌≡◌, false, IfOk, IfErr, OnOk};
 ghost use Rattle.rel_algebra.specs.View.{rel_view};
-ghost use Rattle.plan_rules.specs.Pieces.{plan_of_tree};
+ghost use Rattle.plan_rules.specs.Pieces.{bare, plan_of_tree};
 ghost use Rattle.plan_rules.specs.Seen.{plan_as_seen};
 ghost use Rattle.planner.specs.Faults.{Says, lacks_table};
 
@@ -25,7 +25,7 @@ pub fn plan_of(
     sink: TableDef,
     parallelism: u32,
 ) -> Result<Plan, LayingFault>
-    ensures plan { IfOk result (λ plan. plan_as_seen plan ≡ plan_of_tree sources sink parallelism (rel_view rel.now)) }
+    ensures plan { IfOk result (λ plan. plan_as_seen plan ≡ plan_of_tree sources sink parallelism bare (rel_view rel.now)) }
     ensures tables { OnOk result (lacks_table sources (rel_view rel.now) ≡ false) }
     ensures fault { IfErr result (λ fault. Says sources (rel_view rel.now) fault) }
 {

@@ -8,11 +8,13 @@ ghost use Rattle.plan_check.specs.Sound.{IsSound, inferred_of};
 ghost use Rattle.plan_rules.specs.Erased.{erased};
 ghost use Rattle.planner.specs.Refusals as r;
 ghost use Rattle.planner.specs.Planned.{IsLaidPlan, Planned, Says, made};
+ghost use Rattle.planner.specs.Tops.{shown_key, top_of, topped_plan};
 
+use crate::materializer::{shown_key, with_materializer};
 use crate::sizes::is_plainly_large;
-use crate::{PlannerFault, has_materializer, refusal, sink_way};
+use crate::{PlannerFault, refusal, sink_way};
 use ct_catalog::Materialize;
-use ct_value::{Memory, ScriptCode};
+use ct_value::{Cols, Memory, ScriptCode};
 use mode_infer::set_modes;
 use phys_plan::Plan;
 use plan_check::{CheckedPlan, PlanFault, check_plan, infer_plan};
@@ -23,9 +25,10 @@ use upsert_keys::set_keys;
 // The most nodes of a plan of which anything is inferred.
 const MOST_INFERRED: usize = 1_024;
 
-/// The plan of a tree, from the nodes and exchanges that are laid of it, by the script's setting for materializers: with the keys that are inferred
-/// of each node, and the kinds and updates of each edge. Its algebra is the tree. `Refused` comes with the first refusal (ties, the sink's mode, its key, NULL, a
-/// materializer that is off, too many nodes), and `Waits` where there is none and a materializer is needed.
+/// The plan of a tree, from the nodes and exchanges that are laid of it, by the script's setting for materializers: with a materializer before its
+/// sink where that takes what comes by one, with the keys that are inferred of each node, and the kinds and updates of each edge. Its algebra is the
+/// tree. `Refused` comes with the first refusal: ties, the sink's mode, its key, NULL, a materializer that is off, too many nodes (Flink
+/// documentation, "Configuration", `table.exec.sink.upsert-materialize`).
 pub fn plan(alloc: Global, laid: Plan, setting: Materialize) -> Result<CheckedPlan, PlannerFault>
     requires { (rel : Rel) × IsLaidPlan laid rel }
     ensures planned { IfOk result (λ checked. made laid setting ≡ Planned (plan_in checked)) }
@@ -34,8 +37,8 @@ pub fn plan(alloc: Global, laid: Plan, setting: Materialize) -> Result<CheckedPl
 {
     test_size(alloc, &laid)?;
     let inferred = infer_plan(alloc, &laid)?;
-    test_refusals(alloc, &inferred, &laid, setting)?;
-    let plan = with_inferred(laid, &inferred)?;
+    let key = test_refusals(alloc, &inferred, &laid, setting)?;
+    let plan = finished(alloc, laid, &inferred, key)?;
     Ok(checked(alloc, plan)?)
 }
 
@@ -52,26 +55,43 @@ fn test_size(alloc: Global, laid: &Plan) -> Result<(), PlannerFault>
     Ok(())
 }
 
-// Whether the plan is refused, or waits for a materializer.
+// Whether the plan is refused; and otherwise the key of the materializer before its sink, if there is one.
 fn test_refusals(
     alloc: Global,
     inferred: &Inferred,
     laid: &Plan,
     setting: Materialize,
-) -> Result<(), PlannerFault>
+) -> Result<Option<Cols>, PlannerFault>
     requires { inferred.now ≡ inferred_of laid.now }
     ensures accepted { OnOk result (r.refusal (inferred_of laid.now) laid.now setting ≡ None) }
-    ensures bare { OnOk result (r.has_materializer (r.sink_way (inferred_of laid.now) laid.now setting) ≡ false) }
+    ensures shown { IfOk result (λ key. key ≡ shown_key (r.sink_way (inferred_of laid.now) laid.now setting) laid.now.sink.key) }
     ensures refused { IfErr result (λ fault. Says (made laid.now setting) fault) }
 {
     if let Some(code) = refusal(alloc, inferred, laid, setting)? {
         return Err(PlannerFault::Refused(code));
     }
     let way = sink_way(alloc, inferred, laid, setting)?;
-    if has_materializer(way) {
-        return Err(PlannerFault::Waits);
+    Ok(shown_key(way, &laid.sink.key)?)
+}
+
+// The plan with a materializer by this key, if there is one, and with what is inferred of it so: of the plan as it is laid that is known.
+fn finished(
+    alloc: Global,
+    laid: Plan,
+    inferred: &Inferred,
+    key: Option<Cols>,
+) -> Result<Plan, Memory>
+    requires { inferred.now ≡ inferred_of laid }
+    ensures { IfOk result (λ plan. plan ≡ with_inferred (topped_plan (top_of key) laid)) }
+{
+    match key {
+        None => with_inferred(laid, inferred),
+        Some(key) => {
+            let shown = with_materializer(alloc, laid, key)?;
+            let inferred = infer_plan(alloc, &shown)?;
+            with_inferred(shown, &inferred)
+        }
     }
-    Ok(())
 }
 
 fn with_inferred(laid: Plan, inferred: &Inferred) -> Result<Plan, Memory>

@@ -4,6 +4,7 @@ pub mod Expressions
 pub mod Folds
 pub mod Groups
 pub mod Joins
+pub mod Materializes
 pub mod Ranks
 pub mod Rows
 pub mod Theorems

@@ -11,6 +11,7 @@ use Rattle.emission_rules.specs.Filter.{Filter, filter_rule}
 use Rattle.emission_rules.specs.Project.{Project, project_rule}
 use Rattle.emission_rules.specs.Union.{Union, union_rule}
 use Rattle.emission_rules.specs.Normalize.{Normalize, normalize_rule}
+use Rattle.emission_rules.specs.Materialize.{materialize_rule}
 use Rattle.emission_rules.specs.Sink.{Sink, sink_rule}
 use Rattle.emission_rules.specs.Grouping.{Grouping, group_rule}
 use Rattle.emission_rules.specs.Joining.{Joining, join_rule}
@@ -55,6 +56,9 @@ UnionsStayInRange = (union : Union) → RuleStaysInRange (union_rule union)
 
 abbrev pub NormalizesStayInRange : Type 0
 NormalizesStayInRange = (normalize : Normalize) → RuleStaysInRange (normalize_rule normalize)
+
+abbrev pub MaterializesStayInRange : Type 0
+MaterializesStayInRange = (key : List ℕ) → RuleStaysInRange (materialize_rule key)
 
 abbrev pub SinksStayInRange : Type 0
 SinksStayInRange = (sink : Sink) → RuleStaysInRange (sink_rule sink)

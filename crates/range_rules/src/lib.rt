@@ -2,7 +2,8 @@
 //!
 //! Promised, by definitions (`specs/Arithmetic`, where these stand in a script; `specs/Tame`, which trees of the algebra have none)
 //! and by lemmas: where none is written in a query, the tree that it is bound to only hands on, compares and counts values. A filter,
-//! a project, a union, a normalizer, a sink, a group, a join and a Top-N whose expressions and calls calculate nothing are never out
-//! of range, over texts as short as a field's and fewer changes than a BIGINT counts, and they hand on short texts (`specs/Ranges`).
+//! a project, a union, a normalizer, a materializer, a sink, a group, a join and a Top-N whose expressions and calls calculate nothing
+//! are never out of range, over texts as short as a field's and fewer changes than a BIGINT counts, and they hand on short texts
+//! (`specs/Ranges`).
 //! It stands on the definitions of binding and of the emission rules, and has no code.
 #![tactic(auto)]

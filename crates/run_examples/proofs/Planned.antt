@@ -1,4 +1,4 @@
--- The run over the plan of counted words.
+-- The runs over the plans of counted words.
 use Rattle.std.proofs.Common.{◌≡◌, ℕ, ◌==◌, true, cond, not, List, [], ◌∷◌, ◌++◌, Option, None, Ok, Err, refl, ap, ◌∙◌}
 use Rattle.std.specs.Prelude.{is_some, option_map, take as first_of}
 use Rattle.ct_value.specs.Bag.{items, none, add, put, weigh}
@@ -24,9 +24,9 @@ use Rattle.stream_model.specs.declared.events.PrintItem.TheVariants.{Change as P
 use Rattle.stream_model.specs.Runs.{Item, quiet, state_in, after}
 use Rattle.stream_model.specs.Drain.{drain_stages, delivers}
 use Rattle.run_examples.specs.Worked.{take, move, printed_by}
-use Rattle.plan_rules.specs.Pieces.{plan_of_tree}
+use Rattle.plan_rules.specs.Pieces.{bare, shown, plan_of_tree}
 use Rattle.plan_rules.specs.Seen.{plan_as_seen}
-use Rattle.run_examples.specs.Planned.{word_table, count_table, counts, counts_rel, a_word, a_comes, twice, counted, CountsAsWorked}
+use Rattle.run_examples.specs.Planned.{word_table, count_table, counts, counts_rel, word_counts, shown_counts, a_word, a_comes, twice, counted, word_gone, CountsAsWorked, ShownAsWorked}
 
 abbrev g : Network
 g = network counts
@@ -80,33 +80,35 @@ told_as rows others n m e f =
     ∙ (ap (λ k. told n n k (count_in others)) f
     ∙ ap (λ k. told n n m k) (size_of (members words a_word others) ∙ f)))
 
-first_emits : g.emits 2 [] (arrival 0 0 a_comes ∷ []) ≡ Ok (counted I 1 ∷ [])
+abbrev first_answer : Answer
+first_answer = Ok (counted I 1 ∷ [])
+
+abbrev second_answer : Answer
+second_answer = Ok (counted UB 1 ∷ counted UA 2 ∷ [])
+
+first_emits : g.emits 2 [] (arrival 0 0 a_comes ∷ []) ≡ first_answer
 first_emits = told_as none (add none a_word) 0 1 in_none in_one
 
-second_emits : g.emits 2 (arrival 0 0 a_comes ∷ []) (arrival 0 0 a_comes ∷ []) ≡ Ok (counted UB 1 ∷ counted UA 2 ∷ [])
+second_emits : g.emits 2 (arrival 0 0 a_comes ∷ []) (arrival 0 0 a_comes ∷ []) ≡ second_answer
 second_emits = told_as (add none a_word) (add (add none a_word) a_word) 1 2 in_one in_two
 
 -- ---- the run
 
--- both rows are taken
-abbrev s0 : State
-s0 = after g 100 (opened g) (take 0 a_comes ∷ take 0 a_comes ∷ [])
+-- the group takes one of the rows, with these behind it, and hands on this answer
+abbrev folds : Network → List Change → Answer → State → State
+folds net rest answer s = state_in s (answered net 100 2 0 answer (folded 2 0 (joins 1 0 0 (record { node = 2; port = 0 }) a_comes rest s)))
 
--- the group takes one of them, with these behind it, and hands on this answer
-abbrev folds : List Change → Answer → State → State
-folds rest answer s = state_in s (answered g 100 2 0 answer (folded 2 0 (joins 1 0 0 (record { node = 2; port = 0 }) a_comes rest s)))
+-- both are taken, and then delivered to the group
+abbrev taken : Network → State
+taken net = after net 100 (opened net) (take 0 a_comes ∷ take 0 a_comes ∷ [])
 
-abbrev s1 : State
-s1 = folds (a_comes ∷ []) (Ok (counted I 1 ∷ [])) s0
+abbrev grouped : Network → State
+grouped net = folds net [] second_answer (folds net (a_comes ∷ []) first_answer (taken net))
 
-abbrev s2 : State
-s2 = folds [] (Ok (counted UB 1 ∷ counted UA 2 ∷ [])) s1
-
--- both are delivered to the group
-delivered : (more : List Item) → after g 100 s0 (move 1 0 0 ∷ move 1 0 0 ∷ more) ≡ after g 100 s2 more
+delivered : (more : List Item) → after g 100 (taken g) (move 1 0 0 ∷ move 1 0 0 ∷ more) ≡ after g 100 (grouped g) more
 delivered more =
-    ap (λ answer. after g 100 (folds (a_comes ∷ []) answer s0) (move 1 0 0 ∷ more)) first_emits
-    ∙ ap (λ answer. after g 100 (folds [] answer s1) more) second_emits
+    ap (λ answer. after g 100 (folds g (a_comes ∷ []) answer (taken g)) (move 1 0 0 ∷ more)) first_emits
+    ∙ ap (λ answer. after g 100 (folds g [] answer (folds g (a_comes ∷ []) first_answer (taken g))) more) second_emits
 
 -- what a drain goes on with from this state
 abbrev to_sink : State → List Item
@@ -114,13 +116,37 @@ to_sink s = drain_stages g 100 s (delivers 2 0 0 ∷ []) ++ quiet ∷ []
 
 printed : printed_by g twice ≡ Printed (counted I 1) ∷ Printed (counted UB 1) ∷ Printed (counted UA 2) ∷ Quiet (2 ∷ []) ∷ []
 printed =
-    ap (λ s. State.printed (after g 100 s0 (move 1 0 0 ∷ move 1 0 0 ∷ to_sink s))) (delivered [])
-    ∙ ap State.printed (delivered (to_sink s2))
+    ap (λ s. State.printed (after g 100 (taken g) (move 1 0 0 ∷ move 1 0 0 ∷ to_sink s))) (delivered [])
+    ∙ ap State.printed (delivered (to_sink (grouped g)))
 
--- ---- the plan
+-- ---- the run behind a materializer
 
-is_plan : plan_as_seen counts ≡ plan_of_tree (word_table ∷ []) count_table 1 counts_rel
+abbrev h : Network
+h = network shown_counts
+
+delivered_there : (more : List Item) → after h 100 (taken h) (move 1 0 0 ∷ move 1 0 0 ∷ more) ≡ after h 100 (grouped h) more
+delivered_there more =
+    ap (λ answer. after h 100 (folds h (a_comes ∷ []) answer (taken h)) (move 1 0 0 ∷ more)) first_emits
+    ∙ ap (λ answer. after h 100 (folds h [] answer (folds h (a_comes ∷ []) first_answer (taken h))) more) second_emits
+
+abbrev to_shown_sink : State → List Item
+to_shown_sink s = drain_stages h 100 s (delivers 2 0 0 ∷ delivers 3 0 0 ∷ []) ++ quiet ∷ []
+
+printed_there : printed_by h twice ≡ Printed (counted I 1) ∷ Printed word_gone ∷ Printed (counted I 2) ∷ Quiet (2 ∷ []) ∷ []
+printed_there =
+    ap (λ s. State.printed (after h 100 (taken h) (move 1 0 0 ∷ move 1 0 0 ∷ to_shown_sink s))) (delivered_there [])
+    ∙ ap State.printed (delivered_there (to_shown_sink (grouped h)))
+
+-- ---- the plans
+
+is_plan : plan_as_seen counts ≡ plan_of_tree (word_table ∷ []) count_table 1 bare counts_rel
 is_plan = refl
 
 pub counts_as_worked : CountsAsWorked
 counts_as_worked = record { is_plan = is_plan; printed = printed }
+
+is_shown_plan : plan_as_seen shown_counts ≡ plan_of_tree (word_table ∷ []) word_counts 1 (shown (0 ∷ [])) counts_rel
+is_shown_plan = refl
+
+pub shown_as_worked : ShownAsWorked
+shown_as_worked = record { is_plan = is_shown_plan; printed = printed_there }

@@ -1,11 +1,12 @@
--- A worked run over a real plan: that of SELECT word, COUNT(*) FROM t GROUP BY word.
-use Rattle.std.specs.Prelude.{◌≡◌, ℕ, false, pos, List, [], ◌∷◌, ◌++◌, codes, None}
+-- Worked runs over real plans of SELECT word, COUNT(*) FROM t GROUP BY word: into a table of changes, and behind a materializer into a table
+-- by the word.
+use Rattle.std.specs.Prelude.{◌≡◌, ℕ, false, pos, List, [], ◌∷◌, ◌++◌, codes, Some, None}
 use Rattle.ct_value.specs.declared.ty.Ty.TheVariants.{Text as Texts, BigInt}
-use Rattle.ct_value.specs.declared.value.Value.TheVariants.{Num, Text}
+use Rattle.ct_value.specs.declared.value.Value.TheVariants.{Null, Num, Text}
 use Rattle.ct_value.specs.declared.row.Row.{Row}
 use Rattle.ct_change.specs.declared.kind.Kind.{Kind}
-use Rattle.ct_change.specs.declared.kind.Kind.TheVariants.{I, UB, UA}
-use Rattle.ct_change.specs.declared.kind.Declared.TheVariants.{Append, Retract}
+use Rattle.ct_change.specs.declared.kind.Kind.TheVariants.{I, UB, UA, D}
+use Rattle.ct_change.specs.declared.kind.Declared.TheVariants.{Append, Retract, Upsert}
 use Rattle.ct_change.specs.declared.change.Change.{Change}
 use Rattle.ct_change.specs.Changelog.{retract, kinds_of}
 use Rattle.ct_catalog.specs.declared.table.ColDef.{ColDef}
@@ -17,7 +18,7 @@ use Rattle.phys_plan.specs.declared.edge.Exchange.TheVariants.{Forward, Hash}
 use Rattle.ct_change.specs.declared.update.Update.TheVariants.{Absent, Both}
 use Rattle.phys_plan.specs.declared.node.Op.TheVariants as op
 use Rattle.phys_plan.specs.declared.plan.Plan.{Plan}
-use Rattle.plan_rules.specs.Pieces.{plan_of_tree}
+use Rattle.plan_rules.specs.Pieces.{bare, shown, plan_of_tree}
 use Rattle.plan_rules.specs.Seen.{plan_as_seen}
 use Rattle.phys_plan.specs.Reading.{no_keys}
 use Rattle.plan_rules.specs.Doings.{network}
@@ -60,7 +61,31 @@ counts = record {
 abbrev pub counts_rel : Rel
 counts_rel = r.Group (r.Scan 0) 1 (count_all ∷ [])
 
--- ---- the run
+-- the same behind a materializer by the word, into a table that has one row of each word
+abbrev pub word_counts : TableDef
+word_counts = record { name = codes "out_t"; cols = word_column ∷ count_column ∷ []; key = Some (0 ∷ []); mode = Upsert }
+
+abbrev pub shown_counts : Plan
+shown_counts = record {
+  sources = word_table ∷ [];
+  sink = word_counts;
+  nodes =
+      record { op = op.Scan 0; inputs = []; keys = no_keys }
+      ∷ record { op = op.Group 1 (count_all ∷ []); inputs = 1 ∷ []; keys = no_keys }
+      ∷ record { op = op.Materialize (0 ∷ []); inputs = 2 ∷ []; keys = no_keys }
+      ∷ record { op = op.Sink; inputs = 3 ∷ []; keys = no_keys }
+      ∷ [];
+  edges =
+      record { exchange = Hash (0 ∷ []); kinds = kinds_of retract; update = Both }
+      ∷ record { exchange = Hash (0 ∷ []); kinds = kinds_of retract; update = Both }
+      ∷ record { exchange = Forward; kinds = kinds_of retract; update = Both }
+      ∷ record { exchange = Forward; kinds = kinds_of retract; update = Absent }
+      ∷ [];
+  parallelism = 1;
+  mini_batch = 0;
+}
+
+-- ---- the runs
 
 abbrev pub a_word : Row
 a_word = Text (codes "a") ∷ []
@@ -76,6 +101,15 @@ abbrev pub counted : Kind → ℕ → Change
 counted kind n = record { kind = kind; row = a_word ++ Num (pos n) ∷ [] }
 
 pub record CountsAsWorked : Type 0 where
-  pub is_plan : plan_as_seen counts ≡ plan_of_tree (word_table ∷ []) count_table 1 counts_rel
+  pub is_plan : plan_as_seen counts ≡ plan_of_tree (word_table ∷ []) count_table 1 bare counts_rel
   -- the first count, and then the second in its place
   pub printed : printed_by (network counts) twice ≡ Printed (counted I 1) ∷ Printed (counted UB 1) ∷ Printed (counted UA 2) ∷ Quiet (2 ∷ []) ∷ []
+
+-- a word's row goes by its key alone
+abbrev pub word_gone : Change
+word_gone = record { kind = D; row = a_word ++ Null ∷ [] }
+
+pub record ShownAsWorked : Type 0 where
+  pub is_plan : plan_as_seen shown_counts ≡ plan_of_tree (word_table ∷ []) word_counts 1 (shown (0 ∷ [])) counts_rel
+  -- the first count, which goes before the second comes
+  pub printed : printed_by (network shown_counts) twice ≡ Printed (counted I 1) ∷ Printed word_gone ∷ Printed (counted I 2) ∷ Quiet (2 ∷ []) ∷ []

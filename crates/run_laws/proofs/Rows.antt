@@ -224,6 +224,7 @@ module _ (plan : Plan) (ruled : IsRuled plan) (takes : SoundPortsTake) (suited :
     op_outs (op.Join kind on rest) own = let j = joining_of (joins kind) on (option_map expr_view rest) around in both_out j (both_fit j (taken (op.Join kind on rest) own refl) refl refl)
     op_outs (op.Semi anti on rest) own = let j = joining_of (matched anti) on (option_map expr_view rest) around in both_out j (both_fit j (taken (op.Semi anti on rest) own refl) refl refl)
     op_outs (op.TopN partition order bound ranked) own = λ row e. not_err _ row e
+    op_outs (op.Materialize key) own = λ row e. not_err _ row e
     op_outs op.Sink own =
         outs_each (Fit around.columns) (sink_change (sink_of around)) (changes_of piece) (all_any (λ change. OutsAt (Fit around.columns) (sink_change (sink_of around) change)) (λ change row e. not_err _ row e) (changes_of piece))
     op_outs _ own = λ row e. not_err [] row e

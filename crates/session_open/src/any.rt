@@ -6,7 +6,7 @@ use op_join::Join;
 use op_row::{FilterOp, NormalizeOp, ProjectOp, UnionOp};
 use op_rules::{OpFault, Operator};
 use op_semi::SemiJoin;
-use op_sink::SinkWriter;
+use op_sink::{Materialize, SinkWriter};
 use op_topn::TopN;
 use std::sync::ledger::Ledger;
 
@@ -21,11 +21,12 @@ pub enum AnyOperator {
     Join(Join<AnyMode, AnyMode>),
     Semi(SemiJoin<AnyMode, AnyMode>),
     TopN(TopN<AnyMode, AnyMode>),
+    Materialize(Materialize),
     Sink(SinkWriter),
 }
 
 impl Operator for AnyOperator {
-    ghost use Rattle.session_open.specs.declared.any.AnyOperator.TheVariants.{Filter, Project, Union, Normalize, Group as Grouped, Join as Joined, Semi, TopN as Top, Sink};
+    ghost use Rattle.session_open.specs.declared.any.AnyOperator.TheVariants.{Filter, Project, Union, Normalize, Group as Grouped, Join as Joined, Semi, TopN as Top, Materialize as Shown, Sink};
 
     ghost rule = { elim [
       | Filter o ↦ ⟦<FilterOp as Operator>⟧.rule o
@@ -36,6 +37,7 @@ impl Operator for AnyOperator {
       | Joined o ↦ ⟦<Join<AnyMode, AnyMode> as Operator>⟧.rule o
       | Semi o ↦ ⟦<SemiJoin<AnyMode, AnyMode> as Operator>⟧.rule o
       | Top o ↦ ⟦<TopN<AnyMode, AnyMode> as Operator>⟧.rule o
+      | Shown o ↦ ⟦<Materialize as Operator>⟧.rule o
       | Sink o ↦ ⟦<SinkWriter as Operator>⟧.rule o
     ] };
 
@@ -48,6 +50,7 @@ impl Operator for AnyOperator {
       | Joined o ↦ ⟦<Join<AnyMode, AnyMode> as Operator>⟧.broken o
       | Semi o ↦ ⟦<SemiJoin<AnyMode, AnyMode> as Operator>⟧.broken o
       | Top o ↦ ⟦<TopN<AnyMode, AnyMode> as Operator>⟧.broken o
+      | Shown o ↦ ⟦<Materialize as Operator>⟧.broken o
       | Sink o ↦ ⟦<SinkWriter as Operator>⟧.broken o
     ] };
 
@@ -60,6 +63,7 @@ impl Operator for AnyOperator {
       | Joined o ↦ ⟦<Join<AnyMode, AnyMode> as Operator>⟧.stands_for o
       | Semi o ↦ ⟦<SemiJoin<AnyMode, AnyMode> as Operator>⟧.stands_for o
       | Top o ↦ ⟦<TopN<AnyMode, AnyMode> as Operator>⟧.stands_for o
+      | Shown o ↦ ⟦<Materialize as Operator>⟧.stands_for o
       | Sink o ↦ ⟦<SinkWriter as Operator>⟧.stands_for o
     ] };
 
@@ -73,6 +77,7 @@ impl Operator for AnyOperator {
             AnyOperator::Join(o) => o.opening(subtask),
             AnyOperator::Semi(o) => o.opening(subtask),
             AnyOperator::TopN(o) => o.opening(subtask),
+            AnyOperator::Materialize(o) => o.opening(subtask),
             AnyOperator::Sink(o) => o.opening(subtask),
         }
     }
@@ -92,6 +97,7 @@ impl Operator for AnyOperator {
             AnyOperator::Join(o) => o.consume(port, change, steps),
             AnyOperator::Semi(o) => o.consume(port, change, steps),
             AnyOperator::TopN(o) => o.consume(port, change, steps),
+            AnyOperator::Materialize(o) => o.consume(port, change, steps),
             AnyOperator::Sink(o) => o.consume(port, change, steps),
         }
     }
@@ -106,6 +112,7 @@ impl Operator for AnyOperator {
             AnyOperator::Join(o) => o.is_broken(),
             AnyOperator::Semi(o) => o.is_broken(),
             AnyOperator::TopN(o) => o.is_broken(),
+            AnyOperator::Materialize(o) => o.is_broken(),
             AnyOperator::Sink(o) => o.is_broken(),
         }
     }

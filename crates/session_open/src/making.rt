@@ -5,6 +5,7 @@ ghost use Rattle.emission_rules.specs.Filter.{filter_rule};
 ghost use Rattle.emission_rules.specs.Project.{project_rule};
 ghost use Rattle.emission_rules.specs.Union.{union_rule};
 ghost use Rattle.emission_rules.specs.Normalize.{normalize_rule, TellsKey};
+ghost use Rattle.emission_rules.specs.Materialize.{materialize_rule};
 ghost use Rattle.emission_rules.specs.Sink.{sink_rule};
 ghost use Rattle.emission_rules.specs.Grouping.{group_rule, IsSound as GroupsWell};
 ghost use Rattle.emission_rules.specs.Joining.{joins, matched, join_rule};
@@ -28,7 +29,7 @@ use op_join::Join;
 use op_row::{FilterOp, NormalizeOp, ProjectOp, UnionOp};
 use op_rules::Operator;
 use op_semi::SemiJoin;
-use op_sink::SinkWriter;
+use op_sink::{Materialize, SinkWriter};
 use op_topn::TopN;
 use phys_plan::{Node, Op, Plan};
 use rel_algebra::{Aggs, JoinKind, Pairs, Sorts};
@@ -107,6 +108,7 @@ fn operator_of(
             let made = top_by(alloc, input, own, partition, order, *bound, *ranked)?;
             Ok(Some(made))
         }
+        Op::Materialize { key } => Ok(Some(materialize_by(alloc, key)?)),
         Op::Sink => Ok(Some(sink_of(alloc, plan, &node.inputs)?)),
         _ => Ok(None),
     }
@@ -234,6 +236,13 @@ fn dup_rest(rest: &Option<Expr>) -> Result<Option<Expr>, Memory>
         None => Ok(None),
         Some(condition) => Ok(Some(condition.dup()?)),
     }
+}
+
+fn materialize_by(alloc: Global, key: &Cols) -> Result<AnyOperator, Memory>
+    ensures { IfOk result (λ made. IsNew ⟦<AnyOperator as Operator>⟧.rule ⟦<AnyOperator as Operator>⟧.broken ⟦<AnyOperator as Operator>⟧.stands_for made (materialize_rule key.now)) }
+{
+    let made = Materialize::new(alloc, key.dup()?)?;
+    Ok(AnyOperator::Materialize(made))
 }
 
 fn sink_of(alloc: Global, plan: &Plan, inputs: &Numbers) -> Result<AnyOperator, Memory>

@@ -23,6 +23,7 @@ pub(crate) fn range_types_of(
         Op::Union => input_types(alloc, columns, &node.inputs),
         Op::Normalize { .. } => input_types(alloc, columns, &node.inputs),
         Op::TopN { .. } => input_types(alloc, columns, &node.inputs),
+        Op::Materialize { .. } => input_types(alloc, columns, &node.inputs),
         Op::Sink => input_types(alloc, columns, &node.inputs),
         Op::Group { keys, .. } => first_types(alloc, columns, node, *keys),
         Op::Join { .. } => joined_types(alloc, columns, &node.inputs),

@@ -15,6 +15,7 @@ pub mod KeyFamilies
 pub mod Kinds
 pub mod Lists
 pub mod Local
+pub mod Materializes
 pub mod Members
 pub mod Modes
 pub mod Names

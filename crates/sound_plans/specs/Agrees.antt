@@ -1,5 +1,5 @@
 -- What a sound plan says of a node: that what it sends is what is inferred of it, by what its inputs send.
-use Rattle.std.specs.Prelude.{◌≡◌, ℕ, zero, suc, Bool, true, false, List, [], ◌∷◌, length, map, Option, None, Some}
+use Rattle.std.specs.Prelude.{◌≡◌, ◌⊎◌, ℕ, zero, suc, Bool, true, false, List, [], ◌∷◌, length, map, Option, None, Some}
 use Rattle.ct_change.specs.declared.kind.Declared.{Declared}
 use Rattle.ct_change.specs.declared.kind.Declared.TheVariants.{Append, Retract, Upsert}
 use Rattle.ct_catalog.specs.declared.table.TableDef.{TableDef}
@@ -20,7 +20,7 @@ use Rattle.mode_infer.specs.Modes.{edge_kinds, printed}
 use Rattle.mode_infer.specs.UpdateKeys.{update_key_of}
 use Rattle.mode_infer.specs.Updates.{scan_update, takes, told}
 use Rattle.plan_inferred.specs.Ways.{way_of}
-use Rattle.plan_inferred.specs.Rules.{by_columns, is_direct}
+use Rattle.plan_inferred.specs.Rules.{by_columns, is_direct, is_shown}
 use Rattle.sound_plans.specs.Outputs.{Output, AreWithin, IsProper, seen}
 
 -- its edge carries the kinds that it sends, without old rows where these are left out
@@ -48,7 +48,7 @@ abbrev pub first_width : List Output → ℕ
 first_width [] = 0
 first_width (input ∷ inputs) = length input.columns
 
--- a node that neither scans nor normalizes and isn't the sink
+-- a node that neither scans nor normalizes nor materializes and isn't the sink
 pub record Agrees (sources : List TableDef) (sink : TableDef) (o : Op) (inputs : List Output) (own : Output) : Type 0 where
   pub inputs_asked : AtPorts (IsAsked sink o own.edge.update) 0 inputs
   pub typed : columns_by sources o (map (λ input. Some input.columns) inputs) ≡ Some own.columns
@@ -96,6 +96,21 @@ pub record NormalizeAgrees (key : List ℕ) (input own : Output) : Type 0 where
   pub taken : Bool
   pub tells : own.edge.update ≡ told own.sent own.update_key taken
 
+-- a materializer, on what is told in full; a key of its input lies in its key
+pub record MaterializeAgrees (sink : TableDef) (key : List ℕ) (input own : Output) : Type 0 where
+  pub ordered : IsOrdered key
+  pub within : AreWithin (length input.columns) key
+  -- what comes
+  pub asked : IsAsked sink (op.Materialize key) own.edge.update 0 input
+  pub suits : is_shown (way_of true key input.sent input.update_key input.keys) ≡ true
+  -- what leaves
+  pub typed : own.columns ≡ input.columns
+  pub keyed : own.keys ≡ keyed_by key
+  pub sends : own.sent ≡ kind_set true false true true
+  pub updates : own.update_key ≡ None
+  pub carries : Carries own
+  pub tells : own.edge.update ≡ After key
+
 -- what comes to a sink suits its table: inserts alone, anything, or what is told by the sink's key
 abbrev pub SuitsKey : Option (List ℕ) → Output → Type 0
 SuitsKey None input = ⊥
@@ -106,9 +121,25 @@ Suits Append key input = has_more_than_inserts input.edge.kinds ≡ false
 Suits Retract key input = Unit {0}
 Suits Upsert key input = SuitsKey key input
 
+-- it comes as the sink asks for it
+pub record ComesDirect (sink : TableDef) (input : Output) : Type 0 where
+  pub asked : IsAsked sink op.Sink Absent 0 input
+  pub suits : Suits sink.mode sink.key input
+
+-- or from a materializer, which tells by the key of an upsert table
+pub record ComesShown (sink : TableDef) (input : Output) : Type 0 where
+  pub key : List ℕ
+  pub upserts : sink.mode ≡ Upsert
+  pub key_is : sink.key ≡ Some key
+  pub within : AreWithin (length input.columns) key
+  pub proper : IsProper input
+  pub carries : Carries input
+  pub tells : input.edge.update ≡ After key
+  pub forwards : input.edge.exchange ≡ Forward
+
 -- the sink, whose edge carries what it prints
 pub record SinkAgrees (sink : TableDef) (input own : Output) : Type 0 where
-  pub asked : IsAsked sink op.Sink Absent 0 input
+  pub comes : ComesDirect sink input ⊎ ComesShown sink input
   pub typed : own.columns ≡ input.columns
   pub keyed : own.keys ≡ no_keys
   pub sends : own.sent ≡ input.sent
@@ -116,4 +147,3 @@ pub record SinkAgrees (sink : TableDef) (input own : Output) : Type 0 where
   pub forwards : own.edge.exchange ≡ Forward
   pub tells : own.edge.update ≡ Absent
   pub prints : own.edge.kinds ≡ printed sink.mode (record { kinds = input.edge.kinds; update = input.edge.update })
-  pub suits : Suits sink.mode sink.key input

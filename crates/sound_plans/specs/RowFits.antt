@@ -11,6 +11,7 @@ use Rattle.emission_rules.specs.Filter.{FilterFits}
 use Rattle.emission_rules.specs.Project.{ProjectFits}
 use Rattle.emission_rules.specs.Union.{UnionFits}
 use Rattle.emission_rules.specs.Normalize.{NormalizeFits}
+use Rattle.emission_rules.specs.Materialize.{MaterializeFits}
 use Rattle.emission_rules.specs.Sink.{SinkFits}
 use Rattle.emission_rules.specs.GroupFits.{GroupFits}
 use Rattle.stream_model.specs.Scans.{CarriesTable}
@@ -18,7 +19,7 @@ use Rattle.plan_rules.specs.Plans.{table_of}
 use Rattle.ct_catalog.specs.Columns.{table_mode}
 use Rattle.plan_rules.specs.Around.{project_of, union_of, normalize_of, grouping_of, sink_of}
 use Rattle.sound_plans.specs.Outputs.{Output, IsProper, around_by, edge_of, edges_of, printed_edge}
-use Rattle.sound_plans.specs.Agrees.{Agrees, NormalizeAgrees, ScanAgrees, SinkAgrees}
+use Rattle.sound_plans.specs.Agrees.{Agrees, MaterializeAgrees, NormalizeAgrees, ScanAgrees, SinkAgrees}
 
 abbrev pub FiltersFit : Type 0
 FiltersFit = (many : ℕ) (sources : List TableDef) (sink : TableDef) (cond : Expr) (input own : Output) → Agrees sources sink (op.Filter cond) (input ∷ []) own
@@ -35,6 +36,10 @@ UnionsFit = (many : ℕ) (sources : List TableDef) (sink : TableDef) (inputs : L
 abbrev pub NormalizesFit : Type 0
 NormalizesFit = (many : ℕ) → 0 < many → (sink : TableDef) (key : List ℕ) (input own : Output) → NormalizeAgrees key input own
     → NormalizeFits (normalize_of key (around_by sink (input ∷ []) own)) many (edge_of many input) (edge_of many own) × IsProper own
+
+abbrev pub MaterializesFit : Type 0
+MaterializesFit = (many : ℕ) → 0 < many → (sink : TableDef) (key : List ℕ) (input own : Output) → MaterializeAgrees sink key input own
+    → MaterializeFits key many (edge_of many input) (edge_of many own) × IsProper own
 
 abbrev pub GroupsFit : Type 0
 GroupsFit = (many : ℕ) → 0 < many → (sources : List TableDef) (sink : TableDef) (keys : ℕ) (aggs : List Agg) (input own : Output) → Agrees sources sink (op.Group keys aggs) (input ∷ []) own

@@ -16,8 +16,8 @@ use Rattle.upsert_keys.proofs.laws.Keys.{wires_keyed}
 use Rattle.plan_check.specs.Sound.{inferred_of}
 use Rattle.plan_rules.specs.Answers.{tables_with}
 use Rattle.plan_rules.specs.Erased.{erased, erased_at}
-use Rattle.laid_plans.proofs.laws.LaidTrees.{HasNode, ScanLaid, SourceLaid, IsLaid, AreLaid}
-use Rattle.plan_rules.specs.Pieces.{unary_way, binary_way}
+use Rattle.laid_plans.proofs.laws.LaidTrees.{HasNode, ScanLaid, SourceLaid, IsLaid, AreLaid, TopLaid}
+use Rattle.plan_rules.specs.Pieces.{unary_way, binary_way, Top, bare, shown, asks_of}
 use Rattle.plan_rules.specs.Roles.{nothing, role, tree_of}
 use Rattle.plan_rules.proofs.laws.Answering.{tree_is}
 use Rattle.sound_plans.specs.Sound.{SoundPlansAnswer}
@@ -130,6 +130,11 @@ module _ (plan : Plan) where
           trees = λ i. rel_and (first.tree i) (rest.trees i);
         })
 
+  -- what stands before the sink hands the tree on
+  topped_root : (top : Top) (below root : ℕ) (rel : Rel) → IsRoot 0 below rel → TopLaid plan top below root → IsRoot 0 root rel
+  topped_root bare below root rel tree between = subst (λ v. IsRoot 0 v rel) (sym between) tree
+  topped_root (shown key) below root rel tree between = over_one 0 below root (op.Materialize key) rel rel between.1 between.1.is_op between.0 tree refl
+
 -- the keys that nodes say, and the modes of edges, don't matter
 erased_stays : (plan : Plan) → erased (with_inferred plan) ≡ erased plan
 erased_stays plan =
@@ -140,8 +145,9 @@ erased_stays plan =
 pub laid_plans_are_erased : LaidPlansAreErased
 laid_plans_are_erased plan rel is =
     let out = lays_out plan rel is in
-    let tree = tree_root plan rel 0 Forward out.root out.laid in
-    let sink = over_one plan 0 out.root (out.root + 1) op.Sink rel rel out.sink_node out.sink_node.is_op refl tree refl in
+    let tree = tree_root plan rel 0 (asks_of is.top) out.below out.laid in
+    let under = topped_root plan is.top out.below out.root rel tree out.topped in
+    let sink = over_one plan 0 out.root (out.root + 1) op.Sink rel rel out.sink_node out.sink_node.is_op refl under refl in
     erased_stays plan ∙ ap (erased_at plan) out.nodes ∙ sink.tree
 
 pub inferred_plans_answer : SoundPlansAnswer → InferredPlansAnswer

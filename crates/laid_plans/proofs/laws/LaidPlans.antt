@@ -1,12 +1,17 @@
 -- The plan that is laid of a well-typed tree meets the rules on shape, types and exchanges.
 use Rattle.std.specs.Prelude.{◌≡◌, ℕ, ◌+◌, ◌<◌, ◌≤◌, ◌⊎◌, ◌==◌, nat_le, nat_lt, Bool, ◌&&◌, ◌||◌, not, cond, List, length, max, slice_get, Option}
 use Rattle.std.proofs.Common.{zero, suc, true, false, [], ◌∷◌, refl, sym, ap, subst, ◌∙◌, arith, Some, None, inl, inr}
-use Rattle.std.specs.List.{list_all}
+use Rattle.std.specs.List.{AllByRecursion, list_all}
+use Rattle.std.specs.Str.{bytes_eq}
 use Rattle.std.proofs.lemmas.Bool.{eqb-false, eq-eqb, le-leb, lt-ltb}
 use Rattle.std.proofs.lemmas.Slice.Eq.{bytes_eq-Decides}
 use Rattle.ct_value.specs.declared.ty.ColTy.{ColTy}
+use Rattle.ct_catalog.specs.Columns.{column_types}
 use Rattle.ct_catalog.specs.declared.table.TableDef.{TableDef}
+use Rattle.ct_change.specs.Kinds.{is_upsert}
+use Rattle.rel_algebra.specs.GoesInto.{goes_into, go_into}
 use Rattle.rel_algebra.specs.Rel.{Rel}
+use Rattle.rel_algebra.specs.Types.{columns_if, is_column}
 use Rattle.phys_plan.specs.declared.edge.Exchange.{Exchange}
 use Rattle.phys_plan.specs.declared.edge.Exchange.TheVariants.{Forward, Hash}
 use Rattle.phys_plan.specs.declared.node.Node.{Node}
@@ -17,23 +22,25 @@ use Rattle.phys_plan.specs.declared.plan.Rule.TheVariants as rule
 use Rattle.mode_infer.specs.Exchanges.{asked}
 use Rattle.plan_inferred.specs.Rules.{by_columns, consumer as consumer_of, exchange_by, says_exchange, width_at}
 use Rattle.plan_inferred.specs.Same.{same_exchange}
+use Rattle.plan_rules.specs.Pieces.{Top, bare, shown, asks_of}
 use Rattle.plan_rules.specs.Plans.{HasInput}
 use Rattle.phys_plan.specs.Reading.{numbered}
-use Rattle.sound_plans.proofs.laws.Numbers.{numbered_within, side}
-use Rattle.plan_shape.specs.Shape.{are_before, consumer, has_nodes, has_sizes, is_consumed, is_fed, is_shaped, is_sink, is_up_to, is_whole, most_bundled, most_nodes, most_subtasks, node_has_shape, op_in, suits_consumer, suits_plan, takes, uses}
+use Rattle.sound_plans.proofs.laws.Numbers.{below_is_not, numbered_within, side}
+use Rattle.plan_shape.specs.Shape.{are_before, consumer, has_nodes, has_sizes, is_consumed, is_fed, is_shaped, is_sink, is_sink_key, is_up_to, is_whole, most_bundled, most_nodes, most_subtasks, node_has_shape, op_in, suits_consumer, suits_plan, takes, uses}
 use Rattle.plan_shape.specs.Tables.{are_tables, is_declarable}
 use Rattle.plan_check.specs.Sound.{inferred_of, Meets}
-use Rattle.plan_check.specs.Types.{is_typed, is_typed_by, types_at, types_by}
+use Rattle.plan_check.specs.Types.{is_typed, is_typed_by, keep_nulls, types_at, types_by}
 use Rattle.plan_rules.specs.Behaviours.{has_rule}
-use Rattle.sound_plans.proofs.laws.Lists.{both, found, the_same}
+use Rattle.sound_plans.proofs.laws.Lists.{both, found, map_length, the_same}
 use Rattle.sound_plans.proofs.laws.Consumers.{by_test}
-use Rattle.laid_plans.specs.Shapes.{IsLaidWell, LaidPlansHaveShape}
+use Rattle.sound_plans.proofs.laws.Tables.{key_within}
+use Rattle.laid_plans.specs.Shapes.{IsLaidWell, LaidPlansHaveShape, SuitsTop}
 use Rattle.laid_plans.proofs.laws.Uses.{IsUsedOnce, all_pass, and, consumer_once, found_once, no_consumer, port_once, used_once}
-use Rattle.laid_plans.proofs.laws.LaidNodes.{types_from}
-use Rattle.laid_plans.proofs.laws.LaidTrees.{LaysOut}
+use Rattle.laid_plans.proofs.laws.LaidNodes.{IsFed, types_from}
+use Rattle.laid_plans.proofs.laws.LaidTrees.{LaysOut, TopLaid}
 use Rattle.laid_plans.proofs.laws.Placed.{lays_out}
 use Rattle.laid_plans.proofs.laws.Parts.{IsAmong, IsUsed, Part, next_part}
-use Rattle.laid_plans.proofs.laws.Trees.{Told, feeds_port, one_port, tree}
+use Rattle.laid_plans.proofs.laws.Trees.{Told, are_columns, feeds_port, one_port, tree}
 
 -- an exchange is the same as itself
 same_as_itself : (x : Exchange) → same_exchange x x ≡ true
@@ -64,43 +71,127 @@ consumed plan v o last inner =
     feeds_one : Bool
     feeds_one = not (is_sink (Some o)) && (uses v plan.nodes == 1 && suits_consumer plan.sources o (consumer v plan.nodes))
 
+-- ---- what stands before the sink
+
+-- rows that go into a sink are as wide as its table
+as_wide : (columns sinks : List ColTy) → go_into columns sinks ≡ true → length columns ≡ length sinks
+as_wide [] [] e = refl
+as_wide [] (sink ∷ sinks) e = absurd (cc)
+as_wide (column ∷ columns) [] e = absurd (cc)
+as_wide (column ∷ columns) (sink ∷ sinks) e = ap suc (as_wide columns sinks (both (goes_into column sink) (go_into columns sinks) e).1)
+
+-- a materializer's key is its sink's
+shows_key : (sink : TableDef) (key : List ℕ) (of_sink : Option (List ℕ)) → is_sink_key sink key of_sink ≡ true → of_sink ≡ Some key
+shows_key sink key None e = absurd (cc)
+shows_key sink key (Some of_sink) e =
+    let same : key ≡ of_sink = (bytes_eq-Decides key of_sink).0 (both (is_upsert sink.mode) (bytes_eq key of_sink) e).1 in ap (λ k. Some k) (sym same)
+
+-- a tree's root isn't behind the sink's input
+root_before : (plan : Plan) (top : Top) (below root : ℕ) → TopLaid plan top below root → below ≤ root
+root_before plan bare below root between = omega (arith, between)
+root_before plan (shown key) below root between = omega (arith, between.0)
+
+-- the nodes below a sink, of which the last sends it these columns
+record Sends (plan : Plan) (root : ℕ) (columns : List ColTy) : Type 0 where
+  pub part : Part plan 0 root (root ∷ [])
+  pub columns_are : types_at plan.sources plan.nodes root ≡ Some columns
+  pub fed : IsFed plan op.Sink 0 root
+
+-- those of a tree, with what stands above it, where the columns of a materializer's key are among the tree's
+sends : (plan : Plan) (columns : List ColTy) → ((key : List ℕ) → is_sink_key plan.sink key plan.sink.key ≡ true → list_all (is_column columns) key ≡ true)
+    → (top : Top) → SuitsTop plan.sink top → (below root : ℕ) → Told plan 0 (asks_of top) below columns → TopLaid plan top below root → root < length plan.nodes → Sends plan root columns
+sends plan columns has_key bare suits below root told between high = subst (λ v. Sends plan v columns) (sym between) (record {
+  part = told.part;
+  columns_are = told.columns_are;
+  fed = feeds_port plan 0 Forward below columns op.Sink 0 (λ width. refl) told;
+})
+sends plan columns has_key (shown key) suits below root told between high =
+    let next = between.0 in
+    let has = between.1 in
+    let lower : below < root = omega (arith, next) in
+    let k : types_at plan.sources plan.nodes root ≡ Some columns =
+    types_from plan root (op.Materialize key) (below ∷ []) has refl (lower, tt) ∙ ap (λ (c : Option (List ColTy)). types_by plan.sources (op.Materialize key) (c ∷ [])) told.columns_are
+    ∙ ap (λ b. columns_if b columns) (has_key key suits) in
+    record {
+      part = next_part plan 0 below root (below ∷ []) (op.Materialize key) told.part next has (record {
+        ruled = refl;
+        suits = suits;
+        ports = refl;
+        below = refl;
+        last = sym (below_is_not root (length plan.nodes) high);
+        typed = ap (is_typed_by plan.sink (op.Materialize key)) k;
+        fed = one_port plan (op.Materialize key) below (feeds_port plan 0 (Hash key) below columns (op.Materialize key) 0 (λ width. refl) told);
+      });
+      columns_are = k;
+      fed = record {
+        node = has.node;
+        is_node = has.is_there;
+        suits = ap (λ (p : Op). suits_consumer plan.sources p (Some op.Sink)) has.is_op;
+        edge = _;
+        is_edge = between.2;
+        exchanged = λ width. refl;
+      };
+    }
+
 module _ (plan : Plan) (rel : Rel) (is : IsLaidWell plan rel) where
+  -- what stands before its sink
+  abbrev top : Top
+  top = is.laid_out.top
+
   -- its nodes
-  out : LaysOut plan rel
+  abbrev out : LaysOut plan top rel
   out = lays_out plan rel is.laid_out
 
-  -- the tree's root
+  -- the sink's input
   abbrev root : ℕ
   root = out.root
 
-  -- the tables that are read may be declared
+  -- the tables may be declared
+  declared : list_all is_declarable (plan.sink ∷ plan.sources) ≡ true
+  declared = (both (list_all is_declarable (plan.sink ∷ plan.sources)) _ is.tables).0
+
   tables : (source : ℕ) (table : TableDef) → slice_get plan.sources source ≡ Some table → is_declarable table ≡ true
-  tables source table e =
-      let all = (both (list_all is_declarable (plan.sink ∷ plan.sources)) _ is.tables).0 in
-      each_declarable plan.sources source table (both (is_declarable plan.sink) (list_all is_declarable plan.sources) all).1 e
+  tables source table e = each_declarable plan.sources source table (both (is_declarable plan.sink) (list_all is_declarable plan.sources) declared).1 e
+
+  -- the columns of the sink's key are among the tree's
+  has_key : (key : List ℕ) → is_sink_key plan.sink key plan.sink.key ≡ true → list_all (is_column is.columns) key ≡ true
+  has_key key suits =
+      let sink : is_declarable plan.sink ≡ true = (both (is_declarable plan.sink) (list_all is_declarable plan.sources) declared).0 in
+      let goes : go_into is.columns (column_types plan.sink) ≡ true = (both (go_into is.columns (column_types plan.sink)) (keep_nulls is.columns (column_types plan.sink)) is.fits).0 in
+      let wide : length plan.sink.cols ≡ length is.columns = sym (as_wide is.columns (column_types plan.sink) goes ∙ map_length (λ column. column.ty) plan.sink.cols) in
+      are_columns is.columns key (subst (λ w. AllByRecursion (λ column. column < w) key) wide (key_within plan.sink key sink (shows_key plan.sink key plan.sink.key suits)))
 
   -- what holds of the tree's nodes
-  told : Told plan 0 Forward root is.columns
-  told = tree plan tables rel 0 Forward root out.laid (let n = out.nodes in omega arith) is.unions is.columns is.typed
+  told : Told plan 0 (asks_of top) out.below is.columns
+  told =
+      let lower = root_before plan top out.below out.root out.topped in
+      tree plan tables rel 0 (asks_of top) out.below out.laid (let n = out.nodes in omega arith) is.unions is.columns is.typed
+
+  -- and of the nodes below the sink
+  under : Sends plan root is.columns
+  under = sends plan is.columns has_key top is.laid_out.suits out.below out.root told out.topped (let n = out.nodes in omega arith)
+
+  pub top_typed : types_at plan.sources plan.nodes (lays_out plan rel is.laid_out).root ≡ Some is.columns
+  top_typed = under.columns_are
 
   -- ---- all nodes, with the sink
 
-  -- the tree and the sink behind it
+  -- the nodes below the sink and the sink behind them
   all : Part plan 0 (root + 1) ((root + 1) ∷ [])
   all =
       let v = root + 1 in
       let has = out.sink_node in
       let lower : root < v = omega arith in
       let k : types_at plan.sources plan.nodes v ≡ Some is.columns =
-      types_from plan v op.Sink (root ∷ []) has refl (lower, tt) ∙ ap (λ (c : Option (List ColTy)). types_by plan.sources op.Sink (c ∷ [])) told.columns_are in
-      next_part plan 0 root v (root ∷ []) op.Sink told.part refl has (record {
+      types_from plan v op.Sink (root ∷ []) has refl (lower, tt) ∙ ap (λ (c : Option (List ColTy)). types_by plan.sources op.Sink (c ∷ [])) under.columns_are in
+      next_part plan 0 root v (root ∷ []) op.Sink under.part refl has (record {
         ruled = refl;
         suits = refl;
         ports = refl;
         below = refl;
         last = sym (eq-eqb v (length plan.nodes) (sym out.nodes));
         typed = ap (is_typed_by plan.sink op.Sink) k ∙ is.fits;
-        fed = one_port plan op.Sink root (feeds_port plan 0 Forward root is.columns op.Sink 0 (λ width. refl) told);
+        fed = one_port plan op.Sink root under.fed;
       })
 
   -- each node is one of them

@@ -15,7 +15,7 @@ use Rattle.phys_plan.specs.declared.node.Op.TheVariants as op
 use Rattle.phys_plan.specs.declared.node.Node.{Node}
 use Rattle.phys_plan.specs.declared.plan.Plan.{Plan}
 use Rattle.phys_plan.specs.Reading.{numbered, no_keys}
-use Rattle.plan_rules.specs.Pieces.{unary_way, binary_way}
+use Rattle.plan_rules.specs.Pieces.{unary_way, binary_way, Top, bare, shown, asks_of}
 use Rattle.plan_rules.specs.Seen.{op_as_seen}
 
 -- ---- operators
@@ -78,10 +78,17 @@ module _ (plan : Plan) where
     AreLaid n (rel_and input inputs) roots last =
         (root : ℕ) × (others : List ℕ) × IsLaid n Forward input root × AreLaid root inputs others last × (roots ≡ root ∷ others)
 
-  -- the plan of the tree: the tree, and behind it the sink
-  pub record LaysOut (rel : Rel) : Type 0 where
+  -- between a tree's root and the sink's input: nothing, or a materializer
+  abbrev pub TopLaid : Top → ℕ → ℕ → Type 0
+  TopLaid bare below root = root ≡ below
+  TopLaid (shown key) below root = (root ≡ below + 1) × HasNode root (λ o. o ≡ op.Materialize key) (below ∷ []) × CarriesAll root Forward
+
+  -- the plan of the tree: the tree, what stands before the sink, and behind it the sink
+  pub record LaysOut (top : Top) (rel : Rel) : Type 0 where
+    pub below : ℕ
+    pub laid : IsLaid 0 (asks_of top) rel below
     pub root : ℕ
-    pub laid : IsLaid 0 Forward rel root
+    pub topped : TopLaid top below root
     pub sink_node : HasNode (root + 1) (λ o. o ≡ op.Sink) (root ∷ [])
     pub sink_edge : HasEdge (root + 1) Forward (kinds_of retract) Absent
     pub nodes : length plan.nodes ≡ root + 1

@@ -18,10 +18,10 @@ use Rattle.phys_plan.specs.declared.node.Op.{Op}
 use Rattle.phys_plan.specs.declared.node.Op.TheVariants as op
 use Rattle.phys_plan.specs.declared.plan.Plan.{Plan}
 use Rattle.phys_plan.specs.Reading.{numbered}
-use Rattle.plan_rules.specs.Pieces.{unary_way, binary_way, Piece, node_of, edge_of, piece, full_piece, topped_both, scan_pieces, source_pieces, pieces_of, pieces_of_all, roots_of, with_sink, nodes_in, edges_in}
+use Rattle.plan_rules.specs.Pieces.{unary_way, binary_way, Piece, node_of, edge_of, piece, full_piece, topped_both, scan_pieces, source_pieces, pieces_of, pieces_of_all, roots_of, Top, bare, shown, asks_of, with_top, with_sink, nodes_in, edges_in}
 use Rattle.plan_rules.specs.Seen.{op_as_seen, node_as_seen}
-use Rattle.laid_plans.specs.Shapes.{IsLaidOut}
-use Rattle.laid_plans.proofs.laws.LaidTrees.{IsUnary, IsBinary, HasNode, HasEdge, ScanLaid, SourceLaid, IsLaid, AreLaid, LaysOut}
+use Rattle.laid_plans.specs.Shapes.{IsLaidWith, IsLaidOut}
+use Rattle.laid_plans.proofs.laws.LaidTrees.{IsUnary, IsBinary, HasNode, HasEdge, ScanLaid, SourceLaid, IsLaid, AreLaid, TopLaid, LaysOut}
 use Rattle.laid_plans.proofs.laws.Places.{one_longer, Stand, front_stands, back_stands, stand_alone}
 
 some_same : {A : Type 0} (x y : A) → Some x ≡ Some y → x ≡ y
@@ -176,10 +176,32 @@ module _ (plan : Plan) where
           refl,
         )
 
+  -- a tree, and what stands between it and the sink, up to the sink's input
+  record IsTopped (top : Top) (rel : Rel) (root : ℕ) : Type 0 where
+    pub below : ℕ
+    pub tree : IsLaid plan 0 (asks_of top) rel below
+    pub between : TopLaid plan top below root
+
+  is_topped : (top : Top) (rel : Rel) → Placed 0 (with_top top (pieces_of plan.sources 0 (asks_of top) rel))
+      → IsTopped top rel (0 + length (with_top top (pieces_of plan.sources 0 (asks_of top) rel)))
+  is_topped bare rel s = record { below = 0 + length (pieces_of plan.sources 0 Forward rel); tree = laid 0 Forward rel s; between = refl }
+  is_topped (shown key) rel s =
+      let ps = pieces_of plan.sources 0 (Hash key) rel in
+      let inputs = (0 + length ps) ∷ [] in
+      record {
+        below = 0 + length ps;
+        tree = laid 0 (Hash key) rel (front_stands (map node_as_seen plan.nodes) plan.edges 0 ps (full_piece (op.Materialize key) inputs Forward ∷ []) s);
+        between = (
+          last_number 0 ps (op.Materialize key) inputs Forward (kinds_of retract) Both s,
+          last_has 0 ps (op.Materialize key) inputs Forward (kinds_of retract) Both s (λ o. o ≡ op.Materialize key) (λ q e. plain (op.Materialize key) q refl e),
+          last_told 0 ps (op.Materialize key) inputs Forward (kinds_of retract) Both s,
+        );
+      }
+
 -- so a plan that is the tree's, as it is seen, has these nodes
-pub lays_out : (plan : Plan) (rel : Rel) → IsLaidOut plan rel → LaysOut plan rel
-lays_out plan rel is =
-    let ps = pieces_of plan.sources 0 Forward rel in
+pub lays_out_with : (plan : Plan) (top : Top) (rel : Rel) → IsLaidWith top plan rel → LaysOut plan top rel
+lays_out_with plan top rel is =
+    let ps = with_top top (pieces_of plan.sources 0 (asks_of top) rel) in
     let sink = piece op.Sink (length ps ∷ []) Forward (kinds_of retract) Absent in
     let root : ℕ = 0 + length ps in
     let root_is : length ps ≡ root = omega arith in
@@ -192,12 +214,18 @@ lays_out plan rel is =
     let told = last_told plan 0 ps op.Sink (length ps ∷ []) Forward (kinds_of retract) Absent all in
     let node_count : length plan.nodes ≡ length (with_sink ps) = sym (length-map plan.nodes node_as_seen) ∙ ap length nodes ∙ length-map (with_sink ps) (λ p. p.node) in
     let edge_count : length plan.edges ≡ length (with_sink ps) = ap length edges ∙ length-map (with_sink ps) (λ p. p.edge) in
+    let under = is_topped plan top rel (front_stands (map node_as_seen plan.nodes) plan.edges 0 ps (sink ∷ []) all) in
     record {
+      below = under.below;
+      laid = under.tree;
       root = root;
-      laid = laid plan 0 Forward rel (front_stands (map node_as_seen plan.nodes) plan.edges 0 ps (sink ∷ []) all);
+      topped = under.between;
       sink_node = subst (λ (inputs : List ℕ). HasNode plan (root + 1) (λ o. o ≡ op.Sink) inputs) (ap (λ m. m ∷ []) root_is) (subst (λ v. HasNode plan v (λ o. o ≡ op.Sink) (length ps ∷ [])) last has);
       sink_edge = subst (λ v. HasEdge plan v Forward (kinds_of retract) Absent) last told;
       nodes = omega (arith, node_count, last);
       edges = omega (arith, edge_count, last);
       unbundled = ap (λ (p : Plan). p.mini_batch) is;
     }
+
+pub lays_out : (plan : Plan) (rel : Rel) → (is : IsLaidOut plan rel) → LaysOut plan is.top rel
+lays_out plan rel is = lays_out_with plan is.top rel is.laid

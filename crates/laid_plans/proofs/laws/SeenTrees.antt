@@ -9,10 +9,10 @@ use Rattle.ct_change.specs.declared.update.Update.TheVariants.{Absent}
 use Rattle.ct_catalog.specs.declared.table.TableDef.{TableDef}
 use Rattle.rel_algebra.specs.Rel.{Rel, Rels, Scan, One, Two, Many, no_rels, rel_and}
 use Rattle.phys_plan.specs.declared.edge.Exchange.{Exchange}
-use Rattle.phys_plan.specs.declared.edge.Exchange.TheVariants.{Forward}
+use Rattle.phys_plan.specs.declared.edge.Exchange.TheVariants.{Forward, Hash}
 use Rattle.phys_plan.specs.declared.node.Op.{Op}
 use Rattle.phys_plan.specs.declared.node.Op.TheVariants as op
-use Rattle.plan_rules.specs.Pieces.{unary_way, binary_way, Piece, node_of, piece, full_piece, scan_pieces, source_pieces, pieces_of, pieces_of_all, roots_of, with_sink, nodes_in, edges_in, plan_of_tree}
+use Rattle.plan_rules.specs.Pieces.{unary_way, binary_way, Piece, node_of, piece, full_piece, scan_pieces, source_pieces, pieces_of, pieces_of_all, roots_of, Top, bare, shown, asks_of, with_top, with_sink, nodes_in, edges_in, plan_of_tree}
 use Rattle.plan_rules.specs.Seen.{op_as_seen, node_as_seen, plan_as_seen}
 use Rattle.laid_plans.proofs.laws.Trees.{unary_is, binary_is}
 
@@ -57,9 +57,16 @@ module _ (sources : List TableDef) where
         let mid : ℕ = n + length (pieces_of sources n Forward input) in
         both_seen (pieces_of sources n Forward input) (pieces_of_all sources (n + length (pieces_of sources n Forward input)) inputs) (tree_seen n Forward input) (trees_seen mid inputs)
 
-pub plans_of_trees_are_seen : (sources : List TableDef) (sink : TableDef) (parallelism : ℕ) (rel : Rel)
-    → plan_as_seen (plan_of_tree sources sink parallelism rel) ≡ plan_of_tree sources sink parallelism rel
-plans_of_trees_are_seen sources sink parallelism rel =
-    let ps = pieces_of sources 0 Forward rel in
-    let all : AreSeen (with_sink ps) = both_seen ps (piece op.Sink (length ps ∷ []) Forward (kinds_of retract) Absent ∷ []) (tree_seen sources 0 Forward rel) refl in
+  -- and so is what stands before the sink
+  topped_seen : (top : Top) (rel : Rel) → AreSeen (with_top top (pieces_of sources 0 (asks_of top) rel))
+  topped_seen bare rel = tree_seen 0 Forward rel
+  topped_seen (shown key) rel =
+      let ps = pieces_of sources 0 (Hash key) rel in
+      more_seen ps (op.Materialize key) ((0 + length ps) ∷ []) Forward refl (tree_seen 0 (Hash key) rel)
+
+pub plans_of_trees_are_seen : (sources : List TableDef) (sink : TableDef) (parallelism : ℕ) (top : Top) (rel : Rel)
+    → plan_as_seen (plan_of_tree sources sink parallelism top rel) ≡ plan_of_tree sources sink parallelism top rel
+plans_of_trees_are_seen sources sink parallelism top rel =
+    let ps = with_top top (pieces_of sources 0 (asks_of top) rel) in
+    let all : AreSeen (with_sink ps) = both_seen ps (piece op.Sink (length ps ∷ []) Forward (kinds_of retract) Absent ∷ []) (topped_seen sources top rel) refl in
     λ i. record { sources = sources; sink = sink; nodes = all i; edges = edges_in (with_sink ps); parallelism = parallelism; mini_batch = 0 }

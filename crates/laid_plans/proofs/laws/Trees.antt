@@ -55,7 +55,7 @@ common_some types start (rel_and input inputs) columns t =
     (p.0, p.2)
 
 -- numbers below a width are columns of so many
-are_columns : (columns : List ColTy) (key : List ℕ) → AllByRecursion (λ column. column < length columns) key → list_all (is_column columns) key ≡ true
+pub are_columns : (columns : List ColTy) (key : List ℕ) → AllByRecursion (λ column. column < length columns) key → list_all (is_column columns) key ≡ true
 are_columns columns [] h = refl
 are_columns columns (c ∷ key) h = (λ i. lt-ltb c (length columns) h.0 i && list_all (is_column columns) key) ∙ are_columns columns key h.1
 

@@ -22,7 +22,7 @@ use Rattle.mode_infer.specs.Modes.{edge_modes, moded, modes_of, no_mode, updates
 use Rattle.mode_infer.specs.UpdateKeys.{update_keys}
 use Rattle.mode_infer.specs.Updates.{in_full, is_taken, port_of, scan_update, table_update, takes, told, update_of}
 use Rattle.plan_inferred.specs.Rules.{brings_old_rows, has_old_rows, needs_old_rows, tells_old_rows}
-use Rattle.plan_shape.specs.Shape.{is_read, normalizes_by, suits_consumer}
+use Rattle.plan_shape.specs.Shape.{is_read, is_sink, normalizes_by, suits_consumer}
 use Rattle.plan_shape.specs.Shaped.{MeetsShape, ShapedPlansHaveShape}
 use Rattle.ct_change.specs.Kinds.{is_upsert}
 use Rattle.plan_rules.specs.Behaviours.{has_rule}
@@ -82,11 +82,16 @@ scan_tells None kinds above n r = full_tells kinds
 scan_tells (Some table) kinds above n r =
     table_tells table.mode table.key kinds (sym (ap (λ b. not (is_upsert table.mode) || b) (not_normalized table.key above n)) ∙ r)
 
+-- the sink needs no old rows
+no_sink_needs : (above : Op) → needs_old_rows above ≡ true → is_sink (Some above) ≡ true → ⊥
+no_sink_needs op.Sink n s = cc
+no_sink_needs _ n s = cc
+
 -- an operator with a rule tells old rows to one that needs them
 update_tells : (sources : List TableDef) (o : Op) (kinds : KindSet) (key : Option (List ℕ)) (taken : Bool) (above : Op) → has_rule o ≡ true → taken ≡ false → needs_old_rows above ≡ true → suits_consumer sources o (Some above) ≡ true
     → tells_old_rows (update_of sources o kinds key taken) ≡ true
 update_tells sources (op.Scan source) kinds key taken above r e n suits = scan_tells (slice_get sources source) kinds above n suits
-update_tells sources (op.Materialize shown) kinds key taken above r e n suits = absurd (cc)
+update_tells sources (op.Materialize shown) kinds key taken above r e n suits = absurd (no_sink_needs above n suits)
 update_tells sources op.Sink kinds key taken above r e n suits = refl
 update_tells sources _ kinds key taken above r e n suits = told_tells kinds key taken e
 

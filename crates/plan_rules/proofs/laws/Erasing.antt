@@ -21,8 +21,8 @@ use Rattle.phys_plan.specs.declared.node.Op.{Op}
 use Rattle.phys_plan.specs.declared.node.Op.TheVariants as op
 use Rattle.phys_plan.proofs.laws.Reading.{read_append}
 use Rattle.plan_rules.specs.Answers.{TreesAreErased}
-use Rattle.plan_rules.specs.Pieces.{unary_way, binary_way, Piece, piece, scan_pieces, source_pieces, topped, topped_both, pieces_of, pieces_of_all, roots_of, nodes_in, with_sink}
-use Rattle.plan_rules.specs.Roles.{nothing, one_of, two_of, role, tree_of}
+use Rattle.plan_rules.specs.Pieces.{unary_way, binary_way, Piece, piece, scan_pieces, source_pieces, topped, topped_both, pieces_of, pieces_of_all, roots_of, nodes_in, Top, bare, shown, asks_of, with_top, with_sink}
+use Rattle.plan_rules.specs.Roles.{nothing, one_of, two_of, same_as, role, tree_of}
 use Rattle.plan_rules.proofs.laws.Numbers.{get_at, get_more}
 
 -- ---- expressions are seen
@@ -173,12 +173,22 @@ module _ (sources : List TableDef) where
         ap (λ l. rels (map (at nothing l) (roots_of sources (n + length ps) inputs))) (after_more done ps qs) ∙ others.trees in
         record { goes = both_go n done ps qs first.goes others.goes; trees = λ i. rel_and (own i) (rest i) }
 
-pub trees_are_erased : TreesAreErased
-trees_are_erased sources sink parallelism rel =
-    let ps = pieces_of sources 0 Forward rel in
-    let tree : Ends 0 [] ps rel = tree_ends sources rel 0 [] refl Forward in
+-- a node more over the root that passes its rows on leaves the tree
+passed_on : (ps : List Piece) (o : Op) (x : Exchange) (kinds : KindSet) (update : Update) (rel : Rel) → role o ≡ same_as → Ends 0 [] ps rel
+    → Ends 0 [] (ps ++ piece o (length ps ∷ []) x kinds update ∷ []) rel
+passed_on ps o x kinds update rel same e =
     let number : length ps ≡ 0 + length ps = omega arith in
-    let root : at nothing (after [] ps) (length ps) ≡ rel = ap (at nothing (after [] ps)) number ∙ root_is 0 [] ps rel tree in
-    let whole : Ends 0 [] (with_sink ps) rel = ends_on 0 [] ps op.Sink (length ps ∷ []) Forward (kinds_of retract) Absent rel tree.goes root in
+    let root : at nothing (after [] ps) (length ps) ≡ rel = ap (at nothing (after [] ps)) number ∙ root_is 0 [] ps rel e in
+    ends_on 0 [] ps o (length ps ∷ []) x kinds update rel e.goes (ap (λ r. tree_of r (at nothing (after [] ps) (length ps) ∷ [])) same ∙ root)
+
+topped_on : (top : Top) (ps : List Piece) (rel : Rel) → Ends 0 [] ps rel → Ends 0 [] (with_top top ps) rel
+topped_on bare ps rel e = e
+topped_on (shown key) ps rel e = topped_ends 0 [] ps (op.Materialize key) Forward rel rel e refl
+
+pub trees_are_erased : TreesAreErased
+trees_are_erased sources sink parallelism top rel =
+    let ps = with_top top (pieces_of sources 0 (asks_of top) rel) in
+    let tree : Ends 0 [] ps rel = topped_on top (pieces_of sources 0 (asks_of top) rel) rel (tree_ends sources rel 0 [] refl (asks_of top)) in
+    let whole : Ends 0 [] (with_sink ps) rel = passed_on ps op.Sink Forward (kinds_of retract) Absent rel refl tree in
     let count : length (nodes_in (with_sink ps)) ≡ 0 + length (with_sink ps) = length-map (with_sink ps) (λ p. p.node) ∙ (let same : length (with_sink ps) ≡ 0 + length (with_sink ps) = omega arith in same) in
     ap (at nothing (after [] (with_sink ps))) count ∙ root_is 0 [] (with_sink ps) rel whole

@@ -18,13 +18,14 @@ use Rattle.phys_plan.specs.declared.node.Op.{Op}
 use Rattle.phys_plan.specs.declared.node.Op.TheVariants as op
 use Rattle.phys_plan.specs.declared.node.Node.{Node}
 use Rattle.phys_plan.specs.declared.plan.Plan.{Plan}
-use Rattle.plan_rules.specs.Pieces.{unary_way, binary_way, Piece, node_of, piece, full_piece, scan_pieces, source_pieces, pieces_of, pieces_of_all, roots_of, with_sink, nodes_in, edges_in, plan_of_tree}
+use Rattle.plan_rules.specs.Pieces.{unary_way, binary_way, Piece, node_of, edge_of, piece, full_piece, scan_pieces, source_pieces, pieces_of, pieces_of_all, roots_of, bare, shown, with_sink, nodes_in, edges_in, plan_of_tree}
 use Rattle.plan_rules.specs.Seen.{op_as_seen, node_as_seen, plan_as_seen}
 use Rattle.planner.specs.declared.laying_fault.LayingFault.{LayingFault}
 use Rattle.planner.specs.declared.laying_fault.LayingFault.TheVariants.{NoTable, Memory}
 use Rattle.planner.specs.declared.laying.Laying.{Laying}
 use Rattle.planner.specs.Faults.{lacks_table, Says}
-use Rattle.planner.specs.Laying.{Pushed, PushedAs, Adds, Lays, LaysAll, Fails, FailsAll}
+use Rattle.planner.specs.Laying.{Pushed, PushedAs, Adds, Lays, LaysAll, Shows, Fails, FailsAll}
+use Rattle.planner.specs.Tops.{all_but_last, hash_last, shown_nodes, shown_edges, topped_plan}
 
 -- ---- pieces behind what was laid
 
@@ -172,7 +173,7 @@ full_fails l rel fault is = subst (Fails l rel) (sym is) tt
 -- ---- the plan
 
 pub plan_is : (start mid new : Laying) (plan : Plan) (rel : Rel) (root v : ℕ) → start.nodes ≡ [] → start.edges ≡ [] → Lays start mid Forward rel root → Pushed mid new op.Sink (root ∷ []) Forward (kinds_of retract) Absent v
-    → plan.nodes ≡ new.nodes → plan.edges ≡ new.edges → plan.sources ≡ start.sources → plan.mini_batch ≡ 0 → plan_as_seen plan ≡ plan_of_tree start.sources plan.sink plan.parallelism rel
+    → plan.nodes ≡ new.nodes → plan.edges ≡ new.edges → plan.sources ≡ start.sources → plan.mini_batch ≡ 0 → plan_as_seen plan ≡ plan_of_tree start.sources plan.sink plan.parallelism bare rel
 plan_is start mid new plan rel root v no_nodes no_edges l p nodes edges sources batches =
     let ps = pieces_of start.sources 0 Forward rel in
     let count : length start.nodes ≡ 0 = ap length no_nodes in
@@ -193,3 +194,25 @@ plan_fails start rel Memory f = tt
 
 pub full_says : (sources : List TableDef) (rel : Rel) (fault : LayingFault) → fault ≡ Memory → Says sources rel fault
 full_says sources rel fault is = subst (Says sources rel) (sym is) tt
+
+-- ---- what stands before the sink
+
+pub shows : (old mid new : Laying) (key : List ℕ) (root above v : ℕ) → root ≡ length old.nodes → Pushed old mid (op.Materialize key) (root ∷ []) Forward (kinds_of retract) Both above
+    → Pushed mid new op.Sink (above ∷ []) Forward (kinds_of retract) Absent v → Shows key old new
+shows old mid new key root above v is p q =
+    let sink = node_of op.Sink ((length old.nodes + 1) ∷ []) in
+    let told = edge_of Forward (kinds_of retract) Absent in
+    record {
+      sources = q.sources ∙ p.sources;
+      nodes = q.nodes ∙ (λ i. p.nodes i ++ node_of op.Sink (p.number_is i ∷ []) ∷ []) ∙ append_assoc old.nodes (node_of (op.Materialize key) (root ∷ []) ∷ []) (sink ∷ [])
+          ∙ ap (λ r. old.nodes ++ (node_of (op.Materialize key) (r ∷ []) ∷ (sink ∷ []))) is;
+      edges = q.edges ∙ ap (λ es. es ++ told ∷ []) p.edges ∙ append_assoc old.edges (edge_of Forward (kinds_of retract) Both ∷ []) (told ∷ []);
+    }
+
+pub shown_plan : (key : List ℕ) (laid plan : Plan) (old new : Laying) → Shows key old new → old.sources ≡ laid.sources → old.nodes ≡ all_but_last laid.nodes → old.edges ≡ hash_last key (all_but_last laid.edges)
+    → plan.sources ≡ new.sources → plan.sink ≡ laid.sink → plan.nodes ≡ new.nodes → plan.edges ≡ new.edges → plan.parallelism ≡ laid.parallelism → plan.mini_batch ≡ laid.mini_batch → plan ≡ topped_plan (shown key) laid
+shown_plan key laid plan old new s sources nodes edges own_sources sink own_nodes own_edges parallelism batches =
+    let all_sources = own_sources ∙ s.sources ∙ sources in
+    let all_nodes = own_nodes ∙ s.nodes ∙ ap (shown_nodes key) nodes in
+    let all_edges = own_edges ∙ s.edges ∙ ap shown_edges edges in
+    λ i. record { sources = all_sources i; sink = sink i; nodes = all_nodes i; edges = all_edges i; parallelism = parallelism i; mini_batch = batches i }

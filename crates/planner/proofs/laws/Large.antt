@@ -28,7 +28,7 @@ use Rattle.plan_inferred.specs.declared.inferred.Inferred.{Inferred}
 use Rattle.plan_inferred.specs.declared.ways.Way.TheVariants.{Direct}
 use Rattle.plan_check.specs.Sound.{inferred_of}
 use Rattle.plan_check.specs.Types.{keep_nulls}
-use Rattle.planner.specs.Planned.{Refused, made, made_by}
+use Rattle.planner.specs.Planned.{Refused, made, made_by, sink_top}
 use Rattle.planner.specs.Refusals.{below_sink, brings_null, changes_rows, has_materializer, has_ties, is_forced, is_large, is_large_with, is_needed, is_off, is_refused, or_else, ranks_rows, refusal, sink_way, tells_more, ties_at, ties_by, way_into}
 
 neither : (a b : Bool) → (a || b) ≡ false → (a ≡ false) × (b ≡ false)
@@ -142,4 +142,4 @@ plainly_large laid setting many unranked nullable alone direct =
     let large : is_large laid way ≡ true = ap (λ w. is_large_with (has_materializer w) (length laid.nodes)) direct ∙ lt-ltb 128 (length laid.nodes) many in
     let code : refusal inferred laid setting ≡ Some TooManyNodes =
     later _ _ _ (no_ties inferred laid.nodes unranked) ∙ later _ _ _ alone ∙ later _ _ _ (ap is_refused direct) ∙ later _ _ _ nulls ∙ later _ _ _ unneeded ∙ now _ _ _ large in
-    ap (λ c. made_by laid c (has_materializer way)) code
+    ap (λ c. made_by laid c (sink_top laid setting)) code

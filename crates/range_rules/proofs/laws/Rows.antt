@@ -29,7 +29,7 @@ use Rattle.range_rules.proofs.laws.Answers.{appended_short, IsShortIf, key_row_s
 
 -- ---- changes, each by itself
 
-changes_short : (arrivals : List Arrival) → AllByRecursion ArrivesShort arrivals → AllByRecursion IsShort (changes_of arrivals)
+pub changes_short : (arrivals : List Arrival) → AllByRecursion ArrivesShort arrivals → AllByRecursion IsShort (changes_of arrivals)
 changes_short [] h = tt
 changes_short (a ∷ others) h = (h.0, changes_short others h.1)
 

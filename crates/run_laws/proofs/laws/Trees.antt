@@ -17,8 +17,8 @@ use Rattle.phys_plan.specs.declared.node.Node.{Node}
 use Rattle.phys_plan.specs.declared.plan.Plan.{Plan}
 use Rattle.upsert_keys.specs.Keys.{keyed_from}
 use Rattle.phys_plan.specs.Reading.{numbered}
-use Rattle.laid_plans.proofs.laws.LaidTrees.{IsUnary, IsBinary, HasNode, ScanLaid, SourceLaid, IsLaid, AreLaid}
-use Rattle.plan_rules.specs.Pieces.{unary_way, binary_way}
+use Rattle.laid_plans.proofs.laws.LaidTrees.{IsUnary, IsBinary, HasNode, ScanLaid, SourceLaid, IsLaid, AreLaid, TopLaid}
+use Rattle.plan_rules.specs.Pieces.{unary_way, binary_way, Top, bare, shown, asks_of}
 use Rattle.plan_check.specs.Sound.{inferred_of}
 use Rattle.laid_plans.proofs.laws.Placed.{lays_out}
 use Rattle.laid_plans.proofs.laws.Trees.{unary_fits, binary_fits}
@@ -86,6 +86,12 @@ module _ (plan : Plan) where
         let p = and_parts _ _ tame in
         trees_tame inputs p.1 laid.0 laid.1 last (tree_tame input p.0 n Forward laid.0 before laid.2) laid.3
 
+  -- what stands before the sink
+  topped_tame : (top : Top) (below root : ℕ) → TameUpTo below → TopLaid plan top below root → TameUpTo root
+  topped_tame bare below root before between = subst TameUpTo (sym between) before
+  topped_tame (shown key) below root before between =
+      more below root before between.0 (at_node root (λ o. o ≡ op.Materialize key) (below ∷ []) between.1 (is_op (op.Materialize key) refl))
+
 -- ---- the plan
 
 each_tame : (nodes : List Node) → ((n : ℕ) (node : Node) → slice_get nodes n ≡ Some node → is_tame_op node.op ≡ true) → list_all (λ node. is_tame_op node.op) nodes ≡ true
@@ -100,8 +106,9 @@ keeps table v (node ∷ nodes) = ap (λ b. is_tame_op node.op && b) (keeps table
 pub trees_have_tame_plans : TreesHaveTamePlans
 trees_have_tame_plans plan rel is tame =
     let out = lays_out plan rel is in
-    let tree = tree_tame plan rel tame 0 Forward out.root (no_nodes plan) out.laid in
-    let all = more plan out.root (out.root + 1) tree refl (at_node plan (out.root + 1) (λ o. o ≡ op.Sink) (out.root ∷ []) out.sink_node (is_op op.Sink refl)) in
+    let tree = tree_tame plan rel tame 0 (asks_of is.top) out.below (no_nodes plan) out.laid in
+    let under = topped_tame plan is.top out.below out.root tree out.topped in
+    let all = more plan out.root (out.root + 1) under refl (at_node plan (out.root + 1) (λ o. o ≡ op.Sink) (out.root ∷ []) out.sink_node (is_op op.Sink refl)) in
     let count = out.nodes in
     keeps (inferred_of plan).keys 1 plan.nodes
     ∙ each_tame plan.nodes (λ n node e. all (suc n) (let l = within plan.nodes n node e in omega arith) node e)

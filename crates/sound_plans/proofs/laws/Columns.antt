@@ -9,10 +9,10 @@ use Rattle.phys_plan.specs.declared.node.Node.{Node}
 use Rattle.phys_plan.specs.declared.node.Op.{Op}
 use Rattle.phys_plan.specs.declared.node.Op.TheVariants as op
 use Rattle.phys_plan.specs.Reading.{numbered}
-use Rattle.plan_rules.specs.Columns.{columns_by, numbered_columns, node_columns}
+use Rattle.plan_rules.specs.Columns.{columns_by, numbered_columns, node_columns, only}
 use Rattle.sound_plans.proofs.laws.Numbers.{columns_made}
 use Rattle.phys_plan.specs.Columns.{columns_in}
-use Rattle.plan_check.specs.Types.{all_types, input_columns, is_typed_by, next_types, types_after, types_at, types_by}
+use Rattle.plan_check.specs.Types.{all_types, input_columns, is_typed_by, keyed_columns, next_types, types_after, types_at, types_by}
 use Rattle.plan_check.specs.Sound.{columns_or_none, sent_columns}
 use Rattle.plan_rules.specs.Behaviours.{has_rule}
 use Rattle.sound_plans.proofs.laws.Lists.{the_same, map_same}
@@ -81,22 +81,22 @@ types_made sources nodes (suc k) node e r b =
 
 -- ---- one node
 
--- what a normalizer asks besides its input's columns
-pub key_is_there : (sources : List TableDef) (key : List ℕ) (columns made : List ColTy) → types_by sources (op.Normalize key) (Some columns ∷ []) ≡ Some made → (columns ≡ made) × (list_all (is_column columns) key ≡ true)
-key_is_there sources key columns made e = go (list_all (is_column columns) key) refl e
+-- what passes rows on by a key asks besides that the key's columns are there
+pub passes_on : (key : List ℕ) (inputs : List (Option (List ColTy))) (made : List ColTy) → option_and_then (keyed_columns key) (only inputs) ≡ Some made → (only inputs ≡ Some made) × (list_all (is_column made) key ≡ true)
+passes_on key [] made e = absurd (cc)
+passes_on key (None ∷ []) made e = absurd (cc)
+passes_on key (Some columns ∷ []) made e = go (list_all (is_column columns) key) refl e
   where
-    go : (b : Bool) → list_all (is_column columns) key ≡ b → columns_if b columns ≡ Some made → (columns ≡ made) × (list_all (is_column columns) key ≡ true)
-    go true i f = (the_same columns made f, i)
+    go : (b : Bool) → list_all (is_column columns) key ≡ b → columns_if b columns ≡ Some made → (Some columns ≡ Some made) × (list_all (is_column made) key ≡ true)
+    go true i f = (f, sym (ap (λ (c : List ColTy). list_all (is_column c) key) (the_same columns made f)) ∙ i)
     go false i f = absurd (cc)
+passes_on key (input ∷ (other ∷ inputs)) made e = absurd (cc)
 
 -- where the rule gives columns, the network has the same
 pub same_columns : (sources : List TableDef) (o : Op) (inputs : List (Option (List ColTy))) (made : List ColTy) → has_rule o ≡ true → types_by sources o inputs ≡ Some made → columns_by sources o inputs ≡ Some made
-same_columns sources (op.Normalize key) [] made r e = absurd (cc)
-same_columns sources (op.Normalize key) (None ∷ []) made r e = absurd (cc)
-same_columns sources (op.Normalize key) (Some columns ∷ []) made r e = ap (λ c. Some c) (key_is_there sources key columns made e).0
-same_columns sources (op.Normalize key) (input ∷ (other ∷ inputs)) made r e = absurd (cc)
+same_columns sources (op.Normalize key) inputs made r e = (passes_on key inputs made e).0
+same_columns sources (op.Materialize key) inputs made r e = (passes_on key inputs made e).0
 same_columns sources (op.BatchGroup keys aggs) inputs made r e = absurd (cc)
-same_columns sources (op.Materialize key) inputs made r e = absurd (cc)
 same_columns sources (op.LocalGroup keys aggs) inputs made r e = absurd (cc)
 same_columns sources (op.MultiJoin on) inputs made r e = absurd (cc)
 same_columns sources (op.SetOp except all) inputs made r e = absurd (cc)

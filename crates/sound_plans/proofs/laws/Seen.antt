@@ -1,15 +1,16 @@
 -- What a consumer sees of the keys of an input are keys of its edge.
 use Rattle.std.specs.Prelude.{◌≡◌, ℕ, List, length}
-use Rattle.std.proofs.Common.{refl, sym, subst}
+use Rattle.std.proofs.Common.{true, refl, sym, subst}
 use Rattle.std.specs.List.{AllByRecursion, Contains}
 use Rattle.op_rules.specs.Edges.{Edge, Exchange as Sends, HoldsOver, IsSeen, IsSeenBy, LiesIn}
 use Rattle.phys_plan.specs.declared.edge.Exchange.{Exchange}
 use Rattle.phys_plan.specs.declared.edge.Exchange.TheVariants.{Forward, Hash}
 use Rattle.column_sets.specs.Sets.{unions}
 use Rattle.upsert_keys.specs.Seen.{everywhere, seen_over}
+use Rattle.plan_inferred.specs.Ways.{holds_everywhere}
 use Rattle.sound_plans.specs.Outputs.{AreWithin, IsProper, Output, edge_of, no_output, seen}
-use Rattle.sound_plans.proofs.laws.KeyFamilies.{of_unions}
-use Rattle.sound_plans.proofs.laws.Sets.{left_lies, right_lies}
+use Rattle.sound_plans.proofs.laws.KeyFamilies.{of_unions, one_within}
+use Rattle.sound_plans.proofs.laws.Sets.{left_lies, lies_through, lies_within, right_lies}
 use Rattle.sound_plans.proofs.laws.Widths.{each_union}
 
 -- a local key with a set that fixes the subtask holds over all subtasks
@@ -27,6 +28,21 @@ over edge key c =
 
 pub over_of : (many : ℕ) (out : Output) (key : List ℕ) → Contains (everywhere out.keys) key → HoldsOver (edge_of many out) key
 over_of many out key c = over (edge_of many out) key c
+
+-- so does each set of columns in which such a key lies
+pub holds_over : (many : ℕ) (out : Output) (key : List ℕ) → holds_everywhere out.keys key ≡ true → HoldsOver (edge_of many out) key
+holds_over many out key e =
+    let one = one_within (everywhere out.keys) key e in
+    let whole = over_of many out one.0 one.1 in
+    let lies = lies_within one.0 key one.2 in
+    record {
+      local = whole.local;
+      fixing = whole.fixing;
+      is_local = whole.is_local;
+      is_fixing = whole.is_fixing;
+      has_local = lies_through whole.local one.0 key whole.has_local lies;
+      has_fixing = lies_through whole.fixing one.0 key whole.has_fixing lies;
+    }
 
 -- an exchange as the network has it
 abbrev by : Exchange → Sends

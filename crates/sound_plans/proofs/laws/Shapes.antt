@@ -1,8 +1,8 @@
 -- What the rule Shape says of a node, of what feeds it and of what it feeds.
-use Rattle.std.specs.Prelude.{◌≡◌, ℕ, ◌+◌, ◌<◌, ◌≤◌, ◌==◌, Bool, ◌&&◌, ◌||◌, not, cond, List, length, max, slice_get}
+use Rattle.std.specs.Prelude.{◌≡◌, ℕ, ◌+◌, ◌<◌, ◌≤◌, ◌==◌, Bool, ◌&&◌, ◌||◌, not, cond, List, length, max, slice_get, Option}
 use Rattle.std.proofs.Common.{zero, suc, true, false, [], ◌∷◌, refl, sym, ap, subst, ◌∙◌, arith, Some, None}
-use Rattle.std.specs.List.{AllByRecursion, list_all}
-use Rattle.std.proofs.lemmas.Bool.{eqb-true}
+use Rattle.std.specs.List.{AllByRecursion, find, list_all}
+use Rattle.std.proofs.lemmas.Bool.{eqb-true, eqb-false}
 use Rattle.ct_catalog.specs.declared.table.TableDef.{TableDef}
 use Rattle.phys_plan.specs.declared.node.Node.{Node}
 use Rattle.phys_plan.specs.declared.node.Op.{Op}
@@ -10,7 +10,7 @@ use Rattle.phys_plan.specs.declared.node.Op.TheVariants as op
 use Rattle.phys_plan.specs.declared.plan.Plan.{Plan}
 use Rattle.plan_rules.specs.Plans.{HasShape, kinds_in}
 use Rattle.phys_plan.specs.Reading.{numbered, first_input}
-use Rattle.plan_shape.specs.Shape.{are_before, consumer, has_sizes, is_consumed, is_fed, is_shaped, is_sink, is_whole, node_has_shape, op_in, suits_consumer, suits_input, suits_plan, takes, uses}
+use Rattle.plan_shape.specs.Shape.{are_before, consumer, has_input, has_sizes, is_consumed, is_fed, is_shaped, is_sink, is_whole, node_has_shape, op_in, suits_consumer, suits_input, suits_plan, takes, uses}
 use Rattle.plan_shape.specs.Shaped.{MeetsShape, ShapedPlansHaveShape}
 use Rattle.plan_shape.specs.Tables.{are_tables, is_declarable}
 use Rattle.sound_plans.proofs.laws.Lists.{both, found, is_somewhere, is_there, not_true, of_each, same_number, the_same, within}
@@ -41,6 +41,28 @@ none_there xs [] n l e = refl
 none_there [] (y ∷ ys) n l e = absurd (omega (arith, l))
 none_there (x ∷ xs) (y ∷ ys) zero l e = absurd (cc)
 none_there (x ∷ xs) (y ∷ ys) (suc n) l e = none_there xs ys n (omega (arith, l)) e
+
+-- the sink's operator
+pub sink_op : (o : Op) → is_sink (Some o) ≡ true → o ≡ op.Sink
+sink_op op.Sink h = refl
+sink_op _ h = absurd (cc)
+
+-- a node whose operator is the sink's, by its place among these, with this number among its inputs
+pub record IsSinkOver (nodes : List Node) (v : ℕ) : Type 0 where
+  pub place : ℕ
+  pub node : Node
+  pub is : slice_get nodes place ≡ Some node
+  pub has : has_input v node ≡ true
+  pub sinks : is_sink (Some node.op) ≡ true
+
+sink_over : (v : ℕ) (nodes : List Node) → is_sink (op_in (find (has_input v) nodes)) ≡ true → IsSinkOver nodes v
+sink_over v [] e = absurd (cc)
+sink_over v (first ∷ nodes) e =
+    by_test (has_input v first)
+    (λ t. record { place = 0; node = first; is = refl; has = t; sinks = sym (ap (λ b. is_sink (op_in (cond b (Some first) (find (has_input v) nodes)))) t) ∙ e })
+    (λ f.
+    let later = sink_over v nodes (sym (ap (λ b. is_sink (op_in (cond b (Some first) (find (has_input v) nodes)))) f) ∙ e) in
+    record { place = suc later.place; node = later.node; is = later.is; has = later.has; sinks = later.sinks })
 
 -- what the rule says of one node
 pub record IsTold (plan : Plan) (v : ℕ) (node : Node) : Type 0 where
@@ -84,12 +106,17 @@ module _ (plan : Plan) (meets : MeetsShape plan) (shaped : ShapedPlansHaveShape)
   no_edge (suc n) e = none_there plan.nodes plan.edges n edges_many e
 
   -- each table may be declared
-  pub declarable : (source : ℕ) (table : TableDef) → slice_get plan.sources source ≡ Some table → is_declarable table ≡ true
-  declarable source table e =
+  all_declarable : (is_declarable plan.sink ≡ true) × (list_all is_declarable plan.sources ≡ true)
+  all_declarable =
       let tables = (both (has_sizes plan) (are_tables (plan.sink ∷ plan.sources)) whole).1 in
       let all = (both (list_all is_declarable (plan.sink ∷ plan.sources)) _ tables).0 in
-      let later = (both (is_declarable plan.sink) (list_all is_declarable plan.sources) all).1 in
-      all_true_at is_declarable plan.sources source table later e
+      both (is_declarable plan.sink) (list_all is_declarable plan.sources) all
+
+  pub declarable : (source : ℕ) (table : TableDef) → slice_get plan.sources source ≡ Some table → is_declarable table ≡ true
+  declarable source table e = all_true_at is_declarable plan.sources source table all_declarable.1 e
+
+  pub sink_declarable : is_declarable plan.sink ≡ true
+  sink_declarable = all_declarable.0
 
   -- ---- inputs
 
@@ -154,3 +181,16 @@ module _ (plan : Plan) (meets : MeetsShape plan) (shaped : ShapedPlansHaveShape)
       let fed = (both (not (is_sink (Some below.op))) (uses input plan.nodes == 1 && suits_consumer plan.sources below.op (consumer input plan.nodes)) (inner input below f l)).1 in
       let suits = (both (uses input plan.nodes == 1) (suits_consumer plan.sources below.op (consumer input plan.nodes)) fed).1 in
       sym (ap (λ o. suits_consumer plan.sources below.op (op_in o)) (finds input plan.nodes a.place node (consumes v node p input e i a))) ∙ suits
+
+  -- a node that suits the sink alone feeds it
+  pub feeds_sink : (v : ℕ) (node : Node) → numbered plan.nodes v ≡ Some node → is_sink (Some node.op) ≡ false → ((above : Option Op) → suits_consumer plan.sources node.op above ≡ is_sink above) → IsSinkOver plan.nodes v
+  feeds_sink v node e no_sink alone =
+      by_test (v == length plan.nodes)
+      (λ t. absurd (let last = last_sinks v node e (eqb-true v (length plan.nodes) t) in let clash : false ≡ true = sym no_sink ∙ last in cc))
+      (λ f.
+      let a = among plan.nodes v node e in
+      let apart = eqb-false v (length plan.nodes) f in
+      let l : v < length plan.nodes = let g = a.few in omega arith in
+      let fed = (both (not (is_sink (Some node.op))) (uses v plan.nodes == 1 && suits_consumer plan.sources node.op (consumer v plan.nodes)) (inner v node e l)).1 in
+      let suits = (both (uses v plan.nodes == 1) (suits_consumer plan.sources node.op (consumer v plan.nodes)) fed).1 in
+      sink_over v plan.nodes (sym (alone (consumer v plan.nodes)) ∙ suits))

@@ -1,5 +1,5 @@
 -- A sink fits between its edges, and prints kinds of its table's mode alone.
-use Rattle.std.proofs.Common.{◌≡◌, ℕ, Bool, true, false, cond, ◌&&◌, ◌||◌, List, [], ◌∷◌, length, Option, Some, None, refl, sym, ap, subst, ◌∙◌}
+use Rattle.std.proofs.Common.{◌≡◌, ℕ, Bool, true, false, cond, ◌&&◌, ◌||◌, List, [], ◌∷◌, length, Option, Some, None, refl, sym, ap, subst, ◌∙◌, ⊎_elim}
 use Rattle.std.specs.Prelude.{unwrap_or}
 use Rattle.ct_value.specs.declared.row.Row.{Row}
 use Rattle.ct_value.specs.declared.ty.ColTy.{ColTy}
@@ -10,21 +10,21 @@ use Rattle.ct_change.specs.declared.kind.KindSet.{KindSet}
 use Rattle.ct_change.specs.declared.kind.Declared.{Declared}
 use Rattle.ct_change.specs.declared.kind.Declared.TheVariants.{Append, Retract, Upsert}
 use Rattle.ct_change.specs.declared.change.Change.{Change}
-use Rattle.ct_change.specs.Changelog.{append, retract, upsert, mode_of, adds, has, admits}
+use Rattle.ct_change.specs.Changelog.{append, retract, upsert, mode_of, adds, has, admits, HasKey}
 use Rattle.ct_change.specs.KeyRows.{row_told}
 use Rattle.ct_catalog.specs.declared.table.TableDef.{TableDef}
 use Rattle.rel_algebra.specs.Clauses.{Fits}
 use Rattle.rel_algebra.proofs.laws.Fits.{first, second}
 use Rattle.ct_change.specs.declared.update.Update.{Update}
 use Rattle.ct_change.specs.declared.update.Update.TheVariants.{Absent, After, Both}
+use Rattle.phys_plan.specs.declared.edge.Exchange.TheVariants.{Forward}
 use Rattle.phys_plan.specs.declared.node.KeyInfo.{KeyInfo}
 use Rattle.phys_plan.specs.declared.node.Op.TheVariants as op
-use Rattle.op_rules.specs.Edges.{Meaning, bag, last_rows, meaning_of, HoldsOver}
-use Rattle.emission_rules.specs.Changes.{after_key}
+use Rattle.op_rules.specs.Edges.{Meaning, bag, last_rows, meaning_of}
+use Rattle.emission_rules.specs.Changes.{after_key, mode_after}
 use Rattle.stream_model.specs.KeysTold.{told_fits}
 use Rattle.emission_rules.specs.Sink.{splits, kind_alone, kind_printed, printed as printed_change, MayBeRead, SinkFits}
 use Rattle.column_sets.specs.Sets.{is_within, same_set}
-use Rattle.upsert_keys.specs.Seen.{everywhere}
 use Rattle.ct_change.specs.Kinds.{has_more_than_inserts, is_upsert}
 use Rattle.mode_infer.specs.Modes.{edge_kinds, printed}
 use Rattle.mode_infer.specs.Updates.{same_key, in_full, told}
@@ -37,15 +37,14 @@ use Rattle.ct_catalog.specs.Columns.{table_mode}
 use Rattle.plan_rules.specs.Around.{sink_of}
 use Rattle.plan_rules.proofs.laws.Reading.{retract_admits}
 use Rattle.sound_plans.specs.Outputs.{Output, AreTold, AreWithin, IsProper, around_by, edge_of, printed_edge}
-use Rattle.sound_plans.specs.Agrees.{taken_by, Suits, SinkAgrees}
+use Rattle.sound_plans.specs.Agrees.{Carries, ComesDirect, ComesShown, taken_by, Suits, SinkAgrees}
 use Rattle.sound_plans.proofs.laws.Kinds.{of_told}
-use Rattle.sound_plans.proofs.laws.KeyFamilies.{one_within}
-use Rattle.sound_plans.proofs.laws.Seen.{over_of}
-use Rattle.sound_plans.proofs.laws.Sets.{lies_within, lies_same, lies_through}
+use Rattle.sound_plans.proofs.laws.Seen.{holds_over}
+use Rattle.sound_plans.proofs.laws.Sets.{lies_itself, lies_same}
 use Rattle.sound_plans.specs.RowFits.{SinksFit}
-use Rattle.sound_plans.proofs.laws.RowFamilies.{among_within, from_none, each_from_none}
+use Rattle.sound_plans.proofs.laws.RowFamilies.{among_within, from_none, each_from_none, within_itself}
 use Rattle.sound_plans.proofs.laws.RowInputs.{comes_by, comes_keyed}
-use Rattle.sound_plans.proofs.laws.Updates.{meaning_full, told_untaken, meaning_after, kinds_admitted, mode_keyed}
+use Rattle.sound_plans.proofs.laws.Updates.{meaning_full, told_untaken, meaning_after, columns_there, kinds_admitted, mode_keyed}
 
 -- ---- kinds
 
@@ -89,7 +88,7 @@ prints Upsert kinds Both UB quiet h = refl
 prints Upsert kinds Both UA quiet h = refl
 prints Upsert kinds Both D quiet h = refl
 
--- and is of a kind of the table's mode
+-- inserts alone
 only_inserts : (kinds : KindSet) (kind : Kind) → has_more_than_inserts kinds ≡ false → has kinds kind ≡ true → has (record { i = true; ub = false; ua = false; d = false }) kind ≡ true
 only_inserts kinds I none h = refl
 only_inserts kinds UB none h = absurd (wrong (has_more_than_inserts kinds) none (ap (λ b. b || (kinds.ua || kinds.d)) h))
@@ -105,19 +104,31 @@ only_inserts kinds D none h = absurd (wrong (has_more_than_inserts kinds) none (
     ends false true = refl
     ends false false = refl
 
-printed_admitted : (mode : Declared) (key : Option (List ℕ)) (input : Output) (kinds : KindSet) (update : Update) (kind : Kind) → input.edge.kinds ≡ kinds → IsQuiet kinds update → Suits mode key input
+-- an append table takes inserts alone
+abbrev InsertsFor : Declared → KindSet → Type 0
+InsertsFor Append kinds = has_more_than_inserts kinds ≡ false
+InsertsFor Retract kinds = Unit {0}
+InsertsFor Upsert kinds = Unit {0}
+
+inserts_for : (mode : Declared) (key : Option (List ℕ)) (input : Output) → Suits mode key input → InsertsFor mode input.edge.kinds
+inserts_for Append key input suits = suits
+inserts_for Retract key input suits = tt
+inserts_for Upsert key input suits = tt
+
+-- what is printed is of a kind of the table's mode
+printed_admitted : (mode : Declared) (key : Option (List ℕ)) (kinds : KindSet) (update : Update) (kind : Kind) → IsQuiet kinds update → InsertsFor mode kinds
     → has (printed mode (record { kinds = kinds; update = update })) kind ≡ true → admits (mode_of mode (unwrap_or key [])) kind ≡ true
-printed_admitted Append key input kinds update kind is quiet suits h = only_inserts kinds kind (ap has_more_than_inserts (sym is) ∙ suits) h
-printed_admitted Retract key input kinds update kind is quiet suits h = retract_admits kind
-printed_admitted Upsert key input kinds Absent I is quiet suits h = refl
-printed_admitted Upsert key input kinds Absent UB is quiet suits h = absurd (wrong kinds.ub quiet.0 h)
-printed_admitted Upsert key input kinds Absent UA is quiet suits h = refl
-printed_admitted Upsert key input kinds Absent D is quiet suits h = refl
-printed_admitted Upsert key input kinds (After own) I is quiet suits h = refl
-printed_admitted Upsert key input kinds (After own) UB is quiet suits h = absurd (wrong kinds.ub quiet h)
-printed_admitted Upsert key input kinds (After own) UA is quiet suits h = refl
-printed_admitted Upsert key input kinds (After own) D is quiet suits h = refl
-printed_admitted Upsert key input kinds Both kind is quiet suits h = split kind h
+printed_admitted Append key kinds update kind quiet inserts h = only_inserts kinds kind inserts h
+printed_admitted Retract key kinds update kind quiet inserts h = retract_admits kind
+printed_admitted Upsert key kinds Absent I quiet inserts h = refl
+printed_admitted Upsert key kinds Absent UB quiet inserts h = absurd (wrong kinds.ub quiet.0 h)
+printed_admitted Upsert key kinds Absent UA quiet inserts h = refl
+printed_admitted Upsert key kinds Absent D quiet inserts h = refl
+printed_admitted Upsert key kinds (After own) I quiet inserts h = refl
+printed_admitted Upsert key kinds (After own) UB quiet inserts h = absurd (wrong kinds.ub quiet h)
+printed_admitted Upsert key kinds (After own) UA quiet inserts h = refl
+printed_admitted Upsert key kinds (After own) D quiet inserts h = refl
+printed_admitted Upsert key kinds Both kind quiet inserts h = split kind h
   where
     split : (kind : Kind) → has (record { i = true; ub = false; ua = false; d = true }) kind ≡ true → admits (mode_of Upsert (unwrap_or key [])) kind ≡ true
     split I h = refl
@@ -159,21 +170,6 @@ direct_holds false true e = absurd (let h : false ≡ true = e in cc)
 direct_holds false false e = absurd (let h : false ≡ true = e in cc)
 
 module _ (many : ℕ) (input : Output) where
-  -- a set of columns that holds everywhere lies in the key
-  holds_over : (key : List ℕ) → holds_everywhere input.keys key ≡ true → HoldsOver (edge_of many input) key
-  holds_over key e =
-      let one = one_within (everywhere input.keys) key e in
-      let over = over_of many input one.0 one.1 in
-      let lies = lies_within one.0 key one.2 in
-      record {
-        local = over.local;
-        fixing = over.fixing;
-        is_local = over.is_local;
-        is_fixing = over.is_fixing;
-        has_local = lies_through over.local one.0 key over.has_local lies;
-        has_fixing = lies_through over.fixing one.0 key over.has_fixing lies;
-      }
-
   -- what comes in full may be read as a bag, and by a key that holds everywhere
   read_in_full : (update : Update) (meaning : Meaning) → update ≡ in_full input.sent → MayBeRead (edge_of many input) bag meaning → MayBeRead (edge_of many input) (meaning_by update) meaning
   read_in_full update meaning is may = subst (λ (m : Meaning). MayBeRead (edge_of many input) m meaning) (sym (ap meaning_by is ∙ meaning_full input.sent)) may
@@ -184,7 +180,7 @@ module _ (many : ℕ) (input : Output) where
   by_key key update true tells is direct =
       subst (λ (u : Update). MayBeRead (edge_of many input) (meaning_by u) (last_rows key)) (sym is) (lies_same (unwrap_or input.update_key []) key (tells_same input.sent input.update_key key tells))
   by_key key update false tells is direct =
-      read_in_full update (last_rows key) is (holds_over key (direct_holds (holds_everywhere input.keys key) (holds_in_answers input.keys key) direct))
+      read_in_full update (last_rows key) is (holds_over many input key (direct_holds (holds_everywhere input.keys key) (holds_in_answers input.keys key) direct))
 
   may_be_read : (mode : Declared) (key : Option (List ℕ)) (update : Update) → update ≡ told input.sent input.update_key (takes_by mode key input.update_key) → Suits mode key input
       → MayBeRead (edge_of many input) (meaning_by update) (meaning_of (mode_of mode (unwrap_or key [])))
@@ -254,39 +250,83 @@ printed_fits (After key) Upsert None columns change comes h = absurd comes
 printed_fits (After key) Upsert (Some own) columns change comes h = after_printed key own columns (adds change.kind) change.row comes h
 printed_fits Both mode own columns change comes h = full_printed mode (unwrap_or own []) columns change h
 
+-- ---- what comes
+
+-- how what comes is read, printed and told, be it as the sink asks for it or from a materializer
+record Comes (many : ℕ) (sink : TableDef) (input : Output) : Type 0 where
+  proper : IsProper input
+  carries : Carries input
+  forwards : input.edge.exchange ≡ Forward
+  quiet : IsQuiet (edge_kinds input.sent input.edge.update) input.edge.update
+  inserts : InsertsFor sink.mode input.edge.kinds
+  for_table : ComesFor input.edge.update sink.mode sink.key
+  may : MayBeRead (edge_of many input) (meaning_by input.edge.update) (meaning_of (mode_of sink.mode (unwrap_or sink.key [])))
+  keyed : (row : Row) → length row ≡ length input.columns → HasKey (mode_after (after_key input.edge.update)) row
+
+-- of an upsert table and an edge of new rows alone, by its key
+of_shown : (P : Update → Declared → Option (List ℕ) → Type 0) (key : List ℕ) (update : Update) (mode : Declared) (own : Option (List ℕ)) → update ≡ After key → mode ≡ Upsert → own ≡ Some key
+    → P (After key) Upsert (Some key) → P update mode own
+of_shown P key update mode own tells upserts is h =
+    subst (λ u. P u mode own) (sym tells) (subst (λ m. P (After key) m own) (sym upserts) (subst (λ o. P (After key) Upsert o) (sym is) h))
+
+module _ (many : ℕ) (sink : TableDef) (input : Output) where
+  comes_direct : ComesDirect sink input → Comes many sink input
+  comes_direct direct =
+      let asks = direct.asked in
+      let told_so : input.edge.update ≡ told input.sent input.update_key (takes_by sink.mode sink.key input.update_key) = asks.tells ∙ ap (told input.sent input.update_key) (takes_so sink input.update_key) in
+      record {
+        proper = asks.proper;
+        carries = asks.carries;
+        forwards = comes_by sink op.Sink Absent 0 input asks None refl;
+        quiet =
+            subst (λ (u : Update). IsQuiet (edge_kinds input.sent u) u) (sym told_so)
+            (quiet_told input.sent input.update_key (takes_by sink.mode sink.key input.update_key) asks.proper.replaces);
+        inserts = inserts_for sink.mode sink.key input direct.suits;
+        for_table = subst (λ (update : Update). ComesFor update sink.mode sink.key) (sym told_so) (comes_for input.sent input.update_key sink.mode sink.key);
+        may = may_be_read many input sink.mode sink.key input.edge.update told_so direct.suits;
+        keyed = λ row wide. mode_keyed input.columns input.update_key input.edge.update (comes_keyed sink op.Sink Absent 0 input asks) asks.proper.update_key row wide;
+      }
+
+  comes_shown : ComesShown sink input → Comes many sink input
+  comes_shown shown = record {
+    proper = shown.proper;
+    carries = shown.carries;
+    forwards = shown.forwards;
+    quiet = subst (λ (u : Update). IsQuiet (edge_kinds input.sent u) u) (sym shown.tells) refl;
+    inserts = subst (λ mode. InsertsFor mode input.edge.kinds) (sym shown.upserts) tt;
+    for_table = of_shown ComesFor shown.key input.edge.update sink.mode sink.key shown.tells shown.upserts shown.key_is (within_itself shown.key);
+    may =
+        of_shown (λ update mode own. MayBeRead (edge_of many input) (meaning_by update) (meaning_of (mode_of mode (unwrap_or own []))))
+        shown.key input.edge.update sink.mode sink.key shown.tells shown.upserts shown.key_is (lies_itself shown.key, lies_itself shown.key);
+    keyed = λ row wide. subst (λ (u : Update). HasKey (mode_after (after_key u)) row) (sym shown.tells) (columns_there input.columns shown.key shown.within row wide);
+  }
+
 -- ---- the node
 
 module _ (many : ℕ) (sink : TableDef) (input own : Output) (agrees : SinkAgrees sink input own) where
-  -- how what comes is told, and what follows for its kinds
-  told_so : input.edge.update ≡ told input.sent input.update_key (takes_by sink.mode sink.key input.update_key)
-  told_so = agrees.asked.tells ∙ ap (told input.sent input.update_key) (takes_so sink input.update_key)
+  comes : Comes many sink input
+  comes = ⊎_elim (comes_direct many sink input) (comes_shown many sink input) agrees.comes
 
   quiet : IsQuiet input.edge.kinds input.edge.update
-  quiet =
-      let by = quiet_told input.sent input.update_key (takes_by sink.mode sink.key input.update_key) agrees.asked.proper.replaces in
-      let here : IsQuiet (edge_kinds input.sent input.edge.update) input.edge.update = subst (λ (u : Update). IsQuiet (edge_kinds input.sent u) u) (sym told_so) by in
-      subst (λ (k : KindSet). IsQuiet k input.edge.update) (sym agrees.asked.carries) here
+  quiet = subst (λ (k : KindSet). IsQuiet k input.edge.update) (sym comes.carries) comes.quiet
 
   same_columns : input.columns ≡ own.columns
   same_columns = sym agrees.typed
 
-  comes : ComesFor input.edge.update sink.mode sink.key
-  comes = subst (λ (update : Update). ComesFor update sink.mode sink.key) (sym told_so) (comes_for input.sent input.update_key sink.mode sink.key)
-
   sink_fits : SinkFits (sink_of (around_by sink (input ∷ []) own)) (edge_of many input) (printed_edge many sink own)
   sink_fits = record {
-    forwards = ap exchange_of (comes_by sink op.Sink Absent 0 input agrees.asked None refl);
+    forwards = ap exchange_of comes.forwards;
     reads = meaning_after input.edge.update;
     writes = refl;
-    may = may_be_read many input sink.mode sink.key input.edge.update told_so agrees.suits;
-    admitted = λ kind h. kinds_admitted input.sent input.edge.update kind (subst (λ (k : KindSet). has k kind ≡ true) agrees.asked.carries h);
-    keyed = λ change h. mode_keyed input.columns input.update_key input.edge.update (comes_keyed sink op.Sink Absent 0 input agrees.asked) agrees.asked.proper.update_key change.row (fits_width (meaning_by input.edge.update) input.columns change h);
+    may = comes.may;
+    admitted = λ kind h. kinds_admitted input.sent input.edge.update kind (subst (λ (k : KindSet). has k kind ≡ true) comes.carries h);
+    keyed = λ change h. comes.keyed change.row (fits_width (meaning_by input.edge.update) input.columns change h);
     kinds = λ kind h.
         subst (λ (k : KindSet). has k (kind_printed (splits sink.mode (after_key input.edge.update)) kind) ≡ true) (sym agrees.prints)
         (prints sink.mode input.edge.kinds input.edge.update kind quiet h);
     fits = λ change h.
         subst (λ (columns : List ColTy). change_fits (meaning_of (table_mode sink)) columns (printed_change (sink_of (around_by sink (input ∷ []) own)) change) ≡ true) same_columns
-        (printed_fits input.edge.update sink.mode sink.key input.columns change comes h);
+        (printed_fits input.edge.update sink.mode sink.key input.columns change comes.for_table h);
     holds = λ row h. subst (λ (columns : List ColTy). row_fits columns row ≡ true) same_columns h;
     unique = λ key h. absurd (from_none own.keys.unique (ap (λ (k : KeyInfo). k.unique) agrees.keyed) key h);
     local = λ key h. absurd (from_none own.keys.local (ap (λ (k : KeyInfo). k.local) agrees.keyed) key h);
@@ -300,13 +340,13 @@ module _ (many : ℕ) (sink : TableDef) (input own : Output) (agrees : SinkAgree
     fixing = each_from_none (AreWithin (length own.columns)) own.keys.fixing (ap (λ (k : KeyInfo). k.fixing) agrees.keyed);
     update_key = λ key is. absurd (let none : None ≡ Some key = sym agrees.updates ∙ is in cc);
     told = subst (λ (update : Update). AreTold update own.keys.fixing) (sym agrees.tells) tt;
-    inserts = ap (λ (k : KindSet). k.i) agrees.sends ∙ agrees.asked.proper.inserts;
-    replaces = λ h. ap (λ (k : KindSet). k.ua) agrees.sends ∙ agrees.asked.proper.replaces (sym (ap (λ (k : KindSet). k.ub) agrees.sends) ∙ h);
+    inserts = ap (λ (k : KindSet). k.i) agrees.sends ∙ comes.proper.inserts;
+    replaces = λ h. ap (λ (k : KindSet). k.ua) agrees.sends ∙ comes.proper.replaces (sym (ap (λ (k : KindSet). k.ub) agrees.sends) ∙ h);
   }
 
   of_mode : (kind : Kind) → has own.edge.kinds kind ≡ true → admits (table_mode sink) kind ≡ true
   of_mode kind h =
-      printed_admitted sink.mode sink.key input input.edge.kinds input.edge.update kind refl quiet agrees.suits
+      printed_admitted sink.mode sink.key input.edge.kinds input.edge.update kind quiet comes.inserts
       (subst (λ (k : KindSet). has k kind ≡ true) agrees.prints h)
 
 pub sinks_fit : SinksFit

@@ -15,6 +15,7 @@ use Rattle.emission_rules.proofs.laws.Filters.{filters_stand, filters_take}
 use Rattle.emission_rules.proofs.laws.Projects.{projects_stand, projects_take}
 use Rattle.emission_rules.proofs.laws.Unions.{unions_stand, unions_take}
 use Rattle.emission_rules.proofs.laws.Normalizes.{normalizes_stand, normalizes_take}
+use Rattle.emission_rules.proofs.laws.Materializes.{materializers_stand, materializers_take}
 use Rattle.emission_rules.proofs.laws.Sinks.{sinks_stand, sinks_take}
 use Rattle.emission_rules.specs.Grouping.{group_rule}
 use Rattle.emission_rules.specs.GroupFits.{group_task}
@@ -38,13 +39,14 @@ use Rattle.plan_rules.specs.Behaviours.{behaviour, has_rule, TakesBy}
 use Rattle.plan_rules.specs.Doings.{around_of, doing_by, doing_in, network}
 use Rattle.plan_shape.specs.Shape.{is_sink, takes as ports_of}
 use Rattle.plan_shape.specs.Shaped.{MeetsShape}
-use Rattle.sound_plans.specs.Agrees.{Agrees, NormalizeAgrees, SinkAgrees}
+use Rattle.sound_plans.specs.Agrees.{Agrees, MaterializeAgrees, NormalizeAgrees, SinkAgrees}
 use Rattle.sound_plans.specs.Outputs.{IsProper, Output, around_by, edge_of, edges_of, no_output, printed_edge}
 use Rattle.sound_plans.specs.Sound.{IsRuled}
 use Rattle.sound_plans.proofs.laws.Filters.{filters_fit}
 use Rattle.sound_plans.proofs.laws.Projects.{projects_fit}
 use Rattle.sound_plans.proofs.laws.Unions.{unions_fit}
 use Rattle.sound_plans.proofs.laws.Normalizes.{normalizes_fit}
+use Rattle.sound_plans.proofs.laws.Materializes.{materializes_fit}
 use Rattle.sound_plans.proofs.laws.Groups.{groups_fit}
 use Rattle.sound_plans.proofs.laws.Joins.{joins_fit, semis_fit}
 use Rattle.sound_plans.proofs.laws.TopN.{topns_fit}
@@ -107,6 +109,11 @@ module _ (many : ℕ) (some : 0 < many) (sources : List TableDef) (sink : TableD
       let f = normalizes_fit many some sink key input own agrees in
       let rule = normalize_of key (around_by sink (input ∷ []) own) in
       ((normalizes_stand rule many (edges_of many (input ∷ [])) (edge_of many own) f.0, normalizes_take rule many (edges_of many (input ∷ [])) (edge_of many own) f.0), f.1)
+
+  materialize_works : (key : List ℕ) (input own : Output) → MaterializeAgrees sink key input own → Works (op.Materialize key) (input ∷ []) own
+  materialize_works key input own agrees =
+      let f = materializes_fit many some sink key input own agrees in
+      ((materializers_stand key many (edges_of many (input ∷ [])) (edge_of many own) f.0, materializers_take key many (edges_of many (input ∷ [])) (edge_of many own) f.0), f.1)
 
   group_works : (keys : ℕ) (aggs : List Agg) (input own : Output) → Agrees sources sink (op.Group keys aggs) (input ∷ []) own → Works (op.Group keys aggs) (input ∷ []) own
   group_works keys aggs input own agrees =
@@ -262,33 +269,41 @@ module _ (laws : Laws) (plan : Plan) (ruled : IsRuled plan) where
       let apart = eqb-false v (length plan.nodes) f in
       absurd (let h = s.inner_no_sink plan meets laws.shaped v node e (omega arith) in let k : true ≡ false = sym (ap (λ x. is_sink (Some x)) is) ∙ h in cc))
 
-  -- a node with one input, by its operator
-  one : (v : ℕ) (node : Node) → numbered plan.nodes v ≡ Some node → (o : Op) → node.op ≡ o → ((n : ℕ) → ports_of o n ≡ (n == 1)) → scan_of o ≡ None → a.scans o ≡ false → a.normalizes o ≡ false → a.sinks o ≡ false
-      → a.AreProper laws plan ruled node.inputs → ((input own : Output) → Agrees plan.sources plan.sink o (input ∷ []) own → Works plan.parallelism some plan.sources plan.sink o (input ∷ []) own) → NodeStands v node
-  one v node e o is takes_one no_scan x y z proper works =
-      let i = a.one_input laws plan ruled v node e (λ n. ap (λ p. ports_of p n) is ∙ takes_one n) in
+  -- a node with one input that works
+  works_over : (v : ℕ) (node : Node) → numbered plan.nodes v ≡ Some node → (o : Op) → node.op ≡ o → (input : ℕ) → node.inputs ≡ input ∷ [] → scan_of o ≡ None → a.sinks o ≡ false
+      → Works plan.parallelism some plan.sources plan.sink o (output_at plan input ∷ []) (output_at plan v) → NodeStands v node
+  works_over v node e o is input are no_scan no_sink w =
       let own = output_at plan v in
-      let agrees = a.agrees laws plan ruled v node e (ap a.scans is ∙ x) (ap a.normalizes is ∙ y) (ap a.sinks is ∙ z) proper in
-      let sent : outs node.inputs ≡ output_at plan i.0 ∷ [] = ap outs i.1 in
-      let w = works (output_at plan i.0) own (subst (λ xs. Agrees plan.sources plan.sink o xs own) sent (subst (λ p. Agrees plan.sources plan.sink p (outs node.inputs) own) is agrees)) in
-      let fits : Fits o (outs node.inputs) own (edge_at v) = subst (λ (to : Edge). Fits o (outs node.inputs) own to) (sym (inner_edge v node e (ap a.sinks is ∙ z))) (subst (λ xs. Fits o xs own (edge_of plan.parallelism own)) (sym sent) w.0) in
+      let sent : outs node.inputs ≡ output_at plan input ∷ [] = ap outs are in
+      let fits : Fits o (outs node.inputs) own (edge_at v) = subst (λ (to : Edge). Fits o (outs node.inputs) own to) (sym (inner_edge v node e (ap a.sinks is ∙ no_sink))) (subst (λ xs. Fits o xs own (edge_of plan.parallelism own)) (sym sent) w.0) in
       record {
         works = inr (record {
           no_scan = ap scan_of is ∙ no_scan;
-          has_inputs = subst (λ (xs : List ℕ). 0 < length xs) (sym i.1) (omega arith);
-          stands = stands_at v node i.0 [] e i.1 (subst (λ p. Fits p (outs node.inputs) own (edge_at v)) (sym is) fits);
+          has_inputs = subst (λ (xs : List ℕ). 0 < length xs) (sym are) (omega arith);
+          stands = stands_at v node input [] e are (subst (λ p. Fits p (outs node.inputs) own (edge_at v)) (sym is) fits);
         });
         proper = w.1;
       }
 
+  -- such a node, by its operator
+  one : (v : ℕ) (node : Node) → numbered plan.nodes v ≡ Some node → (o : Op) → node.op ≡ o → ((n : ℕ) → ports_of o n ≡ (n == 1)) → scan_of o ≡ None → a.scans o ≡ false → a.normalizes o ≡ false → a.materializes o ≡ false → a.sinks o ≡ false
+      → a.AreProper laws plan ruled node.inputs → ((input own : Output) → Agrees plan.sources plan.sink o (input ∷ []) own → Works plan.parallelism some plan.sources plan.sink o (input ∷ []) own) → NodeStands v node
+  one v node e o is takes_one no_scan x y m z proper works =
+      let i = a.one_input laws plan ruled v node e (λ n. ap (λ p. ports_of p n) is ∙ takes_one n) in
+      let own = output_at plan v in
+      let agrees = a.agrees laws plan ruled v node e (ap a.scans is ∙ x) (ap a.normalizes is ∙ y) (ap a.materializes is ∙ m) (ap a.sinks is ∙ z) proper in
+      let sent : outs node.inputs ≡ output_at plan i.0 ∷ [] = ap outs i.1 in
+      works_over v node e o is i.0 i.1 no_scan z
+      (works (output_at plan i.0) own (subst (λ xs. Agrees plan.sources plan.sink o xs own) sent (subst (λ p. Agrees plan.sources plan.sink p (outs node.inputs) own) is agrees)))
+
   -- a node with two inputs, by its operator
-  two : (v : ℕ) (node : Node) → numbered plan.nodes v ≡ Some node → (o : Op) → node.op ≡ o → ((n : ℕ) → ports_of o n ≡ (n == 2)) → scan_of o ≡ None → a.scans o ≡ false → a.normalizes o ≡ false → a.sinks o ≡ false
+  two : (v : ℕ) (node : Node) → numbered plan.nodes v ≡ Some node → (o : Op) → node.op ≡ o → ((n : ℕ) → ports_of o n ≡ (n == 2)) → scan_of o ≡ None → a.scans o ≡ false → a.normalizes o ≡ false → a.materializes o ≡ false → a.sinks o ≡ false
       → a.AreProper laws plan ruled node.inputs
       → ((left right own : Output) → Agrees plan.sources plan.sink o (left ∷ (right ∷ [])) own → Works plan.parallelism some plan.sources plan.sink o (left ∷ (right ∷ [])) own) → NodeStands v node
-  two v node e o is takes_two no_scan x y z proper works =
+  two v node e o is takes_two no_scan x y m z proper works =
       let i = a.two_inputs laws plan ruled v node e (λ n. ap (λ p. ports_of p n) is ∙ takes_two n) in
       let own = output_at plan v in
-      let agrees = a.agrees laws plan ruled v node e (ap a.scans is ∙ x) (ap a.normalizes is ∙ y) (ap a.sinks is ∙ z) proper in
+      let agrees = a.agrees laws plan ruled v node e (ap a.scans is ∙ x) (ap a.normalizes is ∙ y) (ap a.materializes is ∙ m) (ap a.sinks is ∙ z) proper in
       let sent : outs node.inputs ≡ output_at plan i.0 ∷ (output_at plan i.1 ∷ []) = ap outs i.2 in
       let w = works (output_at plan i.0) (output_at plan i.1) own (subst (λ xs. Agrees plan.sources plan.sink o xs own) sent (subst (λ p. Agrees plan.sources plan.sink p (outs node.inputs) own) is agrees)) in
       let fits : Fits o (outs node.inputs) own (edge_at v) = subst (λ (to : Edge). Fits o (outs node.inputs) own to) (sym (inner_edge v node e (ap a.sinks is ∙ z))) (subst (λ xs. Fits o xs own (edge_of plan.parallelism own)) (sym sent) w.0) in
@@ -323,7 +338,7 @@ module _ (laws : Laws) (plan : Plan) (ruled : IsRuled plan) where
   union v node e is proper =
       let i = a.some_inputs laws plan ruled v node e is in
       let own = output_at plan v in
-      let agrees = a.agrees laws plan ruled v node e (ap a.scans is) (ap a.normalizes is) (ap a.sinks is) proper in
+      let agrees = a.agrees laws plan ruled v node e (ap a.scans is) (ap a.normalizes is) (ap a.materializes is) (ap a.sinks is) proper in
       let w = union_works plan.parallelism some plan.sources plan.sink (outs node.inputs) own (subst (λ p. Agrees plan.sources plan.sink p (outs node.inputs) own) is agrees) in
       let fits : Fits op.Union (outs node.inputs) own (edge_at v) = subst (λ (to : Edge). Fits op.Union (outs node.inputs) own to) (sym (inner_edge v node e (ap a.sinks is))) w.0 in
       record {
@@ -338,19 +353,14 @@ module _ (laws : Laws) (plan : Plan) (ruled : IsRuled plan) where
   normalize : (v : ℕ) (node : Node) → numbered plan.nodes v ≡ Some node → (key : List ℕ) → node.op ≡ op.Normalize key → a.AreProper laws plan ruled node.inputs → NodeStands v node
   normalize v node e key is proper =
       let i = a.one_input laws plan ruled v node e (λ n. ap (λ p. ports_of p n) is) in
-      let own = output_at plan v in
-      let sent : outs node.inputs ≡ output_at plan i.0 ∷ [] = ap outs i.1 in
-      let w = normalize_works plan.parallelism some plan.sources plan.sink key (output_at plan i.0) own (a.normalize_agrees laws plan ruled v node key i.0 e is i.1 proper) in
-      let fits : Fits (op.Normalize key) (outs node.inputs) own (edge_at v) =
-      subst (λ (to : Edge). Fits (op.Normalize key) (outs node.inputs) own to) (sym (inner_edge v node e (ap a.sinks is))) (subst (λ xs. Fits (op.Normalize key) xs own (edge_of plan.parallelism own)) (sym sent) w.0) in
-      record {
-        works = inr (record {
-          no_scan = ap scan_of is;
-          has_inputs = subst (λ (xs : List ℕ). 0 < length xs) (sym i.1) (omega arith);
-          stands = stands_at v node i.0 [] e i.1 (subst (λ p. Fits p (outs node.inputs) own (edge_at v)) (sym is) fits);
-        });
-        proper = w.1;
-      }
+      works_over v node e (op.Normalize key) is i.0 i.1 refl refl
+      (normalize_works plan.parallelism some plan.sources plan.sink key (output_at plan i.0) (output_at plan v) (a.normalize_agrees laws plan ruled v node key i.0 e is i.1 proper))
+
+  materialize : (v : ℕ) (node : Node) → numbered plan.nodes v ≡ Some node → (key : List ℕ) → node.op ≡ op.Materialize key → a.AreProper laws plan ruled node.inputs → NodeStands v node
+  materialize v node e key is proper =
+      let i = a.one_input laws plan ruled v node e (λ n. ap (λ p. ports_of p n) is) in
+      works_over v node e (op.Materialize key) is i.0 i.1 refl refl
+      (materialize_works plan.parallelism some plan.sources plan.sink key (output_at plan i.0) (output_at plan v) (a.materialize_agrees laws plan ruled v node key i.0 e is i.1 proper))
 
   pub sink_is : (v : ℕ) (node : Node) → numbered plan.nodes v ≡ Some node → node.op ≡ op.Sink → a.AreProper laws plan ruled node.inputs
       → (input : ℕ) × (node.inputs ≡ input ∷ []) × SinkAgrees plan.sink (output_at plan input) (output_at plan v)
@@ -378,18 +388,18 @@ module _ (laws : Laws) (plan : Plan) (ruled : IsRuled plan) where
 
   by_op : (v : ℕ) (node : Node) → numbered plan.nodes v ≡ Some node → a.AreProper laws plan ruled node.inputs → (o : Op) → node.op ≡ o → has_rule o ≡ true → NodeStands v node
   by_op v node e proper (op.Scan source) is r = scan v node e source is
-  by_op v node e proper (op.Filter cond) is r = one v node e (op.Filter cond) is (λ n. refl) refl refl refl refl proper (filter_works plan.parallelism some plan.sources plan.sink cond)
-  by_op v node e proper (op.Project items) is r = one v node e (op.Project items) is (λ n. refl) refl refl refl refl proper (project_works plan.parallelism some plan.sources plan.sink items)
+  by_op v node e proper (op.Filter cond) is r = one v node e (op.Filter cond) is (λ n. refl) refl refl refl refl refl proper (filter_works plan.parallelism some plan.sources plan.sink cond)
+  by_op v node e proper (op.Project items) is r = one v node e (op.Project items) is (λ n. refl) refl refl refl refl refl proper (project_works plan.parallelism some plan.sources plan.sink items)
   by_op v node e proper op.Union is r = union v node e is proper
   by_op v node e proper (op.Normalize key) is r = normalize v node e key is proper
-  by_op v node e proper (op.Group keys aggs) is r = one v node e (op.Group keys aggs) is (λ n. refl) refl refl refl refl proper (group_works plan.parallelism some plan.sources plan.sink keys aggs)
-  by_op v node e proper (op.Join kind on rest) is r = two v node e (op.Join kind on rest) is (λ n. refl) refl refl refl refl proper (join_works plan.parallelism some plan.sources plan.sink kind on rest)
-  by_op v node e proper (op.Semi anti on rest) is r = two v node e (op.Semi anti on rest) is (λ n. refl) refl refl refl refl proper (semi_works plan.parallelism some plan.sources plan.sink anti on rest)
+  by_op v node e proper (op.Group keys aggs) is r = one v node e (op.Group keys aggs) is (λ n. refl) refl refl refl refl refl proper (group_works plan.parallelism some plan.sources plan.sink keys aggs)
+  by_op v node e proper (op.Join kind on rest) is r = two v node e (op.Join kind on rest) is (λ n. refl) refl refl refl refl refl proper (join_works plan.parallelism some plan.sources plan.sink kind on rest)
+  by_op v node e proper (op.Semi anti on rest) is r = two v node e (op.Semi anti on rest) is (λ n. refl) refl refl refl refl refl proper (semi_works plan.parallelism some plan.sources plan.sink anti on rest)
   by_op v node e proper (op.TopN partition order bound ranked) is r =
-      one v node e (op.TopN partition order bound ranked) is (λ n. refl) refl refl refl refl proper (rank_works plan.parallelism some plan.sources plan.sink partition order bound ranked)
+      one v node e (op.TopN partition order bound ranked) is (λ n. refl) refl refl refl refl refl proper (rank_works plan.parallelism some plan.sources plan.sink partition order bound ranked)
+  by_op v node e proper (op.Materialize key) is r = materialize v node e key is proper
   by_op v node e proper op.Sink is r = sink v node e is proper
   by_op v node e proper (op.BatchGroup keys aggs) is r = absurd (cc)
-  by_op v node e proper (op.Materialize key) is r = absurd (cc)
   by_op v node e proper (op.LocalGroup keys aggs) is r = absurd (cc)
   by_op v node e proper (op.MultiJoin on) is r = absurd (cc)
   by_op v node e proper (op.SetOp except all) is r = absurd (cc)

@@ -35,9 +35,9 @@ module _ (laws : Laws) (plan : Plan) (ruled : IsRuled plan) where
       subst (λ (inputs : List ℕ). Suits o (around_of plan v inputs)) (sym are) (subst (λ (around : Around). Suits o around) (sym (around_is plan v input [])) fits)
 
   agrees_over : (v : ℕ) (node : Node) → numbered plan.nodes v ≡ Some node → (o : Op) (input : ℕ) → node.op ≡ o → node.inputs ≡ input ∷ []
-      → agreed.scans o ≡ false → agreed.normalizes o ≡ false → agreed.sinks o ≡ false → Agrees plan.sources plan.sink o (output_at plan input ∷ []) (output_at plan v)
-  agrees_over v node e o input is are scans normalizes sinks =
-      let agrees = agreed.agrees laws plan ruled v node e (ap agreed.scans is ∙ scans) (ap agreed.normalizes is ∙ normalizes) (ap agreed.sinks is ∙ sinks) (proper_inputs laws plan ruled v node e) in
+      → agreed.scans o ≡ false → agreed.normalizes o ≡ false → agreed.materializes o ≡ false → agreed.sinks o ≡ false → Agrees plan.sources plan.sink o (output_at plan input ∷ []) (output_at plan v)
+  agrees_over v node e o input is are scans normalizes materializes sinks =
+      let agrees = agreed.agrees laws plan ruled v node e (ap agreed.scans is ∙ scans) (ap agreed.normalizes is ∙ normalizes) (ap agreed.materializes is ∙ materializes) (ap agreed.sinks is ∙ sinks) (proper_inputs laws plan ruled v node e) in
       subst (λ (outs : List Output). Agrees plan.sources plan.sink o outs (output_at plan v)) (ap (map (output_at plan)) are)
       (subst (λ (p : Op). Agrees plan.sources plan.sink p (map (output_at plan) node.inputs) (output_at plan v)) is agrees)
 
@@ -54,7 +54,7 @@ module _ (laws : Laws) (plan : Plan) (ruled : IsRuled plan) where
   groups : (v : ℕ) (node : Node) → numbered plan.nodes v ≡ Some node → (keys : ℕ) (aggs : List Agg) → node.op ≡ op.Group keys aggs → Suits (op.Group keys aggs) (around_of plan v node.inputs)
   groups v node e keys aggs is =
       let i = one_input v node e (op.Group keys aggs) is (λ n. refl) in
-      let agrees = agrees_over v node e (op.Group keys aggs) i.0 is i.1 refl refl refl in
+      let agrees = agrees_over v node e (op.Group keys aggs) i.0 is i.1 refl refl refl refl in
       let fits = groups_fit plan.parallelism shape.parallel plan.sources plan.sink keys aggs (output_at plan i.0) (output_at plan v) agrees in
       suits_over v node (op.Group keys aggs) i.0 i.1 fits.0.sound
 
@@ -62,7 +62,7 @@ module _ (laws : Laws) (plan : Plan) (ruled : IsRuled plan) where
       → Suits (op.TopN partition order bound ranked) (around_of plan v node.inputs)
   ranks v node e partition order bound ranked is =
       let i = one_input v node e (op.TopN partition order bound ranked) is (λ n. refl) in
-      let agrees = agrees_over v node e (op.TopN partition order bound ranked) i.0 is i.1 refl refl refl in
+      let agrees = agrees_over v node e (op.TopN partition order bound ranked) i.0 is i.1 refl refl refl refl in
       let fits = topns_fit plan.parallelism shape.parallel plan.sources plan.sink partition order bound ranked (output_at plan i.0) (output_at plan v) agrees in
       suits_over v node (op.TopN partition order bound ranked) i.0 i.1 fits.0.sound
 

@@ -1,7 +1,7 @@
 -- A Top-N of a sound plan fits between its edges.
 use Rattle.std.specs.Prelude.{◌≡◌, ℕ, ◌<◌, ◌≤◌, ◌^◌, ◌⊎◌, ◌&&◌, nat_le, Bool, cond, List, ◌++◌, length}
 use Rattle.std.proofs.Common.{true, false, [], ◌∷◌, refl, sym, ap, subst, ◌∙◌, inl, arith, Some}
-use Rattle.std.proofs.lemmas.Bool.{and_parts, leb-true, ltb-true}
+use Rattle.std.proofs.lemmas.Bool.{and_parts, leb-true}
 use Rattle.std.specs.List.{AllByRecursion, Contains, list_all}
 use Rattle.ct_value.specs.declared.ty.ColTy.{ColTy}
 use Rattle.ct_field.specs.Typed.{row_fits}
@@ -38,7 +38,7 @@ use Rattle.sound_plans.proofs.laws.KeyFamilies.{each_family, of_family}
 use Rattle.sound_plans.proofs.laws.Members.{only_one}
 use Rattle.sound_plans.proofs.laws.Seen.{everywhere_within, seen_hashed, seen_over_all}
 use Rattle.sound_plans.proofs.laws.Sets.{lies_in_set}
-use Rattle.sound_plans.proofs.laws.Widths.{each_appended, each_wider, set_within, wider}
+use Rattle.sound_plans.proofs.laws.Widths.{all_within, each_appended, each_wider, set_within, wider}
 use Rattle.sound_plans.specs.JoinFits.{TopNsFit}
 use Rattle.sound_plans.proofs.laws.JoinInputs.{exchanged, input_fits, keeps}
 use Rattle.sound_plans.proofs.laws.Kinds.{more_sent, of_told}
@@ -93,12 +93,6 @@ top_replaces true below e = refl
 top_replaces false below e = absurd (cc)
 
 -- ---- the columns of the input
-
--- columns that pass the test are there
-all_within : (columns : List ColTy) (partition : List ℕ) → list_all (is_column columns) partition ≡ true → AllByRecursion (λ column. column < length columns) partition
-all_within columns [] fits = tt
-all_within columns (column ∷ partition) fits =
-    let p = and_parts (is_column columns column) (list_all (is_column columns) partition) fits in (ltb-true column (length columns) p.0, all_within columns partition p.1)
 
 module _ (columns : List ColTy) (partition : List ℕ) (order : List SortCol) (bound : ℕ) (fits : rank_fits columns partition order bound ≡ true) where
   abbrev sorts : Bool

@@ -1,7 +1,10 @@
 -- Columns that are among so many stay among as many where sets are made of others.
-use Rattle.std.specs.Prelude.{◌≡◌, ℕ, ◌+◌, ◌<◌, ◌≤◌, Bool, List, ◌++◌}
+use Rattle.std.specs.Prelude.{◌≡◌, ℕ, ◌+◌, ◌<◌, ◌≤◌, Bool, List, ◌++◌, length}
 use Rattle.std.proofs.Common.{zero, suc, true, [], ◌∷◌, sym, subst, ap, ◌∙◌, ⊎_elim, arith}
-use Rattle.std.specs.List.{AllByRecursion, range_with_len}
+use Rattle.std.proofs.lemmas.Bool.{and_parts, ltb-true}
+use Rattle.std.specs.List.{AllByRecursion, list_all, range_with_len}
+use Rattle.ct_value.specs.declared.ty.ColTy.{ColTy}
+use Rattle.rel_algebra.specs.Types.{is_column}
 use Rattle.column_sets.specs.Places.{first_columns, shift, shifted}
 use Rattle.column_sets.specs.Sets.{is_within, set_of, union, unions}
 use Rattle.upsert_keys.specs.Joins.{when}
@@ -11,6 +14,12 @@ use Rattle.sound_plans.proofs.laws.Members.{each_of, one_of, each_among, of_appe
 use Rattle.sound_plans.proofs.laws.Sets.{IsPart, of_set, of_shift, part_of_within}
 
 -- ---- one set
+
+-- columns that pass the test are there
+pub all_within : (columns : List ColTy) (set : List ℕ) → list_all (is_column columns) set ≡ true → AreWithin (length columns) set
+all_within columns [] fits = tt
+all_within columns (column ∷ set) fits =
+    let p = and_parts (is_column columns column) (list_all (is_column columns) set) fits in (ltb-true column (length columns) p.0, all_within columns set p.1)
 
 pub wider : (width more : ℕ) (columns : List ℕ) → width ≤ more → AreWithin width columns → AreWithin more columns
 wider width more columns le h = each_of (λ column. column < more) columns (λ column c. let lt = one_of (λ x. x < width) columns column h c in omega (arith, lt))

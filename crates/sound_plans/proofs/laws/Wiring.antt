@@ -7,8 +7,6 @@ use Rattle.op_rules.specs.Edges.{Edge, forward, meaning_of, IsKeyedBy}
 use Rattle.op_rules.specs.Tasks.{Facts}
 use Rattle.phys_plan.specs.declared.edge.Edge.{Edge as PlanEdge}
 use Rattle.phys_plan.specs.declared.edge.Exchange.TheVariants.{Forward}
-use Rattle.ct_change.specs.declared.update.Update.{Update}
-use Rattle.ct_change.specs.declared.update.Update.TheVariants.{Absent, After, Both}
 use Rattle.phys_plan.specs.declared.node.Node.{Node}
 use Rattle.phys_plan.specs.declared.node.Op.{Op}
 use Rattle.phys_plan.specs.declared.node.Op.TheVariants as op
@@ -27,7 +25,6 @@ use Rattle.plan_rules.specs.Answers.{PlansAnswerAsErased}
 use Rattle.plan_rules.proofs.laws.Behaviours.{scans_open}
 use Rattle.plan_rules.specs.Behaviours.{behaviour, TakesBy}
 use Rattle.plan_rules.specs.Doings.{around_of, doing_by, doing_in, network}
-use Rattle.plan_shape.specs.Shape.{is_sink}
 use Rattle.plan_shape.specs.Shaped.{MeetsShape}
 use Rattle.sound_plans.specs.Sound.{IsRuled, SoundPlansAreWired, SoundPlansMeetFacts, SoundNodesHaveColumns, SoundPlansAnswer, SoundPortsTake, SoundPlansPrint}
 use Rattle.sound_plans.proofs.laws.Lists.{is_somewhere, same_number, the_same}
@@ -56,11 +53,6 @@ forward_keyed append = tt
 forward_keyed retract = tt
 forward_keyed (upsert key) = tt
 
-any_forward_keyed : (update : Update) → IsKeyedBy (meaning_by update) forward
-any_forward_keyed Absent = tt
-any_forward_keyed (After key) = tt
-any_forward_keyed Both = tt
-
 module _ (laws : Laws) (plan : Plan) (ruled : IsRuled plan) where
   meets : MeetsShape plan
   meets = a.meets laws plan ruled
@@ -75,7 +67,7 @@ module _ (laws : Laws) (plan : Plan) (ruled : IsRuled plan) where
     where
       go : (o : Option Node) → consumer v plan.nodes ≡ o → IsKeyedBy (meaning_by (output_at plan v).edge.update) (exchange_of (output_at plan v).edge.exchange)
       go None none =
-          subst (λ x. IsKeyedBy (meaning_by (output_at plan v).edge.update) (exchange_of x)) (sym (l.forwards_alone laws plan ruled v node e none)) (any_forward_keyed (output_at plan v).edge.update)
+          subst (λ x. IsKeyedBy (meaning_by (output_at plan v).edge.update) (exchange_of x)) (sym (l.forwards_alone laws plan ruled v node e none)) (a.any_forward_keyed (output_at plan v).edge.update)
       go (Some above) is =
           let has = consumer_there v plan.nodes above is in
           let p = is_somewhere v above.inputs has.2 in
@@ -95,11 +87,7 @@ module _ (laws : Laws) (plan : Plan) (ruled : IsRuled plan) where
   last_node : (node : Node) × (numbered plan.nodes (length plan.nodes) ≡ Some node) × (node.op ≡ op.Sink)
   last_node =
       let n = shape.last in
-      (n.0, n.1, sink_op n.0.op (s.last_sinks plan meets laws.shaped (length plan.nodes) n.0 n.1 refl))
-    where
-      sink_op : (o : Op) → is_sink (Some o) ≡ true → o ≡ op.Sink
-      sink_op op.Sink h = refl
-      sink_op _ h = absurd (cc)
+      (n.0, n.1, s.sink_op n.0.op (s.last_sinks plan meets laws.shaped (length plan.nodes) n.0 n.1 refl))
 
   opens : (v j : ℕ) → length plan.nodes ≤ v → (o : Option Node) → numbered plan.nodes v ≡ o → (doing_in plan v o).opening j ≡ []
   opens v j h None e = refl

@@ -1,4 +1,4 @@
-use Rattle.planner.proofs.Refused.{planned_is_ruled}
+use Rattle.planner.proofs.Made.{planned_is_ruled}
 use Rattle.planner.proofs.promises.planned_plans_are_ruled.Goals as goal
 use Rattle.laid_plans.proofs.laws.Theorems.{inferred_plans_are_sound}
 use Rattle.plan_shape.proofs.laws.Theorems.{shaped_plans_have_shape}

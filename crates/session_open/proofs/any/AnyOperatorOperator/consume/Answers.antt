@@ -78,6 +78,15 @@ returns-in-TopN-clause-range g c = rw c.in-TopN.is c.consume-in-TopN.ensures.ran
 pub returns-in-TopN-clause-cost : goal.returns-in-TopN-clause-cost
 returns-in-TopN-clause-cost g c = rw c.in-TopN.is c.consume-in-TopN.ensures.cost
 
+pub returns-in-Materialize-clause-ok : goal.returns-in-Materialize-clause-ok
+returns-in-Materialize-clause-ok g c = rw c.in-Materialize.is c.consume-in-Materialize.ensures.ok
+
+pub returns-in-Materialize-clause-range : goal.returns-in-Materialize-clause-range
+returns-in-Materialize-clause-range g c = rw c.in-Materialize.is c.consume-in-Materialize.ensures.range
+
+pub returns-in-Materialize-clause-cost : goal.returns-in-Materialize-clause-cost
+returns-in-Materialize-clause-cost g c = rw c.in-Materialize.is c.consume-in-Materialize.ensures.cost
+
 pub returns-in-Sink-clause-ok : goal.returns-in-Sink-clause-ok
 returns-in-Sink-clause-ok g c = rw c.in-Sink.is c.consume-in-Sink.ensures.ok
 

@@ -1,6 +1,0 @@
-use Rattle.std.proofs.Common.{◌≡◌, ◌++◌, codes, drop}
-use Rattle.job_text.specs.Printed.{commaed}
-use Rattle.job_text.proofs.lines.counts_line.Given as goal
-
-abbrev pub invariant-loop-i : goal.invariant-loop-i
-invariant-loop-i l = l.line.items ++ commaed (drop l.i l.counts) ≡ codes "=" ++ commaed l.counts

@@ -1,4 +1,0 @@
-CREATE TABLE o (id INT PRIMARY KEY NOT ENFORCED, customer INT NOT NULL) WITH ('changelog' = 'retract');
-CREATE TABLE c (id INT PRIMARY KEY NOT ENFORCED, city STRING) WITH ('changelog' = 'retract');
-CREATE TABLE cities (id INT PRIMARY KEY NOT ENFORCED, city STRING) WITH ('changelog' = 'upsert');
-INSERT INTO cities SELECT o.id, c.city FROM o JOIN c ON o.customer = c.id;

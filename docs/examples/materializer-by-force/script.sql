@@ -1,0 +1,4 @@
+CREATE TABLE t (word STRING NOT NULL);
+CREATE TABLE counts (word STRING PRIMARY KEY NOT ENFORCED, n BIGINT) WITH ('changelog' = 'upsert');
+SET 'table.exec.sink.upsert-materialize' = 'FORCE';
+INSERT INTO counts SELECT word, COUNT(*) FROM t GROUP BY word;
