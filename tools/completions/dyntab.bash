@@ -18,14 +18,14 @@ _dyntab() {
     fi
     COMPREPLY=()
     case $before in
-    --do) mapfile -t COMPREPLY < <(compgen -W 'run batch explain' -- "$now") ;;
+    --do) mapfile -t COMPREPLY < <(compgen -W 'run batch explain load' -- "$now") ;;
     --script | --changes | --order | --feeds)
         compopt -o filenames
         mapfile -t COMPREPLY < <(compgen -f -- "$now")
         ;;
-    --first) ;;
+    --first | --seed | --lines) ;;
     *)
-        for option in --script --changes --feeds --order --do --first; do
+        for option in --script --changes --feeds --order --do --first --seed --lines; do
             _dyntab_given "$option" || COMPREPLY+=("$option")
         done
         mapfile -t COMPREPLY < <(compgen -W "${COMPREPLY[*]}" -- "$now")

@@ -1,5 +1,5 @@
 -- The value of an option passed the option's parser.
-use Rattle.std.proofs.Common.{◌≡◌, ◌<◌, ◌∙◌, ◌==◌, ℕ, zero, suc, Bool, true, false, List, [], ◌∷◌, Option, Some, None, ap, arith, codes, eqb, get_or, inl, inr, length, map, refl, subst, sym}
+use Rattle.std.proofs.Common.{◌≡◌, ◌<◌, ◌^◌, ◌∙◌, ◌==◌, ℕ, zero, suc, Bool, true, false, List, [], ◌∷◌, Option, Some, None, ap, arith, codes, eqb, get_or, inl, inr, length, map, refl, subst, sym}
 use Rattle.std.specs.Prelude.{option_map, slice_get}
 use Rattle.std.specs.Borrow.{Bor}
 use Rattle.std.specs.List.{All, slice_index_or}
@@ -19,7 +19,7 @@ use Rattle.clap.specs.declared.parser.matches.ArgMatches.{ArgMatches}
 use Rattle.clap.specs.declared.parser.matches.MatchedArg.{MatchedArg}
 use Rattle.clap.proofs.CallerLemmas.{entry_by_id}
 use Rattle.clap.specs.declared.builder.value_parser.ValueParser.TheVariants as vp
-use Rattle.command_line.specs.Words.{IsNumber, IsWhole, the_app}
+use Rattle.command_line.specs.Words.{AreNumbers, IsNumber, IsWhole, given_by, the_app}
 
 -- each rule with this id has this parser
 abbrev pub EachAt : Text → ValueParser → List Rule → Type 0
@@ -71,7 +71,7 @@ arg-accepts c m p id q t each help version pass =
     ]
 
 simple-rules : EachSimple the_app.top.rules
-simple-rules = (refl, (refl, (refl, (refl, (refl, (refl, tt))))))
+simple-rules = (refl, (refl, (refl, (refl, (refl, (refl, (refl, (refl, tt))))))))
 
 -- the value that the words give an option passed its parser
 pub accepted : (c : Command) (m : ArgMatches) (id : Text) (q : ValueParser) (t : Text) → app_of c ≡ the_app → IsParsedFrom c m → EachAt id q the_app.top.rules
@@ -119,18 +119,65 @@ apart : (s t : Text) (i : ℕ) → eqb (get_or s i 0) (get_or t i 0) ≡ false �
 apart s t i n e = let same : get_or s i 0 ≡ get_or t i 0 = ap (λ (u : Text). get_or u i 0) e in eqb-false _ _ n same
 
 first-rules : EachAt (codes "first") (vp.Unsigned 0 4294967295) the_app.top.rules
-first-rules =
-    ((λ e. absurd (apart _ _ 0 refl e)), ((λ e. absurd (apart _ _ 0 refl e)), ((λ e. absurd (apart _ _ 0 refl e)), ((λ e. absurd (apart _ _ 1 refl e)), ((λ e. absurd (apart _ _ 0 refl e)), ((λ e. refl), tt))))))
+first-rules = (
+  (λ e. absurd (apart _ _ 0 refl e)),
+  (
+    (λ e. absurd (apart _ _ 0 refl e)),
+    (
+      (λ e. absurd (apart _ _ 0 refl e)),
+      (
+        (λ e. absurd (apart _ _ 1 refl e)),
+        ((λ e. absurd (apart _ _ 0 refl e)), ((λ e. refl), ((λ e. absurd (apart _ _ 0 refl e)), ((λ e. absurd (apart _ _ 0 refl e)), tt)))),
+      ),
+    ),
+  ),
+)
 
--- a value of `first` is a number
-first-whole : (c : Command) (m : ArgMatches) → app_of c ≡ the_app → IsParsedFrom c m → (t : Text) → first_value (found_of m) (codes "first") ≡ Some t → IsWhole t
-first-whole c m is_app p t has =
-    let a = accepted c m (codes "first") (vp.Unsigned 0 4294967295) t is_app p first-rules (λ e. cc e) (apart _ _ 0 refl) (apart _ _ 0 refl) has in
-    (a.1.0, omega (arith, a.1.1))
+seed-rules : EachAt (codes "seed") (vp.Unsigned 0 18446744073709551615) the_app.top.rules
+seed-rules = (
+  (λ e. absurd (apart _ _ 0 refl e)),
+  (
+    (λ e. absurd (apart _ _ 1 refl e)),
+    (
+      (λ e. absurd (apart _ _ 0 refl e)),
+      (
+        (λ e. absurd (apart _ _ 0 refl e)),
+        ((λ e. absurd (apart _ _ 0 refl e)), ((λ e. absurd (apart _ _ 0 refl e)), ((λ e. refl), ((λ e. absurd (apart _ _ 0 refl e)), tt)))),
+      ),
+    ),
+  ),
+)
 
-pub first-number : (c : Command) (m : ArgMatches) → app_of c ≡ the_app → IsParsedFrom c m → IsNumber (first_value (found_of m) (codes "first"))
-first-number c m is_app p = by (first_value (found_of m) (codes "first")) (λ t has. first-whole c m is_app p t has)
+lines-rules : EachAt (codes "lines") (vp.Unsigned 0 1000000) the_app.top.rules
+lines-rules = (
+  (λ e. absurd (apart _ _ 0 refl e)),
+  (
+    (λ e. absurd (apart _ _ 0 refl e)),
+    (
+      (λ e. absurd (apart _ _ 0 refl e)),
+      (
+        (λ e. absurd (apart _ _ 0 refl e)),
+        ((λ e. absurd (apart _ _ 0 refl e)), ((λ e. absurd (apart _ _ 0 refl e)), ((λ e. absurd (apart _ _ 0 refl e)), ((λ e. refl), tt)))),
+      ),
+    ),
+  ),
+)
+
+-- the values of an option whose values are numbers
+number-at : (c : Command) (m : ArgMatches) (id : Text) (most : ℕ) → app_of c ≡ the_app → IsParsedFrom c m → EachAt id (vp.Unsigned 0 most) the_app.top.rules → most < 2 ^ 64
+    → (id ≡ [] → ⊥) → (id ≡ codes "help" → ⊥) → (id ≡ codes "version" → ⊥) → IsNumber (first_value (found_of m) id)
+number-at c m id most is_app p each few named help version = by (first_value (found_of m) id) (λ t has. whole t has)
   where
+    whole : (t : Text) → first_value (found_of m) id ≡ Some t → IsWhole t
+    whole t has = let a = accepted c m id (vp.Unsigned 0 most) t is_app p each named help version has in (a.1.0, omega (arith, a.1.1, few))
+
     by : (o : Option Text) → ((t : Text) → o ≡ Some t → IsWhole t) → IsNumber o
     by None whole = tt
     by (Some t) whole = whole t refl
+
+pub all-numbers : (c : Command) (m : ArgMatches) → app_of c ≡ the_app → IsParsedFrom c m → AreNumbers (given_by (first_value (found_of m)))
+all-numbers c m is_app p = record {
+  first = number-at c m (codes "first") 4294967295 is_app p first-rules (omega arith) (λ e. cc e) (apart _ _ 0 refl) (apart _ _ 0 refl);
+  seed = number-at c m (codes "seed") 18446744073709551615 is_app p seed-rules (omega arith) (λ e. cc e) (apart _ _ 0 refl) (apart _ _ 0 refl);
+  lines = number-at c m (codes "lines") 1000000 is_app p lines-rules (omega arith) (λ e. cc e) (apart _ _ 0 refl) (apart _ _ 0 refl);
+}

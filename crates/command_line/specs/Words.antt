@@ -31,9 +31,17 @@ with_files app =
     (text_option (codes "feeds")))
     (text_option (codes "order"))
 
+-- with the options whose values are numbers
+abbrev pub with_numbers : App → App
+with_numbers app =
+    with_rule (with_rule (with_rule app
+    (number_option (codes "first") 4294967295))
+    (number_option (codes "seed") 18446744073709551615))
+    (number_option (codes "lines") 1000000)
+
 -- the command and its options, each of which may be given once
 abbrev pub the_app : App
-the_app = with_rule (with_files (with_rule (bare_app (codes "dyntab")) (text_option (codes "do")))) (number_option (codes "first") 4294967295)
+the_app = with_numbers (with_files (with_rule (bare_app (codes "dyntab")) (text_option (codes "do"))))
 
 -- the value that the words give an option
 abbrev pub value_of : List (List ℕ) → List ℕ → Option (List ℕ)
@@ -71,12 +79,15 @@ pub data Request : Type 0 where
   batch : FileNames → Option ℕ → Request
   -- the plan of the script of this name
   explain : List ℕ → Request
+  -- the sums over a run on lines that are made from this seed, so many
+  load : ℕ → ℕ → Request
 
 -- what can be done
 pub data Command : Type 0 where
   running : Command
   answering : Command
   explaining : Command
+  loading : Command
 
 -- the values that the words give the options
 pub record Given : Type 0 where
@@ -86,6 +97,14 @@ pub record Given : Type 0 where
   pub feeds : Option (List ℕ)
   pub order : Option (List ℕ)
   pub first : Option (List ℕ)
+  pub seed : Option (List ℕ)
+  pub lines : Option (List ℕ)
+
+-- the values that are to be numbers are
+pub record AreNumbers (given : Given) : Type 0 where
+  pub first : IsNumber given.first
+  pub seed : IsNumber given.seed
+  pub lines : IsNumber given.lines
 
 -- by the value of `--do`: a run where it isn't given
 abbrev pub command_of : Option (List ℕ) → Option Command
@@ -93,23 +112,25 @@ command_of None = Some running
 command_of (Some word) =
     if bytes_eq word (codes "run") then Some running
     else (if bytes_eq word (codes "batch") then Some answering
-    else (if bytes_eq word (codes "explain") then Some explaining else None))
+    else (if bytes_eq word (codes "explain") then Some explaining
+    else (if bytes_eq word (codes "load") then Some loading else None)))
 
 abbrev pub names : List ℕ → Input → FileNames
 names script input = record { script = script; input = input }
 
--- the values that each command needs and those that it may have: of a script, changes, feeds, an order and a number of changes; each
--- other use is wrong
-abbrev pub asked : Command → Option (List ℕ) → Option (List ℕ) → Option (List ℕ) → Option (List ℕ) → Option (List ℕ) → Option Request
-asked running (Some script) (Some name) None order None = Some (run (names script (changes name)) order)
-asked running (Some script) None (Some prefix) order None = Some (run (names script (feeds prefix)) order)
-asked answering (Some script) (Some name) None None first = Some (batch (names script (changes name)) (option_map number_in first))
-asked answering (Some script) None (Some prefix) None None = Some (batch (names script (feeds prefix)) None)
-asked explaining (Some script) None None None None = Some (explain script)
-asked command script name prefix order first = None
+-- the values that each command needs and those that it may have: of a script, changes, feeds, an order, a number of changes, a seed and a
+-- number of lines; each other use is wrong
+abbrev pub asked : Command → Option (List ℕ) → Option (List ℕ) → Option (List ℕ) → Option (List ℕ) → Option (List ℕ) → Option (List ℕ) → Option (List ℕ) → Option Request
+asked running (Some script) (Some name) None order None None None = Some (run (names script (changes name)) order)
+asked running (Some script) None (Some prefix) order None None None = Some (run (names script (feeds prefix)) order)
+asked answering (Some script) (Some name) None None first None None = Some (batch (names script (changes name)) (option_map number_in first))
+asked answering (Some script) None (Some prefix) None None None None = Some (batch (names script (feeds prefix)) None)
+asked explaining (Some script) None None None None None None = Some (explain script)
+asked loading None None None None None (Some seed) (Some lines) = Some (load (number_in seed) (number_in lines))
+asked command script name prefix order first seed lines = None
 
 abbrev pub asked_of : Given → Command → Option Request
-asked_of given command = asked command given.script given.changes given.feeds given.order given.first
+asked_of given command = asked command given.script given.changes given.feeds given.order given.first given.seed given.lines
 
 abbrev pub asked_by : Given → Option Request
 asked_by given = option_and_then (asked_of given) (command_of given.what)
@@ -121,7 +142,16 @@ unless_fault (fault ∷ faults) request = None
 
 -- the values by the options' names
 abbrev pub given_by : (List ℕ → Option (List ℕ)) → Given
-given_by value = record { what = value (codes "do"); script = value (codes "script"); changes = value (codes "changes"); feeds = value (codes "feeds"); order = value (codes "order"); first = value (codes "first") }
+given_by value = record {
+  what = value (codes "do");
+  script = value (codes "script");
+  changes = value (codes "changes");
+  feeds = value (codes "feeds");
+  order = value (codes "order");
+  first = value (codes "first");
+  seed = value (codes "seed");
+  lines = value (codes "lines");
+}
 
 -- what these words ask for; None is a wrong use
 unfoldable pub request_of : List (List ℕ) → Option Request

@@ -1,6 +1,6 @@
 ghost use Rattle.std.specs.Prelude.{◌≡◌, false, codes, IfOk};
 ghost use Rattle.clap.specs.Words.{app_of, rule_of};
-ghost use Rattle.command_line.specs.Words.{number_option, text_option, the_app, with_files};
+ghost use Rattle.command_line.specs.Words.{number_option, text_option, the_app, with_files, with_numbers};
 
 use clap::builder::ValueParser;
 use clap::{Arg, ArgAction, Command};
@@ -33,6 +33,16 @@ fn with_files<'a>(alloc: Global, command: Command<'a>) -> Result<Command<'a>, Al
         .arg(text_option(alloc, "order"))
 }
 
+// With the options whose values are numbers.
+fn with_numbers<'a>(alloc: Global, command: Command<'a>) -> Result<Command<'a>, AllocError>
+    ensures { IfOk result (λ c. app_of c ≡ with_numbers (app_of command.entry)) }
+{
+    command
+        .arg(number_option(alloc, "first", 4294967295))?
+        .arg(number_option(alloc, "seed", 18446744073709551615))?
+        .arg(number_option(alloc, "lines", 1000000))
+}
+
 /// The command with its options. Its lifetime is the words', since a command's matches borrow from both.
 pub(crate) fn command<'a>(alloc: Global) -> Result<Command<'a>, AllocError>
     ensures { IfOk result (λ c. app_of c ≡ the_app) }
@@ -40,5 +50,5 @@ pub(crate) fn command<'a>(alloc: Global) -> Result<Command<'a>, AllocError>
     let command = Command::new(alloc, "dyntab")
         .no_binary_name(true)
         .arg(text_option(alloc, "do"))?;
-    with_files(alloc, command)?.arg(number_option(alloc, "first", 4294967295))
+    with_numbers(alloc, with_files(alloc, command)?)
 }

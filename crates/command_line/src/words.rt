@@ -1,6 +1,6 @@
-ghost use Rattle.std.specs.Prelude.{◌≡◌, ◌≢◌, [], Some, None, codes, option_map, IfOk, IsErrOf};
+ghost use Rattle.std.specs.Prelude.{◌≡◌, ◌≢◌, [], Some, None, option_map, IfOk, IsErrOf};
 ghost use Rattle.clap.specs.Words.{fault_of, first_value, found_of};
-ghost use Rattle.command_line.specs.Words.{IsNumber, answering, asked_by, asked_of, changes, explaining, feeds, given_by, names, number_in, request_of, running, the_app, value_of};
+ghost use Rattle.command_line.specs.Words.{AreNumbers, IsNumber, answering, asked_by, asked_of, changes, explaining, feeds, given_by, loading, names, number_in, request_of, running, the_app, value_of};
 ghost use Rattle.command_line.specs.Requests.{given_view, names_view, request_view};
 
 use crate::command::command;
@@ -40,6 +40,11 @@ pub enum Request {
     },
     /// The plan of the script of this name.
     Explain(Text),
+    /// The sums over a run on lines that are made from this seed, so many.
+    Load {
+        seed: u64,
+        lines: u64,
+    },
 }
 
 /// Why nothing is asked for.
@@ -65,7 +70,7 @@ impl From<Memory> for WordsFault {
 fn matches_of<'a>(alloc: Global, words: &'a [Text]) -> Result<ArgMatches<'a>, WordsFault>
     ensures fits { IfOk result (λ m. fault_of the_app words.entry.now ≡ []) }
     ensures values { IfOk result (λ m. given_by (first_value (found_of m)) ≡ given_by (value_of words.entry.now)) }
-    ensures number { IfOk result (λ m. IsNumber (first_value (found_of m) (codes "first"))) }
+    ensures numbers { IfOk result (λ m. AreNumbers (given_by (first_value (found_of m)))) }
     ensures usage { IsErrOf result WordsFault.Usage → fault_of the_app words.entry.now ≢ [] }
 {
     let Ok(command) = command(alloc) else {
@@ -92,6 +97,8 @@ struct Given<'a> {
     feeds: Option<&'a str>,
     order: Option<&'a str>,
     first: Option<&'a str>,
+    seed: Option<&'a str>,
+    lines: Option<&'a str>,
 }
 
 fn given_by<'a>(matches: &'a ArgMatches<'_>) -> Given<'a>
@@ -104,6 +111,8 @@ fn given_by<'a>(matches: &'a ArgMatches<'_>) -> Given<'a>
         feeds: matches.get_str("feeds"),
         order: matches.get_str("order"),
         first: matches.get_str("first"),
+        seed: matches.get_str("seed"),
+        lines: matches.get_str("lines"),
     }
 }
 
@@ -148,6 +157,9 @@ fn run_of(alloc: Global, given: &Given<'_>) -> Result<Request, WordsFault>
     ensures ok { IfOk result (λ request. asked_of (given_view given.now) running ≡ Some (request_view request)) }
     ensures usage { IsErrOf result WordsFault.Usage → asked_of (given_view given.now) running ≡ None }
 {
+    if given.seed.is_some() || given.lines.is_some() {
+        return Err(WordsFault::Usage);
+    }
     let names = match (given.script, given.changes, given.feeds, given.first) {
         (Some(script), Some(name), None, None) => names_of_changes(alloc, script, name)?,
         (Some(script), None, Some(prefix), None) => names_of_feeds(alloc, script, prefix)?,
@@ -162,6 +174,9 @@ fn batch_of(alloc: Global, given: &Given<'_>) -> Result<Request, WordsFault>
     ensures ok { IfOk result (λ request. asked_of (given_view given.now) answering ≡ Some (request_view request)) }
     ensures usage { IsErrOf result WordsFault.Usage → asked_of (given_view given.now) answering ≡ None }
 {
+    if given.seed.is_some() || given.lines.is_some() {
+        return Err(WordsFault::Usage);
+    }
     match (given.script, given.changes, given.feeds, given.order) {
         (Some(script), Some(name), None, None) => Ok(Request::Batch {
             names: names_of_changes(alloc, script, name)?,
@@ -179,6 +194,9 @@ fn explain_of(alloc: Global, given: &Given<'_>) -> Result<Request, WordsFault>
     ensures ok { IfOk result (λ request. asked_of (given_view given.now) explaining ≡ Some (request_view request)) }
     ensures usage { IsErrOf result WordsFault.Usage → asked_of (given_view given.now) explaining ≡ None }
 {
+    if given.seed.is_some() || given.lines.is_some() {
+        return Err(WordsFault::Usage);
+    }
     match (
         given.script,
         given.changes,
@@ -193,10 +211,32 @@ fn explain_of(alloc: Global, given: &Given<'_>) -> Result<Request, WordsFault>
     }
 }
 
+fn load_of(given: &Given<'_>) -> Result<Request, WordsFault>
+    requires seed { IsNumber (option_map (λ s. s.now) given.now.seed) }
+    requires lines { IsNumber (option_map (λ s. s.now) given.now.lines) }
+    ensures ok { IfOk result (λ request. asked_of (given_view given.now) loading ≡ Some (request_view request)) }
+    ensures usage { IsErrOf result WordsFault.Usage → asked_of (given_view given.now) loading ≡ None }
+{
+    match (
+        given.script,
+        given.changes,
+        given.feeds,
+        given.order,
+        given.first,
+    ) {
+        (None, None, None, None, None) => {}
+        _ => return Err(WordsFault::Usage),
+    }
+    match (number_in(given.seed), number_in(given.lines)) {
+        (Some(seed), Some(lines)) => Ok(Request::Load { seed, lines }),
+        _ => Err(WordsFault::Usage),
+    }
+}
+
 // What is asked for by the value of `--do`: a run where it isn't given. The command could test that itself, by a list of values, but clauses
 // see such a list with its address, so no definition of the command could say which it is.
 fn asked_by(alloc: Global, given: &Given<'_>) -> Result<Request, WordsFault>
-    requires { IsNumber (option_map (λ s. s.now) given.now.first) }
+    requires { AreNumbers (given_view given.now) }
     ensures ok { IfOk result (λ request. asked_by (given_view given.now) ≡ Some (request_view request)) }
     ensures usage { IsErrOf result WordsFault.Usage → asked_by (given_view given.now) ≡ None }
 {
@@ -211,6 +251,9 @@ fn asked_by(alloc: Global, given: &Given<'_>) -> Result<Request, WordsFault>
     }
     if word == "explain" {
         return explain_of(alloc, given);
+    }
+    if word == "load" {
+        return load_of(given);
     }
     Err(WordsFault::Usage)
 }

@@ -32,6 +32,8 @@ use std::alloc::Global;
 /// read has a change file of its own, named by the prefix, the table's name and `.csv`. `--order NAME` may stand there too: its lines say
 /// when how many changes are taken, which channels are moved, and when the job is drained. `--do run` may be told, or `--do batch` and,
 /// where only the first so many lines of the one change file count, `--first COUNT`. Those for a plan are `--script NAME --do explain`.
+/// `--do load --seed NUMBER --lines COUNT` reads no file: it runs a script of its own over lines that it makes, and writes the line of
+/// its sums.
 pub fn run_job<F: Shelf, K: Sink, E: Sink>(
     alloc: Global,
     words: &[Text],

@@ -1,7 +1,7 @@
 -- What a job has written, whatever its ending, and what one has written that ends well.
 use Rattle.std.proofs.Common.{◌≡◌, ◌≤◌, ◌+◌, ◌++◌, ℕ, suc, Bool, true, false, List, [], ◌∷◌, length, Option, Some, None, Result, Ok, Err, inl, inr, refl, sym, ap, subst, ◌∙◌, arith, append_assoc, append-nil}
 use Rattle.std.proofs.lemmas.List.Sums.{sum_by-cons}
-use Rattle.command_line.specs.Words.{FileNames, Input, Request, run, batch, explain, request_of}
+use Rattle.command_line.specs.Words.{FileNames, Input, Request, run, batch, explain, load, request_of}
 use Rattle.ct_value.specs.Bag.{items}
 use Rattle.ct_value.specs.declared.codes.OrderCode.TheVariants.{BadLine}
 use Rattle.ct_value.specs.declared.ty.Ty.{Ty}
@@ -55,10 +55,11 @@ use Rattle.job_plan.specs.Promises.{IsScriptPlan, RunnableScriptsArePlanned}
 use Rattle.job_plan.specs.Planned.{planned, runnable, topped}
 use Rattle.job_run.specs.Answers.{AreAnswers, AreAnswersOf, HasAnswers, HasRun, Wrote}
 use Rattle.job_run.specs.Edges.{AreCarried, AreCarriedOf, run_of}
-use Rattle.job_run.specs.Headline.{HasAnswered, HasExplained, IsHeadline, IsHeadlineOf}
+use Rattle.job_run.specs.Headline.{HasAnswered, HasExplained, HasLoaded, IsHeadline, IsHeadlineOf}
 use Rattle.job_run.specs.Held.{AreHeld, IsInput, IsOrder}
 use Rattle.job_run.specs.Insert.{Insert, answer_of, answer_over, sources_of}
-use Rattle.job_run.specs.Outcome.{after_judgement, after_load, batch_script, explain_script, over_input, run_plan, run_script, with_order, with_request, with_script, outcome}
+use Rattle.job_run.specs.Loads.{load_holdings, load_names, printed_feed, sums_holdings, sums_names, summary_of}
+use Rattle.job_run.specs.Outcome.{after_judgement, after_load, batch_named, batch_script, explain_script, load_of, load_run, over_input, run_named, run_plan, run_script, summed, sums_answer, where_well, with_order, with_request, with_script, outcome}
 use Rattle.job_run.proofs.Inputs.{HoldsBefore, at_input, at_order, bytes_in, files_of, input_for, input_short}
 use Rattle.job_run.proofs.Inserted.{Found, IsInsertOf, Reads, TablesHaveTypes, found}
 use Rattle.job_run.proofs.Printed.{items_of_sink}
@@ -397,6 +398,7 @@ module _ (laws : Laws) (h : Holdings) where
       (λ plan runs files there orders ordered written rest cut. inr (stream_answers h names text held script is laws order plan runs files there orders ordered written rest cut)))
   answers_at (Some (batch names first)) = λ written rest is. tt
   answers_at (Some (explain name)) = λ written rest is. tt
+  answers_at (Some (load seed lines)) = λ written rest is. tt
 
   carried_at : (o : Option Request) → OfParts (AreCarriedOf o h) (with_request h o)
   carried_at None = λ written rest is. nothing_left written rest is
@@ -406,25 +408,61 @@ module _ (laws : Laws) (h : Holdings) where
       (λ plan runs files there orders ordered. stream_carried h names text held script is laws order plan runs files there orders ordered))
   carried_at (Some (batch names first)) = λ written rest is. tt
   carried_at (Some (explain name)) = λ written rest is. tt
+  carried_at (Some (load seed lines)) = λ written rest is. tt
 
-  well_at : (o : Option Request) → OfWell (IsHeadlineOf o h) (with_request h o)
-  well_at None = λ done. absurd (cc (done))
-  well_at (Some (run names order)) =
+  run_headline : (names : FileNames) (order : Option (List ℕ)) → OfWell (HasRun names order h) (run_named names order h)
+  run_headline names order =
       at_name h names.script (run_script h names.input order) (OfWell (HasRun names order h)) (not_well (HasRun names order h))
       (λ text held script is. over_script h names text held script is order (OfWell (HasRun names order h)) (not_well (HasRun names order h))
       (λ plan runs files there orders ordered. stream_well h names text held script is laws order plan runs files there orders ordered))
-  well_at (Some (batch names first)) =
+
+  batch_headline : (names : FileNames) (first : Option ℕ) → OfWell (HasAnswered names first h) (batch_named names first h)
+  batch_headline names first =
       at_name h names.script (batch_script h names.input first) (OfWell (HasAnswered names first h)) (not_well (HasAnswered names first h))
       (λ text held script is. batch_here h names text held script is first (found laws.reads laws.typed text script is))
+
+-- what is behind a part that ended well
+behind_well : (next : List ℕ → Outcome) (bytes : List ℕ) (ending : Ending) → (where_well next bytes ending).ending ≡ e.Done → (ending ≡ e.Done) × (where_well next bytes ending ≡ next bytes)
+behind_well next bytes e.Done done = (refl, refl)
+behind_well next bytes e.Usage done = absurd (cc (done))
+behind_well next bytes (e.Script code statement) done = absurd (cc (done))
+behind_well next bytes (e.Change code line table) done = absurd (cc (done))
+behind_well next bytes (e.Order code line) done = absurd (cc (done))
+behind_well next bytes (e.Range node subtask row types) done = absurd (cc (done))
+behind_well next bytes (e.Limit name) done = absurd (cc (done))
+behind_well next bytes e.ReadFault done = absurd (cc (done))
+behind_well next bytes e.WriteFault done = absurd (cc (done))
+behind_well next bytes e.Memory done = absurd (cc (done))
+
+load_headline : (laws : Laws) (seed lines : ℕ) → OfWell (HasLoaded seed lines) (load_of seed lines)
+load_headline laws seed lines done =
+    let ran = load_run seed lines in
+    let first = behind_well (summed lines) ran.bytes ran.ending done in
+    let answered = sums_answer (printed_feed lines ran.bytes) in
+    let second = behind_well (λ sums. record { ending = e.Done; bytes = summary_of lines ran.bytes sums }) answered.bytes answered.ending (sym (ap (λ (o : Outcome). o.ending) first.1) ∙ done) in
+    record {
+      printed = ran.bytes;
+      sums = answered.bytes;
+      ran = run_headline laws (load_holdings seed lines) load_names None first.0;
+      summed = batch_headline laws (sums_holdings (printed_feed lines ran.bytes)) sums_names None second.0;
+      reads = ap (λ (o : Outcome). o.bytes) first.1 ∙ ap (λ (o : Outcome). o.bytes) second.1;
+    }
+
+module _ (laws : Laws) (h : Holdings) where
+  well_at : (o : Option Request) → OfWell (IsHeadlineOf o h) (with_request h o)
+  well_at None = λ done. absurd (cc (done))
+  well_at (Some (run names order)) = run_headline laws h names order
+  well_at (Some (batch names first)) = batch_headline laws h names first
   well_at (Some (explain name)) =
       at_name h name explain_script (OfWell (HasExplained name h)) (not_well (HasExplained name h))
       (λ text held script is. explained_here h name text held script is laws.can)
+  well_at (Some (load seed lines)) = load_headline laws seed lines
 
   pub answers : (words : List (List ℕ)) (written rest : List ℕ) → (outcome words h).bytes ≡ written ++ rest → AreAnswers words h written
-  answers words = answers_at (request_of words)
+  answers words = answers_at laws h (request_of words)
 
   pub carried : (words : List (List ℕ)) (written rest : List ℕ) → (outcome words h).bytes ≡ written ++ rest → AreCarried words h written
-  carried words = carried_at (request_of words)
+  carried words = carried_at laws h (request_of words)
 
   pub headline : (words : List (List ℕ)) → (outcome words h).ending ≡ e.Done → IsHeadline words h (outcome words h).bytes
   headline words = well_at (request_of words)

@@ -4,9 +4,11 @@ pub mod Headline
 pub mod InRange
 pub mod Inputs
 pub mod Inserted
+pub mod KeptRuns
 pub mod Loading
 pub mod Loads
 pub mod Printable
 pub mod Printed
+pub mod SumLines
 pub mod Torn
 pub mod laws

@@ -2,7 +2,7 @@
 -- changelog that folds to the query's answer on its tree, over the tables that as many first lines of each change file leave as the line tells.
 use Rattle.std.specs.Prelude.{◌≡◌, ◌⊎◌, ◌<◌, ℕ, Bool, List, [], ◌++◌, length, Option, Some, None}
 use Rattle.ct_value.specs.declared.ty.Ty.{Ty}
-use Rattle.command_line.specs.Words.{FileNames, Request, run, batch, explain, request_of}
+use Rattle.command_line.specs.Words.{FileNames, Request, run, batch, explain, load, request_of}
 use Rattle.ct_io.specs.Holdings.{Holdings, Whole, loaded}
 use Rattle.ct_catalog.specs.Columns.{table_mode}
 use Rattle.stream_model.specs.declared.events.PrintItem.{PrintItem}
@@ -48,6 +48,7 @@ abbrev pub AreAnswersOf : Option Request → Holdings → List ℕ → Type 0
 AreAnswersOf (Some (run names order)) holdings written = (written ≡ []) ⊎ HasAnswers names order holdings written
 AreAnswersOf (Some (batch names first)) holdings written = Unit {0}
 AreAnswersOf (Some (explain name)) holdings written = Unit {0}
+AreAnswersOf (Some (load seed lines)) holdings written = Unit {0}
 AreAnswersOf None holdings written = written ≡ []
 
 -- what a job on these words and holdings has written: a run nothing, or answers

@@ -1,6 +1,6 @@
 -- What a job needs to end well, and which scripts never leave a type's range as they run.
 use Rattle.std.specs.Prelude.{◌≡◌, ℕ, false, List, [], Option, Some, None, Ok}
-use Rattle.command_line.specs.Words.{FileNames, Request, run, batch, explain, request_of}
+use Rattle.command_line.specs.Words.{FileNames, Request, run, batch, explain, load, request_of}
 use Rattle.ct_io.specs.Holdings.{Holdings, Whole, loaded}
 use Rattle.ct_value.specs.declared.codes.OrderCode.{OrderCode}
 use Rattle.ct_value.specs.declared.row.Row.{Row}
@@ -24,7 +24,8 @@ use Rattle.job_batch.specs.Batch.{with_rows}
 use Rattle.job_plan.specs.Planned.{planned, runnable}
 use Rattle.job_run.specs.Edges.{run_of}
 use Rattle.job_run.specs.Held.{AreHeld}
-use Rattle.job_run.specs.Outcome.{script_limit}
+use Rattle.job_run.specs.Loads.{load_holdings, load_names, printed_feed, sums_holdings, sums_names}
+use Rattle.job_run.specs.Outcome.{load_run, script_limit}
 
 -- nothing is refused: the files are held, each within its limit; the script is accepted and can be run; each line passes, and each line of the
 -- order can be read and begins; and the machine's run of its plan is nowhere out of range, nor would it pass the limit on changes
@@ -63,11 +64,17 @@ pub record MayExplain (name : List ℕ) (h : Holdings) : Type 0 where
   pub accepted : judgement script_text ≡ Ok script
   pub runs : runnable script ≡ Ok plan
 
+-- the same of a load: of its run, and of the sums over what that prints
+pub record MayLoad (seed lines : ℕ) : Type 0 where
+  pub runs : MayRun load_names None (load_holdings seed lines)
+  pub sums : MayAnswer sums_names None (sums_holdings (printed_feed lines (load_run seed lines).bytes))
+
 abbrev pub MayEndWellBy : Option Request → Holdings → Type 0
 MayEndWellBy None h = ⊥
 MayEndWellBy (Some (run names order)) h = MayRun names order h
 MayEndWellBy (Some (batch names first)) h = MayAnswer names first h
 MayEndWellBy (Some (explain name)) h = MayExplain name h
+MayEndWellBy (Some (load seed lines)) h = MayLoad seed lines
 
 -- a job on these words and holdings, of which nothing is refused
 abbrev pub MayEndWell : List (List ℕ) → Holdings → Type 0

@@ -1,6 +1,6 @@
 -- By which plan and which run of the machine a run has written what it has, whatever its ending, and which kinds its edges carried.
 use Rattle.std.specs.Prelude.{◌≡◌, ◌⊎◌, ℕ, List, [], ◌++◌, Option, Some, None, Ok}
-use Rattle.command_line.specs.Words.{FileNames, Request, run, batch, explain, request_of}
+use Rattle.command_line.specs.Words.{FileNames, Request, run, batch, explain, load, request_of}
 use Rattle.ct_io.specs.Holdings.{Holdings}
 use Rattle.phys_plan.specs.declared.plan.Plan.{Plan}
 use Rattle.stream_model.specs.Machine.{State}
@@ -39,6 +39,7 @@ abbrev pub AreCarriedOf : Option Request → Holdings → List ℕ → Type 0
 AreCarriedOf (Some (run names order)) holdings written = (written ≡ []) ⊎ HasCarried names order holdings written
 AreCarriedOf (Some (batch names first)) holdings written = Unit {0}
 AreCarriedOf (Some (explain name)) holdings written = Unit {0}
+AreCarriedOf (Some (load seed lines)) holdings written = Unit {0}
 AreCarriedOf None holdings written = written ≡ []
 
 -- what a job on these words and holdings has written: a run nothing, or what a sound plan printed

@@ -1,7 +1,8 @@
 -- What a job that ends well has written. A run: its answers, to the last line of its change files. A batch answer: the rows of the query's
--- answer on its tree, over the tables that the first lines leave, in order, each copy by itself. A plan: its lines.
+-- answer on its tree, over the tables that the first lines leave, in order, each copy by itself. A plan: its lines. A load: the line
+-- of its sums.
 use Rattle.std.specs.Prelude.{◌≡◌, ℕ, List, Option, Some, None, Ok}
-use Rattle.command_line.specs.Words.{FileNames, Request, run, batch, explain, request_of}
+use Rattle.command_line.specs.Words.{FileNames, Request, run, batch, explain, load, request_of}
 use Rattle.ct_io.specs.Holdings.{Holdings, Whole, loaded}
 use Rattle.ct_value.specs.Bag.{items}
 use Rattle.ct_change.specs.Changelog.{Rows}
@@ -17,6 +18,7 @@ use Rattle.job_plan.specs.Planned.{runnable}
 use Rattle.job_run.specs.Answers.{HasRun}
 use Rattle.job_run.specs.Held.{IsInput}
 use Rattle.job_run.specs.Insert.{Insert, answer_of, sources_of}
+use Rattle.job_run.specs.Loads.{load_holdings, load_names, printed_feed, sums_holdings, sums_names, summary_of}
 use Rattle.job_run.specs.Outcome.{script_limit}
 
 pub record HasAnswered (names : FileNames) (first : Option ℕ) (holdings : Holdings) (bytes : List ℕ) : Type 0 where
@@ -41,11 +43,20 @@ pub record HasExplained (name : List ℕ) (holdings : Holdings) (bytes : List �
   pub sound : IsRuled plan
   pub reads : bytes ≡ explained 0 plan
 
+-- a load: its run has its answers, its sums are the query's over what that printed, and it has written their line
+pub record HasLoaded (seed lines : ℕ) (bytes : List ℕ) : Type 0 where
+  pub printed : List ℕ
+  pub sums : List ℕ
+  pub ran : HasRun load_names None (load_holdings seed lines) printed
+  pub summed : HasAnswered sums_names None (sums_holdings (printed_feed lines printed)) sums
+  pub reads : bytes ≡ summary_of lines printed sums
+
 abbrev pub IsHeadlineOf : Option Request → Holdings → List ℕ → Type 0
 IsHeadlineOf None holdings bytes = ⊥
 IsHeadlineOf (Some (run names order)) holdings bytes = HasRun names order holdings bytes
 IsHeadlineOf (Some (batch names first)) holdings bytes = HasAnswered names first holdings bytes
 IsHeadlineOf (Some (explain name)) holdings bytes = HasExplained name holdings bytes
+IsHeadlineOf (Some (load seed lines)) holdings bytes = HasLoaded seed lines bytes
 
 -- what a job on these words and holdings that ends well has written
 abbrev pub IsHeadline : List (List ℕ) → Holdings → List ℕ → Type 0

@@ -4,4 +4,6 @@ pub mod Edges
 pub mod Headline
 pub mod Held
 pub mod Insert
+pub mod Kept
+pub mod Loads
 pub mod Outcome

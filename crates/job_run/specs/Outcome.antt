@@ -1,18 +1,20 @@
 -- What a job answers and writes, composed of the script's judgement, its plan, and the run of that or the batch answer over its change files;
--- or the plan itself.
+-- or the plan itself, or sums over a run on lines that are made.
 use Rattle.std.specs.Prelude.{ℕ, ◌-◌, Bool, List, [], ◌∷◌, ◌++◌, length, Option, Some, None, Result, Ok, Err, codes}
 use Rattle.ct_value.specs.declared.codes.OrderCode.TheVariants.{BadLine}
 use Rattle.ct_catalog.specs.declared.table.TableDef.{TableDef}
-use Rattle.command_line.specs.Words.{FileNames, Input, changes, feeds, Request, run, batch, explain, request_of}
+use Rattle.command_line.specs.Words.{FileNames, Input, changes, feeds, Request, run, batch, explain, load, request_of}
 use Rattle.ct_io.specs.Holdings.{Holdings, Loaded, Missing, Long, Whole, loaded}
 use Rattle.judge.specs.Judgement.{Judged}
 use Rattle.phys_plan.specs.declared.plan.Plan.{Plan}
 use Rattle.job_text.specs.Orders.{orders_of}
+use Rattle.job_text.specs.Printed.{but_last}
 use Rattle.job_text.specs.declared.orders.OrderLine.{OrderLine}
 use Rattle.source_lines.specs.Supply.{is_by_table}
 use Rattle.source_lines.specs.declared.supply.ChangeFiles.{ChangeFiles}
 use Rattle.source_lines.specs.declared.supply.ChangeFiles.TheVariants.{One, Each}
-use Rattle.job_ending.specs.declared.ending.Ending.TheVariants.{Usage, Script, Order, Limit, ReadFault}
+use Rattle.job_ending.specs.declared.ending.Ending.{Ending}
+use Rattle.job_ending.specs.declared.ending.Ending.TheVariants.{Done, Usage, Script, Order, Limit, ReadFault}
 use Rattle.job_ending.specs.declared.ending.LimitName.{LimitName}
 use Rattle.job_ending.specs.declared.ending.LimitName.TheVariants.{Script as ScriptLimit, Changes as ChangesLimit, Order as OrderLimit}
 use Rattle.job_ending.specs.Outcome.{Outcome, ends}
@@ -21,6 +23,8 @@ use Rattle.job_batch.specs.Batch.{with_changes as batch_changes}
 use Rattle.job_plan.specs.Shown.{shown}
 use Rattle.job_plan.specs.Planned.{planned, runnable}
 use Rattle.job_stream.specs.Stream.{streamed}
+use Rattle.route.specs.Routing.{key_hash}
+use Rattle.job_run.specs.Loads.{line_count, load_holdings, load_names, printed_feed, sums_holdings, sums_names, summary}
 
 -- the largest script, change file and order, in bytes; all feeds together are no larger than a change file
 abbrev pub script_limit : ℕ
@@ -98,11 +102,38 @@ batch_named names first holdings = with_script holdings names.script (batch_scri
 abbrev pub explain_script : Accepted → Outcome
 explain_script script = after_judgement shown (runnable script)
 
+-- what is made of all that was written where that ended well
+abbrev pub where_well : (List ℕ → Outcome) → List ℕ → Ending → Outcome
+where_well next bytes Done = next bytes
+where_well next bytes ending = ends ending
+
+abbrev pub behind : (List ℕ → Outcome) → Outcome → Outcome
+behind next went = where_well next went.bytes went.ending
+
+-- a run on so many lines made from a seed
+abbrev pub load_run : ℕ → ℕ → Outcome
+load_run seed lines = run_named load_names None (load_holdings seed lines)
+
+-- the batch answer over a feed of what that printed
+abbrev pub sums_answer : List ℕ → Outcome
+sums_answer feed = batch_named sums_names None (sums_holdings feed)
+
+-- the line of a load behind that answer, by the feed and the hash of all that was printed
+abbrev pub summed_over : ℕ → List ℕ → ℕ → Outcome
+summed_over lines feed hash = behind (λ sums. record { ending = Done; bytes = summary lines (line_count feed) (but_last sums) hash }) (sums_answer feed)
+
+abbrev pub summed : ℕ → List ℕ → Outcome
+summed lines printed = summed_over lines (printed_feed lines printed) (key_hash printed)
+
+abbrev pub load_of : ℕ → ℕ → Outcome
+load_of seed lines = behind (summed lines) (load_run seed lines)
+
 abbrev pub with_request : Holdings → Option Request → Outcome
 with_request holdings None = ends Usage
 with_request holdings (Some (run names order)) = run_named names order holdings
 with_request holdings (Some (batch names first)) = batch_named names first holdings
 with_request holdings (Some (explain name)) = with_script holdings name explain_script
+with_request holdings (Some (load seed lines)) = load_of seed lines
 
 -- what a job on these words and holdings answers and writes
 abbrev pub outcome : List (List ℕ) → Holdings → Outcome

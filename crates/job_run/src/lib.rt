@@ -1,14 +1,16 @@
 //! One job, from its words to its last written line: it loads, judges and plans the script, loads the change files and the order, and
-//! hands them on to the run of the plan or to the batch answer; or it writes the plan. Its definitions say what a job on words and files
-//! answers and writes (`specs/Outcome`), what a job that ends well has written (`specs/Headline`), and what it needs for that
-//! (`specs/Complete`).
+//! hands them on to the run of the plan or to the batch answer; or it writes the plan, or the sums over a run on lines that are made. Its
+//! definitions say what a job on words and files answers and writes (`specs/Outcome`), what a job that ends well has written
+//! (`specs/Headline`), and what it needs for that (`specs/Complete`).
 #![tactic(auto)]
 
 mod batches;
 mod changelogs;
 mod explains;
 mod files;
+mod kept;
 mod load;
 mod requests;
+mod sums;
 
 pub use requests::run;

@@ -16,6 +16,7 @@ ghost use Rattle.job_run.specs.Outcome.{outcome};
 use crate::batches::batch_names;
 use crate::changelogs::run_names;
 use crate::explains::explain_name;
+use crate::sums::load_lines;
 use command_line::{Request, WordsFault, request_of};
 use ct_io::{Shelf, Sink};
 use ct_value::Text;
@@ -51,6 +52,7 @@ fn run_asked<F: Shelf, K: Sink>(alloc: Global, words: &[Text], shelf: &mut F, ou
             ending_of(batch_names(alloc, &names, first, shelf, out))
         }
         Ok(Request::Explain(name)) => ending_of(explain_name(alloc, &name, shelf, out)),
+        Ok(Request::Load { seed, lines }) => ending_of(load_lines(alloc, seed, lines, out)),
         Err(WordsFault::Usage) => Ending::Usage,
         Err(WordsFault::Memory) => Ending::Memory,
     }

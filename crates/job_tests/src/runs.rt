@@ -494,6 +494,26 @@ fn wrong_words_are_a_wrong_use_and_others_stand_in_any_order(rt: HostRuntime) {
     }
 }
 
+// Loads from a seed: none, and one line.
+const LOADS: [(&[&str], Left); 2] = [
+    (
+        &["--do", "load", "--seed", "7", "--lines", "0"],
+        ("load,0,0,0,0,1861033\n", "", 0),
+    ),
+    (
+        &["--do", "load", "--seed", "7", "--lines", "1"],
+        ("load,1,1,1,1,3604650464698287380\n", "", 0),
+    ),
+];
+
+#[test]
+fn a_load_writes_the_line_of_its_sums(rt: HostRuntime) {
+    for (words, left) in &LOADS {
+        let is_told = words_leave(rt.alloc(), words, "", left);
+        assert!(rt; is_told, "{}", left.0);
+    }
+}
+
 const FIVE_LINES: &str =
     "t,+I,w807,934\nt,+I,w424,171\nt,+I,w937,-179\nt,+I,w236,-9\nt,-D,w807,934\n";
 

@@ -1,6 +1,6 @@
 -- A job of which nothing is refused ends well.
 use Rattle.std.proofs.Common.{◌≡◌, ℕ, false, Bool, List, Option, Some, None, Result, Ok, refl, ap, ◌∙◌}
-use Rattle.command_line.specs.Words.{FileNames, Request, run, batch, explain, request_of}
+use Rattle.command_line.specs.Words.{FileNames, Request, run, batch, explain, load, request_of}
 use Rattle.ct_io.specs.Holdings.{Holdings, Loaded, Whole, loaded}
 use Rattle.ct_value.specs.declared.codes.OrderCode.{OrderCode}
 use Rattle.ct_value.specs.declared.row.Row.{Row}
@@ -26,9 +26,10 @@ use Rattle.job_batch.specs.Batch.{after_lines as batch_lines, answered, sink_typ
 use Rattle.job_plan.specs.Shown.{shown}
 use Rattle.job_stream.specs.Stream.{most_sent, outcome_of, sink_key, sink_types, streamed}
 use Rattle.job_run.specs.Edges.{run_of}
-use Rattle.job_run.specs.Outcome.{script_limit, after_load, after_judgement, over_input, with_order, with_script, run_plan, run_script, batch_script, explain_script, with_request, outcome}
+use Rattle.job_run.specs.Outcome.{script_limit, after_load, after_judgement, over_input, with_order, with_script, run_plan, run_script, batch_script, explain_script, load_of, load_run, summed, sums_answer, where_well, with_request, outcome}
 use Rattle.job_run.proofs.Inputs.{input_for, input_is, order_is}
-use Rattle.job_run.specs.Complete.{MayRun, MayAnswer, MayExplain, MayEndWellBy, MayEndWell}
+use Rattle.job_run.specs.Complete.{MayRun, MayAnswer, MayExplain, MayLoad, MayEndWellBy, MayEndWell}
+use Rattle.job_run.specs.Loads.{load_holdings, load_names, printed_feed, sums_holdings, sums_names, summary_of}
 
 script_well : (name text : List ℕ) (h : Holdings) (script : Accepted) → loaded h name script_limit ≡ Whole text → judgement text ≡ Ok script → (next : Accepted → Outcome) → (with_script h name next).ending ≡ (next script).ending
 script_well name text h script held accepted next =
@@ -75,11 +76,20 @@ explain_well : (name : List ℕ) (h : Holdings) → MayExplain name h → (with_
 explain_well name h may =
     script_well name may.script_text h may.script may.script_held may.accepted explain_script ∙ ap (λ (j : Judged Plan). (after_judgement shown j).ending) may.runs
 
+load_well : (seed lines : ℕ) → MayLoad seed lines → (load_of seed lines).ending ≡ Done
+load_well seed lines may =
+    let ran = load_run seed lines in
+    let printed = ran.bytes in
+    ap (λ ending. (where_well (summed lines) printed ending).ending) (run_well load_names None (load_holdings seed lines) may.runs)
+    ∙ ap (λ ending. (where_well (λ sums. record { ending = Done; bytes = summary_of lines printed sums }) (sums_answer (printed_feed lines printed)).bytes ending).ending)
+    (answer_well sums_names None (sums_holdings (printed_feed lines printed)) may.sums)
+
 by_request : (request : Option Request) (h : Holdings) → MayEndWellBy request h → (with_request h request).ending ≡ Done
 by_request None h may = absurd may
 by_request (Some (run names order)) h may = run_well names order h may
 by_request (Some (batch names first)) h may = answer_well names first h may
 by_request (Some (explain name)) h may = explain_well name h may
+by_request (Some (load seed lines)) h may = load_well seed lines may
 
 pub ends_well : (words : List (List ℕ)) (h : Holdings) → MayEndWell words h → (outcome words h).ending ≡ Done
 ends_well words h may = by_request (request_of words) h may
