@@ -4,6 +4,8 @@
 #![tactic(auto)]
 
 #[cfg(test)]
+mod bundles;
+#[cfg(test)]
 mod gone_rows;
 #[cfg(test)]
 mod group_feeding;

@@ -1,0 +1,9 @@
+//! Mini-batches: changes that a group holds back and folds key by key.
+//!
+//! Promised: a `Bundle` holds the changes of each key in order of arrival and hands the keys out in the order in which they were
+//! first seen (`specs/Held`). It stands on the changes of `ct_change` and on `indexmap`.
+#![tactic(auto)]
+
+mod bundle;
+
+pub use bundle::Bundle;
