@@ -1,5 +1,5 @@
 -- A rule says what an operator emits: a function of what it took before and of what comes.
-use Rattle.std.specs.Prelude.{◌≡◌, ℕ, ◌<◌, Bool, true, List, [], ◌∷◌, ◌++◌, Result, Ok, Err}
+use Rattle.std.specs.Prelude.{◌≡◌, ℕ, ◌+◌, ◌<◌, ◌^◌, Bool, true, List, [], ◌∷◌, ◌++◌, length, map, Result, Ok, Err}
 use Rattle.ct_value.specs.declared.row.Row.{Row}
 use Rattle.ct_change.specs.declared.change.Change.{Change}
 use Rattle.ct_change.specs.Changelog.{Mode, Rows, fold, MayCome, HasKey}
@@ -52,6 +52,17 @@ pub record MayArrive (rule : Rule) (before : List Arrival) (a : Arrival) : Type 
 abbrev pub ArriveAfter : Rule → List Arrival → List Arrival → Type 0
 ArriveAfter rule before [] = Unit {0}
 ArriveAfter rule before (a ∷ others) = MayArrive rule before a × ArriveAfter rule (before ++ a ∷ []) others
+
+-- how many counted steps arrivals may cost, one after the other
+abbrev pub work_along : Rule → List Arrival → List Arrival → ℕ
+work_along rule before [] = 0
+work_along rule before (a ∷ others) = rule.work before a + work_along rule (before ++ a ∷ []) others
+
+-- these changes, which came as one piece after what was taken before, may come to the rule, each after those before it
+pub record MayTakePiece (rule : Rule) (before piece : List Arrival) (changes : List Change) : Type 0 where
+  pub is : map (λ a. a.change) piece ≡ changes
+  pub arrive : ArriveAfter rule before piece
+  pub few : length before + length piece < 2 ^ 32
 
 -- each change of the pieces may come where it comes, none is out of range, and this is all that is emitted for them
 pub record RunsAlong (rule : Rule) (subtask : ℕ) (pieces : List (List Arrival)) (sent : List Change) : Type 0 where
