@@ -1,4 +1,4 @@
--- What is kept of all partitions after one of them is taken out and put back.
+-- What is kept of all partitions after a change of one of them.
 use Rattle.std.proofs.Common.{◌≡◌, ℕ, true, false, cond, List, [], ◌∷◌, length, Option, Some, None, refl, sym, ap, subst, ◌∙◌, arith}
 use Rattle.std.specs.BTreeMap.{BTreeMap, IsOrdered, get, is_at}
 use Rattle.std.specs.Map.{lookup}
@@ -10,7 +10,7 @@ use Rattle.ct_value.specs.Order.{row_cmp, row_total, row_exact}
 use Rattle.ct_value.specs.declared.row.Row.{Row}
 use Rattle.ct_change.specs.Changelog.{Rows, same_row}
 use Rattle.ct_change.specs.Emission.{replaced}
-use Rattle.ct_change.proofs.laws.Meanings.{same_row-true, same_row-itself}
+use Rattle.ct_change.proofs.laws.Meanings.{same_row-true}
 use Rattle.rel_algebra.specs.declared.sort.SortCol.{SortCol}
 use Rattle.op_topn.specs.Keys.{Key, key_cmp, rank_key}
 use Rattle.op_topn.specs.RankedRows.{IsRanked, is_empty}
@@ -33,10 +33,6 @@ kept_nothing order kept rows e keeps = same_bag row_total row_exact _ _ (λ row.
     no_entries [] q = refl
     no_entries (entry ∷ entries) q = absurd (omega arith)
 
--- nothing is at a key that was taken out
-pub absent : (old mid : BTreeMap Row RankedRows) (key : Row) → ((other : Row) → get row_cmp mid other ≡ cond (same_row key other) None (get row_cmp old other)) → get row_cmp mid key ≡ None
-absent old mid key out = out key ∙ ap (λ b. cond b None (get row_cmp old key)) (same_row-itself key)
-
 -- an absent key that isn't put in stays absent
 pub nothing_put : (partitions : BTreeMap Row RankedRows) (key : Row) → get row_cmp partitions key ≡ None → (other : Row) → get row_cmp partitions other ≡ cond (same_row key other) None (get row_cmp partitions other)
 nothing_put partitions key e other =
@@ -45,7 +41,24 @@ nothing_put partitions key e other =
       | false ↦ λ s. refl
     ] refl
 
-module _ (order : List SortCol) (key : Row) (of after : Row → Rows) (gone come : Option Row) (turned : IsTurned key of after gone come) (old mid new : BTreeMap Row RankedRows) (kept : RankedRows) where
+-- what is written at a key is there, unless it is empty
+pub written : (key : Row) (old new : BTreeMap Row RankedRows) (kept : RankedRows) → is_empty kept ≡ false
+    → ((other : Row) → get row_cmp new other ≡ cond (same_row key other) (Some kept) (get row_cmp old other))
+    → (other : Row) → get row_cmp new other ≡ cond (same_row key other) (unless_empty (is_empty kept) kept) (get row_cmp old other)
+written key old new kept some writes other = writes other ∙ ap (λ b. cond (same_row key other) (unless_empty b kept) (get row_cmp old other)) (sym some)
+
+-- what is written at a key, empty, and then let go isn't there
+pub written_then_gone : (key : Row) (old mid new : BTreeMap Row RankedRows) (kept : RankedRows) → is_empty kept ≡ true
+    → ((other : Row) → get row_cmp mid other ≡ cond (same_row key other) (Some kept) (get row_cmp old other))
+    → ((other : Row) → get row_cmp new other ≡ cond (same_row key other) None (get row_cmp mid other))
+    → (other : Row) → get row_cmp new other ≡ cond (same_row key other) (unless_empty (is_empty kept) kept) (get row_cmp old other)
+written_then_gone key old mid new kept none writes gone other =
+    gone other
+    ∙ ap (cond (same_row key other) None) (writes other)
+    ∙ elim (same_row key other) as (λ b. cond b None (cond b (Some kept) (get row_cmp old other)) ≡ cond b None (get row_cmp old other)) [ true ↦ refl | false ↦ refl ]
+    ∙ ap (λ b. cond (same_row key other) (unless_empty b kept) (get row_cmp old other)) (sym none)
+
+module _ (order : List SortCol) (key : Row) (of after : Row → Rows) (gone come : Option Row) (turned : IsTurned key of after gone come) (old new : BTreeMap Row RankedRows) (kept : RankedRows) where
   own : IsRanked order kept.counts (replaced (of key) gone come) → KeptAt order (after key) (unless_empty (is_empty kept) kept)
   own is =
       elim (is_empty kept) as (λ b. is_empty kept ≡ b → KeptAt order (after key) (unless_empty b kept)) [
@@ -54,18 +67,17 @@ module _ (order : List SortCol) (key : Row) (of after : Row → Rows) (gone come
       ] refl
 
   pub kept_after : AreKept order old of → IsRanked order kept.counts (replaced (of key) gone come)
-      → ((other : Row) → get row_cmp mid other ≡ cond (same_row key other) None (get row_cmp old other))
-      → ((other : Row) → get row_cmp new other ≡ cond (same_row key other) (unless_empty (is_empty kept) kept) (get row_cmp mid other))
+      → ((other : Row) → get row_cmp new other ≡ cond (same_row key other) (unless_empty (is_empty kept) kept) (get row_cmp old other))
       → IsOrdered row_cmp new → AreKept order new after
-  kept_after all is out put ordered = record {
+  kept_after all is put ordered = record {
     ordered = ordered;
     each = λ other.
-        elim (same_row key other) as (λ b. same_row key other ≡ b → get row_cmp new other ≡ cond b (unless_empty (is_empty kept) kept) (get row_cmp mid other) → get row_cmp mid other ≡ cond b None (get row_cmp old other) → KeptAt order (after other) (get row_cmp new other)) [
-          | true ↦ λ e p q.
+        elim (same_row key other) as (λ b. same_row key other ≡ b → get row_cmp new other ≡ cond b (unless_empty (is_empty kept) kept) (get row_cmp old other) → KeptAt order (after other) (get row_cmp new other)) [
+          | true ↦ λ e p.
               subst (KeptAt order (after other)) (sym p)
               (subst (λ k. KeptAt order (after k) (unless_empty (is_empty kept) kept)) (same_row-true key other e) (own is))
-          | false ↦ λ e p q.
-              subst (KeptAt order (after other)) (sym (p ∙ q))
+          | false ↦ λ e p.
+              subst (KeptAt order (after other)) (sym p)
               (subst (λ r. KeptAt order r (get row_cmp old other)) (sym (turned.others other e)) (all.each other))
-        ] refl (put other) (out other);
+        ] refl (put other);
   }

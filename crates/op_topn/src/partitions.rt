@@ -53,26 +53,40 @@ pub fn turn_partition<L: Ledger>(
     ensures kept { OnOk result ((of after : Row → Rows) → AreKept by.now.order partitions.old of → HasRow (of key) gone → IsTurned key of after gone come → AreKept by.now.order partitions.new after) }
     ensures cost { steps.new ≤ steps.old + 2 * by.now.bound }
 {
-    let mut kept = take_out(by.alloc, partitions, &key);
-    let firsts = turn_rows(by, &mut kept, gone, come, steps)?;
-    put_back(partitions, key, kept)?;
+    let Some(kept) = partitions.get_mut(&key) else {
+        return start_partition(by, partitions, key, gone, come, steps);
+    };
+    let firsts = turn_rows(by, kept, gone, come, steps)?;
+    if kept.is_empty() {
+        forget(partitions, &key);
+    }
     Ok(firsts)
 }
 
-// Takes a partition out, which has no rows where it isn't there.
-fn take_out(alloc: Global, partitions: &mut BTreeMap<Row, RankedRows>, key: &Row) -> RankedRows
-    ensures kept { (by : TopBy) (of : Row → Rows) → AreKept by.order partitions.old of → IsRanked by.order result.counts (of key.now) }
-    ensures others { (other : Row) → get row_cmp partitions.new other ≡ cond (same_row key.now other) None (get row_cmp partitions.old other) }
-    ensures ordered { IsOrdered row_cmp partitions.new }
+// The same of a partition that isn't there.
+fn start_partition<L: Ledger>(
+    by: &TopBy,
+    partitions: &mut BTreeMap<Row, RankedRows>,
+    key: Row,
+    gone: Option<Row>,
+    come: Option<Row>,
+    steps: &mut Steps<L>,
+) -> Result<Firsts, Memory>
+    requires absent { get row_cmp partitions.old key ≡ None }
+    requires kept { (of : Row → Rows) × AreKept by.now.order partitions.old of × HasRow (of key) gone × (total (λ _. 1) (of key) + 1 < 2 ^ 64) }
+    ensures olds { IfOk result (λ firsts. (of : Row → Rows) → AreKept by.now.order partitions.old of → firsts.olds.items ≡ take by.now.bound (in_rank_order by.now.order (of key))) }
+    ensures news { IfOk result (λ firsts. (of : Row → Rows) → AreKept by.now.order partitions.old of → HasRow (of key) gone → firsts.news.items ≡ take by.now.bound (in_rank_order by.now.order (replaced (of key) gone come))) }
+    ensures kept { OnOk result ((of after : Row → Rows) → AreKept by.now.order partitions.old of → HasRow (of key) gone → IsTurned key of after gone come → AreKept by.now.order partitions.new after) }
+    ensures cost { steps.new ≤ steps.old + 2 * by.now.bound }
 {
-    match partitions.remove(key) {
-        Some(kept) => kept,
-        None => RankedRows::new(alloc),
-    }
+    let mut kept = RankedRows::new(by.alloc);
+    let firsts = turn_rows(by, &mut kept, gone, come, steps)?;
+    put_in(partitions, key, kept)?;
+    Ok(firsts)
 }
 
 // Puts a partition in, which mustn't be there, unless it has no rows.
-fn put_back(
+fn put_in(
     partitions: &mut BTreeMap<Row, RankedRows>,
     key: Row,
     kept: RankedRows,
@@ -87,6 +101,14 @@ fn put_back(
     }
     partitions.insert(key, kept)?;
     Ok(())
+}
+
+// Lets a partition go.
+fn forget(partitions: &mut BTreeMap<Row, RankedRows>, key: &Row)
+    ensures gone { (other : Row) → get row_cmp partitions.new other ≡ cond (same_row key.now other) None (get row_cmp partitions.old other) }
+    ensures ordered { IsOrdered row_cmp partitions.new }
+{
+    partitions.remove(key);
 }
 
 /// Takes a row, which has to stand, away from a partition and adds another, and answers its first rows before and after. All of its

@@ -4,7 +4,7 @@ use Rattle.ct_value.specs.Order.{row_cmp}
 use Rattle.ct_change.specs.Changelog.{same_row}
 use Rattle.op_topn.specs.Kept.{unless_empty}
 use Rattle.op_topn.proofs.Turns.{nothing_put}
-use Rattle.op_topn.proofs.partitions.put_back.Goals as goal
+use Rattle.op_topn.proofs.partitions.put_in.Goals as goal
 
 pub returns-then-is_empty-clause-put : goal.returns-then-is_empty-clause-put
 returns-then-is_empty-clause-put c = λ other.
