@@ -11,5 +11,6 @@ pub mod Keys
 pub mod Ranks
 pub mod ResultTypes
 pub mod Results
+pub mod Sets
 pub mod Theorems
 pub mod Views

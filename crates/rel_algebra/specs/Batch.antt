@@ -1,5 +1,5 @@
 -- The batch function of each node: from the bags of its inputs to a bag, or None where it is out of range.
-use Rattle.std.specs.Prelude.{ℕ, Bool, List, length, map, Option, option_map}
+use Rattle.std.specs.Prelude.{ℕ, Bool, List, length, map, Option, Some, option_map}
 use Rattle.ct_value.specs.declared.ty.ColTy.{ColTy}
 use Rattle.ct_change.specs.Changelog.{Rows}
 use Rattle.ct_expr.specs.Expr.{Expr}
@@ -12,6 +12,7 @@ use Rattle.rel_algebra.specs.Clauses.{filter_rows, project_rows}
 use Rattle.rel_algebra.specs.Groups.{group_rows}
 use Rattle.rel_algebra.specs.Ranks.{rank_rows}
 use Rattle.rel_algebra.specs.Rel.{Unary, filter_by, project_on, group_by, rank_in, Binary, join_on, semi_on}
+use Rattle.rel_algebra.specs.Sets.{set_form, set_rows}
 use Rattle.rel_algebra.specs.Joins.{matching, join_rows, semi_join}
 
 -- the condition is evaluated on every row
@@ -32,6 +33,10 @@ join_answer left_columns right_columns kind pairs rest left right = join_rows ki
 
 abbrev pub semi_answer : Bool → List Pair → Option Expr → Rows → Rows → Option Rows
 semi_answer anti pairs rest left right = semi_join anti (matching pairs (option_map eval rest)) left right
+
+-- EXCEPT, or else INTERSECT, with ALL or without; never out of range
+abbrev pub set_answer : Bool → Bool → Rows → Rows → Option Rows
+set_answer except all left right = Some (set_rows (set_form except all) left right)
 
 -- those of a node with one input, and with two, over the columns of the inputs
 abbrev pub unary_answer : Unary → List ColTy → Rows → Option Rows

@@ -10,6 +10,7 @@ pub mod Joins
 pub mod Keys
 pub mod Ranks
 pub mod Rel
+pub mod Sets
 pub mod Sums
 pub mod Types
 pub mod Unions

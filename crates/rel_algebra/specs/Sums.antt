@@ -1,5 +1,5 @@
 -- Sums of bags, and what is made of a bag item by item. None stands for out of range.
-use Rattle.std.specs.Prelude.{◌==◌, Bool, true, false, List, [], ◌∷◌, Option, Some, None}
+use Rattle.std.specs.Prelude.{ℕ, ◌==◌, nat_lt, Bool, true, false, List, [], ◌∷◌, Option, Some, None}
 use Rattle.std.specs.List.{AllByRecursion}
 use Rattle.std.specs.declared.cmp.Ordering.{Ordering}
 use Rattle.ct_value.specs.Bag.{Bag, items, none, add, copies}
@@ -40,6 +40,10 @@ module _ {A : Type 0} {R : A → A → Ordering} where
   -- each item once
   unfoldable pub distinct : Bag R → Bag R
   distinct b = gather (λ x c. add_where (copies c x == 0) x c) none (items b)
+
+  -- at most so many copies of each item
+  unfoldable pub thinned : (A → ℕ) → Bag R → Bag R
+  thinned most b = gather (λ x c. add_where (nat_lt (copies c x) (most x)) x c) none (items b)
 
   -- a fact of each item
   abbrev pub Each : (A → Type 0) → Bag R → Type 0
