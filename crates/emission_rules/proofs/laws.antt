@@ -34,6 +34,8 @@ pub mod Ranked
 pub mod RowAnswers
 pub mod RowFacts
 pub mod RowReads
+pub mod SetFacts
+pub mod SetSteps
 pub mod Sinks
 pub mod Sums
 pub mod Theorems

@@ -10,6 +10,7 @@ pub mod Materialize
 pub mod Normalize
 pub mod Project
 pub mod Ranking
+pub mod SetOps
 pub mod Sink
 pub mod TopFits
 pub mod Union
