@@ -1,6 +1,13 @@
 pub mod Cells
 pub mod Turns
+pub mod Folds
+pub mod Folded
+pub mod Alike
+pub mod Arrived
+pub mod Bundled
 pub mod Members
+pub mod OnTheWay
 pub mod Openings
 pub mod Shifts
 pub mod Taken
+pub mod Taking

@@ -38,7 +38,7 @@ use Rattle.op_group.proofs.Members.{gone-group, gone_there, own_members}
 -- ---- what goes
 
 -- a row goes only where rows can be removed
-goes_retracting : (mode : Mode) (rows : Rows) (change : Change) → MayCome mode rows change → is_some (row_of (difference mode rows change).gone) ≡ true → admits mode D ≡ true
+pub goes_retracting : (mode : Mode) (rows : Rows) (change : Change) → MayCome mode rows change → is_some (row_of (difference mode rows change).gone) ≡ true → admits mode D ≡ true
 goes_retracting append rows change may some = absurd (
     let e : (adds change.kind) ≡ true = append_only change.kind may in
     let none : is_some (row_of (as_it_is (adds change.kind) change).gone) ≡ false = ap (λ b. is_some (row_of (as_it_is b change).gone)) e in
@@ -47,20 +47,20 @@ goes_retracting retract rows change may some = refl
 goes_retracting (upsert key) rows change may some = refl
 
 -- a row of the group that stands is one of its members
-member : (g : Grouping) (key : Row) (rows : Rows) (o : Option Change) → HasRow rows (row_of o) → ((change : Change) → o ≡ Some change → take g.keys change.row ≡ key) → HasRow (members g key rows) (row_of o)
+pub member : (g : Grouping) (key : Row) (rows : Rows) (o : Option Change) → HasRow rows (row_of o) → ((change : Change) → o ≡ Some change → take g.keys change.row ≡ key) → HasRow (members g key rows) (row_of o)
 member g key rows None has of = tt
 member g key rows (Some change) has of =
     let here : in_group g.keys key change.row ≡ true = ap (same_row key) (of change refl) ∙ same_row-itself key in
     let same : copies (members g key rows) change.row ≡ copies rows change.row = copies-members g key rows change.row ∙ ap (λ b. cond b (copies rows change.row) 0) here in
     subst (λ n. 0 < n) (sym same) has
 
-bit-le : (b : Bool) → cond b 1 0 ≤ 1
+pub bit-le : (b : Bool) → cond b 1 0 ≤ 1
 bit-le true = omega arith
 bit-le false = omega arith
 
 -- ---- what is told
 
-still_some : (a b : ℕ) (global : Bool) → a ≤ b → (global || not (a == 0)) ≡ true → (global || not (b == 0)) ≡ true
+pub still_some : (a b : ℕ) (global : Bool) → a ≤ b → (global || not (a == 0)) ≡ true → (global || not (b == 0)) ≡ true
 still_some a b true le e = refl
 still_some a b false le e =
     elim (b == 0) as (λ t. (b == 0) ≡ t → not t ≡ true) [
@@ -73,7 +73,7 @@ both_parts true true e = (refl, refl)
 both_parts true false e = absurd (cc)
 both_parts false b e = absurd (cc)
 
-row_alone : (g : Grouping) (key : Row) (m : Rows) → g.aggs ≡ [] → row_with g key m ≡ Some (key ++ [])
+pub row_alone : (g : Grouping) (key : Row) (m : Rows) → g.aggs ≡ [] → row_with g key m ≡ Some (key ++ [])
 row_alone g key m e = ap (λ aggs. option_map (λ values. key ++ values) (agg_results g.columns aggs m)) e
 
 module _ (by : GroupBy) (input output : Mode) (rows : Rows) (groups : BTreeMap Row Kept) (held : ℕ) (change : Change) (m : MayTake by (grouping by input output) rows groups held change) where

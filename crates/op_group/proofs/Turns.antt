@@ -1,4 +1,4 @@
--- What is kept of all groups after one of them is taken out and put back.
+-- What is kept of all groups after a change of one of them.
 use Rattle.std.proofs.Common.{◌≡◌, ◌==◌, true, false, cond, Option, Some, None, refl, sym, ap, subst, ◌∙◌}
 use Rattle.std.specs.BTreeMap.{BTreeMap, IsOrdered, get}
 use Rattle.std.proofs.lemmas.Bool.{eqb-true}
@@ -34,27 +34,61 @@ nothing_put groups key e other =
       | false ↦ λ s. refl
     ] refl
 
-module _ (by : GroupBy) (key : Row) (of after : Row → Rows) (gone come : Option Row) (turned : IsTurned key of after gone come) (old mid new : BTreeMap Row Kept) (kept : Kept) where
-  own : IsKept by.tys by.aggs kept (replaced (of key) gone come) → (by.retracting ≡ true → AllRetract kept.counters.items) → KeptAt by.tys by.aggs by.retracting (after key) (unless_empty (kept.rows == 0) kept)
+-- what is written at a key is there, unless it has no rows
+pub written : (key : Row) (old new : BTreeMap Row Kept) (kept : Kept) → (kept.rows == 0) ≡ false
+    → ((other : Row) → get row_cmp new other ≡ cond (same_row key other) (Some kept) (get row_cmp old other))
+    → (other : Row) → get row_cmp new other ≡ cond (same_row key other) (unless_empty (kept.rows == 0) kept) (get row_cmp old other)
+written key old new kept some writes other = writes other ∙ ap (λ b. cond (same_row key other) (unless_empty b kept) (get row_cmp old other)) (sym some)
+
+-- what is written at a key, without rows, and then let go isn't there
+pub written_then_gone : (key : Row) (old mid new : BTreeMap Row Kept) (kept : Kept) → (kept.rows == 0) ≡ true
+    → ((other : Row) → get row_cmp mid other ≡ cond (same_row key other) (Some kept) (get row_cmp old other))
+    → ((other : Row) → get row_cmp new other ≡ cond (same_row key other) None (get row_cmp mid other))
+    → (other : Row) → get row_cmp new other ≡ cond (same_row key other) (unless_empty (kept.rows == 0) kept) (get row_cmp old other)
+written_then_gone key old mid new kept none writes gone other =
+    gone other
+    ∙ ap (cond (same_row key other) None) (writes other)
+    ∙ elim (same_row key other) as (λ b. cond b None (cond b (Some kept) (get row_cmp old other)) ≡ cond b None (get row_cmp old other)) [ true ↦ refl | false ↦ refl ]
+    ∙ ap (λ b. cond (same_row key other) (unless_empty b kept) (get row_cmp old other)) (sym none)
+
+-- what is taken out at a key and put back
+pub put_anew : (key : Row) (old mid new : BTreeMap Row Kept) (kept : Kept)
+    → ((other : Row) → get row_cmp mid other ≡ cond (same_row key other) None (get row_cmp old other))
+    → ((other : Row) → get row_cmp new other ≡ cond (same_row key other) (unless_empty (kept.rows == 0) kept) (get row_cmp mid other))
+    → (other : Row) → get row_cmp new other ≡ cond (same_row key other) (unless_empty (kept.rows == 0) kept) (get row_cmp old other)
+put_anew key old mid new kept out put other =
+    put other
+    ∙ ap (cond (same_row key other) (unless_empty (kept.rows == 0) kept)) (out other)
+    ∙ elim (same_row key other) as (λ b. cond b (unless_empty (kept.rows == 0) kept) (cond b None (get row_cmp old other)) ≡ cond b (unless_empty (kept.rows == 0) kept) (get row_cmp old other)) [ true ↦ refl | false ↦ refl ]
+
+-- a group is written anew, the others have the rows that they had
+module _ (by : GroupBy) (key : Row) (of after : Row → Rows) (others : (other : Row) → same_row key other ≡ false → after other ≡ of other) (old new : BTreeMap Row Kept) (kept : Kept) where
+  own : IsKept by.tys by.aggs kept (after key) → (by.retracting ≡ true → AllRetract kept.counters.items) → KeptAt by.tys by.aggs by.retracting (after key) (unless_empty (kept.rows == 0) kept)
   own is retract =
       elim (kept.rows == 0) as (λ b. (kept.rows == 0) ≡ b → KeptAt by.tys by.aggs by.retracting (after key) (unless_empty b kept)) [
-        | true ↦ λ z. ap row_count turned.own ∙ sym is.count ∙ eqb-true kept.rows 0 z
-        | false ↦ λ z. (subst (IsKept by.tys by.aggs kept) (sym turned.own) is, retract)
+        | true ↦ λ z. sym is.count ∙ eqb-true kept.rows 0 z
+        | false ↦ λ z. (is, retract)
       ] refl
 
-  pub kept_after : AreKept by old of → IsKept by.tys by.aggs kept (replaced (of key) gone come) → (by.retracting ≡ true → AllRetract kept.counters.items)
-      → ((other : Row) → get row_cmp mid other ≡ cond (same_row key other) None (get row_cmp old other))
-      → ((other : Row) → get row_cmp new other ≡ cond (same_row key other) (unless_empty (kept.rows == 0) kept) (get row_cmp mid other))
+  pub kept_anew : AreKept by old of → IsKept by.tys by.aggs kept (after key) → (by.retracting ≡ true → AllRetract kept.counters.items)
+      → ((other : Row) → get row_cmp new other ≡ cond (same_row key other) (unless_empty (kept.rows == 0) kept) (get row_cmp old other))
       → IsOrdered row_cmp new → AreKept by new after
-  kept_after all is retract out put ordered = record {
+  kept_anew all is retract put ordered = record {
     ordered = ordered;
     each = λ other.
-        elim (same_row key other) as (λ b. same_row key other ≡ b → get row_cmp new other ≡ cond b (unless_empty (kept.rows == 0) kept) (get row_cmp mid other) → get row_cmp mid other ≡ cond b None (get row_cmp old other) → KeptAt by.tys by.aggs by.retracting (after other) (get row_cmp new other)) [
-          | true ↦ λ e p q.
+        elim (same_row key other) as (λ b. same_row key other ≡ b → get row_cmp new other ≡ cond b (unless_empty (kept.rows == 0) kept) (get row_cmp old other) → KeptAt by.tys by.aggs by.retracting (after other) (get row_cmp new other)) [
+          | true ↦ λ e p.
               subst (KeptAt by.tys by.aggs by.retracting (after other)) (sym p)
               (subst (λ k. KeptAt by.tys by.aggs by.retracting (after k) (unless_empty (kept.rows == 0) kept)) (same_row-true key other e) (own is retract))
-          | false ↦ λ e p q.
-              subst (KeptAt by.tys by.aggs by.retracting (after other)) (sym (p ∙ q))
-              (subst (λ r. KeptAt by.tys by.aggs by.retracting r (get row_cmp old other)) (sym (turned.others other e)) (all.each other))
-        ] refl (put other) (out other);
+          | false ↦ λ e p.
+              subst (KeptAt by.tys by.aggs by.retracting (after other)) (sym p)
+              (subst (λ r. KeptAt by.tys by.aggs by.retracting r (get row_cmp old other)) (sym (others other e)) (all.each other))
+        ] refl (put other);
   }
+
+pub kept_after : (by : GroupBy) (key : Row) (of after : Row → Rows) (gone come : Option Row) → IsTurned key of after gone come → (old new : BTreeMap Row Kept) (kept : Kept)
+    → AreKept by old of → IsKept by.tys by.aggs kept (replaced (of key) gone come) → (by.retracting ≡ true → AllRetract kept.counters.items)
+    → ((other : Row) → get row_cmp new other ≡ cond (same_row key other) (unless_empty (kept.rows == 0) kept) (get row_cmp old other))
+    → IsOrdered row_cmp new → AreKept by new after
+kept_after by key of after gone come turned old new kept all is retract put ordered =
+    kept_anew by key of after turned.others old new kept all (subst (IsKept by.tys by.aggs kept) (sym turned.own) is) retract put ordered

@@ -1,13 +1,16 @@
-ghost use Rattle.std.specs.Prelude.{◌≡◌, ◌≢◌, ℕ, ◌+◌, [], ◌∷◌, take, true, false, Ok, Err, IfOk, OnOk, option_copied};
-ghost use Rattle.ct_change.specs.Changelog.{Rows, apply};
+ghost use Rattle.std.specs.Prelude.{◌≡◌, ◌≢◌, ℕ, ◌+◌, ◌++◌, List, [], ◌∷◌, length, take, true, false, Ok, Err, IfOk, OnOk, OnErr, option_copied};
+ghost use Rattle.ct_change.specs.Changelog.{Rows, apply, fold_from};
 ghost use Rattle.ct_change.specs.Emission.{emission, row_of, CanTell};
 ghost use Rattle.op_rules.specs.Faults.{IfRange};
+ghost use Rattle.op_rules.specs.History.{Arrival};
 
+use crate::fold::take_group;
 use crate::groups::{GroupBy, Results, first_row, turn_group};
 use crate::kept::Kept;
+use crate::pieces::take_changes;
 use ct_change::{Change, Changes, InMode, Kind, OutMode, Steps};
 use ct_value::{ColTys, Memory, Row};
-use op_rules::{OpFault, Operator};
+use op_rules::{OpFault, Operator, PieceOperator};
 use rel_algebra::Aggs;
 use std::alloc::Global;
 use std::collections::BTreeMap;
@@ -29,6 +32,7 @@ pub struct Group<I: InMode, O: OutMode> {
 impl<I: InMode, O: OutMode> Group<I, O> {
     ghost use Rattle.emission_rules.specs.Grouping.{Grouping, group_rule, group_emits, IsSound};
     ghost use Rattle.op_group.specs.Groups.{grouping, MayTake, IsGrouped};
+    ghost use Rattle.op_group.specs.Folding.{Answers, ForPieces, IsPieceOf};
 
     /// A group of no rows, by the first `keys` columns of rows with columns of these types, with these calls. The calls have
     /// to have types, and the modes to suit the groups: rows with one key of the input are of one group, and two rows of the
@@ -63,6 +67,43 @@ impl<I: InMode, O: OutMode> Group<I, O> {
             groups: BTreeMap::new(alloc),
             broken: false,
         })
+    }
+
+    /// Takes changes of the rows of one group, which its key names, as one change of the group: what is told of it is its row before
+    /// them and its row after them. `Range` comes exactly where its rule is out of range over them, with the rule's row. It must not be
+    /// broken, each change must be one that may come after those before it, and it must have taken fewer than 4,294,967,296 changes
+    /// with them. After an error it is broken (Flink documentation, "Performance Tuning", MiniBatch Aggregation).
+    pub fn fold<L: Ledger>(
+        &mut self,
+        key: Row,
+        changes: Changes,
+        _steps: &mut Steps<L>,
+    ) -> Result<Changes, OpFault>
+        requires whole { self.old.broken ≡ false }
+        requires may { (before : List Arrival) × (piece : List Arrival) × ⟦<Group<I, O> as Operator>⟧.stands_for self.old before × IsPieceOf self.old.by.keys (⟦<Group<I, O> as Operator>⟧.rule self.old) before piece key changes }
+        ensures sent { IfOk result (λ sent. Answers self.old.by.keys (⟦<Group<I, O> as Operator>⟧.rule self.old) (⟦<Group<I, O> as Operator>⟧.stands_for self.old) key changes (Ok sent)) }
+        ensures stands { OnOk result (ForPieces self.old.by.keys (⟦<Group<I, O> as Operator>⟧.rule self.old) (⟦<Group<I, O> as Operator>⟧.stands_for self.old) key changes (λ before piece. ⟦<Group<I, O> as Operator>⟧.stands_for self.new (before ++ piece))) }
+        ensures range { IfRange result (λ row. Answers self.old.by.keys (⟦<Group<I, O> as Operator>⟧.rule self.old) (⟦<Group<I, O> as Operator>⟧.stands_for self.old) key changes (Err row)) }
+        ensures rule { ⟦<Group<I, O> as Operator>⟧.rule self.new ≡ ⟦<Group<I, O> as Operator>⟧.rule self.old }
+        ensures whole { OnOk result (self.new.broken ≡ false) }
+        ensures breaks { OnErr result (self.new.broken ≡ true) }
+        ensures cost { _steps.new ≡ _steps.old }
+    {
+        self.broken = true;
+        let sent = match take_group(
+            &self.by,
+            &self.input,
+            &self.output,
+            &mut self.rows,
+            &mut self.groups,
+            key,
+            changes,
+        ) {
+            Ok(sent) => sent,
+            Err(fault) => return Err(fault),
+        };
+        self.broken = false;
+        Ok(sent)
     }
 
     // Takes a change, and answers what is emitted for it.
@@ -141,8 +182,33 @@ impl<I: InMode, O: OutMode> Operator for Group<I, O> {
     }
 }
 
+impl<I: InMode, O: OutMode> PieceOperator for Group<I, O> {
+    ghost takes_pieces = { λ s. true };
+
+    fn take_piece<L: Ledger>(
+        &mut self,
+        changes: Changes,
+        _steps: &mut Steps<L>,
+    ) -> Result<Changes, OpFault> {
+        self.broken = true;
+        let sent = match take_changes(
+            &self.by,
+            &self.input,
+            &self.output,
+            &mut self.rows,
+            &mut self.groups,
+            changes,
+        ) {
+            Ok(sent) => sent,
+            Err(fault) => return Err(fault),
+        };
+        self.broken = false;
+        Ok(sent)
+    }
+}
+
 // The row of a change.
-fn row_of(change: &Option<Change>) -> Option<&Row>
+pub(crate) fn row_of(change: &Option<Change>) -> Option<&Row>
     ensures { option_copied result ≡ row_of change.now }
 {
     match change {
@@ -152,7 +218,11 @@ fn row_of(change: &Option<Change>) -> Option<&Row>
 }
 
 // The changes that replace one row of a group by another, none where it stays.
-fn told<O: OutMode>(alloc: Global, output: &O, results: Results) -> Result<Changes, Memory>
+pub(crate) fn told<O: OutMode>(
+    alloc: Global,
+    output: &O,
+    results: Results,
+) -> Result<Changes, Memory>
     requires { results.old ≢ results.fresh → CanTell (O.mode output.now) results.old results.fresh }
     ensures { IfOk result (λ sent. sent ≡ emission (O.mode output.now) results.old results.fresh) }
 {

@@ -77,7 +77,11 @@ pub fn turn_group(
 }
 
 // Takes what is kept of a group out, which is what is kept of no rows where the group isn't there.
-fn take_out(by: &GroupBy, groups: &mut BTreeMap<Row, Kept>, key: &Row) -> Result<Kept, Memory>
+pub(crate) fn take_out(
+    by: &GroupBy,
+    groups: &mut BTreeMap<Row, Kept>,
+    key: &Row,
+) -> Result<Kept, Memory>
     ensures kept { IfOk result (λ kept. (of : Row → Rows) → AreKept by.now groups.old of → IsKept by.now.tys by.now.aggs kept (of key.now) × (by.now.retracting ≡ true → AllRetract kept.counters.items)) }
     ensures others { (other : Row) → get row_cmp groups.new other ≡ cond (same_row key.now other) None (get row_cmp groups.old other) }
     ensures ordered { IsOrdered row_cmp groups.new }
@@ -92,7 +96,7 @@ fn take_out(by: &GroupBy, groups: &mut BTreeMap<Row, Kept>, key: &Row) -> Result
 }
 
 // Puts what is kept of a group in, which mustn't be there, unless the group has no rows.
-fn put_back(groups: &mut BTreeMap<Row, Kept>, key: Row, kept: Kept) -> Result<(), Memory>
+pub(crate) fn put_back(groups: &mut BTreeMap<Row, Kept>, key: Row, kept: Kept) -> Result<(), Memory>
     requires absent { get row_cmp groups.old key ≡ None }
     requires ordered { IsOrdered row_cmp groups.old }
     ensures put { OnOk result ((other : Row) → get row_cmp groups.new other ≡ cond (same_row key other) (unless_empty (kept.rows == 0) kept) (get row_cmp groups.old other)) }

@@ -7,9 +7,11 @@
 #![tactic(auto)]
 
 mod counter;
+mod fold;
 mod group;
 mod groups;
 mod kept;
+mod pieces;
 mod turn;
 
 pub use counter::Counter;

@@ -2,7 +2,7 @@ use Rattle.std.proofs.Common.{subst, option_copied}
 use Rattle.ct_change.specs.Emission.{replaced}
 use Rattle.op_group.specs.Kept.{IsKept}
 use Rattle.op_group.proofs.Shifts.{own_calls}
-use Rattle.op_group.proofs.Turns.{absent, kept_after}
+use Rattle.op_group.proofs.Turns.{absent, kept_after, put_anew}
 use Rattle.op_group.proofs.groups.turn_group.Goals as goal
 
 pub take_turn-requires-clause-kept : goal.take_turn-requires-clause-kept
@@ -22,5 +22,5 @@ returns-clause-kept c = λ of after all has turned.
     let before = c.in_ok-kept.ensures.kept of all in
     let is = subst (λ aggs. IsKept by.tys aggs c.in-Ok.turn.kept (replaced (of c.args.key) gone come)) before.0.calls_are
     (c.in-Ok.ensures.kept by.tys (of c.args.key) (own_calls by.tys by.aggs c.in_ok-kept.kept (of c.args.key) before.0) has) in
-    kept_after by c.args.key of after gone come turned c.args.groups.now c.take_out.new.groups c.put_back.new.groups c.in-Ok.turn.kept all is (λ r. c.in-Ok.ensures.retracts (before.1 r))
-    c.in_ok-kept.ensures.others c.in_ok-put_back.ensures.put c.in_ok-put_back.ensures.ordered
+    kept_after by c.args.key of after gone come turned c.args.groups.now c.put_back.new.groups c.in-Ok.turn.kept all is (λ r. c.in-Ok.ensures.retracts (before.1 r))
+    (put_anew c.args.key c.args.groups.now c.take_out.new.groups c.put_back.new.groups c.in-Ok.turn.kept c.in_ok-kept.ensures.others c.in_ok-put_back.ensures.put) c.in_ok-put_back.ensures.ordered
