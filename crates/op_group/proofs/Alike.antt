@@ -1,6 +1,6 @@
 -- Changes of one group make the same of it whatever rows the other groups have.
-use Rattle.std.proofs.Common.{◌≡◌, ℕ, ◌+◌, ◌<◌, ◌≤◌, ◌&&◌, ◌||◌, not, Bool, true, false, cond, List, [], ◌∷◌, length, map, take, Option, Some, None, Ok, Err, refl, sym, ap, subst, ◌∙◌, arith}
-use Rattle.std.specs.Prelude.{filter, is_some, T}
+use Rattle.std.proofs.Common.{◌≡◌, ◌+◌, ◌<◌, ◌≤◌, ◌&&◌, ◌||◌, not, Bool, true, false, cond, List, [], ◌∷◌, length, map, take, Option, Some, None, Ok, Err, refl, sym, ap, subst, ◌∙◌, arith}
+use Rattle.std.specs.Prelude.{is_some, T}
 use Rattle.std.specs.List.{find, list_any, AllByRecursion, IsDistinct}
 use Rattle.std.specs.Ordering.{is_gt, ordering_reverse}
 use Rattle.std.specs.declared.cmp.Ordering.TheVariants.{Less, Equal, Greater}
@@ -13,16 +13,15 @@ use Rattle.ct_value.specs.Order.{row_cmp, row_total, row_exact}
 use Rattle.ct_value.specs.Rows.{project}
 use Rattle.ct_value.specs.declared.row.Row.{Row}
 use Rattle.ct_change.specs.declared.change.Change.{Change}
-use Rattle.ct_change.specs.Changelog.{Mode, append, retract, upsert, Rows, same_row, adds, row_at, apply, fold_from, HasKey, MayCome, IsValidFrom}
+use Rattle.ct_change.specs.Changelog.{Mode, append, retract, upsert, Rows, same_row, apply, fold_from, HasKey, MayCome, IsValidFrom}
 use Rattle.ct_change.specs.Emission.{difference, replaced_by, weight_of, emission}
 use Rattle.ct_change.proofs.laws.Folds.{find-passes, total-apply}
 use Rattle.ct_change.proofs.laws.Meanings.{same_row-true, same_row-itself}
 use Rattle.rel_algebra.specs.GroupedCounts.{in_group, AreWide}
 use Rattle.rel_algebra.proofs.laws.Results.{any-first_seen, distinct-first_seen}
 use Rattle.op_rules.specs.Rules.{Answer, appended}
-use Rattle.emission_rules.specs.Grouping.{Grouping, KeepsGroups, members, results, is_shown, row_of, group_row, sums_fit, fits_along, groups_of, answers, group_emits}
+use Rattle.emission_rules.specs.Grouping.{Grouping, KeepsGroups, members, results, is_shown, row_of, sums_fit, fits_along, groups_of, answers, group_emits}
 use Rattle.emission_rules.proofs.laws.Members.{at, copies-members, counted-members, other_members, other_members_from, wide_after, wide_from}
-use Rattle.mini_batch.specs.Held.{Entries}
 use Rattle.op_group.specs.Bundles.{of_group, by_group, folded, told_along, MayFollow}
 use Rattle.op_group.specs.Folding.{AreOf, HaveKeys}
 

@@ -1,12 +1,12 @@
 -- Arrivals, each of which may come after those before it, as the changes of a piece.
-use Rattle.std.proofs.Common.{◌≡◌, ℕ, ◌<◌, ◌≤◌, ◌==◌, ◌+◌, ◌^◌, List, [], ◌∷◌, ◌++◌, length, map, take, cond, refl, sym, ap, subst, ◌∙◌, arith, length-append}
+use Rattle.std.proofs.Common.{◌≡◌, ℕ, ◌<◌, ◌≤◌, ◌+◌, List, [], ◌∷◌, ◌++◌, length, map, take, cond, refl, sym, ap, subst, ◌∙◌, arith, length-append}
 use Rattle.std.proofs.lemmas.List.{length-map}
 use Rattle.std.specs.List.{AllByRecursion}
 use Rattle.std.specs.BTreeMap.{BTreeMap}
 use Rattle.std.proofs.lemmas.Bool.{eq-eqb}
 use Rattle.ct_value.specs.declared.row.Row.{Row}
 use Rattle.ct_change.specs.declared.change.Change.{Change}
-use Rattle.ct_change.specs.Changelog.{Mode, Rows, kinds_of, apply, fold, fold_from, IsValidFrom, MayCome, HasKey}
+use Rattle.ct_change.specs.Changelog.{Mode, Rows, kinds_of, apply, fold, fold_from, IsValidFrom, MayCome}
 use Rattle.ct_change.proofs.laws.Folds.{fold-push}
 use Rattle.op_rules.specs.History.{Arrival, at_port}
 use Rattle.op_rules.specs.Rules.{ArriveAfter, MayTakePiece}

@@ -1,5 +1,5 @@
 -- What is told of a group whose changes were taken in turn.
-use Rattle.std.proofs.Common.{◌≡◌, ◌≢◌, ℕ, ◌≤◌, ◌+◌, ◌&&◌, ◌||◌, ◌==◌, ◌++◌, not, Bool, true, false, cond, List, [], ◌∷◌, length, map, take, Option, Some, None, Ok, Err, refl, sym, ap, subst, ◌∙◌, arith, append-nil}
+use Rattle.std.proofs.Common.{◌≡◌, ◌≢◌, ℕ, ◌&&◌, ◌==◌, not, Bool, true, false, cond, List, [], ◌∷◌, length, take, Option, Some, None, Ok, Err, refl, sym, ap, subst, ◌∙◌, arith, append-nil}
 use Rattle.std.specs.Prelude.{filter, Result, IfOk, OnOk}
 use Rattle.std.specs.List.{AllByRecursion}
 use Rattle.std.specs.BTreeMap.{BTreeMap}
@@ -11,7 +11,6 @@ use Rattle.ct_change.specs.Emission.{emission, CanTell}
 use Rattle.ct_change.proofs.laws.Emissions.{emission-same}
 use Rattle.ct_change.proofs.laws.Folds.{append_only}
 use Rattle.ct_change.proofs.laws.Meanings.{same_row-itself}
-use Rattle.rel_algebra.specs.GroupedCounts.{first_seen, AreWide}
 use Rattle.op_rules.specs.Rules.{Answer, appended}
 use Rattle.op_rules.specs.declared.operator.OpFault.{OpFault}
 use Rattle.op_rules.specs.declared.operator.OpFault.TheVariants.{Range, Memory}

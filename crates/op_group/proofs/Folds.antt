@@ -1,5 +1,5 @@
 -- Changes of one group that are taken in turn: what is kept of the group after each, and whether a sum left its limit.
-use Rattle.std.proofs.Common.{◌≡◌, ℕ, ◌<◌, ◌≤◌, ◌+◌, ◌^◌, ◌&&◌, ◌||◌, ◌==◌, not, Bool, true, false, cond, List, [], ◌∷◌, ◌++◌, length, map, take, Option, Some, None, refl, sym, ap, subst, ◌∙◌, arith, length-append}
+use Rattle.std.proofs.Common.{◌≡◌, ℕ, ◌<◌, ◌≤◌, ◌+◌, ◌^◌, ◌&&◌, ◌||◌, ◌==◌, not, Bool, true, false, cond, List, [], ◌∷◌, ◌++◌, length, map, take, Option, None, refl, sym, ap, subst, ◌∙◌, arith, length-append}
 use Rattle.std.specs.Prelude.{IsSome, is_some, get_or}
 use Rattle.std.specs.List.{AllByRecursion, list_any}
 use Rattle.std.specs.BTreeMap.{BTreeMap, IsOrdered, get}
@@ -7,9 +7,8 @@ use Rattle.std.specs.Cmp.{eq_by_cmp_equiv}
 use Rattle.ct_value.proofs.laws.Bags.{total-le}
 use Rattle.ct_value.specs.Order.{row_cmp, row_total}
 use Rattle.ct_value.specs.declared.row.Row.{Row}
-use Rattle.ct_change.specs.declared.kind.Kind.TheVariants.{D}
 use Rattle.ct_change.specs.declared.change.Change.{Change}
-use Rattle.ct_change.specs.Changelog.{Mode, Rows, same_row, admits, apply, fold_from, HasKey, IsValidFrom, MayCome}
+use Rattle.ct_change.specs.Changelog.{Mode, Rows, same_row, apply, fold_from, HasKey, IsValidFrom, MayCome}
 use Rattle.ct_change.specs.Emission.{difference, row_of, replaced}
 use Rattle.ct_change.proofs.laws.Folds.{fold_from-append, IsValidFrom-back, IsValidFrom-front, total-apply, weight-come}
 use Rattle.ct_change.proofs.laws.Meanings.{same_row-itself, same_row-true}
@@ -20,7 +19,7 @@ use Rattle.op_group.specs.declared.kept.Kept.{Kept}
 use Rattle.op_group.specs.declared.groups.GroupBy.{GroupBy}
 use Rattle.op_group.specs.Kept.{HasRow, AllRetract, IsKept, all_fit}
 use Rattle.op_group.specs.Groups.{unless_empty, grouping, IsGrouped}
-use Rattle.op_group.specs.Folding.{AreOf, HaveKeys, HasShiftedAlong, MayFold, MayShiftAlong}
+use Rattle.op_group.specs.Folding.{AreOf, HasShiftedAlong, MayFold, MayShiftAlong}
 use Rattle.op_group.proofs.Members.{gone-group, gone_there, own_members}
 use Rattle.op_group.proofs.Turns.{kept_anew, put_anew}
 use Rattle.op_group.proofs.Taken.{goes_retracting, member, bit-le}

@@ -8,7 +8,6 @@ use Rattle.ct_value.specs.declared.row.Row.{Row}
 use Rattle.ct_change.specs.Changelog.{Rows, same_row}
 use Rattle.ct_change.specs.Emission.{replaced}
 use Rattle.ct_change.proofs.laws.Meanings.{same_row-true, same_row-itself}
-use Rattle.emission_rules.specs.Grouping.{row_count}
 use Rattle.op_group.specs.declared.kept.Kept.{Kept}
 use Rattle.op_group.specs.declared.groups.GroupBy.{GroupBy}
 use Rattle.op_group.specs.Kept.{AllRetract, KeptAt, IsKept}
@@ -86,9 +85,9 @@ module _ (by : GroupBy) (key : Row) (of after : Row → Rows) (others : (other :
         ] refl (put other);
   }
 
-pub kept_after : (by : GroupBy) (key : Row) (of after : Row → Rows) (gone come : Option Row) → IsTurned key of after gone come → (old new : BTreeMap Row Kept) (kept : Kept)
-    → AreKept by old of → IsKept by.tys by.aggs kept (replaced (of key) gone come) → (by.retracting ≡ true → AllRetract kept.counters.items)
+pub kept_after : (by : GroupBy) (key : Row) (of after : Row → Rows) (goes comes : Option Row) → IsTurned key of after goes comes → (old new : BTreeMap Row Kept) (kept : Kept)
+    → AreKept by old of → IsKept by.tys by.aggs kept (replaced (of key) goes comes) → (by.retracting ≡ true → AllRetract kept.counters.items)
     → ((other : Row) → get row_cmp new other ≡ cond (same_row key other) (unless_empty (kept.rows == 0) kept) (get row_cmp old other))
     → IsOrdered row_cmp new → AreKept by new after
-kept_after by key of after gone come turned old new kept all is retract put ordered =
+kept_after by key of after goes comes turned old new kept all is retract put ordered =
     kept_anew by key of after turned.others old new kept all (subst (IsKept by.tys by.aggs kept) (sym turned.own) is) retract put ordered

@@ -1,5 +1,5 @@
 ghost use Rattle.std.specs.Prelude.{◌≡◌, ◌≢◌, ℕ, ◌+◌, ◌++◌, List, [], ◌∷◌, length, take, true, false, Ok, Err, IfOk, OnOk, OnErr, option_copied};
-ghost use Rattle.ct_change.specs.Changelog.{Rows, apply, fold_from};
+ghost use Rattle.ct_change.specs.Changelog.{Rows, apply};
 ghost use Rattle.ct_change.specs.Emission.{emission, row_of, CanTell};
 ghost use Rattle.op_rules.specs.Faults.{IfRange};
 ghost use Rattle.op_rules.specs.History.{Arrival};
@@ -226,10 +226,11 @@ pub(crate) fn told<O: OutMode>(
     requires { results.old ≢ results.fresh → CanTell (O.mode output.now) results.old results.fresh }
     ensures { IfOk result (λ sent. sent ≡ emission (O.mode output.now) results.old results.fresh) }
 {
-    let mut sent = Changes::new(alloc);
     if stays(&results) {
+        let sent = Changes::new(alloc);
         return Ok(sent);
     }
+    let mut sent = Changes::with_capacity(alloc, 2)?;
     output.emit(results.old, results.fresh, &mut sent)?;
     Ok(sent)
 }

@@ -63,17 +63,50 @@ pub fn turn_group(
     ensures kept { OnOk result ((of after : Row → Rows) → AreKept by.now groups.old of → HasRow (of key) (option_copied gone.entry) → IsTurned key of after (option_copied gone.entry) (option_copied come.entry) → AreKept by.now groups.new after) }
     ensures range { IfRange result (λ row. (row ≡ key) × ForTurned by.now groups.old key (option_copied gone.entry) (option_copied come.entry) (λ before after. all_counted by.now.tys by.now.aggs before ≡ true → in_range by.now after ≡ false)) }
 {
-    let kept = take_out(by, groups, &key)?;
-    let turn = match take_turn(kept, &key, by.keys, gone, come) {
-        Ok(turn) => turn,
+    let Some(kept) = groups.get_mut(&key) else {
+        return start_group(by, groups, key, gone, come);
+    };
+    let results = match take_turn(kept, &key, by.keys, gone, come) {
+        Ok(results) => results,
         Err(AccFault::Out) => return Err(OpFault::Range(key)),
         Err(AccFault::Memory) => return Err(OpFault::Memory),
     };
-    put_back(groups, key, turn.kept)?;
-    Ok(Results {
-        old: turn.old,
-        fresh: turn.fresh,
-    })
+    if kept.rows == 0 {
+        forget(groups, &key);
+    }
+    Ok(results)
+}
+
+// The same of a group that isn't there.
+fn start_group(
+    by: &GroupBy,
+    groups: &mut BTreeMap<Row, Kept>,
+    key: Row,
+    gone: Option<&Row>,
+    come: Option<&Row>,
+) -> Result<Results, OpFault>
+    requires kept { MayTurn by.now groups.old key (option_copied gone) }
+    requires retracts { IsSome (option_copied gone) → by.now.retracting ≡ true }
+    ensures told { IfOk result (λ results. ForTurned by.now groups.old key (option_copied gone.entry) (option_copied come.entry) (λ before after. IsTold by.now key before after results)) }
+    ensures kept { OnOk result ((of after : Row → Rows) → AreKept by.now groups.old of → HasRow (of key) (option_copied gone.entry) → IsTurned key of after (option_copied gone.entry) (option_copied come.entry) → AreKept by.now groups.new after) }
+    ensures range { IfRange result (λ row. (row ≡ key) × ForTurned by.now groups.old key (option_copied gone.entry) (option_copied come.entry) (λ before after. all_counted by.now.tys by.now.aggs before ≡ true → in_range by.now after ≡ false)) }
+{
+    let mut kept = take_out(by, groups, &key)?;
+    let results = match take_turn(&mut kept, &key, by.keys, gone, come) {
+        Ok(results) => results,
+        Err(AccFault::Out) => return Err(OpFault::Range(key)),
+        Err(AccFault::Memory) => return Err(OpFault::Memory),
+    };
+    put_back(groups, key, kept)?;
+    Ok(results)
+}
+
+// Lets a group go.
+fn forget(groups: &mut BTreeMap<Row, Kept>, key: &Row)
+    ensures gone { (other : Row) → get row_cmp groups.new other ≡ cond (same_row key.now other) None (get row_cmp groups.old other) }
+    ensures ordered { IsOrdered row_cmp groups.new }
+{
+    groups.remove(key);
 }
 
 // Takes what is kept of a group out, which is what is kept of no rows where the group isn't there.

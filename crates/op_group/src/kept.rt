@@ -10,7 +10,7 @@ ghost use Rattle.op_group.specs.Kept.{AllRetract, AllStand, ForRows, ForShifted,
 
 use crate::counter::Counter;
 use agg_fns::AccFault;
-use ct_value::{ColTys, Memory, Row};
+use ct_value::{ColTys, Memory, Row, Values};
 use rel_algebra::Aggs;
 use std::alloc::Global;
 
@@ -61,9 +61,21 @@ impl Kept {
         if keys != 0 && self.rows == 0 {
             return Ok(None);
         }
-        let row = results(&self.counters, key.dup()?)?;
+        let key = with_room(*self.counters.allocator(), key, self.counters.len())?;
+        let row = results(&self.counters, key)?;
         Ok(Some(row))
     }
+}
+
+// An equal row, with room for so many values behind it.
+fn with_room(alloc: Global, row: &Row, more: usize) -> Result<Row, Memory>
+    ensures { IfOk result (λ copy. copy ≡ row.now) }
+{
+    let mut values = Values::with_capacity(alloc, row.len().saturating_add(more))?;
+    for value in row.as_slice() {
+        values.push(value.dup()?)?;
+    }
+    Ok(Row::from_values(values))
 }
 
 // The number of rows without one that goes, and with one that comes.

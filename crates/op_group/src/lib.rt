@@ -17,4 +17,4 @@ mod turn;
 pub use counter::Counter;
 pub use group::Group;
 pub use kept::Kept;
-pub use turn::{Turn, take_turn};
+pub use turn::take_turn;

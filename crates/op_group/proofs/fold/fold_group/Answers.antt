@@ -1,4 +1,3 @@
-use Rattle.std.proofs.Common.{◌≡◌, true, false, refl, sym, ap, ◌∙◌}
 use Rattle.ct_change.specs.Changelog.{fold_from}
 use Rattle.emission_rules.specs.Grouping.{members, fits_along, is_counted}
 use Rattle.op_group.specs.Groups.{grouping}

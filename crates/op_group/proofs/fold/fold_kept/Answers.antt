@@ -1,5 +1,4 @@
-use Rattle.std.proofs.Common.{◌≡◌, ◌&&◌, false, sym, ap, ◌∙◌}
-use Rattle.std.specs.Prelude.{is_some}
+use Rattle.std.proofs.Common.{◌&&◌, sym, ap, ◌∙◌}
 use Rattle.ct_change.specs.Changelog.{fold_from}
 use Rattle.emission_rules.specs.Grouping.{members, fits_along, is_counted}
 use Rattle.op_group.specs.Kept.{all_counted, row_in}

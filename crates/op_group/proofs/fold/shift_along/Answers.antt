@@ -1,9 +1,9 @@
-use Rattle.std.proofs.Common.{◌≡◌, ◌++◌, ◌∷◌, ◌∙◌, [], List, length, map, take, sym, ap, subst}
+use Rattle.std.proofs.Common.{◌≡◌, ◌∷◌, ◌∙◌, [], List, sym, ap, subst}
 use Rattle.std.proofs.lemmas.List.{map-id}
 use Rattle.std.proofs.lemmas.Iterator.Adapters.{YieldsList-from_vec}
 use Rattle.std.proofs.lemmas.Iterator.Consumers.{YieldsList-so_far, YieldsList-turn, YieldsList-end}
 use Rattle.ct_change.specs.declared.change.Change.{Change}
-use Rattle.ct_change.specs.Changelog.{Rows, apply, fold_from}
+use Rattle.ct_change.specs.Changelog.{Rows, fold_from}
 use Rattle.ct_change.proofs.laws.Folds.{fold_from-append}
 use Rattle.emission_rules.specs.Grouping.{fits_along}
 use Rattle.op_group.specs.Folding.{HasShiftedAlong, MayShiftAlong}

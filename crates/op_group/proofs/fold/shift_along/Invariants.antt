@@ -1,4 +1,3 @@
-use Rattle.std.proofs.Common.{List}
 use Rattle.ct_change.specs.Changelog.{fold_from}
 use Rattle.ct_value.specs.declared.row.Row.{Row as Line}
 use Rattle.op_group.specs.Folding.{ForShifted, HasShiftedAlong}

@@ -1,14 +1,11 @@
-use Rattle.std.proofs.Common.{◌≡◌, ◌∷◌, ◌∙◌, [], true, false, Option, Ok, Err, refl, sym, ap, subst, option_copied}
-use Rattle.std.specs.Prelude.{IsSome, IfErr, OnOk, Result}
-use Rattle.ct_value.specs.declared.row.Row.{Row}
+use Rattle.std.proofs.Common.{◌≡◌, ◌∙◌, true, false, Ok, Err, sym, ap, subst, option_copied}
+use Rattle.std.specs.Prelude.{IfErr, OnOk, Result}
 use Rattle.ct_change.specs.declared.change.Diff.{Diff}
 use Rattle.ct_change.specs.Emission.{difference, row_of, replaced}
 use Rattle.emission_rules.specs.Grouping.{members}
-use Rattle.agg_fns.specs.declared.acc.AccFault.{AccFault}
-use Rattle.agg_fns.specs.declared.acc.AccFault.TheVariants.{Out}
 use Rattle.op_group.specs.Kept.{HasRow, IsKept, all_fit}
 use Rattle.op_group.specs.Groups.{grouping}
-use Rattle.op_group.proofs.Folds.{one_comes, one_has, one_room, one_goes, one_out, one_shifted}
+use Rattle.op_group.proofs.Folds.{one_comes, one_has, one_room, one_out, one_shifted}
 use Rattle.op_group.proofs.Shifts.{own_calls}
 use Rattle.op_group.proofs.fold.shift_one.Goals as goal
 

@@ -1,4 +1,3 @@
-use Rattle.std.proofs.Common.{sym, ap, ◌∙◌}
 use Rattle.ct_value.specs.Bag.{none}
 use Rattle.op_group.proofs.Shifts.{own_calls}
 use Rattle.op_group.proofs.groups.first_row.Goals as goal

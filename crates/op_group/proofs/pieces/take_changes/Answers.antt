@@ -1,6 +1,4 @@
-use Rattle.std.proofs.Common.{List, sym, subst, ◌∙◌}
-use Rattle.ct_change.specs.declared.change.Change.{Change}
-use Rattle.op_group.specs.Groups.{grouping}
+use Rattle.std.proofs.Common.{sym, subst, ◌∙◌}
 use Rattle.op_group.proofs.Folded.{if_ok, on_ok, ranges}
 use Rattle.op_group.proofs.Taking.{may_all, told_all, folds_all, grouped_all}
 use Rattle.op_group.proofs.pieces.take_changes.Goals as goal
