@@ -1,5 +1,8 @@
 """What a script declares: its statements, its tables and its sink, as the companions of the program need them."""
+import os
 import re
+import signal
+import sys
 
 TOKEN = re.compile(r"""
     (?P<space>\s+|--[^\n]*|/\*.*?\*/)
@@ -35,9 +38,45 @@ class Table:
         return [name for name, _ in self.columns if name in (self.key or [])]
 
 
-def read_script(path):
-    with open(path, encoding='utf-8') as file:
-        return file.read()
+def read_script(path, errors='strict'):
+    try:
+        with open(path, encoding='utf-8', errors=errors, newline='') as file:
+            return file.read()
+    except UnicodeDecodeError as fault:
+        raise Unread(f'{path} is no text in UTF-8') from fault
+
+
+def end_by(name, work):
+    """Does a companion's work and ends with its status, or with status 2 and one line on standard error."""
+    signal.signal(signal.SIGINT, signal.SIG_DFL)
+    try:
+        status = worked(work)
+    except BrokenPipeError:
+        status = complain(f'{name}: nobody reads the output any more')
+    except OSError as fault:
+        status = complain(f'{name}: {fault.filename or "the output"}: {fault.strerror}')
+    except Unread as fault:
+        status = complain(f'{name}: {fault}')
+    # What is left in the buffer has no reader, and Python would complain of it once more.
+    os._exit(status)
+
+
+def worked(work):
+    if sys.stdin is None or sys.stdout is None:
+        raise Unread('standard input or standard output is closed')
+    try:
+        return work()
+    finally:
+        sys.stdout.flush()
+
+
+def complain(line):
+    try:
+        if sys.stderr is not None:
+            print(line, file=sys.stderr, flush=True)
+    except OSError:
+        pass  # standard error is closed or full: the status tells it
+    return 2
 
 
 def statements(text):
