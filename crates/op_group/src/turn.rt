@@ -21,7 +21,7 @@ pub fn take_turn(
     ensures old { IfOk result (λ results. ForRows kept.old (λ columns rows. results.old ≡ row_in keys columns (calls_of kept.old) key.now rows)) }
     ensures fresh { IfOk result (λ results. ForShifted kept.old (option_copied gone.entry) (option_copied come.entry) (λ columns before after. results.fresh ≡ row_in keys columns (calls_of kept.old) key.now after)) }
     ensures fine { OnOk result (ForShifted kept.old (option_copied gone.entry) (option_copied come.entry) (λ columns before after. all_fit columns (calls_of kept.old) before ≡ true → is_in_range columns (calls_of kept.old) after ≡ true)) }
-    ensures out { IfErr result (λ fault. fault ≡ Out → ForShifted kept.old (option_copied gone.entry) (option_copied come.entry) (λ columns before after. all_counted columns (calls_of kept.old) before ≡ true → is_in_range columns (calls_of kept.old) after ≡ false)) }
+    ensures out { IfErr result (λ fault. fault ≡ Out → ForShifted kept.old (option_copied gone.entry) (option_copied come.entry) (λ columns was next. all_counted columns (calls_of kept.old) was ≡ true → is_in_range columns (calls_of kept.old) next ≡ false)) }
     ensures retracts { OnOk result (AllRetract kept.old.counters.items → AllRetract kept.new.counters.items) }
 {
     let old = match kept.row(key, keys) {
