@@ -1,5 +1,5 @@
 -- What is asked of the nodes of a sound plan so that it opens.
-use Rattle.std.specs.Prelude.{◌≡◌, ℕ, ◌<◌, ◌≤◌, ◌^◌, ◌==◌, ◌&&◌, nat_le, Bool, cond, max, List, ◌++◌, length, map, slice_get, Option, option_map}
+use Rattle.std.specs.Prelude.{◌≡◌, ℕ, ◌<◌, ◌≤◌, ◌^◌, ◌==◌, ◌&&◌, nat_le, Bool, cond, max, List, ◌++◌, length, map, slice_get, Option, option_and_then, option_map}
 use Rattle.std.proofs.Common.{zero, suc, true, false, [], ◌∷◌, refl, sym, ap, subst, ◌∙◌, arith, Some, None}
 use Rattle.std.specs.List.{All, AllByRecursion}
 use Rattle.std.proofs.lemmas.Bool.{leb-true}
@@ -22,10 +22,10 @@ use Rattle.mode_infer.specs.Exchanges.{asked, side_columns}
 use Rattle.mode_infer.specs.Updates.{is_input}
 use Rattle.column_sets.specs.Places.{first_columns}
 use Rattle.plan_inferred.specs.Rules.{by_columns, consumer}
-use Rattle.plan_rules.specs.Plans.{HasShape, bundle_of, spread_of}
+use Rattle.plan_rules.specs.Plans.{HasShape, spread_of}
 use Rattle.phys_plan.specs.Reading.{numbered, first_input}
 use Rattle.ct_catalog.specs.Columns.{column_types}
-use Rattle.plan_rules.specs.Columns.{columns_at, columns_by, matched_columns}
+use Rattle.plan_rules.specs.Columns.{columns_at, columns_by, matched_columns, only}
 use Rattle.plan_shape.specs.Shape.{has_nodes, has_sizes, is_shaped, is_up_to, is_whole, most_bundled, most_nodes, most_subtasks, takes as ports_of}
 use Rattle.plan_shape.specs.Shaped.{MeetsShape}
 use Rattle.plan_shape.specs.Tables.{are_tables}
@@ -50,12 +50,6 @@ use Rattle.session_open.specs.Opening.{AreRoutable, IsExchange}
 use Rattle.exec_core.specs.Opening.{PlansOpen}
 use Rattle.exec_core.proofs.Tables.{routable, table_routable}
 use Rattle.exec_core.proofs.Ports.{few_once}
-
--- a node with a rule keeps no bundles
-no_bundle : (size : ℕ) (o : Op) → has_rule o ≡ true → bundle_of size o ≡ None
-no_bundle size (op.BatchGroup keys aggs) ruled = absurd (cc)
-no_bundle size (op.LocalGroup keys aggs) ruled = absurd (cc)
-no_bundle size _ ruled = refl
 
 -- the consumer of an edge is a node that has it among its inputs
 consumer_there : (v : ℕ) (nodes : List Node) (node : Node) → consumer v nodes ≡ Some node → (n : ℕ) × (slice_get nodes n ≡ Some node) × (is_input v node.inputs ≡ true)
@@ -165,10 +159,13 @@ module _ (types : ColumnsHaveTypes) (laws : Laws) (plan : Plan) (ruled : IsRuled
       (agreed.normalize_agrees laws plan ruled v node key input e is are (proper_inputs laws plan ruled v node e)).within
 
   groups_there : (v : ℕ) (node : Node) (p input : ℕ) → numbered plan.nodes v ≡ Some node → slice_get node.inputs p ≡ Some input
-      → (keys : ℕ) (aggs : List Agg) → node.op ≡ op.Group keys aggs → AreThere input (first_columns keys)
-  groups_there v node p input e h keys aggs is =
-      let are = is_only v node p input e h (op.Group keys aggs) is (λ n. refl) in
-      first_within keys (length (columns_of input)) (keys_there keys (columns_of input) aggs (columns_of v) (made_of v node e (op.Group keys aggs) (input ∷ []) is are))
+      → (o : Op) → node.op ≡ o → ((n : ℕ) → ports_of o n ≡ (n == 1))
+      → (keys : ℕ) (aggs : List Agg) → ((inputs : List (Option (List ColTy))) → columns_by plan.sources o inputs ≡ option_and_then (λ columns. group_columns keys columns aggs) (only inputs))
+      → AreThere input (first_columns keys)
+  groups_there v node p input e h o is takes_one keys aggs same =
+      let are = is_only v node p input e h o is takes_one in
+      let typed = sym (same (Some (columns_of input) ∷ [])) ∙ made_of v node e o (input ∷ []) is are in
+      first_within keys (length (columns_of input)) (keys_there keys (columns_of input) aggs (columns_of v) typed)
 
   partition_there : (v : ℕ) (node : Node) (p input : ℕ) → numbered plan.nodes v ≡ Some node → slice_get node.inputs p ≡ Some input
       → (partition : List ℕ) (order : List SortCol) (bound : ℕ) (ranked : Bool) → node.op ≡ op.TopN partition order bound ranked → AreThere input partition
@@ -205,7 +202,10 @@ module _ (types : ColumnsHaveTypes) (laws : Laws) (plan : Plan) (ruled : IsRuled
   asked_by v node p input e h there (op.Project items) is r = tt
   asked_by v node p input e h there op.Union is r = tt
   asked_by v node p input e h there (op.Normalize key) is r = routable (columns_of input) key (key_there v node p input e h key is) there
-  asked_by v node p input e h there (op.Group keys aggs) is r = routable (columns_of input) (first_columns keys) (groups_there v node p input e h keys aggs is) there
+  asked_by v node p input e h there (op.Group keys aggs) is r =
+      routable (columns_of input) (first_columns keys) (groups_there v node p input e h (op.Group keys aggs) is (λ n. refl) keys aggs (λ inputs. refl)) there
+  asked_by v node p input e h there (op.BatchGroup keys aggs) is r =
+      routable (columns_of input) (first_columns keys) (groups_there v node p input e h (op.BatchGroup keys aggs) is (λ n. refl) keys aggs (λ inputs. refl)) there
   asked_by v node p input e h there (op.Join kind on rest) is r =
       routable (columns_of input) (side_columns on p) (sides_there v node p input e h (op.Join kind on rest) is (λ n. refl) on (option_map expr_view rest) (join_columns kind) (λ inputs. refl)) there
   asked_by v node p input e h there (op.Semi anti on rest) is r =
@@ -242,7 +242,6 @@ plans_open types laws wired facts takes suits plan columns ruled columns_are man
         some = plan_shape.parallel;
         narrow = omega (arith, subtasks_few);
         ports = every_node types laws plan ruled (λ node. length node.inputs < 2 ^ 32) (ports types laws plan ruled);
-        unbundled = every_node types laws plan ruled (λ node. bundle_of plan.mini_batch node.op ≡ None) (λ v node e. no_bundle plan.mini_batch node.op (ruled.rules v node e));
         typed = many;
         exchanged = λ e edge there. subst (λ (c : List ColTy). IsExchange c edge.exchange) (sym (columns_are e)) (exchanged types laws plan ruled e edge there);
         spread = All-from_recursion (λ table. AreRoutable (column_types table) (spread_of table)) plan.sources

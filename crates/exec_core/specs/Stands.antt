@@ -11,6 +11,7 @@ use Rattle.stream_model.specs.Runs.{Item, happens, quiet, IsTyped}
 use Rattle.stream_model.specs.Drain.{Leads, StopsAlong, IsDrainFault, drain, stages}
 use Rattle.session_core.specs.Stands as of_network
 use Rattle.session_open.specs.contracts.any.AnyOperatorOperator.TheImpl.{ghosts}
+use Rattle.session_open.specs.contracts.any.AnyOperatorPieceOperator.TheImpl.{ghosts as piece_ghosts}
 use Rattle.exec_core.specs.declared.session.Session.{Session}
 use Rattle.exec_core.specs.Checked.{HasChecked}
 
@@ -21,7 +22,7 @@ reached plan limit items = of_network.reached (network plan) limit items
 -- the plan's operators have rules, and a session that handed out these items stands for this run, which sends at most so many changes
 pub record Stands (session : Session) (plan : Plan) (limit : ℕ) (handed : List PrintItem) (items : List Item) : Type 0 where
   pub ruled : IsRuled plan
-  pub stands_for : of_network.StandsFor ghosts.rule ghosts.broken ghosts.stands_for HasChecked (network plan) limit session.job handed items
+  pub stands_for : of_network.StandsFor ghosts.rule ghosts.broken ghosts.stands_for piece_ghosts.takes_pieces HasChecked (network plan) limit session.job handed items
 
 -- ---- what holds of some run that a session stands for, and of each
 

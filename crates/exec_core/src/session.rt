@@ -8,7 +8,7 @@ ghost use Rattle.stream_model.specs.Machine.{IsQuiet, opened};
 ghost use Rattle.stream_model.specs.Drain.{StopsBy, stages};
 ghost use Rattle.stream_model.specs.Looks.{in_flight, taken_of};
 ghost use Rattle.stream_model.specs.declared.events.StepFault.TheVariants.{Memory};
-ghost use Rattle.session_core.specs.LaidOut.{IsThere, stage_of};
+ghost use Rattle.session_core.specs.LaidOut.{IsStageThere, stage_of};
 ghost use Rattle.session_core.specs.Stands.{HasAnswered, buffer_at};
 ghost use Rattle.session_open.specs.Opening.{IsTooMany};
 ghost use Rattle.exec_core.specs.Stands.{ForRuns, ForSteps, HasDrained, HasStage, HasStepped, HasTold, MayStep, Stands, StandsForSome, StopsDraining, reached};
@@ -17,7 +17,7 @@ use crate::TableCheck;
 use ct_change::Steps;
 use phys_plan::Plan;
 use plan_shape::columns_of;
-use session_core::{Buffer, Lane};
+use session_core::{Buffer, Stage};
 use session_open::{AnyOperator, OpenFault, open_job};
 use std::alloc::Global;
 use std::sync::ledger::Ledger;
@@ -73,18 +73,19 @@ impl Session {
         }
     }
 
-    /// How many stages a drain has: the channels that it delivers whole, one after the other. It takes no memory.
+    /// How many stages a drain has: node by node, the channels that it delivers whole, then the bundles that it flushes. It takes no
+    /// memory.
     pub fn stage_count(&self) -> usize
         ensures { ForRuns self.now (λ plan limit handed items. result ≡ length (stages (network plan))) }
     {
         self.job.stage_count()
     }
 
-    /// The channel of the stage of this number, from 0: to go through all of them and deliver each whole, and then to tell that the
-    /// job is quiet, is to drain. It takes no memory.
-    pub fn stage(&self, number: usize) -> Lane
+    /// The stage of this number, from 0: to go through all of them, deliver each channel whole and flush each bundle, and then to tell
+    /// that the job is quiet, is to drain. It takes no memory.
+    pub fn stage(&self, number: usize) -> Stage
         requires { HasStage self.now number }
-        ensures there { ForRuns self.now (λ plan limit handed items. IsThere (network plan) result) }
+        ensures there { ForRuns self.now (λ plan limit handed items. IsStageThere (network plan) result) }
         ensures next { ForRuns self.now (λ plan limit handed items. drop number (stages (network plan)) ≡ stage_of result ∷ drop (number + 1) (stages (network plan))) }
     {
         self.job.stage(number)
@@ -111,7 +112,7 @@ impl Session {
         self.job.take_printed()
     }
 
-    /// Whether no channel holds a change: then what was printed, in all, is the batch answer over what was taken. It takes no
+    /// Whether no channel and no bundle holds a change: then what was printed, in all, is the batch answer over what was taken. It takes no
     /// memory.
     pub fn is_quiet(&self) -> bool
         requires ready { StandsForSome self.now }

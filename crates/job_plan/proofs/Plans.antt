@@ -4,8 +4,9 @@ use Rattle.std.specs.List.{AllByRecursion, find, list_all, list_any}
 use Rattle.std.specs.Str.{bytes_eq}
 use Rattle.std.proofs.lemmas.Bool.{and_from, not_from_false, or_from, or_parts}
 use Rattle.std.proofs.lemmas.Slice.Eq.{bytes_eq-Decides}
-use Rattle.std.proofs.Common.{true, false, [], ◌∷◌, refl, sym, ap, subst, ◌∙◌, Some}
+use Rattle.std.proofs.Common.{true, false, [], ◌∷◌, refl, sym, ap, subst, ◌∙◌, arith, Some}
 use Rattle.ct_catalog.specs.Tables.{repeats}
+use Rattle.ct_catalog.specs.declared.settings.Settings.{Settings}
 use Rattle.ct_catalog.specs.declared.table.TableDef.{TableDef}
 use Rattle.rel_algebra.specs.Types.{columns_of}
 use Rattle.sql_syntax.specs.Tree.{Query, Text}
@@ -16,7 +17,7 @@ use Rattle.binding.specs.Inserts.{Inserted, insert_bound, is_table, sources_for}
 use Rattle.rel_algebra.specs.GoesInto.{go_into}
 use Rattle.ct_catalog.specs.Columns.{column_types}
 use Rattle.plan_shape.specs.Tables.{are_tables, is_declarable, table_name}
-use Rattle.job_plan.specs.Inserts.{InsertsHaveLaidPlans, SubtasksAreFew}
+use Rattle.job_plan.specs.Inserts.{AreFew, InsertsHaveLaidPlans, SettingsAreFew}
 use Rattle.judge.specs.Judgement.{Asked, asked_of}
 use Rattle.judge.specs.WellDeclared.{HasTypes}
 use Rattle.job_plan.proofs.Tables.{AreDeclared, are_declared}
@@ -107,7 +108,7 @@ abbrev pub OfInserts : (Inserted → Type 0) → Type 0
 OfInserts P = (tables : List TableDef) (name : Text) (query : Query) → IfOk (insert_bound tables name query) P
 
 pub have_laid_plans : OfInserts (λ bound. columns_of (map column_types bound.sources) bound.query.rel ≡ Some (types bound.query.scope)) → OfInserts (λ bound. has_full_unions bound.query.rel ≡ true)
-    → OfInserts (λ bound. go_into (types bound.query.scope) (column_types bound.sink) ≡ true) → TablesHaveTypes → SubtasksAreFew → InsertsHaveLaidPlans
+    → OfInserts (λ bound. go_into (types bound.query.scope) (column_types bound.sink) ≡ true) → TablesHaveTypes → SettingsAreFew → InsertsHaveLaidPlans
 have_laid_plans typed unions goes declared few text name query bound plan is = record {
   laid_out = is.laid_out;
   columns = types bound.query.scope;
@@ -117,12 +118,17 @@ have_laid_plans typed unions goes declared few text name query bound plan is = r
   goes = ap (λ (sink : TableDef). go_into (types bound.query.scope) (column_types sink)) is.sink
       ∙ of_ok (insert_bound tables name query) bound (λ b. go_into (types b.query.scope) (column_types b.sink) ≡ true) is.is_bound (goes tables name query);
   tables = (λ i. are_tables (is.sink i ∷ is.sources i)) ∙ are_tables_of tables name bound (are_declared declared text is.asked is.is_asked) (of_insert tables name query bound is.is_bound);
-  parallel = subst (λ n. 0 < n) (sym is.parallelism) subtasks.0;
-  narrow = subst (λ n. n ≤ 16) (sym is.parallelism) subtasks.1;
+  parallel = subst (λ n. 0 < n) (sym is.parallelism) settings.0;
+  narrow = subst (λ n. n ≤ 16) (sym is.parallelism) settings.1;
+  bundled = subst (λ n. n ≤ 1000000) (sym is.mini_batch) (few_bundled is.asked.catalogue.settings is.asked.catalogue.settings.batching settings.2);
 }
   where
     tables : List TableDef
     tables = is.asked.catalogue.tables
 
-    subtasks : (0 < is.asked.catalogue.settings.parallelism) × (is.asked.catalogue.settings.parallelism ≤ 16)
-    subtasks = few text is.asked is.is_asked
+    settings : AreFew is.asked.catalogue.settings
+    settings = few text is.asked is.is_asked
+
+    few_bundled : (s : Settings) (batching : Bool) → s.batch_size ≤ 1000000 → cond batching s.batch_size 0 ≤ 1000000
+    few_bundled s true h = h
+    few_bundled s false h = omega arith

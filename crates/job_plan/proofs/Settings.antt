@@ -1,4 +1,4 @@
--- How many subtasks a script sets.
+-- How many subtasks a script sets, and how many changes a bundle may hold.
 use Rattle.std.specs.Prelude.{◌≡◌, ℕ, ◌+◌, ◌-◌, ◌*◌, ◌<◌, ◌≤◌, ◌==◌, ◌&&◌, ◌++◌, Bool, List, nat_le, slice_index, Option, option_map, codes, Result, Ok, Err, if◌then◌else◌, ⊤}
 use Rattle.std.specs.List.{AllByRecursion}
 use Rattle.std.specs.Char.{is_ascii_digit}
@@ -13,7 +13,7 @@ use Rattle.ct_catalog.specs.Setting.{truth_of, phases_of, materialize_of, is_zer
 use Rattle.ct_catalog.specs.Tables.{create_refusal, table_of}
 use Rattle.ct_catalog.specs.declared.settings.Settings.{Settings}
 use Rattle.ct_catalog.specs.declared.table.TableDef.{TableDef}
-use Rattle.job_plan.specs.Inserts.{SubtasksAreFew}
+use Rattle.job_plan.specs.Inserts.{AreFew, SettingsAreFew}
 use Rattle.job_plan.proofs.Catalogues.{of_asked}
 
 -- ---- numbers
@@ -60,9 +60,6 @@ counted most (d ∷ ds) =
 
 -- ---- settings
 
-abbrev AreFew : Settings → Type 0
-AreFew s = (0 < s.parallelism) × (s.parallelism ≤ 16)
-
 abbrev FewIf : Option Settings → Type 0
 FewIf None = ⊤
 FewIf (Some s) = AreFew s
@@ -75,9 +72,13 @@ kept_if : (test : Bool) (s : Settings) → AreFew s → FewIf (if test then Some
 kept_if true s few = few
 kept_if false s few = tt
 
-set_few : (s : Settings) (o : Option ℕ) → IsCount 16 o → FewIf (option_map (λ x. record s { parallelism = x }) o)
-set_few s None h = tt
-set_few s (Some n) h = h
+set_few : (s : Settings) (o : Option ℕ) → AreFew s → IsCount 16 o → FewIf (option_map (λ x. record s { parallelism = x }) o)
+set_few s None few h = tt
+set_few s (Some n) few h = (h.0, h.1, few.2)
+
+batch_few : (s : Settings) (o : Option ℕ) → AreFew s → IsCount 1000000 o → FewIf (option_map (λ x. record s { batch_size = x }) o)
+batch_few s None few h = tt
+batch_few s (Some n) few h = (few.0, few.1, h.1)
 
 -- what each key sets; the type of keys has no name outside of the catalogue
 of_value : (key : _) (o : Option Settings) (next : Settings) → FewIf o → or_fault key o ≡ Ok next → AreFew next
@@ -100,7 +101,7 @@ unfolding key_of
 of_set key value s next few is = of_keys keys key value s next (
   (λ value s few. kept_by (truth_of value) (λ x. record s { batching = x }) (λ x. few)),
   (
-    (λ value s few. kept_by (count_up_to 1000000 value) (λ x. record s { batch_size = x }) (λ x. few)),
+    (λ value s few. batch_few s (count_up_to 1000000 value) few (counted 1000000 value)),
     (
       (λ value s few. few),
       (
@@ -110,7 +111,7 @@ of_set key value s next few is = of_keys keys key value s next (
           (
             (λ value s few. kept_if (is_zero_time value) s few),
             (
-              (λ value s few. set_few s (count_up_to 16 value) (counted 16 value)),
+              (λ value s few. set_few s (count_up_to 16 value) few (counted 16 value)),
               (
                 (λ value s few. kept_if (str_eq_ignore_ascii_case value (codes "streaming")) s few),
                 (
@@ -144,5 +145,5 @@ of_applied c next (t.Create name elements options) few e = of_created c next (ta
 of_applied c next (t.Set key value) few e = of_settings c next (set_of key value c.settings) (λ settings is. of_set key value c.settings settings few is) e
 of_applied c next (t.Insert table query) few e = let same : c ≡ next = cc in subst FewIn same few
 
-pub subtasks_are_few : SubtasksAreFew
-subtasks_are_few text asked e = of_asked FewIn of_applied (omega arith, omega arith) text asked e
+pub settings_are_few : SettingsAreFew
+settings_are_few text asked e = of_asked FewIn of_applied (omega arith, omega arith, omega arith) text asked e

@@ -1,4 +1,4 @@
-//! Groups by keys, which keep bundles where a job runs in mini-batches.
+//! Groups by keys, which keep bundles where a job runs in mini-batches, and may aggregate in two phases.
 ghost use Rattle.std.specs.Prelude.{◌≡◌};
 ghost use Rattle.rel_algebra.specs.Rel.{rels as rel_list};
 ghost use Rattle.rel_algebra.specs.View.{rel_view, rels_view};

@@ -8,10 +8,11 @@ ghost use Rattle.planner.specs.Planned.{Planned, Says, made};
 ghost use Rattle.job_judgement.specs.Halts.{IsHalt};
 ghost use Rattle.job_judgement.specs.Judged.{IsJudged};
 ghost use Rattle.job_judgement.specs.Views.{accepted_view};
-ghost use Rattle.job_plan.specs.Planned.{keeps_bundles, laid, planned, runnable};
+ghost use Rattle.job_plan.specs.Planned.{laid, mini_batch_of, planned, runnable, takes_two_phases};
 ghost use Rattle.job_plan.specs.Views.{plan_view, planned_view};
 
 use crate::groups::has_keyed_group;
+use ct_catalog::Settings;
 use ct_value::{Memory, ScriptCode};
 use job_ending::Halt;
 use job_judgement::Accepted;
@@ -20,8 +21,8 @@ use plan_check::CheckedPlan;
 use planner::{LayingFault, PlannerFault, plan, plan_of};
 use std::alloc::Global;
 
-/// The plan of an accepted script, or none where that waits for what isn't built: for groups that keep bundles. The script is refused at its
-/// statement by the first of the planner's refusals.
+/// The plan of an accepted script, or none where that waits for what isn't built: for groups in mini-batches that aggregate in two phases (Flink
+/// documentation, "Performance Tuning", "Local-Global Aggregation"). The script is refused at its statement by the first of the planner's refusals.
 pub fn planned(alloc: Global, script: &Accepted) -> Result<Option<CheckedPlan>, Halt>
     requires judged { IsJudged (accepted_view script.now) }
     ensures ok { IfOk result (λ made. planned (accepted_view script.now) ≡ Ok (planned_view made)) }
@@ -29,7 +30,7 @@ pub fn planned(alloc: Global, script: &Accepted) -> Result<Option<CheckedPlan>, 
     ensures halts { IfErr result (λ halt. IsHalt halt (planned (accepted_view script.now))) }
 {
     match made(alloc, script) {
-        Ok(checked) => Ok(unless_bundled(script, checked)),
+        Ok(checked) => Ok(unless_two_phases(script, checked)),
         Err(PlannerFault::Refused(code)) => Err(halt_at(script, code)),
         Err(PlannerFault::Memory) => Err(Halt::Memory),
     }
@@ -48,11 +49,12 @@ pub fn runnable(alloc: Global, script: &Accepted) -> Result<CheckedPlan, Halt>
     }
 }
 
-// None where groups keep bundles.
-fn unless_bundled(script: &Accepted, checked: CheckedPlan) -> Option<CheckedPlan>
-    ensures { result ≡ cond (keeps_bundles (accepted_view script.now)) None (Some checked) }
+// None where groups take two phases.
+fn unless_two_phases(script: &Accepted, checked: CheckedPlan) -> Option<CheckedPlan>
+    ensures { result ≡ cond (takes_two_phases (accepted_view script.now)) None (Some checked) }
 {
-    if script.catalog.settings().batching && has_keyed_group(&script.inserted.query.rel) {
+    let settings = script.catalog.settings();
+    if settings.batching && settings.two_phase && has_keyed_group(&script.inserted.query.rel) {
         None
     } else {
         Some(checked)
@@ -77,12 +79,24 @@ fn laid_of(alloc: Global, script: &Accepted) -> Result<Plan, Memory>
 {
     let sources = script.inserted.sources.dup()?;
     let sink = script.inserted.sink.dup()?;
-    let parallelism = script.catalog.settings().parallelism;
+    let settings = script.catalog.settings();
     let rel = &script.inserted.query.rel;
-    match plan_of(alloc, rel, sources, sink, parallelism) {
+    let mini_batch = mini_batch_of(settings);
+    match plan_of(alloc, rel, sources, sink, settings.parallelism, mini_batch) {
         Ok(plan) => Ok(plan),
         Err(LayingFault::Memory) => Err(Memory),
         Err(LayingFault::NoTable) => unreachable!(),
+    }
+}
+
+// How many changes a bundle holds: none where mini-batches are off.
+fn mini_batch_of(settings: &Settings) -> u32
+    ensures { result ≡ mini_batch_of settings.now }
+{
+    if settings.batching {
+        settings.batch_size
+    } else {
+        0
     }
 }
 

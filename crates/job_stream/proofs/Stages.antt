@@ -1,17 +1,19 @@
--- The stages of a drain: each is a channel that is there.
+-- The stages of a drain: each is a channel that is there, or a bundle.
 use Rattle.std.specs.Prelude.{◌≡◌, ◌==◌, ℕ, ◌+◌, Bool, cond, List, ◌++◌, drop, length, Option}
 use Rattle.std.proofs.Common.{zero, suc, true, false, [], ◌∷◌, refl, sym, ap, subst, ◌∙◌, Some, None}
 use Rattle.std.specs.List.{AllByRecursion}
 use Rattle.phys_plan.specs.declared.plan.Plan.{Plan}
 use Rattle.plan_rules.specs.Doings.{network}
+use Rattle.stream_model.specs.declared.events.Event.TheVariants.{Flush}
 use Rattle.stream_model.specs.Network.{Feed, Network}
+use Rattle.stream_model.specs.Runs.{happens}
 use Rattle.stream_model.specs.Machine.{State, is_channel}
 use Rattle.stream_model.specs.Drain.{Stage, delivers, flushes, bundles_at, bundles_from, channels_from, channels_into, channels_to, feeds_node, stages, stages_from}
 use Rattle.stream_model.specs.Looks.{flight_at, in_flight}
 use Rattle.source_lines.specs.Run.{At}
-use Rattle.session_core.specs.LaidOut.{stage_of}
 use Rattle.session_core.specs.declared.wiring.Lane.{Lane}
-use Rattle.job_stream.specs.Parts.{first_run, moves_run, stage_run}
+use Rattle.job_stream.specs.Parts.{first_run, item_run, moves_run, stage_run}
+use Rattle.job_stream.proofs.Along.{along_one}
 
 module _ (g : Network) where
   -- a channel of an edge that feeds a port
@@ -74,13 +76,19 @@ module _ (g : Network) where
       ap (flight_at g s e i j) here.1 ∙ ap (λ b. cond b (Some (length (s.flight e i j))) None) here.2
 
 -- a channel's stage, by what a session tells of the channel
-module _ (g : Network) (s : State) (number : ℕ) (lane : Lane) (rest : List Stage) (next : drop number (stages g) ≡ stage_of lane ∷ rest) where
+module _ (g : Network) (s : State) (number : ℕ) (lane : Lane) (rest : List Stage) (next : drop number (stages g) ≡ delivers lane.edge lane.from lane.to ∷ rest) where
   pub held_all : (o : Option ℕ) → o ≡ in_flight g s lane.edge lane.from lane.to → o ≡ Some (length (s.flight lane.edge lane.from lane.to))
   held_all o is = is ∙ told_flight g s number lane.edge lane.from lane.to rest next
 
-pub stage_moves : (by_table : Bool) (plan : Plan) (limit : ℕ) (p : At State) (number : ℕ) (lane : Lane) (held : ℕ) (rest : List Stage) → drop number (stages (network plan)) ≡ stage_of lane ∷ rest
+pub stage_moves : (by_table : Bool) (plan : Plan) (limit : ℕ) (p : At State) (number : ℕ) (lane : Lane) (held : ℕ) (rest : List Stage) → drop number (stages (network plan)) ≡ delivers lane.edge lane.from lane.to ∷ rest
     → Some held ≡ in_flight (network plan) p.state lane.edge lane.from lane.to → stage_run number by_table plan limit p ≡ moves_run lane.edge lane.from lane.to held by_table plan limit p
 stage_moves by_table plan limit p number lane held rest next is =
     let all : Some (length (p.state.flight lane.edge lane.from lane.to)) ≡ Some held = sym (is ∙ told_flight (network plan) p.state number lane.edge lane.from lane.to rest next) in
     let same : length (p.state.flight lane.edge lane.from lane.to) ≡ held = cc (all) in
     ap (λ l. first_run l by_table plan limit p) next ∙ ap (λ n. moves_run lane.edge lane.from lane.to n by_table plan limit p) same
+
+-- a bundle's stage is one event
+pub stage_flushes : (by_table : Bool) (plan : Plan) (limit : ℕ) (p : At State) (number v j : ℕ) (rest : List Stage) → drop number (stages (network plan)) ≡ flushes v j ∷ rest
+    → stage_run number by_table plan limit p ≡ item_run (happens (Flush v j)) by_table plan limit p
+stage_flushes by_table plan limit p number v j rest next =
+    ap (λ l. first_run l by_table plan limit p) next ∙ along_one (network plan) limit plan.sources by_table p (happens (Flush v j))

@@ -8,7 +8,7 @@ use crate::steps::{go_step, tell_quiet};
 use ct_io::Sink;
 use exec_core::Session;
 use job_ending::Halt;
-use session_core::Lane;
+use session_core::{Lane, Stage};
 use std::sync::ledger::Ledger;
 use stream_model::Event;
 
@@ -39,7 +39,7 @@ pub(crate) fn move_all<K: Sink, L: Ledger>(
     Ok(moved)
 }
 
-// The stage of this number: what is in flight in its channel is delivered whole.
+// The stage of this number: what is in flight in its channel is delivered whole, or its bundle is flushed.
 fn deliver<K: Sink, L: Ledger>(
     session: Session,
     number: usize,
@@ -51,10 +51,14 @@ fn deliver<K: Sink, L: Ledger>(
     ensures ok { IfOk result (λ next. Moves sheet.now session (stage_run number) next (told K.written K.faults out.old) (told K.written K.faults out.new)) }
     ensures halts { IfErr result (λ halt. HaltsMoving sheet.now session (stage_run number) (told K.written K.faults out.old) (told K.written K.faults out.new) halt) }
 {
-    let lane = session.stage(number);
-    match session.in_flight(lane.edge, lane.from, lane.to) {
-        Some(held) => move_all(session, lane, held, sheet, tools, out),
-        None => unreachable!(),
+    match session.stage(number) {
+        Stage::Deliver(lane) => match session.in_flight(lane.edge, lane.from, lane.to) {
+            Some(held) => move_all(session, lane, held, sheet, tools, out),
+            None => unreachable!(),
+        },
+        Stage::Flush { node, subtask } => {
+            go_step(session, Event::Flush { node, subtask }, sheet, tools, out)
+        }
     }
 }
 
@@ -77,7 +81,7 @@ fn deliver_all<K: Sink, L: Ledger>(
     Ok(drained)
 }
 
-/// Every channel is delivered whole, in the order of a drain, and the job is told to be quiet.
+/// Every channel is delivered whole and every bundle flushed, in the order of a drain, and the job is told to be quiet.
 pub(crate) fn drain<K: Sink, L: Ledger>(
     session: Session,
     sheet: &Sheet,

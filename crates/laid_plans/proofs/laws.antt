@@ -19,6 +19,5 @@ pub mod Shapes
 pub mod Tables
 pub mod Theorems
 pub mod Trees
-pub mod Types
 pub mod Updates
 pub mod Uses

@@ -27,9 +27,9 @@ abbrev pub SuitsTop : TableDef → Top → Type 0
 SuitsTop sink bare = Unit {0}
 SuitsTop sink (shown key) = is_sink_key sink key sink.key ≡ true
 
--- as it is seen, it is the tree's plan over its tables, into its sink, in as many subtasks, with this before the sink
+-- as it is seen, it is the tree's plan over its tables, into its sink, in as many subtasks and bundles as large, with this before the sink
 abbrev pub IsLaidWith : Top → Plan → Rel → Type 0
-IsLaidWith top plan rel = plan_as_seen plan ≡ plan_of_tree plan.sources plan.sink plan.parallelism top rel
+IsLaidWith top plan rel = plan_as_seen plan ≡ plan_of_tree plan.sources plan.sink plan.parallelism plan.mini_batch top rel
 
 -- and that suits its table
 pub record IsLaidOut (plan : Plan) (rel : Rel) : Type 0 where
@@ -38,7 +38,7 @@ pub record IsLaidOut (plan : Plan) (rel : Rel) : Type 0 where
   pub laid : IsLaidWith top plan rel
 
 -- and the tree is well-typed over tables that may be declared, its unions have two inputs or more, its rows may go into the sink's
--- table, and its plan has at most 128 nodes in at most 16 subtasks
+-- table, and its plan has at most 128 nodes in at most 16 subtasks, and bundles of at most 1,000,000 changes
 pub record IsLaidWell (plan : Plan) (rel : Rel) : Type 0 where
   pub laid_out : IsLaidOut plan rel
   pub columns : List ColTy
@@ -49,6 +49,7 @@ pub record IsLaidWell (plan : Plan) (rel : Rel) : Type 0 where
   pub few : length plan.nodes ≤ 128
   pub parallel : 0 < plan.parallelism
   pub narrow : plan.parallelism ≤ 16
+  pub bundled : plan.mini_batch ≤ 1000000
 
 -- such a plan meets the rules that don't speak of keys and modes, and its operators have rules
 pub record HasTreeShape (plan : Plan) : Type 0 where

@@ -38,4 +38,4 @@ Answers plan rel = (rows : ℕ → Rows) (result : Rows) → IsAnswer (network p
 
 -- the tree of the plan of a tree is that tree, whatever stands before the sink
 abbrev pub TreesAreErased : Type 0
-TreesAreErased = (sources : List TableDef) (sink : TableDef) (parallelism : ℕ) (top : Top) (rel : Rel) → erased (plan_of_tree sources sink parallelism top rel) ≡ rel
+TreesAreErased = (sources : List TableDef) (sink : TableDef) (parallelism mini_batch : ℕ) (top : Top) (rel : Rel) → erased (plan_of_tree sources sink parallelism mini_batch top rel) ≡ rel

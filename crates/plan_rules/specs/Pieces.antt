@@ -1,12 +1,13 @@
 -- The plan of a tree of the algebra as a function of it: its nodes one behind the other, each behind its inputs, and behind them the sink,
 -- which a materializer may stand before.
-use Rattle.std.specs.Prelude.{ℕ, ◌+◌, List, [], ◌∷◌, ◌++◌, length, map, slice_get, Option, Some, None, option_map, unwrap_or}
+use Rattle.std.specs.Prelude.{ℕ, ◌+◌, ◌==◌, ◌||◌, cond, List, [], ◌∷◌, ◌++◌, length, map, slice_get, Option, Some, None, option_map, unwrap_or}
 use Rattle.ct_change.specs.Changelog.{retract, upsert, kinds_of}
 use Rattle.ct_change.specs.declared.kind.Declared.{Declared}
 use Rattle.ct_change.specs.declared.kind.Declared.TheVariants.{Append, Retract, Upsert}
 use Rattle.ct_change.specs.declared.kind.KindSet.{KindSet}
 use Rattle.ct_catalog.specs.declared.table.TableDef.{TableDef}
 use Rattle.ct_expr.specs.Views.{expr_of}
+use Rattle.rel_algebra.specs.declared.agg.Agg.{Agg}
 use Rattle.rel_algebra.specs.Rel.{Unary, filter_by, project_on, group_by, rank_in, Binary, join_on, semi_on, Rel, Rels, Scan, One, Two, Many, no_rels, rel_and}
 use Rattle.emission_rules.specs.GroupFits.{first_columns}
 use Rattle.emission_rules.specs.JoinFits.{left_pairs, right_pairs}
@@ -23,19 +24,23 @@ use Rattle.phys_plan.specs.Reading.{no_keys}
 
 -- ---- by operator
 
--- an operator with one input, and the exchange that it asks of it
+-- an operator with one input, by how many changes a bundle holds, none where there are no bundles; and the exchange that it asks of its input
 pub record UnaryWay : Type 0 where
-  pub op : Op
+  pub op : ℕ → Op
   pub asks : Exchange
 
-abbrev pub way : Op → Exchange → UnaryWay
+abbrev pub way : (ℕ → Op) → Exchange → UnaryWay
 way operator asks = record { op = operator; asks = asks }
 
+-- a group by keys keeps bundles where there are any, and a group of all rows never does
+abbrev pub group_op : ℕ → ℕ → List Agg → Op
+group_op mini_batch keys aggs = cond (mini_batch == 0 || keys == 0) (op.Group keys aggs) (op.BatchGroup keys aggs)
+
 abbrev pub unary_way : Unary → UnaryWay
-unary_way (filter_by condition) = way (op.Filter (expr_of condition)) Forward
-unary_way (project_on items) = way (op.Project (map expr_of items)) Forward
-unary_way (group_by keys aggs) = way (op.Group keys aggs) (Hash (first_columns keys))
-unary_way (rank_in partition order bound ranked) = way (op.TopN partition order bound ranked) (Hash partition)
+unary_way (filter_by condition) = way (λ mini_batch. op.Filter (expr_of condition)) Forward
+unary_way (project_on items) = way (λ mini_batch. op.Project (map expr_of items)) Forward
+unary_way (group_by keys aggs) = way (λ mini_batch. group_op mini_batch keys aggs) (Hash (first_columns keys))
+unary_way (rank_in partition order bound ranked) = way (λ mini_batch. op.TopN partition order bound ranked) (Hash partition)
 
 -- one with two, and the exchanges that it asks of both
 pub record BinaryWay : Type 0 where
@@ -93,11 +98,11 @@ abbrev pub topped_both : ℕ → List Piece → List Piece → Op → Exchange �
 topped_both n left right operator exchange =
     (left ++ right) ++ full_piece operator ((n + length left) ∷ ((n + length left + length right) ∷ [])) exchange ∷ []
 
-module _ (sources : List TableDef) where
+module _ (sources : List TableDef) (mini_batch : ℕ) where
   abbrev mutual
     pub pieces_of : ℕ → Exchange → Rel → List Piece
     pieces_of n exchange (Scan source) = source_pieces n exchange source (slice_get sources source)
-    pieces_of n exchange (One how input) = topped n (pieces_of n (unary_way how).asks input) (unary_way how).op exchange
+    pieces_of n exchange (One how input) = topped n (pieces_of n (unary_way how).asks input) ((unary_way how).op mini_batch) exchange
     pieces_of n exchange (Two how left right) =
         topped_both n (pieces_of n (binary_way how).left left) (pieces_of (n + length (pieces_of n (binary_way how).left left)) (binary_way how).right right) (binary_way how).op exchange
     pieces_of n exchange (Many inputs) = pieces_of_all n inputs ++ full_piece op.Union (roots_of n inputs) exchange ∷ []
@@ -138,15 +143,15 @@ with_top (shown key) pieces = topped 0 pieces (op.Materialize key) Forward
 abbrev pub with_sink : List Piece → List Piece
 with_sink pieces = pieces ++ piece op.Sink (length pieces ∷ []) Forward (kinds_of retract) Absent ∷ []
 
-abbrev pub plan_of_pieces : List TableDef → TableDef → ℕ → List Piece → Plan
-plan_of_pieces sources sink parallelism pieces = record {
+abbrev pub plan_of_pieces : List TableDef → TableDef → ℕ → ℕ → List Piece → Plan
+plan_of_pieces sources sink parallelism mini_batch pieces = record {
   sources = sources;
   sink = sink;
   nodes = nodes_in pieces;
   edges = edges_in pieces;
   parallelism = parallelism;
-  mini_batch = 0;
+  mini_batch = mini_batch;
 }
 
-abbrev pub plan_of_tree : (sources : List TableDef) (sink : TableDef) (parallelism : ℕ) → Top → Rel → Plan
-plan_of_tree sources sink parallelism top rel = plan_of_pieces sources sink parallelism (with_sink (with_top top (pieces_of sources 0 (asks_of top) rel)))
+abbrev pub plan_of_tree : (sources : List TableDef) (sink : TableDef) (parallelism mini_batch : ℕ) → Top → Rel → Plan
+plan_of_tree sources sink parallelism mini_batch top rel = plan_of_pieces sources sink parallelism mini_batch (with_sink (with_top top (pieces_of sources mini_batch 0 (asks_of top) rel)))

@@ -30,7 +30,9 @@ pub fn next_columns(
         Op::Project { items } => projected(items, only_input(done, &node.inputs)),
         Op::Union => common_input(done, &node.inputs),
         Op::Normalize { .. } => same_columns(only_input(done, &node.inputs)),
-        Op::Group { keys, aggs } => grouped(*keys, aggs, only_input(done, &node.inputs)),
+        Op::Group { keys, aggs } | Op::BatchGroup { keys, aggs } => {
+            grouped(*keys, aggs, only_input(done, &node.inputs))
+        }
         Op::Join { kind, on, rest } => joined(*kind, on, rest, done, &node.inputs),
         Op::Semi { on, rest, .. } => semi_joined(on, rest, done, &node.inputs),
         Op::TopN {

@@ -236,6 +236,7 @@ module _ (laid : Plan) (rel : Rel) (is : IsLaidPlan laid rel) (setting : Materia
       few = few_nodes (length laid.nodes) (has_materializer way) plain tests.size;
       parallel = is.parallel;
       narrow = is.narrow;
+      bundled = is.bundled;
     }
 
     pub has : HasTreeShape laid

@@ -21,6 +21,7 @@ use Rattle.planner.specs.Tops.{shown_nodes, shown_edges}
 pub record Pushed (old new : Laying) (op : Op) (inputs : List ℕ) (exchange : Exchange) (kinds : KindSet) (update : Update) (number : ℕ) : Type 0 where
   pub number_is : number ≡ length old.nodes + 1
   pub sources : new.sources ≡ old.sources
+  pub mini_batch : new.mini_batch ≡ old.mini_batch
   pub nodes : new.nodes ≡ old.nodes ++ node_of op inputs ∷ []
   pub edges : new.edges ≡ old.edges ++ edge_of exchange kinds update ∷ []
 
@@ -33,19 +34,20 @@ PushedAs old new seen inputs exchange number = (o : Op) × (op_as_seen o ≡ see
 -- these pieces are laid behind what was laid, as they are seen
 pub record Adds (old new : Laying) (pieces : List Piece) : Type 0 where
   pub sources : new.sources ≡ old.sources
+  pub mini_batch : new.mini_batch ≡ old.mini_batch
   pub nodes : map node_as_seen new.nodes ≡ map node_as_seen old.nodes ++ nodes_in pieces
   pub edges : new.edges ≡ old.edges ++ edges_in pieces
 
 -- a tree is laid behind what was laid, up to its root, for a consumer that asks for this exchange
 pub record Lays (old new : Laying) (exchange : Exchange) (rel : Rel) (root : ℕ) : Type 0 where
-  pub adds : Adds old new (pieces_of old.sources (length old.nodes) exchange rel)
+  pub adds : Adds old new (pieces_of old.sources old.mini_batch (length old.nodes) exchange rel)
   pub root_is : root ≡ length new.nodes
   pub tables : lacks_table old.sources rel ≡ false
 
 -- the same of several trees
 pub record LaysAll (old new : Laying) (inputs : Rels) (roots : List ℕ) : Type 0 where
-  pub adds : Adds old new (pieces_of_all old.sources (length old.nodes) inputs)
-  pub roots_are : roots ≡ roots_of old.sources (length old.nodes) inputs
+  pub adds : Adds old new (pieces_of_all old.sources old.mini_batch (length old.nodes) inputs)
+  pub roots_are : roots ≡ roots_of old.sources old.mini_batch (length old.nodes) inputs
   pub tables : any_lacks old.sources inputs ≡ false
 
 -- what is laid of a tree once its first input is, up to this node: nothing where it has none

@@ -21,7 +21,7 @@ use Rattle.planner.specs.declared.fault.PlannerFault.{PlannerFault}
 use Rattle.planner.specs.declared.fault.PlannerFault.TheVariants as fault
 
 -- the plan that is laid of a tree: a well-typed one, whose unions have two inputs or more and whose columns go into the sink's, over tables that may
--- be declared, in 1 to 16 subtasks
+-- be declared, in 1 to 16 subtasks and bundles of at most 1,000,000 changes
 pub record IsLaidPlan (laid : Plan) (rel : Rel) : Type 0 where
   pub laid_out : IsLaidWith bare laid rel
   pub columns : List ColTy
@@ -31,6 +31,7 @@ pub record IsLaidPlan (laid : Plan) (rel : Rel) : Type 0 where
   pub tables : are_tables (laid.sink ∷ laid.sources) ≡ true
   pub parallel : 0 < laid.parallelism
   pub narrow : laid.parallelism ≤ 16
+  pub bundled : laid.mini_batch ≤ 1000000
 
 -- what stands before its sink, by what is inferred of it
 abbrev pub sink_top : Plan → Materialize → Top

@@ -14,11 +14,12 @@ use ct_value::{Cols, Numbers};
 use phys_plan::{Edge, Edges, Exchange, Node, Nodes, Op};
 use std::alloc::Global;
 
-/// What is laid of a plan over some tables: its nodes so far, and the edges that leave them.
+/// What is laid of a plan over some tables, whose bundles hold so many changes: its nodes so far, and the edges that leave them.
 #[derive(Drop)]
 pub struct Laying {
     pub alloc: Global,
     pub sources: Sources,
+    pub mini_batch: u32,
     pub nodes: Nodes,
     pub edges: Edges,
 }

@@ -15,23 +15,26 @@ use std::alloc::Global;
 // The most levels to which inputs behind a first one may nest: each takes stack, and a script nests them no deeper than its parentheses.
 const MOST_LEVELS: u32 = 1_000;
 
-/// The plan that is laid of a tree over these tables, each node in so many subtasks, wherever the parts of its expressions lie; its last node is the sink. `NoTable` comes where a
-/// part of the tree scans a table that isn't there. Otherwise there is a plan, or memory was wanting, as where other inputs than first ones nest more
-/// than 1,000 levels.
+/// The plan that is laid of a tree over these tables, each node in so many subtasks, wherever the parts of its expressions lie; its last node is the sink.
+/// Where `mini_batch` isn't 0, groups by keys keep bundles of so many changes (Flink documentation, "Performance Tuning", "MiniBatch Aggregation").
+/// `NoTable` comes where a part of the tree scans a table that isn't there. Otherwise there is a plan, or memory was wanting, as where other inputs than
+/// first ones nest more than 1,000 levels.
 pub fn plan_of(
     alloc: Global,
     rel: &Rel,
     sources: Sources,
     sink: TableDef,
     parallelism: u32,
+    mini_batch: u32,
 ) -> Result<Plan, LayingFault>
-    ensures plan { IfOk result (λ plan. plan_as_seen plan ≡ plan_of_tree sources sink parallelism bare (rel_view rel.now)) }
+    ensures plan { IfOk result (λ plan. plan_as_seen plan ≡ plan_of_tree sources sink parallelism mini_batch bare (rel_view rel.now)) }
     ensures tables { OnOk result (lacks_table sources (rel_view rel.now) ≡ false) }
     ensures fault { IfErr result (λ fault. Says sources (rel_view rel.now) fault) }
 {
     let mut laying = Laying {
         alloc,
         sources,
+        mini_batch,
         nodes: Nodes::new(alloc),
         edges: Edges::new(alloc),
     };
@@ -49,6 +52,6 @@ pub fn plan_of(
         nodes,
         edges,
         parallelism,
-        mini_batch: 0,
+        mini_batch,
     })
 }

@@ -40,6 +40,7 @@ pub(crate) fn with_materializer(alloc: Global, laid: Plan, key: Cols) -> Result<
     let mut laying = Laying {
         alloc,
         sources,
+        mini_batch,
         nodes: all_but_last(nodes),
         edges,
     };

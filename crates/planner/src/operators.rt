@@ -2,7 +2,7 @@
 ghost use Rattle.std.specs.Prelude.{◌≡◌, [], ◌∷◌, option_map, IfOk, IfErr};
 ghost use Rattle.ct_expr.specs.View.{expr_view, exprs_view};
 ghost use Rattle.rel_algebra.specs.Rel.{filter_by, project_on, group_by, rank_in, join_on, semi_on};
-ghost use Rattle.plan_rules.specs.Pieces.{unary_way, binary_way};
+ghost use Rattle.plan_rules.specs.Pieces.{group_op, unary_way, binary_way};
 ghost use Rattle.planner.specs.Laying.{PushedAs};
 
 use crate::laying::Laying;
@@ -13,6 +13,17 @@ use ct_value::Cols;
 use phys_plan::{Exchange, Op};
 use rel_algebra::{Aggs, JoinKind, Pairs, Sorts};
 
+// A group by keys keeps bundles where there are any.
+fn group_op(mini_batch: u32, keys: u32, aggs: Aggs) -> Op
+    ensures { result ≡ group_op mini_batch keys aggs }
+{
+    if mini_batch == 0 || keys == 0 {
+        Op::Group { keys, aggs }
+    } else {
+        Op::BatchGroup { keys, aggs }
+    }
+}
+
 impl Laying {
     pub(crate) fn push_filter(
         &mut self,
@@ -20,7 +31,7 @@ impl Laying {
         cond: &Expr,
         exchange: Exchange,
     ) -> Result<u32, LayingFault>
-        ensures pushed { IfOk result (λ number. PushedAs self.old self.new (unary_way (filter_by (expr_view cond.now))).op (below ∷ []) exchange number) }
+        ensures pushed { IfOk result (λ number. PushedAs self.old self.new ((unary_way (filter_by (expr_view cond.now))).op self.old.mini_batch) (below ∷ []) exchange number) }
         ensures full { IfErr result (λ fault. fault ≡ LayingFault.Memory) }
     {
         let cond = cond.dup()?;
@@ -33,7 +44,7 @@ impl Laying {
         items: &Exprs,
         exchange: Exchange,
     ) -> Result<u32, LayingFault>
-        ensures pushed { IfOk result (λ number. PushedAs self.old self.new (unary_way (project_on (exprs_view items.now))).op (below ∷ []) exchange number) }
+        ensures pushed { IfOk result (λ number. PushedAs self.old self.new ((unary_way (project_on (exprs_view items.now))).op self.old.mini_batch) (below ∷ []) exchange number) }
         ensures full { IfErr result (λ fault. fault ≡ LayingFault.Memory) }
     {
         let items = dup_exprs(items)?;
@@ -47,11 +58,12 @@ impl Laying {
         aggs: &Aggs,
         exchange: Exchange,
     ) -> Result<u32, LayingFault>
-        ensures pushed { IfOk result (λ number. PushedAs self.old self.new (unary_way (group_by keys aggs.now)).op (below ∷ []) exchange number) }
+        ensures pushed { IfOk result (λ number. PushedAs self.old self.new ((unary_way (group_by keys aggs.now)).op self.old.mini_batch) (below ∷ []) exchange number) }
         ensures full { IfErr result (λ fault. fault ≡ LayingFault.Memory) }
     {
         let aggs = aggs.dup()?;
-        self.push_over(below, Op::Group { keys, aggs }, exchange)
+        let op = group_op(self.mini_batch, keys, aggs);
+        self.push_over(below, op, exchange)
     }
 
     pub(crate) fn push_rank(
@@ -63,7 +75,7 @@ impl Laying {
         ranked: bool,
         exchange: Exchange,
     ) -> Result<u32, LayingFault>
-        ensures pushed { IfOk result (λ number. PushedAs self.old self.new (unary_way (rank_in partition.now order.now bound ranked)).op (below ∷ []) exchange number) }
+        ensures pushed { IfOk result (λ number. PushedAs self.old self.new ((unary_way (rank_in partition.now order.now bound ranked)).op self.old.mini_batch) (below ∷ []) exchange number) }
         ensures full { IfErr result (λ fault. fault ≡ LayingFault.Memory) }
     {
         let partition = partition.dup()?;

@@ -21,12 +21,13 @@ use Rattle.op_rules.specs.Rules.{Answer, appended}
 use Rattle.stream_model.specs.Network.{Network}
 use Rattle.stream_model.specs.Machine.{State, opened, answered, joins, folded}
 use Rattle.stream_model.specs.declared.events.PrintItem.TheVariants.{Change as Printed, Quiet}
-use Rattle.stream_model.specs.Runs.{Item, quiet, state_in, after}
+use Rattle.stream_model.specs.Runs.{Item, happens, quiet, state_in, after}
+use Rattle.stream_model.specs.declared.events.Event.TheVariants.{Flush}
 use Rattle.stream_model.specs.Drain.{drain_stages, delivers}
 use Rattle.run_examples.specs.Worked.{take, move, printed_by}
 use Rattle.plan_rules.specs.Pieces.{bare, shown, plan_of_tree}
 use Rattle.plan_rules.specs.Seen.{plan_as_seen}
-use Rattle.run_examples.specs.Planned.{word_table, count_table, counts, counts_rel, word_counts, shown_counts, a_word, a_comes, twice, counted, word_gone, CountsAsWorked, ShownAsWorked}
+use Rattle.run_examples.specs.Planned.{word_table, count_table, counts, counts_rel, word_counts, shown_counts, bundled_counts, a_word, a_comes, twice, counted, word_gone, CountsAsWorked, ShownAsWorked, BundledAsWorked}
 
 abbrev g : Network
 g = network counts
@@ -137,16 +138,51 @@ printed_there =
     ap (λ s. State.printed (after h 100 (taken h) (move 1 0 0 ∷ move 1 0 0 ∷ to_shown_sink s))) (delivered_there [])
     ∙ ap State.printed (delivered_there (to_shown_sink (grouped h)))
 
+-- ---- the run in mini-batches
+
+abbrev k : Network
+k = network bundled_counts
+
+abbrev both_answer : Answer
+both_answer = Ok (counted I 2 ∷ [])
+
+both_emit : k.emits 2 [] (arrival 0 0 a_comes ∷ arrival 0 0 a_comes ∷ []) ≡ both_answer
+both_emit = told_as none (add (add none a_word) a_word) 0 2 in_none in_two
+
+-- both rows are held, and then flushed
+abbrev held : State
+held = after k 100 (taken k) (move 1 0 0 ∷ move 1 0 0 ∷ [])
+
+abbrev flushes_to : Answer → State
+flushes_to answer = state_in held (answered k 100 2 0 answer (folded 2 0 held))
+
+flushed : (more : List Item) → after k 100 held (happens (Flush 2 0) ∷ more) ≡ after k 100 (flushes_to both_answer) more
+flushed more = ap (λ answer. after k 100 (flushes_to answer) more) both_emit
+
+abbrev to_bundled_sink : State → List Item
+to_bundled_sink s = drain_stages k 100 s (delivers 2 0 0 ∷ []) ++ quiet ∷ []
+
+printed_bundled : printed_by k twice ≡ Printed (counted I 2) ∷ Quiet (2 ∷ []) ∷ []
+printed_bundled =
+    ap (λ s. State.printed (after k 100 held (happens (Flush 2 0) ∷ to_bundled_sink s))) (flushed [])
+    ∙ ap State.printed (flushed (to_bundled_sink (flushes_to both_answer)))
+
 -- ---- the plans
 
-is_plan : plan_as_seen counts ≡ plan_of_tree (word_table ∷ []) count_table 1 bare counts_rel
+is_plan : plan_as_seen counts ≡ plan_of_tree (word_table ∷ []) count_table 1 0 bare counts_rel
 is_plan = refl
 
 pub counts_as_worked : CountsAsWorked
 counts_as_worked = record { is_plan = is_plan; printed = printed }
 
-is_shown_plan : plan_as_seen shown_counts ≡ plan_of_tree (word_table ∷ []) word_counts 1 (shown (0 ∷ [])) counts_rel
+is_shown_plan : plan_as_seen shown_counts ≡ plan_of_tree (word_table ∷ []) word_counts 1 0 (shown (0 ∷ [])) counts_rel
 is_shown_plan = refl
 
 pub shown_as_worked : ShownAsWorked
 shown_as_worked = record { is_plan = is_shown_plan; printed = printed_there }
+
+is_bundled_plan : plan_as_seen bundled_counts ≡ plan_of_tree (word_table ∷ []) count_table 1 1000 bare counts_rel
+is_bundled_plan = refl
+
+pub bundled_as_worked : BundledAsWorked
+bundled_as_worked = record { is_plan = is_bundled_plan; printed = printed_bundled }

@@ -1,5 +1,5 @@
--- Worked runs over real plans of SELECT word, COUNT(*) FROM t GROUP BY word: into a table of changes, and behind a materializer into a table
--- by the word.
+-- Worked runs over real plans of SELECT word, COUNT(*) FROM t GROUP BY word: into a table of changes, behind a materializer into a table
+-- by the word, and in mini-batches.
 use Rattle.std.specs.Prelude.{◌≡◌, ℕ, false, pos, List, [], ◌∷◌, ◌++◌, codes, Some, None}
 use Rattle.ct_value.specs.declared.ty.Ty.TheVariants.{Text as Texts, BigInt}
 use Rattle.ct_value.specs.declared.value.Value.TheVariants.{Null, Num, Text}
@@ -85,6 +85,25 @@ shown_counts = record {
   mini_batch = 0;
 }
 
+-- the same in mini-batches of a thousand rows, into a table of changes
+abbrev pub bundled_counts : Plan
+bundled_counts = record {
+  sources = word_table ∷ [];
+  sink = count_table;
+  nodes =
+      record { op = op.Scan 0; inputs = []; keys = no_keys }
+      ∷ record { op = op.BatchGroup 1 (count_all ∷ []); inputs = 1 ∷ []; keys = no_keys }
+      ∷ record { op = op.Sink; inputs = 2 ∷ []; keys = no_keys }
+      ∷ [];
+  edges =
+      record { exchange = Hash (0 ∷ []); kinds = kinds_of retract; update = Both }
+      ∷ record { exchange = Forward; kinds = kinds_of retract; update = Both }
+      ∷ record { exchange = Forward; kinds = kinds_of retract; update = Absent }
+      ∷ [];
+  parallelism = 1;
+  mini_batch = 1000;
+}
+
 -- ---- the runs
 
 abbrev pub a_word : Row
@@ -101,7 +120,7 @@ abbrev pub counted : Kind → ℕ → Change
 counted kind n = record { kind = kind; row = a_word ++ Num (pos n) ∷ [] }
 
 pub record CountsAsWorked : Type 0 where
-  pub is_plan : plan_as_seen counts ≡ plan_of_tree (word_table ∷ []) count_table 1 bare counts_rel
+  pub is_plan : plan_as_seen counts ≡ plan_of_tree (word_table ∷ []) count_table 1 0 bare counts_rel
   -- the first count, and then the second in its place
   pub printed : printed_by (network counts) twice ≡ Printed (counted I 1) ∷ Printed (counted UB 1) ∷ Printed (counted UA 2) ∷ Quiet (2 ∷ []) ∷ []
 
@@ -110,6 +129,11 @@ abbrev pub word_gone : Change
 word_gone = record { kind = D; row = a_word ++ Null ∷ [] }
 
 pub record ShownAsWorked : Type 0 where
-  pub is_plan : plan_as_seen shown_counts ≡ plan_of_tree (word_table ∷ []) word_counts 1 (shown (0 ∷ [])) counts_rel
+  pub is_plan : plan_as_seen shown_counts ≡ plan_of_tree (word_table ∷ []) word_counts 1 0 (shown (0 ∷ [])) counts_rel
   -- the first count, which goes before the second comes
   pub printed : printed_by (network shown_counts) twice ≡ Printed (counted I 1) ∷ Printed word_gone ∷ Printed (counted I 2) ∷ Quiet (2 ∷ []) ∷ []
+
+pub record BundledAsWorked : Type 0 where
+  pub is_plan : plan_as_seen bundled_counts ≡ plan_of_tree (word_table ∷ []) count_table 1 1000 bare counts_rel
+  -- both rows are one change of the group
+  pub printed : printed_by (network bundled_counts) twice ≡ Printed (counted I 2) ∷ Quiet (2 ∷ []) ∷ []

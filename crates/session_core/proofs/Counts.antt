@@ -1,5 +1,5 @@
 -- How many changes were taken of each table.
-use Rattle.std.proofs.Common.{◌≡◌, ℕ, zero, suc, ◌+◌, ◌<◌, ◌≤◌, nat_lt, ◌==◌, Bool, true, false, cond, List, [], ◌∷◌, ◌++◌, length, get_or, set, slice_get, Some, None, refl, sym, ap, subst, ◌∙◌, arith, inl, inr, eqb}
+use Rattle.std.proofs.Common.{◌≡◌, ℕ, zero, suc, ◌+◌, ◌<◌, ◌≤◌, nat_lt, Bool, true, false, cond, List, [], ◌∷◌, ◌++◌, length, get_or, set, slice_get, Some, None, refl, sym, ap, subst, ◌∙◌, arith, inl, inr, eqb}
 use Rattle.std.proofs.lemmas.Bool.{cases_eq, cases_lt, eq-eqb, ne_eqb, lt-ltb, le-ltb}
 use Rattle.std.proofs.lemmas.List.{length-append, get_or_append_left, set-append_left}
 use Rattle.std.proofs.lemmas.Option.{slice_get-get_or, slice_get_past}

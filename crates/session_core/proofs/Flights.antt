@@ -11,7 +11,6 @@ use Rattle.op_rules.specs.Tasks.{total}
 use Rattle.stream_model.specs.declared.events.StepFault.TheVariants.{Limit}
 use Rattle.stream_model.specs.Tables.{Table, scanned_at}
 use Rattle.stream_model.specs.Network.{Network, IsWired}
-use Rattle.stream_model.specs.Machine as machine
 use Rattle.stream_model.specs.Machine.{State, put, hand_on, send, print, is_number, is_scan_of, scan_count, scanned, take_within}
 use Rattle.session_core.specs.declared.channels.Channels.{Channels}
 use Rattle.session_core.specs.declared.exchange.Route.{Route}

@@ -1,8 +1,9 @@
 -- One operator of many takes a change.
-use Rattle.std.proofs.Common.{◌≡◌, ℕ, zero, suc, ◌+◌, ◌*◌, ◌/◌, ◌<◌, ◌==◌, ◌&&◌, Bool, true, false, List, [], ◌∷◌, ◌++◌, length, get_or, set, Option, Some, None, Result, Ok, Err, IfOk, OnOk, refl, sym, ap, subst, ◌∙◌, arith, inl, inr, ◌⊎◌, eqb}
+use Rattle.std.proofs.Common.{◌≡◌, ℕ, ◌+◌, ◌*◌, ◌/◌, ◌<◌, ◌==◌, ◌&&◌, Bool, true, false, List, [], ◌∷◌, ◌++◌, length, get_or, set, Option, Some, None, Result, Ok, Err, IfOk, IfErr, OnOk, OnErr, refl, sym, ap, subst, ◌∙◌, arith, inl, inr, ◌⊎◌, eqb}
 use Rattle.std.proofs.lemmas.Nat.{div-mul-add}
 use Rattle.std.proofs.lemmas.List.{get_or-set_same, get_or-set_other, get_or_default, append_assoc, append-nil}
 use Rattle.std.proofs.lemmas.Bool.{cases_eq, eq-eqb, ne_eqb, and_from, false≢true}
+use Rattle.ct_change.specs.declared.change.Change.{Change}
 use Rattle.op_rules.specs.History.{Arrival, joined}
 use Rattle.op_rules.specs.Rules.{Rule}
 use Rattle.op_rules.specs.Ports.{TakesAll}
@@ -12,7 +13,8 @@ use Rattle.op_rules.specs.Faults.{IfRange}
 use Rattle.ct_value.specs.declared.row.Row.{Row}
 use Rattle.stream_model.specs.Network.{Network, task}
 use Rattle.stream_model.specs.Machine.{put}
-use Rattle.session_core.specs.Runs.{pieces_after, RunsAs, HasRunning, AllRun}
+use Rattle.session_core.specs.declared.subtask.Subtask.{Subtask}
+use Rattle.session_core.specs.Runs.{RunsAs, HasRunning, HasRun, AllRun, AllHaveRun, bundle_after, is_full, pieces_after}
 
 -- at the place, or the test is false
 pub at_or_off : (m v k j : ℕ) → ((m ≡ v) × (k ≡ j)) ⊎ (((m == v) && (k == j)) ≡ false)
@@ -42,49 +44,81 @@ same_digits w a b c d lb ld e =
     let r : c * w + b ≡ c * w + d = sym (ap (λ n. n * w + b) q) ∙ e in
     (q, omega (arith, r))
 
-module _ {O : Type 0} (rule_is : O → Rule) (is_broken : O → Bool) (stands : O → List Arrival → Type 0) where
-  abbrev Running : Network → ℕ → Option O → List Arrival → Type 0
-  Running = HasRunning rule_is is_broken stands
+module _ {O : Type 0} (rule_is : O → Rule) (is_broken : O → Bool) (stands : O → List Arrival → Type 0) (takes_pieces : O → Bool) where
+  abbrev Running : Network → ℕ → Option (Subtask O) → List Arrival → List Arrival → Type 0
+  Running = HasRunning rule_is is_broken stands takes_pieces
 
-  -- an operator that took one more arrival by the same rule
-  pub runs_on : (g : Network) (v : ℕ) (old new : O) (before after : List Arrival) → RunsAs rule_is is_broken stands g v old before → rule_is new ≡ rule_is old → is_broken new ≡ false → stands new after → RunsAs rule_is is_broken stands g v new after
-  runs_on g v old new before after runs same whole now = record {
+  -- an operator that took more by the same rule
+  pub runs_on : (g : Network) (v : ℕ) (old new : O) (before after : List Arrival) → RunsAs rule_is is_broken stands takes_pieces g v old before → rule_is new ≡ rule_is old → is_broken new ≡ false
+      → ((size : ℕ) → g.bundle v ≡ Some size → takes_pieces new ≡ true) → stands new after → RunsAs rule_is is_broken stands takes_pieces g v new after
+  runs_on g v old new before after runs same whole pieces now = record {
     emits = ap (λ (r : Rule). r.emits) same ∙ runs.emits;
     opens = ap (λ (r : Rule). r.opening) same ∙ runs.opens;
     takes = subst (λ (r : Rule). TakesAll r (task g v)) (sym same) runs.takes;
     whole = whole;
     stands_for = now;
+    pieces = pieces;
   }
 
-  -- the operator that is there
-  pub found : (g : Network) (width : ℕ) (items : List (Option O)) (pieces : ℕ → ℕ → List (List Arrival)) (v j p : ℕ) (slot : Option O)
-      → AllRun rule_is is_broken stands g width items pieces → 0 < g.ports v → v < g.count + 1 → j < width
-      → p ≡ v * width + j → p < length items → slot ≡ get_or items p slot → Running g v slot (joined (pieces v j))
-  found g width items pieces v j p slot all some lv lj is there was =
-      subst (λ s. Running g v s (joined (pieces v j)))
+  -- the subtask that is there
+  pub found : (g : Network) (width : ℕ) (items : List (Option (Subtask O))) (pieces : ℕ → ℕ → List (List Arrival)) (bundle : ℕ → ℕ → List Arrival) (v j p : ℕ) (slot : Option (Subtask O))
+      → AllRun rule_is is_broken stands takes_pieces g width items pieces bundle → v < g.count + 1 → j < width
+      → p ≡ v * width + j → p < length items → slot ≡ get_or items p slot → Running g v slot (joined (pieces v j)) (bundle v j)
+  found g width items pieces bundle v j p slot all lv lj is there was =
+      subst (λ s. Running g v s (joined (pieces v j)) (bundle v j))
       (ap (λ n. get_or items n None) (sym is) ∙ (get_or_default items p None slot there ∙ sym was))
-      (all.at v j some lv lj)
+      (all.at v j lv lj)
 
-  -- it stands for one piece more, and the others for what they stood for
-  pub all_run_after : (g : Network) (width : ℕ) (items : List (Option O)) (pieces : ℕ → ℕ → List (List Arrival)) (v j p : ℕ) (a : Arrival) (slot : Option O)
-      → AllRun rule_is is_broken stands g width items pieces → j < width
-      → p ≡ v * width + j → p < length items → Running g v slot (joined (pieces v j) ++ a ∷ [])
-      → AllRun rule_is is_broken stands g width (set items p slot) (pieces_after pieces v j a)
-  all_run_after g width items pieces v j p a slot all lj is there runs = record {
-    at = λ m k some lm lk.
+  -- one subtask stands for more, and the others for what they stood for
+  pub all_run_after : (g : Network) (width : ℕ) (items : List (Option (Subtask O))) (pieces pieces' : ℕ → ℕ → List (List Arrival)) (bundle bundle' : ℕ → ℕ → List Arrival) (v j p : ℕ) (slot : Option (Subtask O))
+      → AllRun rule_is is_broken stands takes_pieces g width items pieces bundle → j < width
+      → p ≡ v * width + j → p < length items → Running g v slot (joined (pieces' v j)) (bundle' v j)
+      → ((m k : ℕ) → ((m == v) && (k == j)) ≡ false → (pieces' m k ≡ pieces m k) × (bundle' m k ≡ bundle m k))
+      → AllRun rule_is is_broken stands takes_pieces g width (set items p slot) pieces' bundle'
+  all_run_after g width items pieces pieces' bundle bundle' v j p slot all lj is there runs others = record {
+    at = λ m k lm lk.
         elim (at_or_off m v k j) [
           | inl e ↦ rw (e.0, e.1)
-              (subst (λ s. Running g v s (joined (pieces_after pieces v j a v j)))
+              (subst (λ s. Running g v s (joined (pieces' v j)) (bundle' v j))
               (sym (ap (λ n. get_or (set items p slot) n None) (sym is) ∙ get_or-set_same items p slot None there))
-              (subst (Running g v slot) (sym (ap joined (put_here pieces v j (pieces v j ++ (a ∷ []) ∷ [])) ∙ joined-push (pieces v j) (a ∷ []))) runs))
-          | inr f ↦ rw f
-              (subst (λ s. Running g m s (joined (pieces m k)))
-              (sym (get_or-set_other items p (m * width + k) slot None (λ same.
-              let t = same_digits width m k v j lk lj (same ∙ is) in
+              runs)
+          | inr f ↦
+              let same = others m k f in
+              rw (same.0, same.1)
+              (subst (λ s. Running g m s (joined (pieces m k)) (bundle m k))
+              (sym (get_or-set_other items p (m * width + k) slot None (λ here.
+              let t = same_digits width m k v j lk lj (here ∙ is) in
               false≢true (sym f ∙ and_from (m == v) (k == j) (eq-eqb m v t.0) (eq-eqb k j t.1)))))
-              (all.at m k some lm lk))
+              (all.at m k lm lk))
         ];
   }
+
+  -- what one subtask did is done, and the others stay
+  pub all_have_run : (due : Bool) (g : Network) (width : ℕ) (items : List (Option (Subtask O))) (pieces : ℕ → ℕ → List (List Arrival)) (bundle bundle' : ℕ → ℕ → List Arrival) (v j p : ℕ) (new : Subtask O) (sent : Option (List Change))
+      → AllRun rule_is is_broken stands takes_pieces g width items pieces bundle → j < width → p ≡ v * width + j → p < length items
+      → ((m k : ℕ) → ((m == v) && (k == j)) ≡ false → bundle' m k ≡ bundle m k)
+      → HasRun rule_is is_broken stands takes_pieces due g v new (joined (pieces v j)) (bundle' v j) sent
+      → AllHaveRun rule_is is_broken stands takes_pieces due g width (set items p (Some new)) pieces bundle' v j sent
+  all_have_run due g width items pieces bundle bundle' v j p new None all lj is there same run =
+      (run.0, all_run_after g width items pieces pieces bundle bundle' v j p (Some new) all lj is there run.1 (λ m k off. (refl, same m k off)))
+  all_have_run due g width items pieces bundle bundle' v j p new (Some sent) all lj is there same run = (
+    run.0,
+    run.2.node,
+    run.1,
+    all_run_after g width items pieces (pieces_after pieces bundle' v j) bundle (put bundle' v j []) v j p (Some new) all lj is there
+        (subst (λ (l : List Arrival). Running g v (Some new) (joined (pieces_after pieces bundle' v j v j)) l) (sym (put_here bundle' v j []))
+        (subst (λ (l : List Arrival). Running g v (Some new) l []) (sym (ap joined (put_here pieces v j (pieces v j ++ bundle' v j ∷ [])) ∙ joined-push (pieces v j) (bundle' v j))) run.2))
+        (λ m k off. (rw off refl, rw off (same m k off))),
+  )
+
+  -- a change joins a subtask's bundle
+  pub all_consumed : (g : Network) (width : ℕ) (items : List (Option (Subtask O))) (pieces : ℕ → ℕ → List (List Arrival)) (bundle : ℕ → ℕ → List Arrival) (v j p : ℕ) (a : Arrival) (new : Subtask O) (sent : Option (List Change))
+      → AllRun rule_is is_broken stands takes_pieces g width items pieces bundle → j < width → p ≡ v * width + j → p < length items
+      → HasRun rule_is is_broken stands takes_pieces (is_full g v (bundle v j ++ a ∷ [])) g v new (joined (pieces v j)) (bundle v j ++ a ∷ []) sent
+      → AllHaveRun rule_is is_broken stands takes_pieces (is_full g v (bundle_after bundle v j a v j)) g width (set items p (Some new)) pieces (bundle_after bundle v j a) v j sent
+  all_consumed g width items pieces bundle v j p a new sent all lj is there run =
+      all_have_run (is_full g v (bundle_after bundle v j a v j)) g width items pieces bundle (bundle_after bundle v j a) v j p new sent all lj is there (λ m k off. rw off refl)
+      (subst (λ (l : List Arrival). HasRun rule_is is_broken stands takes_pieces (is_full g v l) g v new (joined (pieces v j)) l sent) (sym (put_here bundle v j (bundle v j ++ a ∷ []))) run)
 
 -- what holds of an answer, where another fact of it gives it
 pub if_ok : {A E : Type 0} (P Q : A → Type 0) (r : Result A E) → IfOk r P → ((x : A) → P x → Q x) → IfOk r Q
@@ -103,3 +137,15 @@ if_ok_on C P Q (Err e) c h f = tt
 pub on_ok : {A E : Type 0} (P Q : Type 0) (r : Result A E) → OnOk r P → (P → Q) → OnOk r Q
 on_ok P Q (Ok x) h f = f h
 on_ok P Q (Err e) h f = tt
+
+pub if_err : {A E : Type 0} (P Q : E → Type 0) (r : Result A E) → IfErr r P → ((x : E) → P x → Q x) → IfErr r Q
+if_err P Q (Ok x) h f = tt
+if_err P Q (Err e) h f = f e h
+
+pub if_err_on : {A E : Type 0} (C : Type 0) (P Q : E → Type 0) (r : Result A E) → OnErr r C → IfErr r P → ((x : E) → C → P x → Q x) → IfErr r Q
+if_err_on C P Q (Ok x) c h f = tt
+if_err_on C P Q (Err e) c h f = f e c h
+
+pub range_of : (P Q : Row → Type 0) (fault : OpFault) → IfRange (let r : Result (List Change) OpFault = Err fault in r) P → ((x : Row) → P x → Q x) → IfRange (let r : Result (Option (List Change)) OpFault = Err fault in r) Q
+range_of P Q (Range row) h f = f row h
+range_of P Q Memory h f = tt

@@ -1,28 +1,26 @@
--- A change moves, or is taken: the parts of the step joined.
-use Rattle.std.proofs.Common.{◌≡◌, ℕ, ◌+◌, zero, suc, ◌<◌, ◌≤◌, nat_lt, nat_le, eqb, ◌==◌, ◌&&◌, Bool, true, false, cond, List, [], ◌∷◌, ◌++◌, length, Option, Some, None, Result, Ok, Err, refl, sym, ap, subst, ◌∙◌, arith, inl, inr, ◌⊎◌, slice_get, set}
-use Rattle.std.proofs.lemmas.List.{append-nil}
-use Rattle.std.proofs.lemmas.Bool.{and_parts, ltb-true, cases_eq, eq-eqb, ne_eqb, cases_Bool}
+-- A change moves, or is taken, or a bundle is flushed: the parts of the step joined.
+use Rattle.std.proofs.Common.{◌≡◌, ℕ, ◌+◌, zero, suc, ◌<◌, ◌≤◌, nat_lt, nat_le, eqb, ◌&&◌, Bool, true, false, cond, List, [], ◌∷◌, ◌++◌, length, Option, Some, None, Result, Ok, Err, refl, sym, ap, subst, ◌∙◌, arith, inl, inr, slice_get, set}
+use Rattle.std.proofs.lemmas.Bool.{and_parts, leb-true, ltb-true, cases_eq, eq-eqb, ne_eqb}
 use Rattle.ct_value.specs.declared.codes.OrderCode.TheVariants.{NoSuchPlace, NoBuffer}
 use Rattle.ct_value.specs.declared.codes.ChangeCode.{ChangeCode}
 use Rattle.ct_change.specs.declared.change.Change.{Change}
 use Rattle.ct_change.specs.Changelog.{fold}
 use Rattle.op_rules.specs.History.{Arrival, arrival, joined}
-use Rattle.op_rules.specs.Rules.{Answer}
-use Rattle.op_rules.specs.Tasks.{IsReady}
 use Rattle.stream_model.specs.declared.events.PrintItem.{PrintItem}
 use Rattle.stream_model.specs.declared.events.StepFault.{StepFault}
 use Rattle.stream_model.specs.declared.events.StepFault.TheVariants.{Change as Refused, Order, Range, Limit, Memory}
 use Rattle.stream_model.specs.Tables.{Table, scanned_at, refusal}
-use Rattle.stream_model.specs.Network.{Feed, Network, IsWired, task}
-use Rattle.stream_model.specs.Machine.{State, put, consumed, joins, folded, answered, flushed, size_of, is_channel, has_channel, move, move_front, move_to, flush, flush_bundle, is_place, take, take_of, take_unless, take_within}
+use Rattle.stream_model.specs.Network.{Feed, Network, IsWired}
+use Rattle.stream_model.specs.Machine.{State, put, consumed, joins, folded, answered, flushed, is_channel, has_channel, move, move_front, move_to, flush, flush_bundle, flush_held, is_place, take, take_of, take_unless, take_within}
 use Rattle.stream_model.specs.Runs.{Item, step_item, IsTyped}
 use Rattle.stream_model.specs.Drain.{StopsBy}
 use Rattle.session_core.specs.declared.traffic.Traffic.{Traffic}
 use Rattle.session_core.specs.Kept.{Carries, AllFit, fetched}
-use Rattle.session_core.specs.Runs.{MayTake, pieces_after, IsOutAt}
+use Rattle.session_core.specs.LaidOut.{HasBundle}
+use Rattle.session_core.specs.Runs.{MayTake, IsOutAt, holds_some, is_full}
 use Rattle.session_core.specs.Sources.{ChecksIn, AllCheck, taken_after}
-use Rattle.session_core.specs.Stands.{StaysOpen}
-use Rattle.session_core.proofs.Running.{at_or_off, put_here}
+use Rattle.session_core.specs.Stands.{StaysOpen, next_if}
+use Rattle.session_core.proofs.Running.{at_or_off}
 
 -- ---- an edge and a channel that are there
 
@@ -42,78 +40,88 @@ channel_there g e i j q =
     let a = and_parts (nat_lt i g.subtasks) (nat_lt j g.subtasks && has_channel (g.edge e).exchange i j) q in
     (ltb-true i g.subtasks a.0, ltb-true j g.subtasks (and_parts (nat_lt j g.subtasks) (has_channel (g.edge e).exchange i j) a.1).0)
 
--- ---- a move, where no node keeps bundles
+-- ---- a subtask's bundle is folded, if it is due
 
-module _ (g : Network) (limit : ℕ) (s : State) (e i j : ℕ) (feed : Feed) (change : Change) (rest : List Change) where
-  abbrev pub a : Arrival
-  a = arrival feed.port i change
+-- a change joins its subtask's bundle, which is due where it is full
+pub move_next : (g : Network) (limit : ℕ) (s : State) (e i j : ℕ) (feed : Feed) (change : Change) (rest : List Change) → g.fed e ≡ Some feed → is_channel g e i j ≡ true → s.flight e i j ≡ change ∷ rest
+    → move g limit s e i j ≡ next_if (is_full g feed.node ((joins e i j feed change rest s).bundle feed.node j)) g limit feed.node j (joins e i j feed change rest s)
+move_next g limit s e i j feed change rest fed channel front =
+    ap (move_to g limit s e i j) fed
+    ∙ (ap (λ b. cond b (move_front g limit s e i j feed (s.flight e i j)) (Err (Order NoSuchPlace))) channel
+    ∙ ap (move_front g limit s e i j feed) front)
 
-  -- the state in which the change is consumed and nothing is handed on yet
-  abbrev pub mid : State
-  mid = folded feed.node j (joins e i j feed change rest s)
+held_next : (g : Network) (limit : ℕ) (s : State) (v j : ℕ) (bundle : List Arrival) → flush_held g limit s v j bundle ≡ cond (holds_some bundle) (flushed g limit v j s) (Ok s)
+held_next g limit s v j [] = refl
+held_next g limit s v j (a ∷ others) = refl
 
-  module _ (none : g.bundle feed.node ≡ None) (empty : (v k : ℕ) → s.bundle v k ≡ []) where
-    piece_is : (joins e i j feed change rest s).bundle feed.node j ≡ a ∷ []
-    piece_is = put_here s.bundle feed.node j (s.bundle feed.node j ++ a ∷ []) ∙ ap (λ (l : List Arrival). l ++ a ∷ []) (empty feed.node j)
+-- a bundle that is flushed is due where it holds something
+pub flush_next : (g : Network) (limit : ℕ) (s : State) (v j : ℕ) → HasBundle g v j → flush g limit s v j ≡ next_if (holds_some (s.bundle v j)) g limit v j s
+flush_next g limit s v j has =
+    ap (λ b. cond b (flush_bundle g limit s v j (g.bundle v)) (Err (Order NoSuchPlace))) has.place
+    ∙ (ap (flush_bundle g limit s v j) has.bundled
+    ∙ held_next g limit s v j (s.bundle v j))
 
-    full : nat_le (size_of (g.bundle feed.node)) (length ((joins e i j feed change rest s).bundle feed.node j)) ≡ true
-    full = ap (λ (b : Option ℕ). nat_le (size_of b) (length ((joins e i j feed change rest s).bundle feed.node j))) none ∙ ap (λ (l : List Arrival). nat_le 1 (length l)) piece_is
+pub joins_carries : (g : Network) (limit : ℕ) (s : State) (e i j : ℕ) (feed : Feed) (change : Change) (rest : List Change) (t : Traffic) (handed : List PrintItem) → Carries t g limit handed (fetched e i j rest s) → Carries t g limit handed (joins e i j feed change rest s)
+joins_carries g limit s e i j feed change rest t handed kept = record {
+  width = kept.width;
+  edges = kept.edges;
+  flight = kept.flight;
+  sends = kept.sends;
+  within = kept.within;
+  took = kept.took;
+  few = kept.few;
+  counted = kept.counted;
+  shares = kept.shares;
+  printed = kept.printed;
+}
 
-    -- the step is what the node emits
-    pub moved : g.fed e ≡ Some feed → is_channel g e i j ≡ true → s.flight e i j ≡ change ∷ rest
-        → move g limit s e i j ≡ answered g limit feed.node j (g.emits feed.node (joined (s.pieces feed.node j)) (a ∷ [])) mid
-    moved fed channel front =
-        ap (move_to g limit s e i j) fed
-        ∙ (ap (λ b. cond b (move_front g limit s e i j feed (s.flight e i j)) (Err (Order NoSuchPlace))) channel
-        ∙ (ap (move_front g limit s e i j feed) front
-        ∙ (ap (λ b. cond b (flushed g limit feed.node j (joins e i j feed change rest s)) (Ok (joins e i j feed change rest s))) full
-        ∙ ap (λ (l : List Arrival). answered g limit feed.node j (g.emits feed.node (joined (s.pieces feed.node j)) l) mid) piece_is)))
+pub folded_carries : (g : Network) (limit : ℕ) (s : State) (v j : ℕ) (t : Traffic) (handed : List PrintItem) → Carries t g limit handed s → Carries t g limit handed (folded v j s)
+folded_carries g limit s v j t handed kept = record {
+  width = kept.width;
+  edges = kept.edges;
+  flight = kept.flight;
+  sends = kept.sends;
+  within = kept.within;
+  took = kept.took;
+  few = kept.few;
+  counted = kept.counted;
+  shares = kept.shares;
+  printed = kept.printed;
+}
 
-    pub mid_pieces : mid.pieces ≡ pieces_after s.pieces feed.node j a
-    mid_pieces = ap (λ (l : List Arrival). put s.pieces feed.node j (s.pieces feed.node j ++ l ∷ [])) piece_is
-
-    pub mid_empty : (v k : ℕ) → mid.bundle v k ≡ []
-    mid_empty v k = elim (at_or_off v feed.node k j) [
-      | inl p ↦ rw (p.0, p.1) (put_here (joins e i j feed change rest s).bundle feed.node j [])
-      | inr f ↦ rw f (empty v k)
-    ]
-
-  pub mid_carries : (t : Traffic) (handed : List PrintItem) → Carries t g limit handed (fetched e i j rest s) → Carries t g limit handed mid
-  mid_carries t handed kept = record {
-    width = kept.width;
-    edges = kept.edges;
-    flight = kept.flight;
-    sends = kept.sends;
-    within = kept.within;
-    took = kept.took;
-    few = kept.few;
-    counted = kept.counted;
-    shares = kept.shares;
-    printed = kept.printed;
-  }
+-- bundles changed at a node that is there
+pub outside_put : (g : Network) (bundle : ℕ → ℕ → List Arrival) (v j : ℕ) (x : List Arrival) → v ≤ g.count → ((w k : ℕ) → g.count < w → bundle w k ≡ []) → (w k : ℕ) → g.count < w → put bundle v j x w k ≡ []
+outside_put g bundle v j x there none w k above = elim (at_or_off w v k j) [
+  | inl p ↦ absurd (omega (arith, p.0, there, above))
+  | inr f ↦ rw f (none w k above)
+]
 
 -- the change at the front may be taken
-pub may_take : (g : Network) (limit : ℕ) (s : State) (e i j : ℕ) (feed : Feed) (change : Change) (rest : List Change) → limit < 4294967296 → StaysOpen g limit s → ((v k : ℕ) → s.bundle v k ≡ [])
-    → g.fed e ≡ Some feed → is_channel g e i j ≡ true → s.flight e i j ≡ change ∷ rest → MayTake g feed.node j (joined (s.pieces feed.node j)) (arrival feed.port i change)
-may_take g limit s e i j feed change rest small opens empty fed channel front =
+pub may_take : (g : Network) (limit : ℕ) (s : State) (e i j : ℕ) (feed : Feed) (change : Change) (rest : List Change) → limit < 4294967296 → StaysOpen g limit s
+    → g.fed e ≡ Some feed → is_channel g e i j ≡ true → s.flight e i j ≡ change ∷ rest → MayTake g feed.node j (consumed s feed.node j) (arrival feed.port i change)
+may_take g limit s e i j feed change rest small opens fed channel front =
     let now = opens.safe [] tt s refl in
     let there = channel_there g e i j channel in
     let may = now.may e i j feed change rest fed there.0 there.1 front in
-    let all : consumed s feed.node j ≡ joined (s.pieces feed.node j) = ap (λ (l : List Arrival). joined (s.pieces feed.node j) ++ l) (empty feed.node j) ∙ append-nil (joined (s.pieces feed.node j)) in
-    let few : length (consumed s feed.node j) + 1 ≤ s.sends = may.few in
-    let same : length (consumed s feed.node j) ≡ length (joined (s.pieces feed.node j)) = ap length all in
     record {
-      ready = subst (λ (l : List Arrival). IsReady (task g feed.node) j (l ++ arrival feed.port i change ∷ [])) all may.ready;
-      few = omega (arith, few, same, now.few, small);
+      ready = may.ready;
+      few = let few = may.few in omega (arith, few, now.few, small);
     }
 
+pub place_there : (g : Network) (v j : ℕ) → is_place g v j ≡ true → (v < g.count + 1) × (j < g.subtasks)
+place_there g v j q =
+    let a = and_parts (nat_lt 0 v) (nat_le v g.count && nat_lt j g.subtasks) q in
+    let p = and_parts (nat_le v g.count) (nat_lt j g.subtasks) a.1 in
+    (let l = leb-true v g.count p.0 in omega (arith, l), ltb-true j g.subtasks p.1)
+
 -- a rule that is out of range stops the step
-pub stops_out : (g : Network) (limit v j : ℕ) (next : Result State StepFault) (answer : Answer) (s : State) (fault : StepFault) → next ≡ answered g limit v j answer s → IsOutAt g v j answer fault → StopsBy next fault
-stops_out g limit v j next answer s (Refused code) e out = absurd out
-stops_out g limit v j next answer s (Order code) e out = absurd out
-stops_out g limit v j next answer s (Range node subtask row types) e out = e ∙ (ap (λ a. answered g limit v j a s) out.3 ∙ rw (out.0, out.1, out.2) refl)
-stops_out g limit v j next answer s Limit e out = absurd out
-stops_out g limit v j next answer s Memory e out = tt
+pub stops_out : (g : Network) (limit v j : ℕ) (due : Bool) (s : State) (next : Result State StepFault) (fault : StepFault) → next ≡ next_if due g limit v j s → IsOutAt g v j due (g.emits v (joined (s.pieces v j)) (s.bundle v j)) fault → StopsBy next fault
+stops_out g limit v j due s next (Refused code) e out = absurd out
+stops_out g limit v j due s next (Order code) e out = absurd out
+stops_out g limit v j due s next (Range node subtask row types) e out =
+    e ∙ (ap (λ b. cond b (flushed g limit v j s) (Ok s)) out.0 ∙ (ap (λ a. answered g limit v j a (folded v j s)) out.4 ∙ rw (out.1, out.2, out.3) refl))
+stops_out g limit v j due s next Limit e out = absurd out
+stops_out g limit v j due s next Memory e out = tt
 
 -- what stops one also stops an equal one
 pub stops_same : (x y : Result State StepFault) (fault : StepFault) → x ≡ y → StopsBy y fault → StopsBy x fault
@@ -123,6 +131,7 @@ stops_same x y fault e = subst (λ r. StopsBy r fault) (sym e)
 pub open_after : (g : Network) (limit : ℕ) (s : State) (item : Item) (next : State) → step_item g limit s item ≡ Ok next → IsTyped g item → StaysOpen g limit s → StaysOpen g limit next
 open_after g limit s item next e typed opens = record {
   safe = λ items all t leads. opens.safe (item ∷ items) (typed, all) t (next, e, leads);
+  ready = λ items all t leads. opens.ready (item ∷ items) (typed, all) t (next, e, leads);
   fits = λ items all t leads. opens.fits (item ∷ items) (typed, all) t (next, e, leads);
 }
 

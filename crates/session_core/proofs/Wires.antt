@@ -1,5 +1,5 @@
 -- What the wiring says of an edge, of a channel and of a table.
-use Rattle.std.proofs.Common.{◌≡◌, ℕ, zero, suc, ◌+◌, ◌<◌, ◌≤◌, nat_lt, ◌==◌, ◌&&◌, true, false, cond, List, [], ◌∷◌, ◌++◌, map, length, drop, get_or, slice_get, Option, Some, None, Err, refl, sym, ap, subst, ◌∙◌, arith}
+use Rattle.std.proofs.Common.{◌≡◌, ℕ, zero, suc, ◌+◌, ◌<◌, ◌≤◌, nat_lt, ◌&&◌, true, false, cond, List, [], ◌∷◌, map, length, drop, get_or, slice_get, Option, Some, None, Err, sym, ap, subst, ◌∙◌, arith}
 use Rattle.std.proofs.lemmas.Bool.{and_parts, ltb-true}
 use Rattle.std.proofs.lemmas.Option.{slice_get-get_or}
 use Rattle.ct_value.specs.declared.codes.OrderCode.TheVariants.{NoSuchPlace, TooFew}
@@ -8,7 +8,7 @@ use Rattle.stream_model.specs.Tables.{Table}
 use Rattle.stream_model.specs.Network.{Feed, Network, IsWired}
 use Rattle.stream_model.specs.Machine.{State, has_channel, is_channel, move, move_front, move_to}
 use Rattle.stream_model.specs.Looks.{flight_at, in_flight}
-use Rattle.session_core.specs.declared.wiring.Lane.{Lane}
+use Rattle.session_core.specs.declared.wiring.Stage.{Stage}
 use Rattle.session_core.specs.declared.wiring.TableWiring.{TableWiring}
 use Rattle.session_core.specs.declared.wiring.Wiring.{Wiring}
 use Rattle.session_core.specs.LaidOut.{IsLaidOut, IsTable, IsTableIn, stage_of}
@@ -60,16 +60,16 @@ module _ (g : Network) (limit : ℕ) (s : State) (e i j : ℕ) where
   pub flight_on : (feed : Feed) (n : ℕ) → g.fed e ≡ Some feed → is_channel g e i j ≡ true → n ≡ length (s.flight e i j) → Some n ≡ in_flight g s e i j
   flight_on feed n fed on is = ap Some is ∙ sym (ap (flight_at g s e i j) fed ∙ ap (λ b. cond b (Some (length (s.flight e i j))) None) on)
 
--- ---- the channels of a drain
+-- ---- the stages of a drain
 
-drop_suc : (lanes : List Lane) (n : ℕ) (lane : Lane) → n < length lanes → lane ≡ get_or lanes n lane → drop n (map stage_of lanes) ≡ stage_of lane ∷ drop (suc n) (map stage_of lanes)
-drop_suc [] n lane within is = absurd (omega (arith, within))
-drop_suc (x ∷ lanes) zero lane within is = ap (λ y. stage_of y ∷ map stage_of lanes) (sym is)
-drop_suc (x ∷ lanes) (suc n) lane within is = drop_suc lanes n lane (omega (arith, within)) is
+drop_suc : (stages : List Stage) (n : ℕ) (stage : Stage) → n < length stages → stage ≡ get_or stages n stage → drop n (map stage_of stages) ≡ stage_of stage ∷ drop (suc n) (map stage_of stages)
+drop_suc [] n stage within is = absurd (omega (arith, within))
+drop_suc (x ∷ stages) zero stage within is = ap (λ y. stage_of y ∷ map stage_of stages) (sym is)
+drop_suc (x ∷ stages) (suc n) stage within is = drop_suc stages n stage (omega (arith, within)) is
 
--- what is left of a drain at a channel
-pub drop_lane : (lanes : List Lane) (n : ℕ) (lane : Lane) → n < length lanes → lane ≡ get_or lanes n lane → drop n (map stage_of lanes) ≡ stage_of lane ∷ drop (n + 1) (map stage_of lanes)
-drop_lane lanes n lane within is = subst (λ m. drop n (map stage_of lanes) ≡ stage_of lane ∷ drop m (map stage_of lanes)) (let same : suc n ≡ n + 1 = omega arith in same) (drop_suc lanes n lane within is)
+-- what is left of a drain at a stage
+pub drop_stage : (stages : List Stage) (n : ℕ) (stage : Stage) → n < length stages → stage ≡ get_or stages n stage → drop n (map stage_of stages) ≡ stage_of stage ∷ drop (n + 1) (map stage_of stages)
+drop_stage stages n stage within is = subst (λ m. drop n (map stage_of stages) ≡ stage_of stage ∷ drop m (map stage_of stages)) (let same : suc n ≡ n + 1 = omega arith in same) (drop_suc stages n stage within is)
 
 -- ---- tables
 

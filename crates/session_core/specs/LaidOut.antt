@@ -6,12 +6,15 @@ use Rattle.ct_change.specs.declared.change.Change.{Change}
 use Rattle.stream_model.specs.Tables.{Table}
 use Rattle.stream_model.specs.Network as network
 use Rattle.stream_model.specs.Network.{Network, IsWired}
-use Rattle.stream_model.specs.Machine.{is_scan_of}
-use Rattle.stream_model.specs.Drain.{Stage, delivers, stages}
+use Rattle.stream_model.specs.Machine.{is_place, is_scan_of}
+use Rattle.stream_model.specs.Drain as drain
+use Rattle.stream_model.specs.Drain.{delivers, flushes, stages}
 use Rattle.session_core.specs.Routes.{SpreadsBy}
 use Rattle.session_core.specs.Sending.{AllRoute}
 use Rattle.session_core.specs.declared.wiring.Feed.{Feed}
 use Rattle.session_core.specs.declared.wiring.Lane.{Lane}
+use Rattle.session_core.specs.declared.wiring.Stage.{Stage}
+use Rattle.session_core.specs.declared.wiring.Stage.TheVariants.{Deliver, Flush}
 use Rattle.session_core.specs.declared.wiring.TableWiring.{TableWiring}
 use Rattle.session_core.specs.declared.wiring.Wiring.{Wiring}
 
@@ -23,9 +26,10 @@ abbrev pub feed_of : Option Feed → Option network.Feed
 feed_of None = None
 feed_of (Some feed) = Some (port_of feed)
 
--- a channel, as a stage of a drain
-abbrev pub stage_of : Lane → Stage
-stage_of lane = delivers lane.edge lane.from lane.to
+-- a stage of a drain, as the machine has it
+abbrev pub stage_of : Stage → drain.Stage
+stage_of (Deliver lane) = delivers lane.edge lane.from lane.to
+stage_of (Flush node subtask) = flushes node subtask
 
 -- the scans of a table among the nodes below a number, in order
 abbrev pub scans_below : Network → ℕ → ℕ → List ℕ
@@ -51,10 +55,20 @@ pub record IsThere (g : Network) (lane : Lane) : Type 0 where
   pub from : lane.from < g.subtasks
   pub to : lane.to < g.subtasks
 
--- a network in which no node keeps bundles, and a limit on the changes sent, laid out
+-- the channel of a stage is there
+abbrev pub IsStageThere : Network → Stage → Type 0
+IsStageThere g (Deliver lane) = IsThere g lane
+IsStageThere g (Flush node subtask) = Unit {0}
+
+-- there is such a subtask, and its node keeps bundles
+pub record HasBundle (g : Network) (v j : ℕ) : Type 0 where
+  pub place : is_place g v j ≡ true
+  pub size : ℕ
+  pub bundled : g.bundle v ≡ Some size
+
+-- a network, and a limit on the changes sent, laid out
 pub record IsLaidOut (w : Wiring) (g : Network) (limit : ℕ) : Type 0 where
   pub wired : IsWired g
-  pub unbundled : (v : ℕ) → g.bundle v ≡ None
   pub subtasks : w.parallelism ≡ g.subtasks
   pub nodes : w.nodes ≡ g.count
   pub limit_is : w.limit ≡ limit
@@ -67,5 +81,6 @@ pub record IsLaidOut (w : Wiring) (g : Network) (limit : ℕ) : Type 0 where
   pub tables : (table : ℕ) → IsTableIn g table (slice_get w.tables.items table) (g.tables table)
   pub types_many : length w.types.items ≡ g.count + 1
   pub types : (v : ℕ) (types : List ColTy) → slice_get w.types.items v ≡ Some types → types ≡ g.range_types v
-  pub lanes : map stage_of w.lanes.items ≡ stages g
-  pub lanes_there : All (IsThere g) w.lanes.items
+  pub bundles : (v : ℕ) → get_or w.bundles.items v None ≡ g.bundle v
+  pub stages_are : map stage_of w.stages.items ≡ stages g
+  pub stages_there : All (IsStageThere g) w.stages.items

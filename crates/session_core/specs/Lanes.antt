@@ -1,5 +1,5 @@
 -- A table of channels, kept as one list, seen as a function from an edge and two subtasks to what is in flight there.
-use Rattle.std.specs.Prelude.{◌≡◌, ℕ, ◌+◌, ◌*◌, ◌<◌, nat_lt, ◌==◌, ◌&&◌, cond, List, [], ◌∷◌, ◌++◌, get_or}
+use Rattle.std.specs.Prelude.{◌≡◌, ℕ, ◌+◌, ◌*◌, nat_lt, ◌==◌, ◌&&◌, cond, List, [], ◌∷◌, ◌++◌, get_or}
 use Rattle.ct_change.specs.declared.change.Change.{Change}
 use Rattle.route.specs.Channel.{Flow, HasPassed}
 

@@ -1,5 +1,6 @@
--- What operators stand for: one for each subtask of each node that has ports, kept as one list.
-use Rattle.std.specs.Prelude.{◌≡◌, ℕ, ◌+◌, ◌*◌, ◌<◌, ◌≤◌, ◌^◌, Bool, false, List, [], ◌∷◌, ◌++◌, length, get_or, Option, Some, None, Ok, Err}
+-- What the subtasks of a job stand for: one for each subtask of each node, kept as one list.
+use Rattle.std.specs.Prelude.{◌≡◌, ℕ, ◌+◌, ◌*◌, ◌<◌, ◌^◌, nat_le, Bool, true, false, List, [], ◌∷◌, ◌++◌, length, map, get_or, Option, Some, None, Ok, Err}
+use Rattle.ct_value.specs.declared.row.Row.{Row}
 use Rattle.ct_change.specs.declared.change.Change.{Change}
 use Rattle.op_rules.specs.History.{Arrival, arrival, joined}
 use Rattle.op_rules.specs.Rules.{Rule, Answer}
@@ -8,58 +9,209 @@ use Rattle.op_rules.specs.Tasks.{IsReady}
 use Rattle.stream_model.specs.declared.events.StepFault.{StepFault}
 use Rattle.stream_model.specs.declared.events.StepFault.TheVariants.{Change as Refused, Order, Range, Limit, Memory}
 use Rattle.stream_model.specs.Network.{Network, task}
-use Rattle.stream_model.specs.Machine.{put}
+use Rattle.stream_model.specs.Machine.{put, size_of}
+use Rattle.session_core.specs.declared.subtask.Subtask.{Subtask}
 use Rattle.session_core.specs.declared.wiring.Wiring.{Wiring}
 use Rattle.session_core.specs.LaidOut.{IsLaidOut}
 
--- a subtask of a node may rely on what it takes, with this arrival
+-- a subtask of a node may rely on what it consumed, with this arrival
 pub record MayTake (g : Network) (v j : ℕ) (before : List Arrival) (a : Arrival) : Type 0 where
   pub ready : IsReady (task g v) j (before ++ a ∷ [])
   pub few : length before + 1 < 2 ^ 32
 
--- the pieces after one more, of one change
-abbrev pub pieces_after : (ℕ → ℕ → List (List Arrival)) → ℕ → ℕ → Arrival → ℕ → ℕ → List (List Arrival)
-pieces_after pieces v j a = put pieces v j (pieces v j ++ (a ∷ []) ∷ [])
+-- whether a node's bundle is full with these arrivals; where it keeps none, one is enough
+abbrev pub is_full : Network → ℕ → List Arrival → Bool
+is_full g v bundle = nat_le (size_of (g.bundle v)) (length bundle)
 
--- the node is out of range at this subtask, at this row, or memory was wanting
-abbrev pub IsOutAt : Network → ℕ → ℕ → Answer → StepFault → Type 0
-IsOutAt g v j answer (Refused code) = ⊥
-IsOutAt g v j answer (Order code) = ⊥
-IsOutAt g v j answer (Range node subtask row types) = (node ≡ v) × (subtask ≡ j) × (types ≡ g.range_types v) × (answer ≡ Err row)
-IsOutAt g v j answer Limit = ⊥
-IsOutAt g v j answer Memory = Unit {0}
+-- whether a bundle holds something
+abbrev pub holds_some : List Arrival → Bool
+holds_some [] = false
+holds_some (a ∷ others) = true
 
-module _ {O : Type 0} (rule_is : O → Rule) (is_broken : O → Bool) (stands : O → List Arrival → Type 0) where
-  -- an operator runs as a node of the network, takes what its edges carry, is whole and stands for this history
+-- the bundles with an arrival behind one of them
+abbrev pub bundle_after : (ℕ → ℕ → List Arrival) → ℕ → ℕ → Arrival → ℕ → ℕ → List Arrival
+bundle_after bundle v j a = put bundle v j (bundle v j ++ a ∷ [])
+
+-- the pieces with a bundle behind them, as one more
+abbrev pub pieces_after : (ℕ → ℕ → List (List Arrival)) → (ℕ → ℕ → List Arrival) → ℕ → ℕ → ℕ → ℕ → List (List Arrival)
+pieces_after pieces bundle v j = put pieces v j (pieces v j ++ bundle v j ∷ [])
+
+-- no bundle of a node holds anything
+abbrev pub IsEmptyAt : ℕ → (ℕ → ℕ → List Arrival) → ℕ → Type 0
+IsEmptyAt width bundle v = (j : ℕ) → j < width → bundle v j ≡ []
+
+-- no bundle of any node does
+abbrev pub AreEmpty : Network → ℕ → (ℕ → ℕ → List Arrival) → Type 0
+AreEmpty g width bundle = (v : ℕ) → v < g.count + 1 → IsEmptyAt width bundle v
+
+-- a bundle is due, and its rule is out of range at this row
+abbrev pub IsOutOf : Bool → Answer → Row → Type 0
+IsOutOf due answer row = (due ≡ true) × (answer ≡ Err row)
+
+-- a bundle is due, and its node is out of range at this subtask, at this row; or memory was wanting
+abbrev pub IsOutAt : Network → ℕ → ℕ → Bool → Answer → StepFault → Type 0
+IsOutAt g v j due answer (Refused code) = ⊥
+IsOutAt g v j due answer (Order code) = ⊥
+IsOutAt g v j due answer (Range node subtask row types) = (due ≡ true) × (node ≡ v) × (subtask ≡ j) × (types ≡ g.range_types v) × (answer ≡ Err row)
+IsOutAt g v j due answer Limit = ⊥
+IsOutAt g v j due answer Memory = Unit {0}
+
+module _ {O : Type 0} (rule_is : O → Rule) (is_broken : O → Bool) (stands : O → List Arrival → Type 0) (takes_pieces : O → Bool) where
+  -- an operator runs as a node of the network, takes what its edges carry, is whole and stands for this history; where the node keeps
+  -- bundles, it takes pieces
   pub record RunsAs (g : Network) (v : ℕ) (op : O) (history : List Arrival) : Type 0 where
     pub emits : (rule_is op).emits ≡ g.emits v
     pub opens : (rule_is op).opening ≡ g.opening v
     pub takes : TakesAll (rule_is op) (task g v)
     pub whole : is_broken op ≡ false
     pub stands_for : stands op history
+    pub pieces : (size : ℕ) → g.bundle v ≡ Some size → takes_pieces op ≡ true
 
-  -- there is such an operator
-  abbrev pub HasRunning : Network → ℕ → Option O → List Arrival → Type 0
-  HasRunning g v None history = ⊥
-  HasRunning g v (Some op) history = RunsAs g v op history
+  -- a subtask of a node with ports stands for what it folded, and holds the changes of its bundle in order; none where the node keeps
+  -- no bundles
+  pub record StandsAs (g : Network) (v : ℕ) (subtask : Subtask O) (history bundle : List Arrival) : Type 0 where
+    pub node : 0 < g.ports v
+    pub runs : RunsAs g v subtask.operator history
+    pub held : map (λ a. a.change) bundle ≡ subtask.held
+    pub alone : g.bundle v ≡ None → bundle ≡ []
+    pub few : length (history ++ bundle) < 2 ^ 32
 
-  -- each subtask of each node with ports has the operator of the node, which stands for the pieces that the subtask folded
-  pub record AllRun (g : Network) (width : ℕ) (items : List (Option O)) (pieces : ℕ → ℕ → List (List Arrival)) : Type 0 where
-    pub at : (v j : ℕ) → 0 < g.ports v → v < g.count + 1 → j < width → HasRunning g v (get_or items (v * width + j) None) (joined (pieces v j))
+  -- there is such a subtask, or the node has no ports
+  abbrev pub HasRunning : Network → ℕ → Option (Subtask O) → List Arrival → List Arrival → Type 0
+  HasRunning g v None history bundle = (g.ports v ≡ 0) × (bundle ≡ [])
+  HasRunning g v (Some subtask) history bundle = StandsAs g v subtask history bundle
 
-  -- the operators run as the nodes of some network, and a subtask of one of them may take a change at a port
-  abbrev pub MayConsume : ℕ → List (Option O) → ℕ → ℕ → ℕ → Change → Type 0
-  MayConsume width items v j port change = (g : Network) × (pieces : ℕ → ℕ → List (List Arrival)) × (from : ℕ) × (0 < g.ports v) × (v < g.count + 1) × AllRun g width items pieces × MayTake g v j (joined (pieces v j)) (arrival port from change)
+  -- each subtask of each node stands for the pieces that it folded, and for its bundle
+  pub record AllRun (g : Network) (width : ℕ) (items : List (Option (Subtask O))) (pieces : ℕ → ℕ → List (List Arrival)) (bundle : ℕ → ℕ → List Arrival) : Type 0 where
+    pub at : (v j : ℕ) → v < g.count + 1 → j < width → HasRunning g v (get_or items (v * width + j) None) (joined (pieces v j)) (bundle v j)
 
-  -- so it is of each such network, of what the subtasks folded, and of what arrives
-  abbrev pub ForConsumed : ℕ → List (Option O) → ℕ → ℕ → ℕ → Change → (Network → (ℕ → ℕ → List (List Arrival)) → Arrival → Type 0) → Type 0
-  ForConsumed width items v j port change P = (g : Network) (pieces : ℕ → ℕ → List (List Arrival)) (from : ℕ) → 0 < g.ports v → v < g.count + 1 → AllRun g width items pieces → MayTake g v j (joined (pieces v j)) (arrival port from change)
-      → P g pieces (arrival port from change)
+  -- so it is of each network whose subtasks these are, and of their bundles
+  abbrev pub ForAllRun : ℕ → List (Option (Subtask O)) → (Network → (ℕ → ℕ → List Arrival) → Type 0) → Type 0
+  ForAllRun width items P = (g : Network) (pieces : ℕ → ℕ → List (List Arrival)) (bundle : ℕ → ℕ → List Arrival) → AllRun g width items pieces bundle → P g bundle
 
-  -- the subtask emits these changes, and the operators stand for one piece more
-  abbrev pub HasConsumed : ℕ → List (Option O) → List (Option O) → ℕ → ℕ → ℕ → Change → List Change → Type 0
-  HasConsumed width old new v j port change sent = ForConsumed width old v j port change (λ g pieces a. (g.emits v (joined (pieces v j)) (a ∷ []) ≡ Ok sent) × AllRun g width new (pieces_after pieces v j a))
+  -- ---- one subtask
 
-  -- the node is out of range at this subtask, with the types of its row, or memory was wanting
-  abbrev pub StopsConsuming : Wiring → ℕ → List (Option O) → ℕ → ℕ → ℕ → Change → StepFault → Type 0
-  StopsConsuming w width items v j port change fault = ForConsumed width items v j port change (λ g pieces a. (limit : ℕ) → IsLaidOut w g limit → IsOutAt g v j (g.emits v (joined (pieces v j)) (a ∷ [])) fault)
+  -- a bundle stays, as it isn't due; or it is folded as one piece, and this is emitted for it
+  abbrev pub HasRun : Bool → Network → ℕ → Subtask O → List Arrival → List Arrival → Option (List Change) → Type 0
+  HasRun due g v new history bundle None = (due ≡ false) × StandsAs g v new history bundle
+  HasRun due g v new history bundle (Some sent) = (due ≡ true) × (g.emits v history bundle ≡ Ok sent) × StandsAs g v new (history ++ bundle) []
+
+  -- a subtask of some node may take a change, where its node's bundles have this size
+  pub record MayConsume (subtask : Subtask O) (size : Option ℕ) (port : ℕ) (change : Change) (g : Network) (v j : ℕ) (history bundle : List Arrival) (from : ℕ) : Type 0 where
+    pub stands_as : StandsAs g v subtask history bundle
+    pub size_is : size ≡ g.bundle v
+    pub may : MayTake g v j (history ++ bundle) (arrival port from change)
+
+  -- a subtask of some node that keeps bundles may fold what it holds
+  pub record MayFlush (subtask : Subtask O) (g : Network) (v j : ℕ) (history bundle : List Arrival) : Type 0 where
+    pub stands_as : StandsAs g v subtask history bundle
+    pub size : ℕ
+    pub bundled : g.bundle v ≡ Some size
+    pub ready : IsReady (task g v) j (history ++ bundle)
+
+  -- there is such a node
+  abbrev pub MaySomeTake : Subtask O → Option ℕ → ℕ → Change → Type 0
+  MaySomeTake subtask size port change = (g : Network) × (v : ℕ) × (j : ℕ) × (history : List Arrival) × (bundle : List Arrival) × (from : ℕ) × MayConsume subtask size port change g v j history bundle from
+
+  abbrev pub MaySomeFlush : Subtask O → Type 0
+  MaySomeFlush subtask = (g : Network) × (v : ℕ) × (j : ℕ) × (history : List Arrival) × (bundle : List Arrival) × MayFlush subtask g v j history bundle
+
+  -- so it is wherever it may take the change
+  abbrev pub ForTaken : Subtask O → Option ℕ → ℕ → Change → (Network → ℕ → List Arrival → List Arrival → Type 0) → Type 0
+  ForTaken subtask size port change P = (g : Network) (v j : ℕ) (history bundle : List Arrival) (from : ℕ) → MayConsume subtask size port change g v j history bundle from → P g v history (bundle ++ arrival port from change ∷ [])
+
+  -- so it is wherever it may fold
+  abbrev pub ForFlushed : Subtask O → (Network → ℕ → List Arrival → List Arrival → Type 0) → Type 0
+  ForFlushed subtask P = (g : Network) (v j : ℕ) (history bundle : List Arrival) → MayFlush subtask g v j history bundle → P g v history bundle
+
+  -- ---- the subtask in a slot
+
+  abbrev pub MayTakeIn : Option (Subtask O) → Option ℕ → ℕ → Change → Type 0
+  MayTakeIn None size port change = ⊥
+  MayTakeIn (Some subtask) size port change = MaySomeTake subtask size port change
+
+  abbrev pub MayFlushIn : Option (Subtask O) → Type 0
+  MayFlushIn None = Unit {0}
+  MayFlushIn (Some subtask) = MaySomeFlush subtask
+
+  -- the change joins its bundle, which is folded where it is full then
+  abbrev pub HasTakenIn : Option (Subtask O) → Option (Subtask O) → Option ℕ → ℕ → Change → Option (List Change) → Type 0
+  HasTakenIn None new size port change sent = ⊥
+  HasTakenIn (Some subtask) new size port change sent = (after : Subtask O) × (new ≡ Some after) × ForTaken subtask size port change (λ g v history bundle. HasRun (is_full g v bundle) g v after history bundle sent)
+
+  -- a bundle that holds something is folded; where there is no subtask, nothing happens
+  abbrev pub HasFlushedIn : Option (Subtask O) → Option (Subtask O) → Option (List Change) → Type 0
+  HasFlushedIn None new sent = (new ≡ None) × (sent ≡ None)
+  HasFlushedIn (Some subtask) new sent = (after : Subtask O) × (new ≡ Some after) × ForFlushed subtask (λ g v history bundle. HasRun (holds_some bundle) g v after history bundle sent)
+
+  -- its rule is out of range at this row
+  abbrev pub IsOutTakingIn : Option (Subtask O) → Option ℕ → ℕ → Change → Row → Type 0
+  IsOutTakingIn None size port change row = ⊥
+  IsOutTakingIn (Some subtask) size port change row = ForTaken subtask size port change (λ g v history bundle. IsOutOf (is_full g v bundle) (g.emits v history bundle) row)
+
+  abbrev pub IsOutFlushingIn : Option (Subtask O) → Row → Type 0
+  IsOutFlushingIn None row = ⊥
+  IsOutFlushingIn (Some subtask) row = ForFlushed subtask (λ g v history bundle. IsOutOf (holds_some bundle) (g.emits v history bundle) row)
+
+  -- ---- one of many
+
+  -- the same, and the others stay
+  abbrev pub AllHaveRun : Bool → Network → ℕ → List (Option (Subtask O)) → (ℕ → ℕ → List (List Arrival)) → (ℕ → ℕ → List Arrival) → ℕ → ℕ → Option (List Change) → Type 0
+  AllHaveRun due g width new pieces bundle v j None = (due ≡ false) × AllRun g width new pieces bundle
+  AllHaveRun due g width new pieces bundle v j (Some sent) = (due ≡ true) × (0 < g.ports v) × (g.emits v (joined (pieces v j)) (bundle v j) ≡ Ok sent)
+      × AllRun g width new (pieces_after pieces bundle v j) (put bundle v j [])
+
+  -- the subtasks are those of some network, and one of them may take a change, where its node's bundles have this size
+  pub record MayConsumeAt (width : ℕ) (items : List (Option (Subtask O))) (size : Option ℕ) (v j port : ℕ) (change : Change) (g : Network) (pieces : ℕ → ℕ → List (List Arrival)) (bundle : ℕ → ℕ → List Arrival) (from : ℕ) : Type 0 where
+    pub node : 0 < g.ports v
+    pub there : v < g.count + 1
+    pub all : AllRun g width items pieces bundle
+    pub size_is : size ≡ g.bundle v
+    pub may : MayTake g v j (joined (pieces v j) ++ bundle v j) (arrival port from change)
+
+  -- the subtasks are those of some network, and one of a node that keeps bundles may fold what it holds
+  pub record MayFlushAt (width : ℕ) (items : List (Option (Subtask O))) (v j : ℕ) (g : Network) (pieces : ℕ → ℕ → List (List Arrival)) (bundle : ℕ → ℕ → List Arrival) : Type 0 where
+    pub there : v < g.count + 1
+    pub all : AllRun g width items pieces bundle
+    pub size : ℕ
+    pub bundled : g.bundle v ≡ Some size
+    pub ready : IsReady (task g v) j (joined (pieces v j) ++ bundle v j)
+
+  -- there is such a network
+  abbrev pub MaySomeConsume : ℕ → List (Option (Subtask O)) → Option ℕ → ℕ → ℕ → ℕ → Change → Type 0
+  MaySomeConsume width items size v j port change = (g : Network) × (pieces : ℕ → ℕ → List (List Arrival)) × (bundle : ℕ → ℕ → List Arrival) × (from : ℕ) × MayConsumeAt width items size v j port change g pieces bundle from
+
+  abbrev pub MaySomeFlushAt : ℕ → List (Option (Subtask O)) → ℕ → ℕ → Type 0
+  MaySomeFlushAt width items v j = (g : Network) × (pieces : ℕ → ℕ → List (List Arrival)) × (bundle : ℕ → ℕ → List Arrival) × MayFlushAt width items v j g pieces bundle
+
+  -- so it is of each such network, of what the subtasks folded, and of the bundles with the change
+  abbrev pub ForConsumed : ℕ → List (Option (Subtask O)) → Option ℕ → ℕ → ℕ → ℕ → Change → (Network → (ℕ → ℕ → List (List Arrival)) → (ℕ → ℕ → List Arrival) → Type 0) → Type 0
+  ForConsumed width items size v j port change P = (g : Network) (pieces : ℕ → ℕ → List (List Arrival)) (bundle : ℕ → ℕ → List Arrival) (from : ℕ) → MayConsumeAt width items size v j port change g pieces bundle from
+      → P g pieces (bundle_after bundle v j (arrival port from change))
+
+  abbrev pub ForAllFlushed : ℕ → List (Option (Subtask O)) → ℕ → ℕ → (Network → (ℕ → ℕ → List (List Arrival)) → (ℕ → ℕ → List Arrival) → Type 0) → Type 0
+  ForAllFlushed width items v j P = (g : Network) (pieces : ℕ → ℕ → List (List Arrival)) (bundle : ℕ → ℕ → List Arrival) → MayFlushAt width items v j g pieces bundle → P g pieces bundle
+
+  -- the change joins the subtask's bundle, which is folded where it is full then
+  abbrev pub HasConsumed : ℕ → List (Option (Subtask O)) → List (Option (Subtask O)) → Option ℕ → ℕ → ℕ → ℕ → Change → Option (List Change) → Type 0
+  HasConsumed width old new size v j port change sent = ForConsumed width old size v j port change (λ g pieces bundle. AllHaveRun (is_full g v (bundle v j)) g width new pieces bundle v j sent)
+
+  -- a bundle that holds something is folded
+  abbrev pub HasFlushed : ℕ → List (Option (Subtask O)) → List (Option (Subtask O)) → ℕ → ℕ → Option (List Change) → Type 0
+  HasFlushed width old new v j sent = ForAllFlushed width old v j (λ g pieces bundle. AllHaveRun (holds_some (bundle v j)) g width new pieces bundle v j sent)
+
+  -- the bundle is full, and its rule is out of range at this row
+  abbrev pub IsOutConsuming : ℕ → List (Option (Subtask O)) → Option ℕ → ℕ → ℕ → ℕ → Change → Row → Type 0
+  IsOutConsuming width items size v j port change row = ForConsumed width items size v j port change (λ g pieces bundle. IsOutOf (is_full g v (bundle v j)) (g.emits v (joined (pieces v j)) (bundle v j)) row)
+
+  -- the same where a bundle is flushed
+  abbrev pub IsOutFlushing : ℕ → List (Option (Subtask O)) → ℕ → ℕ → Row → Type 0
+  IsOutFlushing width items v j row = ForAllFlushed width items v j (λ g pieces bundle. IsOutOf (holds_some (bundle v j)) (g.emits v (joined (pieces v j)) (bundle v j)) row)
+
+  -- the bundle is full, and the node out of range at this subtask, with the types of its row; or memory was wanting
+  abbrev pub StopsConsuming : Wiring → ℕ → List (Option (Subtask O)) → Option ℕ → ℕ → ℕ → ℕ → Change → StepFault → Type 0
+  StopsConsuming w width items size v j port change fault = ForConsumed width items size v j port change (λ g pieces bundle. (limit : ℕ) → IsLaidOut w g limit → IsOutAt g v j (is_full g v (bundle v j)) (g.emits v (joined (pieces v j)) (bundle v j)) fault)
+
+  -- the same where a bundle is flushed
+  abbrev pub StopsFlushing : Wiring → ℕ → List (Option (Subtask O)) → ℕ → ℕ → StepFault → Type 0
+  StopsFlushing w width items v j fault = ForAllFlushed width items v j (λ g pieces bundle. (limit : ℕ) → IsLaidOut w g limit → IsOutAt g v j (holds_some (bundle v j)) (g.emits v (joined (pieces v j)) (bundle v j)) fault)

@@ -7,12 +7,13 @@ use Rattle.ct_change.specs.KeyRows.{IsChangelog, IsKeyed}
 use Rattle.op_rules.specs.Edges.{meaning_of}
 use Rattle.op_rules.specs.History.{Arrival}
 use Rattle.op_rules.specs.Rules.{Rule}
+use Rattle.op_rules.specs.Tasks.{IsReady}
 use Rattle.stream_model.specs.declared.events.Event.{Event}
 use Rattle.stream_model.specs.declared.events.PrintItem.{PrintItem}
 use Rattle.stream_model.specs.declared.events.StepFault.{StepFault}
 use Rattle.stream_model.specs.Tables.{Table}
-use Rattle.stream_model.specs.Network.{Network, IsAnswer}
-use Rattle.stream_model.specs.Machine.{State, opened, is_place, step, IsQuiet}
+use Rattle.stream_model.specs.Network.{Network, task, IsAnswer, MeetsFacts}
+use Rattle.stream_model.specs.Machine.{State, consumed, flushed, opened, is_place, step, IsQuiet}
 use Rattle.stream_model.specs.Runs.{Item, happens, quiet, after, changes_in, AreTyped, IsTyped}
 use Rattle.stream_model.specs.Drain.{Leads, IsSafe, StopsAlong, IsDrainFault, drain, stages}
 use Rattle.stream_model.specs.Theorem.{table_rows}
@@ -24,7 +25,7 @@ use Rattle.session_core.specs.declared.operators.Operators.{Operators}
 use Rattle.session_core.specs.declared.session.Buffer.{Buffer}
 use Rattle.session_core.specs.declared.session.Buffer.TheVariants.{NoPlace, NoBuffer, Holds}
 use Rattle.session_core.specs.declared.session.Session.{Session}
-use Rattle.session_core.specs.Runs.{AllRun}
+use Rattle.session_core.specs.Runs.{AllRun, AllHaveRun}
 use Rattle.session_core.specs.Sources.{AllCheck}
 
 -- the state to which a run leads
@@ -42,22 +43,40 @@ pub record HasAnswered (g : Network) (mode : Mode) (s : State) : Type 0 where
   pub valid : (n : ℕ) → IsChangelog mode (take n (changes_in s.printed))
   pub answer : IsAnswer g (table_rows g s) g.count (fold mode (changes_in s.printed))
 
--- in each state that items lead to, the front of each channel may be consumed, and what was sent has its edge's columns
+-- in each state that items lead to, the front of each channel may be consumed, each subtask may rely on what it consumed, and what
+-- was sent has its edge's columns
 pub record StaysOpen (g : Network) (limit : ℕ) (s : State) : Type 0 where
   pub safe : IsSafe g limit s
+  pub ready : (items : List Item) → AreTyped g items → (t : State) → Leads g limit s items t → (v j : ℕ) → j < g.subtasks → IsReady (task g v) j (consumed t v j)
   pub fits : (items : List Item) → AreTyped g items → (t : State) → Leads g limit s items t → AllFit g t
 
-module _ {O S : Type 0} (rule_is : O → Rule) (is_broken : O → Bool) (stands : O → List Arrival → Type 0) (checks : S → Table → List Change → Type 0) where
+-- the state after a subtask's bundle is folded, if it is due
+abbrev pub next_if : Bool → Network → ℕ → ℕ → ℕ → State → Result State StepFault
+next_if due g limit v j s = cond due (flushed g limit v j s) (Ok s)
+
+module _ {O S : Type 0} (rule_is : O → Rule) (is_broken : O → Bool) (stands : O → List Arrival → Type 0) (takes_pieces : O → Bool) (checks : S → Table → List Change → Type 0) where
   -- a session that handed out these items keeps what is needed of a state
   pub record Keeps (g : Network) (limit : ℕ) (session : Session O S) (handed : List PrintItem) (s : State) : Type 0 where
     pub laid : IsLaidOut session.wiring g limit
     pub nodes_are : session.operators.nodes ≡ g.count + 1
     pub width_is : session.operators.width ≡ g.subtasks
     pub carries : Carries session.traffic g limit handed s
-    pub runs : AllRun rule_is is_broken stands g session.operators.width session.operators.items.items s.pieces
+    pub runs : AllRun rule_is is_broken stands takes_pieces g session.operators.width session.operators.items.items s.pieces s.bundle
     pub sources : AllCheck checks g session.sources.items s.taken
-    pub unbundled : (v j : ℕ) → s.bundle v j ≡ []
+    pub outside : (v j : ℕ) → g.count < v → s.bundle v j ≡ []
     pub opens : StaysOpen g limit s
+
+  -- a session whose subtask's bundle is due or not, and emitted this for it where it is, which isn't handed on yet
+  pub record Pends (session : Session O S) (v j : ℕ) (sent : Option (List Change)) (due : Bool) (g : Network) (limit : ℕ) (handed : List PrintItem) (s : State) : Type 0 where
+    pub laid : IsLaidOut session.wiring g limit
+    pub nodes_are : session.operators.nodes ≡ g.count + 1
+    pub width_is : session.operators.width ≡ g.subtasks
+    pub carries : Carries session.traffic g limit handed s
+    pub runs : AllHaveRun rule_is is_broken stands takes_pieces due g session.operators.width session.operators.items.items s.pieces s.bundle v j sent
+    pub sources : AllCheck checks g session.sources.items s.taken
+    pub outside : (w k : ℕ) → g.count < w → s.bundle w k ≡ []
+    pub subtask : j < g.subtasks
+    pub opens : (next : State) → next_if due g limit v j s ≡ Ok next → StaysOpen g limit next
 
   -- parts of a session that agree with the opening state
   pub record Opens (g : Network) (limit : ℕ) (operators : Operators O) (sources : List S) (traffic : Traffic) (wiring : Wiring) : Type 0 where
@@ -65,13 +84,17 @@ module _ {O S : Type 0} (rule_is : O → Rule) (is_broken : O → Bool) (stands 
     pub nodes_are : operators.nodes ≡ g.count + 1
     pub width_is : operators.width ≡ g.subtasks
     pub carries : Carries traffic g limit [] (opened g)
-    pub runs : AllRun rule_is is_broken stands g operators.width operators.items.items (λ v j. [])
+    pub runs : AllRun rule_is is_broken stands takes_pieces g operators.width operators.items.items (λ v j. []) (λ v j. [])
     pub sources_are : AllCheck checks g sources (λ table. [])
 
   -- a session that handed out these printed items stands for a run of the network, a list of events and of quiet items
   pub record StandsFor (g : Network) (limit : ℕ) (session : Session O S) (handed : List PrintItem) (items : List Item) : Type 0 where
     pub typed : AreTyped g items
     pub keeps : Keeps g limit session handed (reached g limit items)
+
+  -- a session stands for the empty run of each network whose opening state its parts agree with, and whose nodes meet their facts
+  abbrev pub HasOpened : Operators O → List S → Traffic → Wiring → Session O S → Type 0
+  HasOpened operators sources traffic wiring session = (g : Network) (limit : ℕ) → MeetsFacts g → Opens g limit operators sources traffic wiring → StandsFor g limit session [] []
 
   -- ---- what holds of some state that a session keeps, and of each
 
@@ -80,6 +103,13 @@ module _ {O S : Type 0} (rule_is : O → Rule) (is_broken : O → Bool) (stands 
 
   abbrev pub ForKept : Session O S → (Network → ℕ → List PrintItem → State → Type 0) → Type 0
   ForKept session P = (g : Network) (limit : ℕ) (handed : List PrintItem) (s : State) → Keeps g limit session handed s → P g limit handed s
+
+  -- what a subtask of a session emitted is to be handed on, in some state, and in each
+  abbrev pub PendsSome : Session O S → ℕ → ℕ → Option (List Change) → Type 0
+  PendsSome session v j sent = (due : Bool) × (g : Network) × (limit : ℕ) × (handed : List PrintItem) × (s : State) × Pends session v j sent due g limit handed s
+
+  abbrev pub ForPending : Session O S → ℕ → ℕ → Option (List Change) → (Network → ℕ → List PrintItem → Result State StepFault → Type 0) → Type 0
+  ForPending session v j sent P = (due : Bool) (g : Network) (limit : ℕ) (handed : List PrintItem) (s : State) → Pends session v j sent due g limit handed s → P g limit handed (next_if due g limit v j s)
 
   -- the same where an event comes whose change fits its table
   abbrev pub MayApply : Session O S → Event → Type 0

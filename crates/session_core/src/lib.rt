@@ -10,6 +10,7 @@
 
 mod channels;
 mod exchange;
+mod folding;
 mod operators;
 mod printing;
 mod quiet;
@@ -21,6 +22,7 @@ mod session_looks;
 mod session_opened;
 mod sessions;
 mod source;
+mod subtask;
 mod traffic;
 mod traffic_quiet;
 mod wiring;
@@ -33,5 +35,6 @@ pub use routes::goes_to;
 pub use sending::{scan_all, send_all};
 pub use session::{Buffer, Session};
 pub use source::{SourceCheck, SourceFault};
+pub use subtask::Subtask;
 pub use traffic::Traffic;
-pub use wiring::{Feed, Lane, TableWiring, Wiring};
+pub use wiring::{Feed, Lane, Stage, TableWiring, Wiring};

@@ -6,15 +6,15 @@ ghost use Rattle.stream_model.specs.Looks.{in_flight, taken_of};
 ghost use Rattle.session_core.specs.Stands.{ForRuns, HasAnswered, PrintsIn, StandsFor, StandsForSome, buffer_at, reached};
 
 use crate::{Buffer, Session, SourceCheck};
-use op_rules::Operator;
+use op_rules::PieceOperator;
 use std::mem::swap;
 use stream_model::PrintList;
 
-impl<O: Operator + Drop, S: SourceCheck> Session<O, S> {
+impl<O: PieceOperator + Drop, S: SourceCheck> Session<O, S> {
     /// Hands out the items that were printed and not yet handed out. It takes no memory.
     pub fn take_printed(&mut self) -> PrintList
         ensures items { result ≡ self.old.traffic.printed }
-        ensures stands { ForRuns O.rule O.broken O.stands_for S.stands_for self.old (λ g limit handed items. StandsFor O.rule O.broken O.stands_for S.stands_for g limit self.new (handed ++ result) items) }
+        ensures stands { ForRuns O.rule O.broken O.stands_for O.takes_pieces S.stands_for self.old (λ g limit handed items. StandsFor O.rule O.broken O.stands_for O.takes_pieces S.stands_for g limit self.new (handed ++ result) items) }
     {
         let mut items = PrintList::new(self.wiring.alloc);
         swap(&mut items, &mut self.traffic.printed);
@@ -23,26 +23,28 @@ impl<O: Operator + Drop, S: SourceCheck> Session<O, S> {
 
     /// How many changes are in flight in a channel, and `None` exactly where there is no such channel. It takes no memory.
     pub fn in_flight(&self, edge: u32, from: u32, to: u32) -> Option<u32>
-        requires ready { StandsForSome O.rule O.broken O.stands_for S.stands_for self.now }
-        ensures value { ForRuns O.rule O.broken O.stands_for S.stands_for self.now (λ g limit handed items. result ≡ in_flight g (reached g limit items) edge from to) }
+        requires ready { StandsForSome O.rule O.broken O.stands_for O.takes_pieces S.stands_for self.now }
+        ensures value { ForRuns O.rule O.broken O.stands_for O.takes_pieces S.stands_for self.now (λ g limit handed items. result ≡ in_flight g (reached g limit items) edge from to) }
     {
         self.traffic.in_flight(&self.wiring, edge, from, to)
     }
 
     /// What a subtask keeps of a bundle. It takes no memory.
     pub fn buffered(&self, node: u32, subtask: u32) -> Buffer
-        ensures { ForRuns O.rule O.broken O.stands_for S.stands_for self.now (λ g limit handed items. result ≡ buffer_at g (reached g limit items) node subtask) }
+        ensures { ForRuns O.rule O.broken O.stands_for O.takes_pieces S.stands_for self.now (λ g limit handed items. result ≡ buffer_at g (reached g limit items) node subtask) }
     {
-        if node > 0 && node <= self.wiring.nodes && subtask < self.wiring.parallelism {
-            Buffer::NoBuffer
-        } else {
-            Buffer::NoPlace
+        if !self.wiring.is_place(node, subtask) {
+            return Buffer::NoPlace;
+        }
+        match self.wiring.bundle(node) {
+            Some(_) => Buffer::Holds(self.operators.held(node, subtask)),
+            None => Buffer::NoBuffer,
         }
     }
 
     /// How many changes were taken of a table, and `None` exactly where there is no such table. It takes no memory.
     pub fn taken(&self, table: u32) -> Option<u32>
-        ensures { ForRuns O.rule O.broken O.stands_for S.stands_for self.now (λ g limit handed items. result ≡ taken_of g (reached g limit items) table) }
+        ensures { ForRuns O.rule O.broken O.stands_for O.takes_pieces S.stands_for self.now (λ g limit handed items. result ≡ taken_of g (reached g limit items) table) }
     {
         self.traffic.taken(table)
     }
@@ -50,11 +52,14 @@ impl<O: Operator + Drop, S: SourceCheck> Session<O, S> {
     /// Whether no channel and no bundle holds a change: then what was printed, in all, is the batch answer over what was taken. It
     /// takes no memory.
     pub fn is_quiet(&self) -> bool
-        requires ready { StandsForSome O.rule O.broken O.stands_for S.stands_for self.now }
-        ensures quiet { ForRuns O.rule O.broken O.stands_for S.stands_for self.now (λ g limit handed items. result ≡ true → IsQuiet g (reached g limit items)) }
-        ensures answers { result ≡ true → ForRuns O.rule O.broken O.stands_for S.stands_for self.now (λ g limit handed items. (mode : Mode) → MeetsFacts g → PrintsIn g mode → HasAnswered g mode (reached g limit items)) }
-        ensures busy { ForRuns O.rule O.broken O.stands_for S.stands_for self.now (λ g limit handed items. IsQuiet g (reached g limit items) → result ≡ true) }
+        requires ready { StandsForSome O.rule O.broken O.stands_for O.takes_pieces S.stands_for self.now }
+        ensures quiet { ForRuns O.rule O.broken O.stands_for O.takes_pieces S.stands_for self.now (λ g limit handed items. result ≡ true → IsQuiet g (reached g limit items)) }
+        ensures answers { result ≡ true → ForRuns O.rule O.broken O.stands_for O.takes_pieces S.stands_for self.now (λ g limit handed items. (mode : Mode) → MeetsFacts g → PrintsIn g mode → HasAnswered g mode (reached g limit items)) }
+        ensures busy { ForRuns O.rule O.broken O.stands_for O.takes_pieces S.stands_for self.now (λ g limit handed items. IsQuiet g (reached g limit items) → result ≡ true) }
     {
-        self.traffic.is_quiet(&self.wiring)
+        if !self.traffic.is_quiet(&self.wiring) {
+            return false;
+        }
+        self.operators.are_empty()
     }
 }

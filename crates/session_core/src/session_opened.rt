@@ -1,11 +1,9 @@
-ghost use Rattle.std.specs.Prelude.{ℕ, []};
-ghost use Rattle.stream_model.specs.Network.{MeetsFacts, Network};
-ghost use Rattle.session_core.specs.Stands.{Opens, StandsFor};
+ghost use Rattle.session_core.specs.Stands.{HasOpened};
 
 use crate::{Operators, Session, SourceCheck, Traffic, Wiring};
-use op_rules::Operator;
+use op_rules::PieceOperator;
 
-impl<O: Operator + Drop, S: SourceCheck> Session<O, S> {
+impl<O: PieceOperator + Drop, S: SourceCheck> Session<O, S> {
     /// The session of parts that agree with the machine's opening state, over a network whose nodes meet their facts. It
     /// stands for the empty run and has handed out nothing. It takes no memory.
     pub fn new(
@@ -14,7 +12,7 @@ impl<O: Operator + Drop, S: SourceCheck> Session<O, S> {
         traffic: Traffic,
         wiring: Wiring,
     ) -> Session<O, S>
-        ensures { (g : Network) (limit : ℕ) → MeetsFacts g → Opens O.rule O.broken O.stands_for S.stands_for g limit operators sources.items traffic wiring → StandsFor O.rule O.broken O.stands_for S.stands_for g limit result [] [] }
+        ensures { HasOpened O.rule O.broken O.stands_for O.takes_pieces S.stands_for operators sources.items traffic wiring result }
     {
         Session {
             operators,

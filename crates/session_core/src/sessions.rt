@@ -4,19 +4,19 @@ ghost use Rattle.stream_model.specs.Network.{Network};
 ghost use Rattle.stream_model.specs.Machine as machine;
 ghost use Rattle.stream_model.specs.Machine.{State};
 ghost use Rattle.stream_model.specs.Drain.{StopsBy};
-ghost use Rattle.session_core.specs.LaidOut.{IsLaidOut};
+ghost use Rattle.session_core.specs.LaidOut.{HasBundle, IsLaidOut};
 ghost use Rattle.session_core.specs.Sources.{IsAccepted, MayCheck};
-ghost use Rattle.session_core.specs.Stands.{ForApplied, ForKept, ForSteps, HasStepped, KeepsAnswer, KeepsSome, MayApply, MayStep, reached};
+ghost use Rattle.session_core.specs.Stands.{ForApplied, ForKept, ForSteps, ForPending, HasStepped, KeepsAnswer, KeepsSome, MayApply, MayStep, PendsSome, reached};
 
-use crate::operators::consume_at;
+use crate::operators::{consume_at, flush_at};
 use crate::{Session, SourceCheck, SourceFault, Wiring};
-use ct_change::{Change, Steps};
+use ct_change::{Change, Changes, Steps};
 use ct_value::OrderCode;
-use op_rules::Operator;
+use op_rules::PieceOperator;
 use std::sync::ledger::Ledger;
 use stream_model::{Event, StepFault, Stopped};
 
-impl<O: Operator + Drop, S: SourceCheck> Session<O, S> {
+impl<O: PieceOperator + Drop, S: SourceCheck> Session<O, S> {
     // One change leaves the front of a channel and is consumed.
     pub(crate) fn advance<L: Ledger>(
         &mut self,
@@ -25,22 +25,60 @@ impl<O: Operator + Drop, S: SourceCheck> Session<O, S> {
         to: u32,
         steps: &mut Steps<L>,
     ) -> Result<(), StepFault>
-        requires ready { KeepsSome O.rule O.broken O.stands_for S.stands_for self.old }
-        ensures ok { OnOk result (ForKept O.rule O.broken O.stands_for S.stands_for self.old (λ g limit handed s. KeepsAnswer O.rule O.broken O.stands_for S.stands_for (machine.move g limit s edge from to) self.new g limit handed)) }
-        ensures err { IfErr result (λ fault. ForKept O.rule O.broken O.stands_for S.stands_for self.old (λ g limit handed s. StopsBy (machine.move g limit s edge from to) fault)) }
+        requires ready { KeepsSome O.rule O.broken O.stands_for O.takes_pieces S.stands_for self.old }
+        ensures ok { OnOk result (ForKept O.rule O.broken O.stands_for O.takes_pieces S.stands_for self.old (λ g limit handed s. KeepsAnswer O.rule O.broken O.stands_for O.takes_pieces S.stands_for (machine.move g limit s edge from to) self.new g limit handed)) }
+        ensures err { IfErr result (λ fault. ForKept O.rule O.broken O.stands_for O.takes_pieces S.stands_for self.old (λ g limit handed s. StopsBy (machine.move g limit s edge from to) fault)) }
         ensures printed { OnErr result (self.new.traffic.printed ≡ self.old.traffic.printed) }
     {
         let (feed, change) = self.traffic.fetch(&self.wiring, edge, from, to)?;
-        let sent = consume_at(&mut self.operators, &self.wiring, feed, to, change, steps)?;
-        self.traffic.hand_on(&self.wiring, feed.node, to, sent)?;
-        Ok(())
+        let size = self.wiring.bundle(feed.node);
+        let sent = consume_at(
+            &mut self.operators,
+            &self.wiring,
+            size,
+            feed,
+            to,
+            change,
+            steps,
+        )?;
+        self.hand_out(feed.node, to, sent)
+    }
+
+    // What a subtask's bundle holds is emitted for, before it is full.
+    pub(crate) fn flush<L: Ledger>(
+        &mut self,
+        node: u32,
+        subtask: u32,
+        steps: &mut Steps<L>,
+    ) -> Result<(), StepFault>
+        requires ready { KeepsSome O.rule O.broken O.stands_for O.takes_pieces S.stands_for self.old }
+        ensures ok { OnOk result (ForKept O.rule O.broken O.stands_for O.takes_pieces S.stands_for self.old (λ g limit handed s. KeepsAnswer O.rule O.broken O.stands_for O.takes_pieces S.stands_for (machine.flush g limit s node subtask) self.new g limit handed)) }
+        ensures err { IfErr result (λ fault. ForKept O.rule O.broken O.stands_for O.takes_pieces S.stands_for self.old (λ g limit handed s. StopsBy (machine.flush g limit s node subtask) fault)) }
+        ensures printed { OnErr result (self.new.traffic.printed ≡ self.old.traffic.printed) }
+    {
+        find_bundle(&self.wiring, node, subtask)?;
+        let sent = flush_at(&mut self.operators, &self.wiring, node, subtask, steps)?;
+        self.hand_out(node, subtask, sent)
+    }
+
+    // What a subtask emitted for its bundle, if that was due, is handed on.
+    fn hand_out(&mut self, node: u32, subtask: u32, sent: Option<Changes>) -> Result<(), StepFault>
+        requires ready { PendsSome O.rule O.broken O.stands_for O.takes_pieces S.stands_for self.old node subtask sent }
+        ensures ok { OnOk result (ForPending O.rule O.broken O.stands_for O.takes_pieces S.stands_for self.old node subtask sent (λ g limit handed next. KeepsAnswer O.rule O.broken O.stands_for O.takes_pieces S.stands_for next self.new g limit handed)) }
+        ensures err { IfErr result (λ fault. ForPending O.rule O.broken O.stands_for O.takes_pieces S.stands_for self.old node subtask sent (λ g limit handed next. StopsBy next fault)) }
+        ensures printed { OnErr result (self.new.traffic.printed ≡ self.old.traffic.printed) }
+    {
+        match sent {
+            Some(changes) => self.traffic.hand_on(&self.wiring, node, subtask, changes),
+            None => Ok(()),
+        }
     }
 
     // One change of a table enters the channels of its scans.
     fn take(&mut self, table: u32, change: Change) -> Result<(), StepFault>
-        requires ready { MayApply O.rule O.broken O.stands_for S.stands_for self.old (Takes table change) }
-        ensures ok { OnOk result (ForApplied O.rule O.broken O.stands_for S.stands_for self.old (Takes table change) (λ g limit handed s. KeepsAnswer O.rule O.broken O.stands_for S.stands_for (machine.take g limit s table change) self.new g limit handed)) }
-        ensures err { IfErr result (λ fault. ForApplied O.rule O.broken O.stands_for S.stands_for self.old (Takes table change) (λ g limit handed s. StopsBy (machine.take g limit s table change) fault)) }
+        requires ready { MayApply O.rule O.broken O.stands_for O.takes_pieces S.stands_for self.old (Takes table change) }
+        ensures ok { OnOk result (ForApplied O.rule O.broken O.stands_for O.takes_pieces S.stands_for self.old (Takes table change) (λ g limit handed s. KeepsAnswer O.rule O.broken O.stands_for O.takes_pieces S.stands_for (machine.take g limit s table change) self.new g limit handed)) }
+        ensures err { IfErr result (λ fault. ForApplied O.rule O.broken O.stands_for O.takes_pieces S.stands_for self.old (Takes table change) (λ g limit handed s. StopsBy (machine.take g limit s table change) fault)) }
         ensures printed { OnErr result (self.new.traffic.printed ≡ self.old.traffic.printed) }
     {
         check_source(&mut self.sources, table, &change)?;
@@ -50,15 +88,15 @@ impl<O: Operator + Drop, S: SourceCheck> Session<O, S> {
 
     // One event.
     fn apply<L: Ledger>(&mut self, event: Event, steps: &mut Steps<L>) -> Result<(), StepFault>
-        requires ready { MayApply O.rule O.broken O.stands_for S.stands_for self.old event }
-        ensures ok { OnOk result (ForApplied O.rule O.broken O.stands_for S.stands_for self.old event (λ g limit handed s. KeepsAnswer O.rule O.broken O.stands_for S.stands_for (machine.step g limit s event) self.new g limit handed)) }
-        ensures err { IfErr result (λ fault. ForApplied O.rule O.broken O.stands_for S.stands_for self.old event (λ g limit handed s. StopsBy (machine.step g limit s event) fault)) }
+        requires ready { MayApply O.rule O.broken O.stands_for O.takes_pieces S.stands_for self.old event }
+        ensures ok { OnOk result (ForApplied O.rule O.broken O.stands_for O.takes_pieces S.stands_for self.old event (λ g limit handed s. KeepsAnswer O.rule O.broken O.stands_for O.takes_pieces S.stands_for (machine.step g limit s event) self.new g limit handed)) }
+        ensures err { IfErr result (λ fault. ForApplied O.rule O.broken O.stands_for O.takes_pieces S.stands_for self.old event (λ g limit handed s. StopsBy (machine.step g limit s event) fault)) }
         ensures printed { OnErr result (self.new.traffic.printed ≡ self.old.traffic.printed) }
     {
         match event {
             Event::Move { edge, from, to } => self.advance(edge, from, to, steps),
             Event::Take { table, change } => self.take(table, change),
-            Event::Flush { node, subtask } => Err(flush_fault(&self.wiring, node, subtask)),
+            Event::Flush { node, subtask } => self.flush(node, subtask, steps),
         }
     }
 
@@ -71,9 +109,9 @@ impl<O: Operator + Drop, S: SourceCheck> Session<O, S> {
         event: Event,
         steps: &mut Steps<L>,
     ) -> Result<Session<O, S>, Stopped>
-        requires ready { MayStep O.rule O.broken O.stands_for S.stands_for self event }
-        ensures ok { IfOk result (λ next. HasStepped O.rule O.broken O.stands_for S.stands_for self event next) }
-        ensures err { IfErr result (λ stopped. ForSteps O.rule O.broken O.stands_for S.stands_for self event (λ g limit handed items. StopsBy (machine.step g limit (reached g limit items) event) stopped.cause)) }
+        requires ready { MayStep O.rule O.broken O.stands_for O.takes_pieces S.stands_for self event }
+        ensures ok { IfOk result (λ next. HasStepped O.rule O.broken O.stands_for O.takes_pieces S.stands_for self event next) }
+        ensures err { IfErr result (λ stopped. ForSteps O.rule O.broken O.stands_for O.takes_pieces S.stands_for self event (λ g limit handed items. StopsBy (machine.step g limit (reached g limit items) event) stopped.cause)) }
         ensures printed { IfErr result (λ stopped. stopped.printed ≡ self.traffic.printed) }
     {
         match self.apply(event, steps) {
@@ -109,13 +147,16 @@ fn check_source<S: SourceCheck>(
     }
 }
 
-// Why there is no flush: no node keeps bundles.
-fn flush_fault(wiring: &Wiring, node: u32, subtask: u32) -> StepFault
-    ensures { (g : Network) (limit : ℕ) (s : State) → IsLaidOut wiring.now g limit → StopsBy (machine.flush g limit s node subtask) result }
+// Whether there is such a subtask, and its node keeps bundles.
+fn find_bundle(wiring: &Wiring, node: u32, subtask: u32) -> Result<(), StepFault>
+    ensures ok { OnOk result ((g : Network) (limit : ℕ) → IsLaidOut wiring.now g limit → HasBundle g node subtask) }
+    ensures err { IfErr result (λ fault. (g : Network) (limit : ℕ) (s : State) → IsLaidOut wiring.now g limit → StopsBy (machine.flush g limit s node subtask) fault) }
 {
-    if node > 0 && node <= wiring.nodes && subtask < wiring.parallelism {
-        StepFault::Order(OrderCode::NoBuffer)
-    } else {
-        StepFault::Order(OrderCode::NoSuchPlace)
+    if !wiring.is_place(node, subtask) {
+        return Err(StepFault::Order(OrderCode::NoSuchPlace));
+    }
+    match wiring.bundle(node) {
+        Some(_) => Ok(()),
+        None => Err(StepFault::Order(OrderCode::NoBuffer)),
     }
 }

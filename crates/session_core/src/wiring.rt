@@ -17,6 +17,13 @@ pub struct Lane {
     pub to: u32,
 }
 
+/// A stage of a drain: a channel is delivered whole, or a subtask's bundle is flushed.
+#[derive(Clone, Copy, Debug, PartialEq, Eq)]
+pub enum Stage {
+    Deliver(Lane),
+    Flush { node: u32, subtask: u32 },
+}
+
 /// How a table's changes are spread over the subtasks of its scans, and the numbers of these scans.
 #[derive(Drop)]
 pub struct TableWiring {
@@ -26,7 +33,7 @@ pub struct TableWiring {
 
 /// How a job is wired, laid out for look-ups by number: into how many subtasks each node is split, how many nodes there are,
 /// how many changes may be sent; by edge the port that it feeds and its route; the tables; by node the types of the rows at
-/// which it is out of range; and the channels in the order of a drain.
+/// which it is out of range, and how many changes a bundle of it holds, where it keeps bundles; and the stages of a drain in order.
 #[derive(Drop)]
 pub struct Wiring {
     pub alloc: Global,
@@ -37,5 +44,6 @@ pub struct Wiring {
     pub routes: Vec<Route>,
     pub tables: Vec<TableWiring>,
     pub types: Vec<ColTys>,
-    pub lanes: Vec<Lane>,
+    pub bundles: Vec<Option<u32>>,
+    pub stages: Vec<Stage>,
 }

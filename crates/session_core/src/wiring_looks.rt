@@ -2,9 +2,9 @@ ghost use Rattle.std.specs.Prelude.{◌≡◌, ℕ, ◌+◌, ◌<◌, ◌∷◌,
 ghost use Rattle.stream_model.specs.Network.{Network};
 ghost use Rattle.stream_model.specs.Machine as machine;
 ghost use Rattle.stream_model.specs.Drain.{stages};
-ghost use Rattle.session_core.specs.LaidOut.{IsLaidOut, IsThere, feed_of, stage_of};
+ghost use Rattle.session_core.specs.LaidOut.{IsLaidOut, IsStageThere, feed_of, stage_of};
 
-use crate::{Feed, Lane, TableWiring, Wiring};
+use crate::{Feed, Stage, TableWiring, Wiring};
 use ct_value::{ColTys, Memory};
 
 impl Wiring {
@@ -34,6 +34,13 @@ impl Wiring {
         self.routes[edge as usize].joins(from, to)
     }
 
+    /// Whether there is such a subtask.
+    pub fn is_place(&self, node: u32, subtask: u32) -> bool
+        ensures { (g : Network) (limit : ℕ) → IsLaidOut self.now g limit → result ≡ machine.is_place g node subtask }
+    {
+        node > 0 && node <= self.nodes && subtask < self.parallelism
+    }
+
     /// What is kept of a table.
     pub fn table(&self, number: u32) -> Option<&TableWiring>
         ensures value { option_copied result ≡ slice_get self.now.tables.items number }
@@ -50,19 +57,29 @@ impl Wiring {
         self.types[node as usize].dup()
     }
 
-    /// How many channels a drain delivers.
-    pub fn lane_count(&self) -> usize
-        ensures { (g : Network) (limit : ℕ) → IsLaidOut self.now g limit → result ≡ length (stages g) }
+    /// How many changes a bundle of a node holds, where it keeps bundles.
+    pub fn bundle(&self, node: u32) -> Option<u32>
+        ensures { (g : Network) (limit : ℕ) → IsLaidOut self.now g limit → result ≡ g.bundle node }
     {
-        self.lanes.len()
+        match self.bundles.get(node as usize) {
+            Some(size) => *size,
+            None => None,
+        }
     }
 
-    /// The channel of this number, in the order of a drain.
-    pub fn lane(&self, number: usize) -> Lane
-        requires { number < length self.now.lanes.items }
-        ensures there { (g : Network) (limit : ℕ) → IsLaidOut self.now g limit → IsThere g result }
+    /// How many stages a drain has.
+    pub fn stage_count(&self) -> usize
+        ensures { (g : Network) (limit : ℕ) → IsLaidOut self.now g limit → result ≡ length (stages g) }
+    {
+        self.stages.len()
+    }
+
+    /// The stage of this number, in the order of a drain.
+    pub fn stage(&self, number: usize) -> Stage
+        requires { number < length self.now.stages.items }
+        ensures there { (g : Network) (limit : ℕ) → IsLaidOut self.now g limit → IsStageThere g result }
         ensures next { (g : Network) (limit : ℕ) → IsLaidOut self.now g limit → drop number (stages g) ≡ stage_of result ∷ drop (number + 1) (stages g) }
     {
-        self.lanes[number]
+        self.stages[number]
     }
 }

@@ -1,5 +1,5 @@
 -- What is laid out for look-ups, item by item.
-use Rattle.std.proofs.Common.{◌≡◌, ℕ, zero, suc, ◌+◌, ◌<◌, true, false, ◌&&◌, List, [], ◌∷◌, ◌++◌, length, get_or, slice_get, Option, Some, None, refl, sym, ap, subst, ◌∙◌, arith, inl, inr}
+use Rattle.std.proofs.Common.{◌≡◌, ℕ, zero, suc, ◌+◌, ◌<◌, ◌≤◌, true, false, ◌&&◌, List, [], ◌∷◌, ◌++◌, length, get_or, slice_get, Option, Some, None, refl, sym, ap, subst, ◌∙◌, arith, inl, inr}
 use Rattle.std.proofs.lemmas.Bool.{and_parts, cases_lt}
 use Rattle.std.specs.List.{All}
 use Rattle.std.specs.Option.{option_map}
@@ -21,7 +21,7 @@ use Rattle.phys_plan.specs.declared.edge.Edge.{Edge as PlanEdge}
 use Rattle.phys_plan.specs.declared.edge.Exchange.{Exchange as PlanExchange}
 use Rattle.phys_plan.specs.declared.edge.Exchange.TheVariants.{Forward, Hash}
 use Rattle.phys_plan.specs.declared.plan.Plan.{Plan}
-use Rattle.plan_rules.specs.Plans.{Doing, bundle_in, bundle_of, columns_from, exchange_in, exchange_of, network_edge, network_meaning, network_of, route_by, spread_of, table_of}
+use Rattle.plan_rules.specs.Plans.{Doing, bundle_in, columns_from, exchange_in, exchange_of, network_edge, network_meaning, network_of, route_by, spread_of, table_of}
 use Rattle.phys_plan.specs.Reading.{numbered}
 use Rattle.ct_catalog.specs.Columns.{column_types, table_mode}
 use Rattle.session_core.specs.declared.exchange.Route.{Route}
@@ -121,14 +121,23 @@ tables_laid of doing plan tables many each number = cases (slice_get tables numb
           scans = r.1 of doing;
         }
 
-none_bundled : (size : ℕ) (nodes : List Node) → All (λ node. bundle_of size node.op ≡ None) nodes → (n : ℕ) → bundle_in size (slice_get nodes n) ≡ None
-none_bundled size [] all n = refl
-none_bundled size (node ∷ nodes) all zero = all 0 node (omega arith)
-none_bundled size (node ∷ nodes) all (suc n) = none_bundled size nodes (λ k d within. all (suc k) d (omega (arith, within))) n
+-- past the last node there is none
+past_nodes : (nodes : List Node) (n : ℕ) → length nodes ≤ n → slice_get nodes n ≡ None
+past_nodes [] n past = refl
+past_nodes (node ∷ nodes) zero past = absurd (omega (arith, past))
+past_nodes (node ∷ nodes) (suc n) past = past_nodes nodes n (omega (arith, past))
 
-pub unbundled_at : (size : ℕ) (nodes : List Node) → All (λ node. bundle_of size node.op ≡ None) nodes → (v : ℕ) → bundle_in size (numbered nodes v) ≡ None
-unbundled_at size nodes all zero = refl
-unbundled_at size nodes all (suc n) = none_bundled size nodes all n
+numbered_past : (nodes : List Node) (v : ℕ) → length nodes + 1 ≤ v → numbered nodes v ≡ None
+numbered_past nodes zero past = refl
+numbered_past nodes (suc n) past = past_nodes nodes n (omega (arith, past))
+
+pub bundles_laid : (size : ℕ) (nodes : List Node) (sizes : List (Option ℕ)) → length sizes ≡ length nodes + 1
+    → ((v : ℕ) → v < length nodes + 1 → get_or sizes v None ≡ bundle_in size (numbered nodes v)) → (v : ℕ) → get_or sizes v None ≡ bundle_in size (numbered nodes v)
+bundles_laid size nodes sizes many each v =
+    elim (cases_lt v (length nodes + 1)) [
+      | inl within ↦ each v within
+      | inr past ↦ get_or_past sizes v None (omega (arith, past, many)) ∙ sym (ap (bundle_in size) (numbered_past nodes v past))
+    ]
 
 -- no port is fed by an edge with a greater number
 fed_past : (g : Network) → IsWired g → (e : ℕ) → g.count < e → g.fed e ≡ None

@@ -1,5 +1,5 @@
 -- What the nodes of a plan's network are made of.
-use Rattle.std.proofs.Common.{◌≡◌, ℕ, ◌<◌, Bool, List, [], ◌∷◌, length, Option, Some, None, get_or, refl, sym, ap, subst, ◌∙◌}
+use Rattle.std.proofs.Common.{◌≡◌, ℕ, ◌<◌, Bool, true, List, [], ◌∷◌, length, Option, Some, None, get_or, refl, sym, ap, subst, ◌∙◌}
 use Rattle.std.specs.Option.{unwrap_or}
 use Rattle.std.specs.Prelude.{slice_get}
 use Rattle.std.proofs.lemmas.Option.{none-some, get_or_from_slice_get, unwrap_or-slice_get}
@@ -10,7 +10,7 @@ use Rattle.op_rules.specs.Rules.{Rule}
 use Rattle.phys_plan.specs.declared.node.Node.{Node}
 use Rattle.phys_plan.specs.declared.plan.Plan.{Plan}
 use Rattle.stream_model.specs.Network.{Network, task}
-use Rattle.plan_rules.specs.Plans.{Doing, inputs_in, kinds_in, scan_of}
+use Rattle.plan_rules.specs.Plans.{Doing, bundle_in, bundle_of, inputs_in, kinds_in, scan_of}
 use Rattle.phys_plan.specs.Reading.{numbered, first_input}
 use Rattle.plan_rules.specs.Around.{mode_read, second}
 use Rattle.plan_rules.specs.Behaviours.{Behaviour, behaviour, doing_of, range_types_by, rule_of, TakesBy}
@@ -18,7 +18,7 @@ use Rattle.plan_rules.specs.Doings.{around_of, doing_in, network, update_in}
 use Rattle.plan_rules.specs.Roles.{role}
 use Rattle.plan_rules.proofs.laws.Behaviours.{scans_have_none, types_told}
 use Rattle.session_open.specs.Opening.{IsMade}
-use Rattle.session_open.specs.Running.{IsBuiltPlan, IsOperatorBy, second_input}
+use Rattle.session_open.specs.Running.{IsBuiltPlan, IsOperatorBy, TakesBundles, second_input}
 
 -- the columns of a node's second input
 pub others_of : (plan : Plan) (columns : List (List ColTy)) (g : Network) (v : ℕ) (inputs : List ℕ) → IsBuiltPlan plan columns g → get_or columns (second_input inputs) [] ≡ (second (around_of plan v inputs)).columns
@@ -46,13 +46,17 @@ types_of plan columns g v node built is =
     ((λ i. range_types_by (rule_of node.op) (role node.op) (built.columns_are (first_input node.inputs) i) (others_of plan columns g v node.inputs built i))
     ∙ (types_told (rule_of node.op) (role node.op) around ∙ sym (ap (λ n. (doing_in plan v n).range_types) is)))
 
-module _ {O : Type 0} (rule_is : O → Rule) (is_broken : O → Bool) (stands : O → List Arrival → Type 0) (plan : Plan) (columns : List (List ColTy)) (g : Network) (v : ℕ) (built : IsBuiltPlan plan columns g) where
-  pub none_made : numbered plan.nodes v ≡ None → IsMade rule_is is_broken stands g v None
-  none_made is = subst (λ (g : Network). IsMade rule_is is_broken stands g v None) (sym built.network_is) (ap (λ n. length (inputs_in n)) is, λ j. ap (λ n. (doing_in plan v n).opening j) is)
+module _ {O : Type 0} (rule_is : O → Rule) (is_broken : O → Bool) (stands : O → List Arrival → Type 0) (takes_pieces : O → Bool) (plan : Plan) (columns : List (List ColTy)) (g : Network) (v : ℕ) (built : IsBuiltPlan plan columns g) where
+  pub none_made : numbered plan.nodes v ≡ None → IsMade rule_is is_broken stands takes_pieces g v None
+  none_made is = subst (λ (g : Network). IsMade rule_is is_broken stands takes_pieces g v None) (sym built.network_is) (ap (λ n. length (inputs_in n)) is, λ j. ap (λ n. (doing_in plan v n).opening j) is)
+
+  takes_bundles : (bundle : Option ℕ) (made : O) (size : ℕ) → bundle ≡ Some size → TakesBundles rule_is is_broken stands takes_pieces bundle made → takes_pieces made ≡ true
+  takes_bundles None made size is takes = absurd (none-some size is)
+  takes_bundles (Some other) made size is takes = takes
 
   -- a node is made of its behaviour
   made_by : (node : Node) (made : Option O) → numbered plan.nodes v ≡ Some node → (scan : Option ℕ) → scan_of node.op ≡ scan → (b : Option Behaviour) → behaviour node.op (around_of plan v node.inputs) ≡ b
-      → IsOperatorBy rule_is is_broken stands b made → IsMade rule_is is_broken stands (network plan) v made
+      → IsOperatorBy rule_is is_broken stands takes_pieces b (bundle_of plan.mini_batch node.op) made → IsMade rule_is is_broken stands takes_pieces (network plan) v made
   made_by node None is (Some source) scans None none of =
       (ap (λ n. length (inputs_in n)) is ∙ ap length ((built.nodes v node is).scans source scans), λ j. ap (λ n. (doing_in plan v n).opening j) is ∙ ap (λ (b : Option Behaviour). (doing_of b).opening j) none)
   made_by node (Some made) is (Some source) scans None none of = absurd of
@@ -63,17 +67,18 @@ module _ {O : Type 0} (rule_is : O → Rule) (is_broken : O → Bool) (stands : 
       let does : doing_in plan v (numbered plan.nodes v) ≡ doing_of (Some b) = ap (doing_in plan v) is ∙ ap doing_of some in (
         subst (λ (n : ℕ). 0 < n) (sym (ap (λ n. length (inputs_in n)) is)) ((built.nodes v node is).ports works),
         record {
-          emits = ap (λ (r : Rule). r.emits) of.rule_is_so ∙ sym (ap (λ (d : Doing). d.emits) does);
-          opens = ap (λ (r : Rule). r.opening) of.rule_is_so ∙ sym (ap (λ (d : Doing). d.opening) does);
-          takes = subst (λ (r : Rule). TakesAll r (task (network plan) v)) (sym of.rule_is_so) (subst (λ (b : Option Behaviour). TakesBy b (task (network plan) v)) some ((built.nodes v node is).takes works));
-          whole = of.whole;
-          stands_for = of.stands_so;
+          emits = ap (λ (r : Rule). r.emits) of.0.rule_is_so ∙ sym (ap (λ (d : Doing). d.emits) does);
+          opens = ap (λ (r : Rule). r.opening) of.0.rule_is_so ∙ sym (ap (λ (d : Doing). d.opening) does);
+          takes = subst (λ (r : Rule). TakesAll r (task (network plan) v)) (sym of.0.rule_is_so) (subst (λ (b : Option Behaviour). TakesBy b (task (network plan) v)) some ((built.nodes v node is).takes works));
+          whole = of.0.whole;
+          stands_for = of.0.stands_so;
+          pieces = λ size some. takes_bundles (bundle_of plan.mini_batch node.op) made size (sym (ap (bundle_in plan.mini_batch) is) ∙ some) of.1;
         },
       )
 
-  pub node_made : (node : Node) (made : Option O) → numbered plan.nodes v ≡ Some node → IsOperatorBy rule_is is_broken stands (behaviour node.op (around_of plan v node.inputs)) made → IsMade rule_is is_broken stands g v made
+  pub node_made : (node : Node) (made : Option O) → numbered plan.nodes v ≡ Some node → IsOperatorBy rule_is is_broken stands takes_pieces (behaviour node.op (around_of plan v node.inputs)) (bundle_of plan.mini_batch node.op) made → IsMade rule_is is_broken stands takes_pieces g v made
   node_made node made is of =
-      subst (λ (g : Network). IsMade rule_is is_broken stands g v made) (sym built.network_is) (made_by node made is (scan_of node.op) refl (behaviour node.op (around_of plan v node.inputs)) refl of)
+      subst (λ (g : Network). IsMade rule_is is_broken stands takes_pieces g v made) (sym built.network_is) (made_by node made is (scan_of node.op) refl (behaviour node.op (around_of plan v node.inputs)) refl of)
 
 -- the types at a number, none past the end
 pub types_there : (columns : List (List ColTy)) (n : ℕ) (types : List ColTy) → slice_get columns n ≡ Some types → types ≡ get_or columns n []

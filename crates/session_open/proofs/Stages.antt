@@ -6,10 +6,11 @@ use Rattle.std.proofs.lemmas.Bool.{lt-ltb}
 use Rattle.std.proofs.lemmas.List.Elements.{All-append}
 use Rattle.stream_model.specs.Network.{Network}
 use Rattle.stream_model.specs.Machine.{is_channel, has_channel}
-use Rattle.stream_model.specs.Drain.{Stage, delivers, channels_to, channels_from, channels_into, bundles_at, feeds_node, stages_from}
-use Rattle.session_core.specs.declared.wiring.Lane.{Lane}
-use Rattle.session_core.specs.LaidOut.{IsThere, stage_of}
-use Rattle.session_open.specs.Wired.{Lays}
+use Rattle.stream_model.specs.Drain.{Stage, delivers, flushes, channels_to, channels_from, channels_into, bundles_from, feeds_node, stages_from}
+use Rattle.session_core.specs.declared.wiring.Stage as wiring
+use Rattle.session_core.specs.declared.wiring.Stage.TheVariants.{Deliver, Flush}
+use Rattle.session_core.specs.LaidOut.{IsStageThere, stage_of}
+use Rattle.session_open.specs.Wired.{Lays, node_part}
 
 -- a list of parts, each part behind those before it
 parts_end : (F : ℕ → ℕ → List Stage) (part : ℕ → List Stage) → ((k : ℕ) → F k 0 ≡ []) → ((k n : ℕ) → F k (suc n) ≡ part k ++ F (k + 1) n) → (k n : ℕ) → F k (suc n) ≡ F k n ++ part (k + n)
@@ -39,24 +40,27 @@ module _ (g : Network) where
   pub into_next : (v n : ℕ) → channels_into g v 1 (n + 1) ≡ channels_into g v 1 n ++ edge_part v (1 + n)
   into_next v n = parts_next (channels_into g v) (edge_part v) (λ k. refl) (λ k m. elim (feeds_node v (g.fed k)) as (λ b. cond b (channels_from g k 0 g.subtasks ++ channels_into g v (k + 1) m) (channels_into g v (k + 1) m) ≡ cond b (channels_from g k 0 g.subtasks) [] ++ channels_into g v (k + 1) m) [ true ↦ refl | false ↦ refl ]) 1 n
 
-  pub stages_next : ((v : ℕ) → g.bundle v ≡ None) → (n : ℕ) → stages_from g 1 (n + 1) ≡ stages_from g 1 n ++ channels_into g (1 + n) 1 g.count
-  stages_next unbundled n = parts_next (stages_from g) (λ v. channels_into g v 1 g.count) (λ k. refl)
-      (λ k m. ap (λ b. (channels_into g k 1 g.count ++ bundles_at g k b) ++ stages_from g (k + 1) m) (unbundled k) ∙ ap (λ l. l ++ stages_from g (k + 1) m) (append-nil (channels_into g k 1 g.count))) 1 n
+  pub stages_next : (n : ℕ) → stages_from g 1 (n + 1) ≡ stages_from g 1 n ++ node_part g (1 + n)
+  stages_next n = parts_next (stages_from g) (node_part g) (λ k. refl) (λ k m. refl) 1 n
+
+  pub bundles_next : (v n : ℕ) → bundles_from v 0 (n + 1) ≡ bundles_from v 0 n ++ flushes v n ∷ []
+  bundles_next v n = parts_next (bundles_from v) (λ j. flushes v j ∷ []) (λ k. refl) (λ k m. refl) 0 n
+      ∙ ap (λ m. bundles_from v 0 n ++ flushes v m ∷ []) (let same : 0 + n ≡ n = omega arith in same)
 
   -- nothing laid
-  pub lays_none : (lanes : List Lane) → Lays g lanes lanes []
-  lays_none lanes = record { laid = sym (append-nil (map stage_of lanes)); there = λ all. all }
+  pub lays_none : (stages : List wiring.Stage) → Lays g stages stages []
+  lays_none stages = record { laid = sym (append-nil (map stage_of stages)); there = λ all. all }
 
   -- one part more
-  pub lays_more : (old now new : List Lane) (before part after : List Stage) → Lays g old now before → Lays g now new part → after ≡ before ++ part → Lays g old new after
+  pub lays_more : (old now new : List wiring.Stage) (before part after : List Stage) → Lays g old now before → Lays g now new part → after ≡ before ++ part → Lays g old new after
   lays_more old now new before part after first second is = record {
     laid = second.laid ∙ (ap (λ l. l ++ part) first.laid ∙ (append_assoc (map stage_of old) before part ∙ ap (λ l. map stage_of old ++ l) (sym is)));
     there = λ all. second.there (first.there all);
   }
 
-  map_push : (lanes : List Lane) (lane : Lane) → map stage_of (lanes ++ lane ∷ []) ≡ map stage_of lanes ++ stage_of lane ∷ []
-  map_push [] lane = refl
-  map_push (x ∷ lanes) lane = ap (λ l. stage_of x ∷ l) (map_push lanes lane)
+  map_push : (stages : List wiring.Stage) (stage : wiring.Stage) → map stage_of (stages ++ stage ∷ []) ≡ map stage_of stages ++ stage_of stage ∷ []
+  map_push [] stage = refl
+  map_push (x ∷ stages) stage = ap (λ l. stage_of x ∷ l) (map_push stages stage)
 
   channel_is : (e i j : ℕ) → i < g.subtasks → j < g.subtasks → (b : Bool) → b ≡ has_channel (g.edge e).exchange i j → is_channel g e i j ≡ b
   channel_is e i j li lj b is =
@@ -65,20 +69,31 @@ module _ (g : Network) where
       rw (p, q) (sym is)
 
   -- a channel that the edge has
-  pub lays_channel : (lanes : List Lane) (e i j : ℕ) → e < g.count + 1 → i < g.subtasks → j < g.subtasks → true ≡ has_channel (g.edge e).exchange i j
-      → Lays g lanes (lanes ++ record { edge = e; from = i; to = j } ∷ []) (channels_to g e i j 1)
-  lays_channel lanes e i j le li lj is = record {
-    laid = map_push lanes (record { edge = e; from = i; to = j }) ∙ ap (λ b. map stage_of lanes ++ cond b (delivers e i j ∷ []) []) (sym (channel_is e i j li lj true is));
-    there = λ all. All-append (IsThere g) lanes (record { edge = e; from = i; to = j } ∷ []) all (one (record { edge = le; from = li; to = lj }));
+  pub lays_channel : (stages : List wiring.Stage) (e i j : ℕ) → e < g.count + 1 → i < g.subtasks → j < g.subtasks → true ≡ has_channel (g.edge e).exchange i j
+      → Lays g stages (stages ++ Deliver (record { edge = e; from = i; to = j }) ∷ []) (channels_to g e i j 1)
+  lays_channel stages e i j le li lj is = record {
+    laid = map_push stages (Deliver (record { edge = e; from = i; to = j })) ∙ ap (λ b. map stage_of stages ++ cond b (delivers e i j ∷ []) []) (sym (channel_is e i j li lj true is));
+    there = λ all. All-append (IsStageThere g) stages (Deliver (record { edge = e; from = i; to = j }) ∷ []) all (one (Deliver (record { edge = e; from = i; to = j })) (record { edge = le; from = li; to = lj }));
   }
     where
-      one : {lane : Lane} → IsThere g lane → All (IsThere g) (lane ∷ [])
-      one h zero d l = h
-      one h (suc k) d l = absurd (omega (arith, l))
+      one : (stage : wiring.Stage) → IsStageThere g stage → All (IsStageThere g) (stage ∷ [])
+      one stage h zero d l = h
+      one stage h (suc k) d l = absurd (omega (arith, l))
+
+  -- a bundle
+  pub lays_bundle : (stages : List wiring.Stage) (v j : ℕ) → Lays g stages (stages ++ Flush v j ∷ []) (flushes v j ∷ [])
+  lays_bundle stages v j = record {
+    laid = map_push stages (Flush v j);
+    there = λ all. All-append (IsStageThere g) stages (Flush v j ∷ []) all flush_there;
+  }
+    where
+      flush_there : All (IsStageThere g) (Flush v j ∷ [])
+      flush_there zero d l = tt
+      flush_there (suc k) d l = absurd (omega (arith, l))
 
   -- one that it doesn't have
-  pub lays_no_channel : (lanes : List Lane) (e i j : ℕ) → i < g.subtasks → j < g.subtasks → false ≡ has_channel (g.edge e).exchange i j → Lays g lanes lanes (channels_to g e i j 1)
-  lays_no_channel lanes e i j li lj is = record {
-    laid = sym (append-nil (map stage_of lanes)) ∙ ap (λ b. map stage_of lanes ++ cond b (delivers e i j ∷ []) []) (sym (channel_is e i j li lj false is));
+  pub lays_no_channel : (stages : List wiring.Stage) (e i j : ℕ) → i < g.subtasks → j < g.subtasks → false ≡ has_channel (g.edge e).exchange i j → Lays g stages stages (channels_to g e i j 1)
+  lays_no_channel stages e i j li lj is = record {
+    laid = sym (append-nil (map stage_of stages)) ∙ ap (λ b. map stage_of stages ++ cond b (delivers e i j ∷ []) []) (sym (channel_is e i j li lj false is));
     there = λ all. all;
   }

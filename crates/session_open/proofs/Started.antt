@@ -15,6 +15,7 @@ use Rattle.phys_plan.specs.declared.plan.Plan.{Plan}
 use Rattle.session_core.specs.Lanes.{flight_in}
 use Rattle.session_core.specs.declared.wiring.Wiring.{Wiring}
 use Rattle.session_core.specs.Runs.{HasRunning}
+use Rattle.session_core.specs.declared.subtask.Subtask.{Subtask}
 use Rattle.session_open.specs.declared.fault.OpenFault.{OpenFault}
 use Rattle.session_open.specs.declared.fault.OpenFault.TheVariants.{Limit, Memory}
 use Rattle.stream_model.specs.Machine.{opened}
@@ -25,7 +26,7 @@ use Rattle.session_core.specs.declared.exchange.Route.TheVariants.{Forward, Hash
 use Rattle.session_core.specs.Routes.{IsWide, RoutesFor}
 use Rattle.session_core.specs.Sending.{Carry, sent_by}
 use Rattle.session_core.specs.Kept.{AllFit}
-use Rattle.session_open.specs.Opening.{HaveOpened, IsMade, IsOpenedAs, IsTooMany, MayStart, Opens, flight_until, opens_with}
+use Rattle.session_open.specs.Opening.{HaveOpened, IsStarted, IsOpenedAs, IsTooMany, MayStart, Opens, flight_until, opens_with}
 
 -- ---- sums
 
@@ -116,14 +117,14 @@ all_wide many route edge [] is fits k d within = absurd (omega (arith, within))
 all_wide many route edge (x ∷ xs) is fits zero d within = wide_for many route edge x is fits.0
 all_wide many route edge (x ∷ xs) is fits (suc k) d within = all_wide many route edge xs is fits.1 k d (omega (arith, within))
 
-module _ {O : Type 0} (rule_is : O → Rule) (broken_is : O → Bool) (stands : O → List Arrival → Type 0) where
+module _ {O : Type 0} (rule_is : O → Rule) (broken_is : O → Bool) (stands : O → List Arrival → Type 0) (takes_pieces : O → Bool) where
   -- what a subtask opens with has its edge's columns
-  pub opening_fits : (g : Network) (v j : ℕ) (op : Option O) → IsMade rule_is broken_is stands g v op → AllFit g (opened g) → j < g.subtasks → AllByRecursion (λ change. (g.edge v).fits change ≡ true) (g.opening v j)
+  pub opening_fits : (g : Network) (v j : ℕ) (op : Option (Subtask O)) → IsStarted rule_is broken_is stands takes_pieces g v op → AllFit g (opened g) → j < g.subtasks → AllByRecursion (λ change. (g.edge v).fits change ≡ true) (g.opening v j)
   opening_fits g v j None made fit lj = subst (AllByRecursion (λ (change : Change). (g.edge v).fits change ≡ true)) (sym (made.1 j)) tt
   opening_fits g v j (Some op) made fit lj = fit v j (inr made.0) lj
 
-  pub may_start : (runs : Plan → List (List ColTy) → Network → Type 0) (plan : Plan) (kept : List (List ColTy)) (w : Wiring) (g : Network) (limit : ℕ) (channels : Channels) (v j : ℕ) (op : Option O) (sent : List Change)
-      → Opens runs plan kept w g limit → HaveOpened g limit (v * plan.parallelism + j) channels → v < length plan.nodes + 1 → j < plan.parallelism → IsOpenedAs rule_is broken_is stands g v j op sent
+  pub may_start : (runs : Plan → List (List ColTy) → Network → Type 0) (plan : Plan) (kept : List (List ColTy)) (w : Wiring) (g : Network) (limit : ℕ) (channels : Channels) (v j : ℕ) (op : Option (Subtask O)) (sent : List Change)
+      → Opens runs plan kept w g limit → HaveOpened g limit (v * plan.parallelism + j) channels → v < length plan.nodes + 1 → j < plan.parallelism → IsOpenedAs rule_is broken_is stands takes_pieces g v j op sent
       → MayStart w channels v j sent g limit
   may_start runs plan kept w g limit channels v j op sent opens have lv lj made = record {
     laid = opens.laid;
@@ -135,9 +136,9 @@ module _ {O : Type 0} (rule_is : O → Rule) (broken_is : O → Bool) (stands : 
   }
 
   -- it runs
-  pub made_runs : (g : Network) (v : ℕ) (op : Option O) → IsMade rule_is broken_is stands g v op → 0 < g.ports v → HasRunning rule_is broken_is stands g v op []
-  made_runs g v None made some = let none = made.0 in absurd (omega (arith, none, some))
-  made_runs g v (Some op) made some = made.1
+  pub made_runs : (g : Network) (v : ℕ) (op : Option (Subtask O)) → IsStarted rule_is broken_is stands takes_pieces g v op → HasRunning rule_is broken_is stands takes_pieces g v op [] []
+  made_runs g v None made = (made.0, refl)
+  made_runs g v (Some subtask) made = record { node = made.0; runs = made.1; held = sym made.2; alone = λ off. refl; few = omega arith }
 
 pub too_many : (limit m n : ℕ) (fault : OpenFault) → m ≤ n → IsTooMany limit m fault → IsTooMany limit n fault
 too_many limit m n Limit le h = omega (arith, le, h)

@@ -15,7 +15,7 @@ use Rattle.phys_plan.specs.declared.plan.Plan.{Plan}
 use Rattle.stream_model.specs.Network.{Network, IsWired, MeetsFacts}
 use Rattle.stream_model.specs.Machine.{opened}
 use Rattle.plan_rules.specs.Columns.{AreColumns}
-use Rattle.plan_rules.specs.Plans.{Doing, bundle_of, network_of, spread_of}
+use Rattle.plan_rules.specs.Plans.{Doing, network_of, spread_of}
 use Rattle.phys_plan.specs.Reading.{numbered}
 use Rattle.ct_catalog.specs.Columns.{column_types}
 use Rattle.session_core.specs.declared.channels.Channels.{Channels}
@@ -23,6 +23,7 @@ use Rattle.session_core.specs.declared.exchange.KeyRoute.{KeyRoute}
 use Rattle.session_core.specs.declared.exchange.Route.{Route}
 use Rattle.session_core.specs.declared.exchange.Route.TheVariants as r
 use Rattle.session_core.specs.Sending.{Carry}
+use Rattle.session_core.specs.declared.subtask.Subtask.{Subtask}
 use Rattle.session_core.specs.declared.wiring.Wiring.{Wiring}
 use Rattle.session_core.specs.Kept.{AllFit}
 use Rattle.session_core.specs.LaidOut.{IsLaidOut}
@@ -41,14 +42,13 @@ abbrev pub IsExchange : List ColTy → PlanExchange → Type 0
 IsExchange types Forward = Unit {0}
 IsExchange types (Hash columns) = AreRoutable types columns
 
--- a plan of few nodes in few subtasks, none of which keeps bundles, with the columns that each node sends by its number, from 0;
+-- a plan of few nodes in few subtasks, with the columns that each node sends by its number, from 0;
 -- changes can be spread by the columns of its tables and edges
 pub record MayOpen (plan : Plan) (columns : List (List ColTy)) : Type 0 where
   pub few : length plan.nodes < 999
   pub some : 0 < plan.parallelism
   pub narrow : plan.parallelism < 17
   pub ports : All (λ node. length node.inputs < 2 ^ 32) plan.nodes
-  pub unbundled : All (λ node. bundle_of plan.mini_batch node.op ≡ None) plan.nodes
   pub typed : length columns ≡ length plan.nodes + 1
   pub exchanged : (e : ℕ) (edge : PlanEdge) → numbered plan.edges e ≡ Some edge → IsExchange (get_or columns e []) edge.exchange
   pub spread : All (λ table. AreRoutable (column_types table) (spread_of table)) plan.sources
@@ -80,15 +80,20 @@ IsRouteIn types (Some edge) route = IsRouteOf types edge.exchange route
 
 -- ---- operators
 
-module _ {O : Type 0} (rule_is : O → Rule) (is_broken : O → Bool) (stands : O → List Arrival → Type 0) where
+module _ {O : Type 0} (rule_is : O → Rule) (is_broken : O → Bool) (stands : O → List Arrival → Type 0) (takes_pieces : O → Bool) where
   -- the operator of a node, which took nothing; none where the node has no ports, and opens with nothing
   abbrev pub IsMade : Network → ℕ → Option O → Type 0
   IsMade g v None = (g.ports v ≡ 0) × ((j : ℕ) → g.opening v j ≡ [])
-  IsMade g v (Some op) = (0 < g.ports v) × RunsAs rule_is is_broken stands g v op []
+  IsMade g v (Some op) = (0 < g.ports v) × RunsAs rule_is is_broken stands takes_pieces g v op []
+
+  -- a subtask with it, which holds nothing
+  abbrev pub IsStarted : Network → ℕ → Option (Subtask O) → Type 0
+  IsStarted g v None = (g.ports v ≡ 0) × ((j : ℕ) → g.opening v j ≡ [])
+  IsStarted g v (Some subtask) = (0 < g.ports v) × RunsAs rule_is is_broken stands takes_pieces g v subtask.operator [] × (subtask.held ≡ [])
 
   -- the same, and what the subtask opens with
-  pub record IsOpenedAs (g : Network) (v j : ℕ) (op : Option O) (sent : List Change) : Type 0 where
-    pub made : IsMade g v op
+  pub record IsOpenedAs (g : Network) (v j : ℕ) (op : Option (Subtask O)) (sent : List Change) : Type 0 where
+    pub made : IsStarted g v op
     pub sent_is : sent ≡ g.opening v j
 
 -- ---- the changes with which subtasks open, one subtask behind the other

@@ -1,5 +1,5 @@
 -- For which networks the operators of a plan are made.
-use Rattle.std.specs.Prelude.{◌≡◌, ℕ, ◌<◌, Bool, false, List, [], length, Option, Some, None}
+use Rattle.std.specs.Prelude.{◌≡◌, ℕ, ◌<◌, Bool, true, false, List, [], length, Option, Some, None}
 use Rattle.ct_value.specs.declared.ty.ColTy.{ColTy}
 use Rattle.op_rules.specs.History.{Arrival}
 use Rattle.op_rules.specs.Rules.{Rule}
@@ -30,16 +30,21 @@ pub record IsBuiltPlan (plan : Plan) (columns : List (List ColTy)) (g : Network)
   pub columns_are : AreColumns columns (columns_at plan.sources plan.nodes)
   pub nodes : (v : ℕ) (node : Node) → numbered plan.nodes v ≡ Some node → IsBuiltNode plan v node
 
-module _ {O : Type 0} (rule_is : O → Rule) (is_broken : O → Bool) (stands : O → List Arrival → Type 0) where
+module _ {O : Type 0} (rule_is : O → Rule) (is_broken : O → Bool) (stands : O → List Arrival → Type 0) (takes_pieces : O → Bool) where
   -- an operator that runs by a rule and took nothing
   pub record IsNew (made : O) (rule : Rule) : Type 0 where
     pub rule_is_so : rule_is made ≡ rule
     pub whole : is_broken made ≡ false
     pub stands_so : stands made []
 
-  -- one that runs by a node's rule, where the node has one
-  abbrev pub IsOperatorBy : Option Behaviour → Option O → Type 0
-  IsOperatorBy None None = Unit {0}
-  IsOperatorBy None (Some made) = ⊥
-  IsOperatorBy (Some b) None = ⊥
-  IsOperatorBy (Some b) (Some made) = IsNew made b.rule
+  -- it takes pieces, where its node keeps bundles
+  abbrev pub TakesBundles : Option ℕ → O → Type 0
+  TakesBundles None made = Unit {0}
+  TakesBundles (Some size) made = takes_pieces made ≡ true
+
+  -- one that runs by a node's rule, where the node has one, and takes pieces, where the node keeps bundles
+  abbrev pub IsOperatorBy : Option Behaviour → Option ℕ → Option O → Type 0
+  IsOperatorBy None bundle None = Unit {0}
+  IsOperatorBy None bundle (Some made) = ⊥
+  IsOperatorBy (Some b) bundle None = ⊥
+  IsOperatorBy (Some b) bundle (Some made) = IsNew made b.rule × TakesBundles bundle made

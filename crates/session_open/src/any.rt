@@ -1,10 +1,12 @@
+ghost use Rattle.std.specs.Prelude.{◌≡◌, [], true, false, IfOk, OnOk, OnErr};
+
 use crate::AnyMode;
 use ct_change::{Change, Changes, Steps};
 use ct_value::Memory;
 use op_group::Group;
 use op_join::Join;
 use op_row::{FilterOp, NormalizeOp, ProjectOp, UnionOp};
-use op_rules::{OpFault, Operator};
+use op_rules::{OpFault, Operator, PieceOperator};
 use op_semi::SemiJoin;
 use op_sink::{Materialize, SinkWriter};
 use op_topn::TopN;
@@ -68,18 +70,7 @@ impl Operator for AnyOperator {
     ] };
 
     fn opening(&mut self, subtask: u32) -> Result<Changes, Memory> {
-        match self {
-            AnyOperator::Filter(o) => o.opening(subtask),
-            AnyOperator::Project(o) => o.opening(subtask),
-            AnyOperator::Union(o) => o.opening(subtask),
-            AnyOperator::Normalize(o) => o.opening(subtask),
-            AnyOperator::Group(o) => o.opening(subtask),
-            AnyOperator::Join(o) => o.opening(subtask),
-            AnyOperator::Semi(o) => o.opening(subtask),
-            AnyOperator::TopN(o) => o.opening(subtask),
-            AnyOperator::Materialize(o) => o.opening(subtask),
-            AnyOperator::Sink(o) => o.opening(subtask),
-        }
+        self.start(subtask)
     }
 
     fn consume<L: Ledger>(
@@ -114,6 +105,69 @@ impl Operator for AnyOperator {
             AnyOperator::TopN(o) => o.is_broken(),
             AnyOperator::Materialize(o) => o.is_broken(),
             AnyOperator::Sink(o) => o.is_broken(),
+        }
+    }
+}
+
+impl PieceOperator for AnyOperator {
+    ghost use Rattle.session_open.specs.declared.any.AnyOperator.TheVariants.{Filter, Project, Union, Normalize, Group as Grouped, Join as Joined, Semi, TopN as Top, Materialize as Shown, Sink};
+    ghost use Rattle.std.specs.Prelude.{false};
+
+    ghost takes_pieces = { elim [
+      | Filter o ↦ false
+      | Project o ↦ false
+      | Union o ↦ false
+      | Normalize o ↦ false
+      | Grouped o ↦ ⟦<Group<AnyMode, AnyMode> as PieceOperator>⟧.takes_pieces o
+      | Joined o ↦ false
+      | Semi o ↦ false
+      | Top o ↦ false
+      | Shown o ↦ false
+      | Sink o ↦ false
+    ] };
+
+    fn take_piece<L: Ledger>(
+        &mut self,
+        changes: Changes,
+        steps: &mut Steps<L>,
+    ) -> Result<Changes, OpFault> {
+        match self {
+            AnyOperator::Group(o) => o.take_piece(changes, steps),
+            AnyOperator::Filter(_) => unreachable!(),
+            AnyOperator::Project(_) => unreachable!(),
+            AnyOperator::Union(_) => unreachable!(),
+            AnyOperator::Normalize(_) => unreachable!(),
+            AnyOperator::Join(_) => unreachable!(),
+            AnyOperator::Semi(_) => unreachable!(),
+            AnyOperator::TopN(_) => unreachable!(),
+            AnyOperator::Materialize(_) => unreachable!(),
+            AnyOperator::Sink(_) => unreachable!(),
+        }
+    }
+}
+
+impl AnyOperator {
+    // What a new operator emits as the given subtask when the job opens.
+    pub(crate) fn start(&mut self, subtask: u32) -> Result<Changes, Memory>
+        requires whole { ⟦<AnyOperator as Operator>⟧.broken self.old ≡ false }
+        requires new { ⟦<AnyOperator as Operator>⟧.stands_for self.old [] }
+        ensures rule_stays { ⟦<AnyOperator as Operator>⟧.rule self.new ≡ ⟦<AnyOperator as Operator>⟧.rule self.old }
+        ensures pieces_stay { ⟦<AnyOperator as PieceOperator>⟧.takes_pieces self.new ≡ ⟦<AnyOperator as PieceOperator>⟧.takes_pieces self.old }
+        ensures ok { IfOk result (λ sent. (sent ≡ (⟦<AnyOperator as Operator>⟧.rule self.old).opening subtask) × ⟦<AnyOperator as Operator>⟧.stands_for self.new []) }
+        ensures stays_whole { OnOk result (⟦<AnyOperator as Operator>⟧.broken self.new ≡ false) }
+        ensures breaks { OnErr result (⟦<AnyOperator as Operator>⟧.broken self.new ≡ true) }
+    {
+        match self {
+            AnyOperator::Filter(o) => o.opening(subtask),
+            AnyOperator::Project(o) => o.opening(subtask),
+            AnyOperator::Union(o) => o.opening(subtask),
+            AnyOperator::Normalize(o) => o.opening(subtask),
+            AnyOperator::Group(o) => o.opening(subtask),
+            AnyOperator::Join(o) => o.opening(subtask),
+            AnyOperator::Semi(o) => o.opening(subtask),
+            AnyOperator::TopN(o) => o.opening(subtask),
+            AnyOperator::Materialize(o) => o.opening(subtask),
+            AnyOperator::Sink(o) => o.opening(subtask),
         }
     }
 }

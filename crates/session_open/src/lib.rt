@@ -9,11 +9,12 @@
 #![tactic(auto)]
 
 mod any;
+mod bundles;
+mod drain;
 mod edges;
 mod fault;
 mod feeds;
 mod inputs;
-mod lanes;
 mod made;
 mod making;
 mod mode;

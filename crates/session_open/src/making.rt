@@ -1,4 +1,4 @@
-ghost use Rattle.std.specs.Prelude.{◌≡◌, [], get_or, length, option_map, unwrap_or, IfOk};
+ghost use Rattle.std.specs.Prelude.{◌≡◌, [], get_or, length, option_map, true, unwrap_or, IfOk};
 ghost use Rattle.ct_expr.specs.View.{expr_view, exprs_view};
 ghost use Rattle.emission_rules.specs.Changes.{after_key};
 ghost use Rattle.emission_rules.specs.Filter.{filter_rule};
@@ -13,6 +13,7 @@ ghost use Rattle.emission_rules.specs.Ranking.{topn_rule, IsSound as RanksWell};
 ghost use Rattle.phys_plan.specs.Reading.{numbered, first_input};
 ghost use Rattle.plan_rules.specs.Around.{second};
 ghost use Rattle.plan_rules.specs.Behaviours.{behaviour, Suits};
+ghost use Rattle.plan_rules.specs.Plans.{bundle_of};
 ghost use Rattle.plan_rules.specs.Doings.{around_of, update_in};
 ghost use Rattle.session_open.specs.Modes.{mode_in};
 ghost use Rattle.session_open.specs.Running.{IsBuiltPlan, IsNew, IsOperatorBy, second_input};
@@ -22,12 +23,13 @@ use crate::inputs::{Input, both_inputs, only_input};
 use crate::numbers::{count_of, node_at};
 use crate::types::range_types_of;
 use crate::{AnyMode, AnyOperator, PlanOperator};
+use ct_change::Changes;
 use ct_expr::{Expr, Exprs, dup_exprs};
 use ct_value::{ColTys, Cols, List, Memory, Numbers};
 use op_group::Group;
 use op_join::Join;
 use op_row::{FilterOp, NormalizeOp, ProjectOp, UnionOp};
-use op_rules::Operator;
+use op_rules::{Operator, PieceOperator};
 use op_semi::SemiJoin;
 use op_sink::{Materialize, SinkWriter};
 use op_topn::TopN;
@@ -48,6 +50,10 @@ impl PlanOperator for AnyOperator {
             None => Ok(None),
             Some(of) => operator_of(alloc, plan, columns, node, of),
         }
+    }
+
+    fn open(&mut self, subtask: u32) -> Result<Changes, Memory> {
+        self.start(subtask)
     }
 
     fn range_types(
@@ -74,7 +80,7 @@ fn operator_of(
     requires suits { Suits node.now.op (around_of plan.now number node.now.inputs) }
     requires columns { get_or columns.now (first_input node.now.inputs) [] ≡ (around_of plan.now number node.now.inputs).columns }
     requires others { get_or columns.now (second_input node.now.inputs) [] ≡ (second (around_of plan.now number node.now.inputs)).columns }
-    ensures { IfOk result (λ made. IsOperatorBy ⟦<AnyOperator as Operator>⟧.rule ⟦<AnyOperator as Operator>⟧.broken ⟦<AnyOperator as Operator>⟧.stands_for (behaviour node.now.op (around_of plan.now number node.now.inputs)) made) }
+    ensures { IfOk result (λ made. IsOperatorBy ⟦<AnyOperator as Operator>⟧.rule ⟦<AnyOperator as Operator>⟧.broken ⟦<AnyOperator as Operator>⟧.stands_for ⟦<AnyOperator as PieceOperator>⟧.takes_pieces (behaviour node.now.op (around_of plan.now number node.now.inputs)) (bundle_of plan.now.mini_batch node.now.op) made) }
 {
     match &node.op {
         Op::Filter { cond } => Ok(Some(filter_by(alloc, cond)?)),
@@ -84,7 +90,7 @@ fn operator_of(
             let own = written_at(alloc, plan, number)?;
             Ok(Some(normalize_by(alloc, key, own)?))
         }
-        Op::Group { keys, aggs } => {
+        Op::Group { keys, aggs } | Op::BatchGroup { keys, aggs } => {
             let input = only_input(alloc, plan, columns, &node.inputs)?;
             let own = written_at(alloc, plan, number)?;
             Ok(Some(group_by(alloc, input, own, *keys, aggs)?))
@@ -115,7 +121,7 @@ fn operator_of(
 }
 
 fn filter_by(alloc: Global, cond: &Expr) -> Result<AnyOperator, Memory>
-    ensures { IfOk result (λ made. IsNew ⟦<AnyOperator as Operator>⟧.rule ⟦<AnyOperator as Operator>⟧.broken ⟦<AnyOperator as Operator>⟧.stands_for made (filter_rule (record { condition = expr_view cond.now }))) }
+    ensures { IfOk result (λ made. IsNew ⟦<AnyOperator as Operator>⟧.rule ⟦<AnyOperator as Operator>⟧.broken ⟦<AnyOperator as Operator>⟧.stands_for ⟦<AnyOperator as PieceOperator>⟧.takes_pieces made (filter_rule (record { condition = expr_view cond.now }))) }
 {
     Ok(AnyOperator::Filter(FilterOp::new(alloc, cond.dup()?)))
 }
@@ -126,7 +132,7 @@ fn project_to(
     inputs: &Numbers,
     items: &Exprs,
 ) -> Result<AnyOperator, Memory>
-    ensures { IfOk result (λ made. IsNew ⟦<AnyOperator as Operator>⟧.rule ⟦<AnyOperator as Operator>⟧.broken ⟦<AnyOperator as Operator>⟧.stands_for made (project_rule (record { items = exprs_view items.now; after = after_key (update_in (numbered plan.now.edges (first_input inputs.now))) }))) }
+    ensures { IfOk result (λ made. IsNew ⟦<AnyOperator as Operator>⟧.rule ⟦<AnyOperator as Operator>⟧.broken ⟦<AnyOperator as Operator>⟧.stands_for ⟦<AnyOperator as PieceOperator>⟧.takes_pieces made (project_rule (record { items = exprs_view items.now; after = after_key (update_in (numbered plan.now.edges (first_input inputs.now))) }))) }
 {
     let items = dup_exprs(items)?;
     let after = after_of(plan, inputs)?;
@@ -134,7 +140,7 @@ fn project_to(
 }
 
 fn union_of(alloc: Global, inputs: &Numbers) -> Result<AnyOperator, Memory>
-    ensures { IfOk result (λ made. IsNew ⟦<AnyOperator as Operator>⟧.rule ⟦<AnyOperator as Operator>⟧.broken ⟦<AnyOperator as Operator>⟧.stands_for made (union_rule (record { inputs = length inputs.now }))) }
+    ensures { IfOk result (λ made. IsNew ⟦<AnyOperator as Operator>⟧.rule ⟦<AnyOperator as Operator>⟧.broken ⟦<AnyOperator as Operator>⟧.stands_for ⟦<AnyOperator as PieceOperator>⟧.takes_pieces made (union_rule (record { inputs = length inputs.now }))) }
 {
     let count = count_of(inputs)?;
     Ok(AnyOperator::Union(UnionOp::new(alloc, count)))
@@ -142,7 +148,7 @@ fn union_of(alloc: Global, inputs: &Numbers) -> Result<AnyOperator, Memory>
 
 fn normalize_by(alloc: Global, key: &Cols, own: AnyMode) -> Result<AnyOperator, Memory>
     requires { TellsKey key.now (mode_in own) }
-    ensures { IfOk result (λ made. IsNew ⟦<AnyOperator as Operator>⟧.rule ⟦<AnyOperator as Operator>⟧.broken ⟦<AnyOperator as Operator>⟧.stands_for made (normalize_rule (record { key = key.now; output = mode_in own }))) }
+    ensures { IfOk result (λ made. IsNew ⟦<AnyOperator as Operator>⟧.rule ⟦<AnyOperator as Operator>⟧.broken ⟦<AnyOperator as Operator>⟧.stands_for ⟦<AnyOperator as PieceOperator>⟧.takes_pieces made (normalize_rule (record { key = key.now; output = mode_in own }))) }
 {
     let made = NormalizeOp::new(alloc, key.dup()?, own)?;
     Ok(AnyOperator::Normalize(made))
@@ -156,7 +162,8 @@ fn group_by(
     aggs: &Aggs,
 ) -> Result<AnyOperator, Memory>
     requires { GroupsWell (record { keys = keys; aggs = aggs.now; columns = input.types; input = mode_in input.mode; output = mode_in own }) }
-    ensures { IfOk result (λ made. IsNew ⟦<AnyOperator as Operator>⟧.rule ⟦<AnyOperator as Operator>⟧.broken ⟦<AnyOperator as Operator>⟧.stands_for made (group_rule (record { keys = keys; aggs = aggs.now; columns = input.types; input = mode_in input.mode; output = mode_in own }))) }
+    ensures new { IfOk result (λ made. IsNew ⟦<AnyOperator as Operator>⟧.rule ⟦<AnyOperator as Operator>⟧.broken ⟦<AnyOperator as Operator>⟧.stands_for ⟦<AnyOperator as PieceOperator>⟧.takes_pieces made (group_rule (record { keys = keys; aggs = aggs.now; columns = input.types; input = mode_in input.mode; output = mode_in own }))) }
+    ensures pieces { IfOk result (λ made. ⟦<AnyOperator as PieceOperator>⟧.takes_pieces made ≡ true) }
 {
     let made = Group::new(alloc, keys, aggs.dup()?, input.types, input.mode, own)?;
     Ok(AnyOperator::Group(made))
@@ -169,7 +176,7 @@ fn join_by(
     on: &Pairs,
     rest: &Option<Expr>,
 ) -> Result<AnyOperator, Memory>
-    ensures { IfOk result (λ made. IsNew ⟦<AnyOperator as Operator>⟧.rule ⟦<AnyOperator as Operator>⟧.broken ⟦<AnyOperator as Operator>⟧.stands_for made (join_rule (record { shape = joins kind; on = on.now; rest = option_map expr_view rest.now; left_columns = sides.0.types; right_columns = sides.1.types; left = mode_in sides.0.mode; right = mode_in sides.1.mode }))) }
+    ensures { IfOk result (λ made. IsNew ⟦<AnyOperator as Operator>⟧.rule ⟦<AnyOperator as Operator>⟧.broken ⟦<AnyOperator as Operator>⟧.stands_for ⟦<AnyOperator as PieceOperator>⟧.takes_pieces made (join_rule (record { shape = joins kind; on = on.now; rest = option_map expr_view rest.now; left_columns = sides.0.types; right_columns = sides.1.types; left = mode_in sides.0.mode; right = mode_in sides.1.mode }))) }
 {
     let (left, right) = sides;
     let (on, rest) = (on.dup()?, dup_rest(rest)?);
@@ -193,7 +200,7 @@ fn semi_by(
     on: &Pairs,
     rest: &Option<Expr>,
 ) -> Result<AnyOperator, Memory>
-    ensures { IfOk result (λ made. IsNew ⟦<AnyOperator as Operator>⟧.rule ⟦<AnyOperator as Operator>⟧.broken ⟦<AnyOperator as Operator>⟧.stands_for made (join_rule (record { shape = matched anti; on = on.now; rest = option_map expr_view rest.now; left_columns = sides.0.types; right_columns = sides.1.types; left = mode_in sides.0.mode; right = mode_in sides.1.mode }))) }
+    ensures { IfOk result (λ made. IsNew ⟦<AnyOperator as Operator>⟧.rule ⟦<AnyOperator as Operator>⟧.broken ⟦<AnyOperator as Operator>⟧.stands_for ⟦<AnyOperator as PieceOperator>⟧.takes_pieces made (join_rule (record { shape = matched anti; on = on.now; rest = option_map expr_view rest.now; left_columns = sides.0.types; right_columns = sides.1.types; left = mode_in sides.0.mode; right = mode_in sides.1.mode }))) }
 {
     let (left, right) = sides;
     let (on, rest) = (on.dup()?, dup_rest(rest)?);
@@ -220,7 +227,7 @@ fn top_by(
     ranked: bool,
 ) -> Result<AnyOperator, Memory>
     requires { RanksWell (record { partition = partition.now; order = order.now; bound = bound; ranked = ranked; columns = input.types; input = mode_in input.mode; output = mode_in own }) }
-    ensures { IfOk result (λ made. IsNew ⟦<AnyOperator as Operator>⟧.rule ⟦<AnyOperator as Operator>⟧.broken ⟦<AnyOperator as Operator>⟧.stands_for made (topn_rule (record { partition = partition.now; order = order.now; bound = bound; ranked = ranked; columns = input.types; input = mode_in input.mode; output = mode_in own }))) }
+    ensures { IfOk result (λ made. IsNew ⟦<AnyOperator as Operator>⟧.rule ⟦<AnyOperator as Operator>⟧.broken ⟦<AnyOperator as Operator>⟧.stands_for ⟦<AnyOperator as PieceOperator>⟧.takes_pieces made (topn_rule (record { partition = partition.now; order = order.now; bound = bound; ranked = ranked; columns = input.types; input = mode_in input.mode; output = mode_in own }))) }
 {
     let (partition, order) = (partition.dup()?, order.dup()?);
     let (types, mode) = (input.types, input.mode);
@@ -239,14 +246,14 @@ fn dup_rest(rest: &Option<Expr>) -> Result<Option<Expr>, Memory>
 }
 
 fn materialize_by(alloc: Global, key: &Cols) -> Result<AnyOperator, Memory>
-    ensures { IfOk result (λ made. IsNew ⟦<AnyOperator as Operator>⟧.rule ⟦<AnyOperator as Operator>⟧.broken ⟦<AnyOperator as Operator>⟧.stands_for made (materialize_rule key.now)) }
+    ensures { IfOk result (λ made. IsNew ⟦<AnyOperator as Operator>⟧.rule ⟦<AnyOperator as Operator>⟧.broken ⟦<AnyOperator as Operator>⟧.stands_for ⟦<AnyOperator as PieceOperator>⟧.takes_pieces made (materialize_rule key.now)) }
 {
     let made = Materialize::new(alloc, key.dup()?)?;
     Ok(AnyOperator::Materialize(made))
 }
 
 fn sink_of(alloc: Global, plan: &Plan, inputs: &Numbers) -> Result<AnyOperator, Memory>
-    ensures { IfOk result (λ made. IsNew ⟦<AnyOperator as Operator>⟧.rule ⟦<AnyOperator as Operator>⟧.broken ⟦<AnyOperator as Operator>⟧.stands_for made (sink_rule (record { declared = plan.now.sink.mode; after = after_key (update_in (numbered plan.now.edges (first_input inputs.now))); key = unwrap_or plan.now.sink.key [] }))) }
+    ensures { IfOk result (λ made. IsNew ⟦<AnyOperator as Operator>⟧.rule ⟦<AnyOperator as Operator>⟧.broken ⟦<AnyOperator as Operator>⟧.stands_for ⟦<AnyOperator as PieceOperator>⟧.takes_pieces made (sink_rule (record { declared = plan.now.sink.mode; after = after_key (update_in (numbered plan.now.edges (first_input inputs.now))); key = unwrap_or plan.now.sink.key [] }))) }
 {
     let (update, key) = (told_to(plan, inputs)?, sink_key(alloc, plan)?);
     let made = SinkWriter::new(alloc, plan.sink.mode, update, key)?;

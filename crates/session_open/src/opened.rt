@@ -27,7 +27,7 @@ pub fn open_job<O: PlanOperator, S: PlanSource>(
 ) -> Result<Session<O, S>, OpenFault>
     requires may { MayOpen plan.now columns.now }
     requires ready { (of : ℕ → Seq ColTy) × (doing : ℕ → Doing) × IsOpenable O.runs plan.now columns.now of doing }
-    ensures ok { IfOk result (λ session. (of : ℕ → Seq ColTy) (doing : ℕ → Doing) → IsOpenable O.runs plan.now columns.now of doing → StandsFor O.rule O.broken O.stands_for S.stands_for (network_of of doing plan.now) limit session [] []) }
+    ensures ok { IfOk result (λ session. (of : ℕ → Seq ColTy) (doing : ℕ → Doing) → IsOpenable O.runs plan.now columns.now of doing → StandsFor O.rule O.broken O.stands_for O.takes_pieces S.stands_for (network_of of doing plan.now) limit session [] []) }
     ensures err { IfErr result (λ fault. (of : ℕ → Seq ColTy) (doing : ℕ → Doing) → IsOpenable O.runs plan.now columns.now of doing → IsTooMany limit (opened (network_of of doing plan.now)).sends fault) }
 {
     let wiring = wiring_of::<O>(alloc, plan, columns, limit)?;

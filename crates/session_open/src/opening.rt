@@ -2,18 +2,17 @@ ghost use Rattle.std.specs.Prelude.{◌≡◌, ◌<◌, ◌+◌, ◌*◌, ◌++�
 ghost use Rattle.stream_model.specs.Network.{Network};
 ghost use Rattle.session_core.specs.Runs.{AllRun};
 ghost use Rattle.op_rules.specs.Tasks.{total};
-ghost use Rattle.session_open.specs.Opening.{HaveOpened, IsMade, IsTooMany, MayStart, opens_with, Opens};
+ghost use Rattle.session_open.specs.Opening.{HaveOpened, IsStarted, IsTooMany, MayStart, opens_with, Opens};
 
 use crate::made::open_node;
 use crate::{OpenFault, PlanOperator};
 use ct_change::Changes;
 use ct_value::{ColTys, List, Memory};
 use phys_plan::Plan;
-use session_core::{Channels, Operators, Wiring, send_all};
+use session_core::{Channels, Operators, Subtask, Wiring, send_all};
 use std::alloc::Global;
 
-/// The operators of a plan, one for each subtask of each node, of which each sent what it opens with: they stand for nothing
-/// consumed.
+/// The subtasks of a plan, of each node, of which each sent what it opens with: they stand for nothing consumed, and hold nothing.
 pub(crate) fn open_operators<O: PlanOperator>(
     alloc: Global,
     plan: &Plan,
@@ -27,7 +26,7 @@ pub(crate) fn open_operators<O: PlanOperator>(
     requires ready { (g : Network) × (limit : ℕ) × Opens O.runs plan.now columns.now wiring.now g limit × HaveOpened g limit 0 channels.old }
     ensures width { IfOk result (λ made. made.width ≡ plan.now.parallelism) }
     ensures nodes { IfOk result (λ made. made.nodes ≡ length plan.now.nodes + 1) }
-    ensures runs { IfOk result (λ made. (g : Network) (limit : ℕ) → Opens O.runs plan.now columns.now wiring.now g limit → HaveOpened g limit 0 channels.old → AllRun O.rule O.broken O.stands_for g made.width made.items.items (λ v j. [])) }
+    ensures runs { IfOk result (λ made. (g : Network) (limit : ℕ) → Opens O.runs plan.now columns.now wiring.now g limit → HaveOpened g limit 0 channels.old → AllRun O.rule O.broken O.stands_for O.takes_pieces g made.width made.items.items (λ v j. []) (λ v j. [])) }
     ensures opened { OnOk result ((g : Network) (limit : ℕ) → Opens O.runs plan.now columns.now wiring.now g limit → HaveOpened g limit 0 channels.old → HaveOpened g limit ((length plan.now.nodes + 1) * plan.now.parallelism) channels.new) }
     ensures err { IfErr result (λ fault. (g : Network) (limit : ℕ) → Opens O.runs plan.now columns.now wiring.now g limit → HaveOpened g limit 0 channels.old → IsTooMany limit (total ((length plan.now.nodes + 1) * plan.now.parallelism) (opens_with g)) fault) }
 {
@@ -55,7 +54,7 @@ fn put<T: Drop>(items: &mut Vec<T>, item: T) -> Result<(), Memory>
     Ok(())
 }
 
-// The operator of a subtask, which sent what it opens with.
+// A subtask, which sent what it opens with.
 fn open_subtask<O: PlanOperator>(
     alloc: Global,
     plan: &Plan,
@@ -64,11 +63,11 @@ fn open_subtask<O: PlanOperator>(
     channels: &mut Channels,
     node: u32,
     subtask: u32,
-) -> Result<Option<O>, OpenFault>
+) -> Result<Option<Subtask<O>>, OpenFault>
     requires node { node < length plan.now.nodes + 1 }
     requires subtask { subtask < plan.now.parallelism }
     requires ready { (g : Network) × (limit : ℕ) × Opens O.runs plan.now columns.now wiring.now g limit × HaveOpened g limit (node * plan.now.parallelism + subtask) channels.old }
-    ensures made { IfOk result (λ op. (g : Network) (limit : ℕ) → Opens O.runs plan.now columns.now wiring.now g limit → IsMade O.rule O.broken O.stands_for g node op) }
+    ensures made { IfOk result (λ op. (g : Network) (limit : ℕ) → Opens O.runs plan.now columns.now wiring.now g limit → IsStarted O.rule O.broken O.stands_for O.takes_pieces g node op) }
     ensures opened { OnOk result ((g : Network) (limit : ℕ) → Opens O.runs plan.now columns.now wiring.now g limit → HaveOpened g limit (node * plan.now.parallelism + subtask) channels.old → HaveOpened g limit (node * plan.now.parallelism + subtask + 1) channels.new) }
     ensures err { IfErr result (λ fault. (g : Network) (limit : ℕ) → Opens O.runs plan.now columns.now wiring.now g limit → HaveOpened g limit (node * plan.now.parallelism + subtask) channels.old → IsTooMany limit (total (node * plan.now.parallelism + subtask + 1) (opens_with g)) fault) }
 {

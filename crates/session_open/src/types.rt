@@ -26,6 +26,7 @@ pub(crate) fn range_types_of(
         Op::Materialize { .. } => input_types(alloc, columns, &node.inputs),
         Op::Sink => input_types(alloc, columns, &node.inputs),
         Op::Group { keys, .. } => first_types(alloc, columns, node, *keys),
+        Op::BatchGroup { keys, .. } => first_types(alloc, columns, node, *keys),
         Op::Join { .. } => joined_types(alloc, columns, &node.inputs),
         Op::Semi { .. } => joined_types(alloc, columns, &node.inputs),
         _ => Ok(ColTys::new(alloc)),

@@ -7,6 +7,7 @@ ghost use Rattle.session_open.specs.Opening.{IsOpenable, MayOpen};
 ghost use Rattle.plan_rules.specs.Columns.{AreColumns};
 ghost use Rattle.session_open.specs.Wired.{AreWires};
 
+use crate::bundles::bundles_of;
 use crate::feeds::feeds_of;
 use crate::made::range_types_of;
 use crate::routes::routes_of;
@@ -29,7 +30,7 @@ pub(crate) fn wiring_of<O: PlanOperator>(
     ensures { IfOk result (λ wiring. (of : ℕ → Seq ColTy) (doing : ℕ → Doing) → IsOpenable O.runs plan.now columns.now of doing → IsLaidOut wiring (network_of of doing plan.now) limit) }
 {
     let wires = wires_of(alloc, plan, columns)?;
-    let lanes = wires.lanes(alloc)?;
+    let stages = wires.stages(alloc)?;
     let tables = tables_of(alloc, plan)?;
     let types = range_types_of::<O>(alloc, plan, columns)?;
     let Wires {
@@ -37,6 +38,7 @@ pub(crate) fn wiring_of<O: PlanOperator>(
         nodes,
         feeds,
         routes,
+        bundles,
     } = wires;
     Ok(Wiring {
         alloc,
@@ -47,7 +49,8 @@ pub(crate) fn wiring_of<O: PlanOperator>(
         routes,
         tables,
         types,
-        lanes,
+        bundles,
+        stages,
     })
 }
 
@@ -59,10 +62,12 @@ fn wires_of(alloc: Global, plan: &Plan, columns: &List<ColTys>) -> Result<Wires,
 {
     let feeds = feeds_of(alloc, &plan.nodes)?;
     let routes = routes_of(alloc, plan, columns)?;
+    let bundles = bundles_of(alloc, plan)?;
     Ok(Wires {
         parallelism: plan.parallelism,
         nodes: plan.nodes.len() as u32,
         feeds,
         routes,
+        bundles,
     })
 }

@@ -21,7 +21,8 @@ use Rattle.plan_shape.specs.Shape.{is_sink, op_in, suits_consumer, suits_input, 
 use Rattle.plan_check.specs.Types.{is_typed_by, types_at, types_by}
 use Rattle.plan_rules.specs.Behaviours.{has_rule}
 use Rattle.plan_rules.specs.Roles.{Role, reads_table, one_of, two_of, all_of, same_as, not_told, role}
-use Rattle.laid_plans.proofs.laws.Types.{types_made}
+use Rattle.sound_plans.proofs.laws.Columns.{RuledAt, types_made}
+use Rattle.sound_plans.proofs.laws.Lists.{of_each, the_same}
 
 -- ---- the first columns, made from the last and from the first
 
@@ -44,6 +45,7 @@ module _ (plan : Plan) where
   pub record IsFed (o : Op) (port input : ℕ) : Type 0 where
     pub node : Node
     pub is_node : numbered plan.nodes input ≡ Some node
+    pub ruled : has_rule node.op ≡ true
     pub suits : suits_consumer plan.sources node.op (Some o) ≡ true
     pub edge : Edge
     pub is_edge : numbered plan.edges input ≡ Some edge
@@ -74,11 +76,15 @@ module _ (plan : Plan) where
 
   -- ---- columns
 
+  -- what feeds a port has a rule
+  fed_ruled : (o : Op) (port input : ℕ) → IsFed o port input → RuledAt plan.nodes input
+  fed_ruled o port input f node e = ap (λ (n : Node). has_rule n.op) (sym (the_same f.node node (sym f.is_node ∙ e))) ∙ f.ruled
+
   -- the columns of a node whose operator and inputs are known
-  pub types_from : (v : ℕ) (o : Op) (inputs : List ℕ) → HasNode plan v (λ p. p ≡ o) inputs → has_rule o ≡ true → AllByRecursion (λ input. input < v) inputs
+  pub types_from : (v : ℕ) (o : Op) (inputs : List ℕ) → HasNode plan v (λ p. p ≡ o) inputs → ((port input : ℕ) → slice_get inputs port ≡ Some input → IsFed o port input) → AllByRecursion (λ input. input < v) inputs
       → types_at plan.sources plan.nodes v ≡ types_by plan.sources o (map (types_at plan.sources plan.nodes) inputs)
-  types_from v o inputs has ruled below =
-      types_made plan.sources plan.nodes v has.node has.is_there (ap has_rule has.is_op ∙ ruled) (subst (λ (ins : List ℕ). AllByRecursion (λ input. input < v) ins) (sym has.inputs_are) below)
+  types_from v o inputs has fed below =
+      types_made plan.sources plan.nodes v has.node has.is_there (subst (λ (ins : List ℕ). AllByRecursion (RuledAt plan.nodes) ins) (sym has.inputs_are) (of_each (RuledAt plan.nodes) inputs (λ p input e. fed_ruled o p input (fed p input e)))) (subst (λ (ins : List ℕ). AllByRecursion (λ input. input < v) ins) (sym has.inputs_are) below)
       ∙ (λ i. types_by plan.sources (has.is_op i) (map (types_at plan.sources plan.nodes) (has.inputs_are i)))
 
   -- ---- operators that ask nothing of the tables
@@ -92,7 +98,7 @@ module _ (plan : Plan) where
     pub typed : (columns : List ColTy) → is_typed_by plan.sink o (Some columns) ≡ true
     pub feeds : (above : Option Op) → suits_consumer plan.sources o above ≡ true
 
-  -- all operators that are laid but scans, normalizers and the sink
+  -- all operators that are laid but scans, normalizers and the sink, where the plan's bundles suit them
   abbrev pub is_made : Role → Bool
   is_made (reads_table source) = false
   is_made (one_of how) = true
@@ -102,12 +108,12 @@ module _ (plan : Plan) where
   is_made (not_told so_many) = false
 
   abbrev pub is_inner : Op → Bool
-  is_inner o = has_rule o && is_made (role o)
+  is_inner o = has_rule o && (is_made (role o) && suits_plan plan o)
 
   asks_nothing : (o : Op) → is_inner o ≡ true → has_rule o ≡ true → IsInner o
   asks_nothing (op.Scan source) e r = absurd (cc)
   asks_nothing (op.Normalize key) e r = absurd (cc)
-  asks_nothing (op.BatchGroup keys aggs) e r = absurd (cc)
+  asks_nothing (op.BatchGroup keys aggs) e r = record { ruled = r; suits = e; below = λ input kinds. refl; no_sink = refl; typed = λ columns. refl; feeds = λ above. refl }
   asks_nothing (op.Materialize key) e r = absurd (cc)
   asks_nothing (op.LocalGroup keys aggs) e r = absurd (cc)
   asks_nothing op.Sink e r = absurd (cc)
@@ -115,4 +121,4 @@ module _ (plan : Plan) where
 
   -- these ask nothing
   pub inner : (o : Op) → is_inner o ≡ true → IsInner o
-  inner o e = asks_nothing o e (and_parts (has_rule o) (is_made (role o)) e).0
+  inner o e = asks_nothing o e (and_parts (has_rule o) (is_made (role o) && suits_plan plan o) e).0

@@ -109,8 +109,9 @@ sends plan columns has_key (shown key) suits below root told between high =
     let next = between.0 in
     let has = between.1 in
     let lower : below < root = omega (arith, next) in
+    let feeds = one_port plan (op.Materialize key) below (feeds_port plan 0 (Hash key) below columns (op.Materialize key) 0 (λ width. refl) told) in
     let k : types_at plan.sources plan.nodes root ≡ Some columns =
-    types_from plan root (op.Materialize key) (below ∷ []) has refl (lower, tt) ∙ ap (λ (c : Option (List ColTy)). types_by plan.sources (op.Materialize key) (c ∷ [])) told.columns_are
+    types_from plan root (op.Materialize key) (below ∷ []) has feeds (lower, tt) ∙ ap (λ (c : Option (List ColTy)). types_by plan.sources (op.Materialize key) (c ∷ [])) told.columns_are
     ∙ ap (λ b. columns_if b columns) (has_key key suits) in
     record {
       part = next_part plan 0 below root (below ∷ []) (op.Materialize key) told.part next has (record {
@@ -120,12 +121,13 @@ sends plan columns has_key (shown key) suits below root told between high =
         below = refl;
         last = sym (below_is_not root (length plan.nodes) high);
         typed = ap (is_typed_by plan.sink (op.Materialize key)) k;
-        fed = one_port plan (op.Materialize key) below (feeds_port plan 0 (Hash key) below columns (op.Materialize key) 0 (λ width. refl) told);
+        fed = feeds;
       });
       columns_are = k;
       fed = record {
         node = has.node;
         is_node = has.is_there;
+        ruled = ap has_rule has.is_op;
         suits = ap (λ (p : Op). suits_consumer plan.sources p (Some op.Sink)) has.is_op;
         edge = _;
         is_edge = between.2;
@@ -183,7 +185,7 @@ module _ (plan : Plan) (rel : Rel) (is : IsLaidWell plan rel) where
       let has = out.sink_node in
       let lower : root < v = omega arith in
       let k : types_at plan.sources plan.nodes v ≡ Some is.columns =
-      types_from plan v op.Sink (root ∷ []) has refl (lower, tt) ∙ ap (λ (c : Option (List ColTy)). types_by plan.sources op.Sink (c ∷ [])) under.columns_are in
+      types_from plan v op.Sink (root ∷ []) has (one_port plan op.Sink root under.fed) (lower, tt) ∙ ap (λ (c : Option (List ColTy)). types_by plan.sources op.Sink (c ∷ [])) under.columns_are in
       next_part plan 0 root v (root ∷ []) op.Sink under.part refl has (record {
         ruled = refl;
         suits = refl;
@@ -260,10 +262,9 @@ module _ (plan : Plan) (rel : Rel) (is : IsLaidWell plan rel) where
   sizes =
       let n = out.nodes in
       let some : 0 < length plan.nodes = omega arith in
-      let bundled : plan.mini_batch ≤ most_bundled = let m = out.unbundled in omega arith in
       and (has_nodes plan) (nat_le plan.mini_batch most_bundled && is_up_to most_subtasks plan.parallelism)
       (and (is_up_to most_nodes (length plan.nodes)) (length plan.edges == length plan.nodes) (up_to most_nodes (length plan.nodes) some is.few) (eq-eqb (length plan.edges) (length plan.nodes) (out.edges ∙ sym n)))
-      (and (nat_le plan.mini_batch most_bundled) (is_up_to most_subtasks plan.parallelism) (le-leb plan.mini_batch most_bundled bundled) (up_to most_subtasks plan.parallelism is.parallel is.narrow))
+      (and (nat_le plan.mini_batch most_bundled) (is_up_to most_subtasks plan.parallelism) (le-leb plan.mini_batch most_bundled is.bundled) (up_to most_subtasks plan.parallelism is.parallel is.narrow))
 
   -- and which tables
   whole : is_whole plan ≡ true

@@ -20,9 +20,9 @@ use Rattle.plan_rules.specs.Seen.{op_as_seen}
 
 -- ---- operators
 
--- one is, as it is seen, that of the way of a tree with one input, and with two
-abbrev pub IsUnary : Unary → Op → Type 0
-IsUnary how o = op_as_seen o ≡ (unary_way how).op
+-- one is, as it is seen, that of the way of a tree with one input, where bundles hold so many changes, and with two
+abbrev pub IsUnary : ℕ → Unary → Op → Type 0
+IsUnary mini_batch how o = op_as_seen o ≡ (unary_way how).op mini_batch
 
 abbrev pub IsBinary : Binary → Op → Type 0
 IsBinary how o = op_as_seen o ≡ (binary_way how).op
@@ -64,7 +64,7 @@ module _ (plan : Plan) where
     pub IsLaid : ℕ → Exchange → Rel → ℕ → Type 0
     IsLaid n exchange (Scan source) root = SourceLaid n exchange source (slice_get plan.sources source) root
     IsLaid n exchange (One how input) root =
-        (below : ℕ) × IsLaid n (unary_way how).asks input below × (root ≡ below + 1) × HasNode root (IsUnary how) (below ∷ []) × CarriesAll root exchange
+        (below : ℕ) × IsLaid n (unary_way how).asks input below × (root ≡ below + 1) × HasNode root (IsUnary plan.mini_batch how) (below ∷ []) × CarriesAll root exchange
     -- the right side lies behind the left
     IsLaid n exchange (Two how left right) root =
         (first : ℕ) × (second : ℕ) × IsLaid n (binary_way how).left left first × IsLaid first (binary_way how).right right second
@@ -93,4 +93,3 @@ module _ (plan : Plan) where
     pub sink_edge : HasEdge (root + 1) Forward (kinds_of retract) Absent
     pub nodes : length plan.nodes ≡ root + 1
     pub edges : length plan.edges ≡ root + 1
-    pub unbundled : plan.mini_batch ≡ 0

@@ -127,31 +127,31 @@ module _ (plan : Plan) where
         )
 
   mutual
-    laid : (n : ℕ) (x : Exchange) (rel : Rel) → Placed n (pieces_of plan.sources n x rel)
-        → IsLaid plan n x rel (n + length (pieces_of plan.sources n x rel))
+    laid : (n : ℕ) (x : Exchange) (rel : Rel) → Placed n (pieces_of plan.sources plan.mini_batch n x rel)
+        → IsLaid plan n x rel (n + length (pieces_of plan.sources plan.mini_batch n x rel))
     laid n x (Scan source) s = source_laid n x source (slice_get plan.sources source) s
     laid n x (One how input) s =
-        let ps = pieces_of plan.sources n (unary_way how).asks input in
-        let o = (unary_way how).op in (
+        let ps = pieces_of plan.sources plan.mini_batch n (unary_way how).asks input in
+        let o = (unary_way how).op plan.mini_batch in (
           n + length ps,
           laid n (unary_way how).asks input (front_stands (map node_as_seen plan.nodes) plan.edges n ps (full_piece o ((n + length ps) ∷ []) x ∷ []) s),
           last_number n ps o ((n + length ps) ∷ []) x (kinds_of retract) Both s,
-          last_has n ps o ((n + length ps) ∷ []) x (kinds_of retract) Both s (IsUnary how) (λ q e. e),
+          last_has n ps o ((n + length ps) ∷ []) x (kinds_of retract) Both s (IsUnary plan.mini_batch how) (λ q e. e),
           last_told n ps o ((n + length ps) ∷ []) x (kinds_of retract) Both s,
         )
     laid n x (Two how left right) s =
         let y = (binary_way how).left in
         let z = (binary_way how).right in
-        let mid : ℕ = n + length (pieces_of plan.sources n (binary_way how).left left) in
-        let ps = pieces_of plan.sources n (binary_way how).left left in
-        let qs = pieces_of plan.sources (n + length (pieces_of plan.sources n (binary_way how).left left)) (binary_way how).right right in
+        let mid : ℕ = n + length (pieces_of plan.sources plan.mini_batch n (binary_way how).left left) in
+        let ps = pieces_of plan.sources plan.mini_batch n (binary_way how).left left in
+        let qs = pieces_of plan.sources plan.mini_batch (n + length (pieces_of plan.sources plan.mini_batch n (binary_way how).left left)) (binary_way how).right right in
         let o = (binary_way how).op in
         both_laid n x y z left right ps qs o s (IsBinary how) (λ q e. e)
         (laid n (binary_way how).left left (left_placed n x y z left right ps qs o s))
         (laid mid (binary_way how).right right (right_placed n x y z left right ps qs o s))
     laid n x (Many inputs) s =
-        let ps = pieces_of_all plan.sources n inputs in
-        let roots = roots_of plan.sources n inputs in (
+        let ps = pieces_of_all plan.sources plan.mini_batch n inputs in
+        let roots = roots_of plan.sources plan.mini_batch n inputs in (
           roots,
           n + length ps,
           all_laid n inputs (front_stands (map node_as_seen plan.nodes) plan.edges n ps (full_piece op.Union roots x ∷ []) s),
@@ -160,18 +160,18 @@ module _ (plan : Plan) where
           last_told n ps op.Union roots x (kinds_of retract) Both s,
         )
 
-    all_laid : (n : ℕ) (inputs : Rels) → Placed n (pieces_of_all plan.sources n inputs)
-        → AreLaid plan n inputs (roots_of plan.sources n inputs) (n + length (pieces_of_all plan.sources n inputs))
+    all_laid : (n : ℕ) (inputs : Rels) → Placed n (pieces_of_all plan.sources plan.mini_batch n inputs)
+        → AreLaid plan n inputs (roots_of plan.sources plan.mini_batch n inputs) (n + length (pieces_of_all plan.sources plan.mini_batch n inputs))
     all_laid n no_rels s = (refl, omega arith)
     all_laid n (rel_and input inputs) s =
-        let ps = pieces_of plan.sources n Forward input in
-        let mid : ℕ = n + length (pieces_of plan.sources n Forward input) in
-        let qs = pieces_of_all plan.sources (n + length (pieces_of plan.sources n Forward input)) inputs in
+        let ps = pieces_of plan.sources plan.mini_batch n Forward input in
+        let mid : ℕ = n + length (pieces_of plan.sources plan.mini_batch n Forward input) in
+        let qs = pieces_of_all plan.sources plan.mini_batch (n + length (pieces_of plan.sources plan.mini_batch n Forward input)) inputs in
         let whole : mid + length qs ≡ n + length (ps ++ qs) = omega (arith, length-append ps qs) in (
           mid,
-          roots_of plan.sources mid inputs,
+          roots_of plan.sources plan.mini_batch mid inputs,
           laid n Forward input (front_stands (map node_as_seen plan.nodes) plan.edges n ps qs s),
-          subst (λ last. AreLaid plan mid inputs (roots_of plan.sources mid inputs) last) whole
+          subst (λ last. AreLaid plan mid inputs (roots_of plan.sources plan.mini_batch mid inputs) last) whole
               (all_laid mid inputs (back_stands (map node_as_seen plan.nodes) plan.edges n ps qs s)),
           refl,
         )
@@ -182,11 +182,11 @@ module _ (plan : Plan) where
     pub tree : IsLaid plan 0 (asks_of top) rel below
     pub between : TopLaid plan top below root
 
-  is_topped : (top : Top) (rel : Rel) → Placed 0 (with_top top (pieces_of plan.sources 0 (asks_of top) rel))
-      → IsTopped top rel (0 + length (with_top top (pieces_of plan.sources 0 (asks_of top) rel)))
-  is_topped bare rel s = record { below = 0 + length (pieces_of plan.sources 0 Forward rel); tree = laid 0 Forward rel s; between = refl }
+  is_topped : (top : Top) (rel : Rel) → Placed 0 (with_top top (pieces_of plan.sources plan.mini_batch 0 (asks_of top) rel))
+      → IsTopped top rel (0 + length (with_top top (pieces_of plan.sources plan.mini_batch 0 (asks_of top) rel)))
+  is_topped bare rel s = record { below = 0 + length (pieces_of plan.sources plan.mini_batch 0 Forward rel); tree = laid 0 Forward rel s; between = refl }
   is_topped (shown key) rel s =
-      let ps = pieces_of plan.sources 0 (Hash key) rel in
+      let ps = pieces_of plan.sources plan.mini_batch 0 (Hash key) rel in
       let inputs = (0 + length ps) ∷ [] in
       record {
         below = 0 + length ps;
@@ -201,7 +201,7 @@ module _ (plan : Plan) where
 -- so a plan that is the tree's, as it is seen, has these nodes
 pub lays_out_with : (plan : Plan) (top : Top) (rel : Rel) → IsLaidWith top plan rel → LaysOut plan top rel
 lays_out_with plan top rel is =
-    let ps = with_top top (pieces_of plan.sources 0 (asks_of top) rel) in
+    let ps = with_top top (pieces_of plan.sources plan.mini_batch 0 (asks_of top) rel) in
     let sink = piece op.Sink (length ps ∷ []) Forward (kinds_of retract) Absent in
     let root : ℕ = 0 + length ps in
     let root_is : length ps ≡ root = omega arith in
@@ -224,7 +224,6 @@ lays_out_with plan top rel is =
       sink_edge = subst (λ v. HasEdge plan v Forward (kinds_of retract) Absent) last told;
       nodes = omega (arith, node_count, last);
       edges = omega (arith, edge_count, last);
-      unbundled = ap (λ (p : Plan). p.mini_batch) is;
     }
 
 pub lays_out : (plan : Plan) (rel : Rel) → (is : IsLaidOut plan rel) → LaysOut plan is.top rel

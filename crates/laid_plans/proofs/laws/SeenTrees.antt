@@ -36,37 +36,37 @@ source_seen : (n : ℕ) (x : Exchange) (source : ℕ) (table : Option TableDef) 
 source_seen n x source None = refl
 source_seen n x source (Some table) = scan_seen n x source table.mode (unwrap_or table.key [])
 
-module _ (sources : List TableDef) where
+module _ (sources : List TableDef) (mini_batch : ℕ) where
   mutual
-    tree_seen : (n : ℕ) (x : Exchange) (rel : Rel) → AreSeen (pieces_of sources n x rel)
+    tree_seen : (n : ℕ) (x : Exchange) (rel : Rel) → AreSeen (pieces_of sources mini_batch n x rel)
     tree_seen n x (Scan source) = source_seen n x source (slice_get sources source)
     tree_seen n x (One how input) =
-        let ps = pieces_of sources n (unary_way how).asks input in
-        more_seen ps (unary_way how).op ((n + length ps) ∷ []) x (unary_is how) (tree_seen n (unary_way how).asks input)
+        let ps = pieces_of sources mini_batch n (unary_way how).asks input in
+        more_seen ps ((unary_way how).op mini_batch) ((n + length ps) ∷ []) x (unary_is mini_batch how) (tree_seen n (unary_way how).asks input)
     tree_seen n x (Two how left right) =
-        let ps = pieces_of sources n (binary_way how).left left in
-        let mid : ℕ = n + length (pieces_of sources n (binary_way how).left left) in
-        let qs = pieces_of sources (n + length (pieces_of sources n (binary_way how).left left)) (binary_way how).right right in
+        let ps = pieces_of sources mini_batch n (binary_way how).left left in
+        let mid : ℕ = n + length (pieces_of sources mini_batch n (binary_way how).left left) in
+        let qs = pieces_of sources mini_batch (n + length (pieces_of sources mini_batch n (binary_way how).left left)) (binary_way how).right right in
         more_seen (ps ++ qs) (binary_way how).op ((n + length ps) ∷ ((n + length ps + length qs) ∷ [])) x (binary_is how)
         (both_seen ps qs (tree_seen n (binary_way how).left left) (tree_seen mid (binary_way how).right right))
-    tree_seen n x (Many inputs) = more_seen (pieces_of_all sources n inputs) op.Union (roots_of sources n inputs) x refl (trees_seen n inputs)
+    tree_seen n x (Many inputs) = more_seen (pieces_of_all sources mini_batch n inputs) op.Union (roots_of sources mini_batch n inputs) x refl (trees_seen n inputs)
 
-    trees_seen : (n : ℕ) (inputs : Rels) → AreSeen (pieces_of_all sources n inputs)
+    trees_seen : (n : ℕ) (inputs : Rels) → AreSeen (pieces_of_all sources mini_batch n inputs)
     trees_seen n no_rels = refl
     trees_seen n (rel_and input inputs) =
-        let mid : ℕ = n + length (pieces_of sources n Forward input) in
-        both_seen (pieces_of sources n Forward input) (pieces_of_all sources (n + length (pieces_of sources n Forward input)) inputs) (tree_seen n Forward input) (trees_seen mid inputs)
+        let mid : ℕ = n + length (pieces_of sources mini_batch n Forward input) in
+        both_seen (pieces_of sources mini_batch n Forward input) (pieces_of_all sources mini_batch (n + length (pieces_of sources mini_batch n Forward input)) inputs) (tree_seen n Forward input) (trees_seen mid inputs)
 
   -- and so is what stands before the sink
-  topped_seen : (top : Top) (rel : Rel) → AreSeen (with_top top (pieces_of sources 0 (asks_of top) rel))
+  topped_seen : (top : Top) (rel : Rel) → AreSeen (with_top top (pieces_of sources mini_batch 0 (asks_of top) rel))
   topped_seen bare rel = tree_seen 0 Forward rel
   topped_seen (shown key) rel =
-      let ps = pieces_of sources 0 (Hash key) rel in
+      let ps = pieces_of sources mini_batch 0 (Hash key) rel in
       more_seen ps (op.Materialize key) ((0 + length ps) ∷ []) Forward refl (tree_seen 0 (Hash key) rel)
 
-pub plans_of_trees_are_seen : (sources : List TableDef) (sink : TableDef) (parallelism : ℕ) (top : Top) (rel : Rel)
-    → plan_as_seen (plan_of_tree sources sink parallelism top rel) ≡ plan_of_tree sources sink parallelism top rel
-plans_of_trees_are_seen sources sink parallelism top rel =
-    let ps = with_top top (pieces_of sources 0 (asks_of top) rel) in
-    let all : AreSeen (with_sink ps) = both_seen ps (piece op.Sink (length ps ∷ []) Forward (kinds_of retract) Absent ∷ []) (topped_seen sources top rel) refl in
-    λ i. record { sources = sources; sink = sink; nodes = all i; edges = edges_in (with_sink ps); parallelism = parallelism; mini_batch = 0 }
+pub plans_of_trees_are_seen : (sources : List TableDef) (sink : TableDef) (parallelism mini_batch : ℕ) (top : Top) (rel : Rel)
+    → plan_as_seen (plan_of_tree sources sink parallelism mini_batch top rel) ≡ plan_of_tree sources sink parallelism mini_batch top rel
+plans_of_trees_are_seen sources sink parallelism mini_batch top rel =
+    let ps = with_top top (pieces_of sources mini_batch 0 (asks_of top) rel) in
+    let all : AreSeen (with_sink ps) = both_seen ps (piece op.Sink (length ps ∷ []) Forward (kinds_of retract) Absent ∷ []) (topped_seen sources mini_batch top rel) refl in
+    λ i. record { sources = sources; sink = sink; nodes = all i; edges = edges_in (with_sink ps); parallelism = parallelism; mini_batch = mini_batch }

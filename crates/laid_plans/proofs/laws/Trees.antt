@@ -28,6 +28,7 @@ use Rattle.phys_plan.specs.Reading.{numbered}
 use Rattle.ct_catalog.specs.Columns.{column_types}
 use Rattle.plan_rules.specs.Columns.{columns_as, common_with}
 use Rattle.laid_plans.proofs.laws.LaidTrees.{IsUnary, IsBinary, HasNode, CarriesAll, ScanLaid, SourceLaid, IsLaid, AreLaid}
+use Rattle.plan_rules.specs.Behaviours.{has_rule}
 use Rattle.plan_rules.specs.Pieces.{unary_way, binary_way}
 use Rattle.plan_rules.specs.Roles.{Role, one_of, two_of, role, takes as takes_as}
 use Rattle.plan_shape.specs.Shape.{is_keyed_by, is_read, is_upsert_by, normalizes_by, scans_by, suits_consumer, takes, op_in}
@@ -38,7 +39,7 @@ use Rattle.plan_check.specs.Types.{is_typed_by, types_at, types_by}
 use Rattle.sound_plans.proofs.laws.Numbers.{below_is_not, then_parts}
 use Rattle.sound_plans.proofs.laws.Lists.{both, map_at, map_length, of_each, the_same, within}
 use Rattle.sound_plans.proofs.laws.Tables.{key_within, upsert_has_key}
-use Rattle.plan_rules.proofs.laws.Erasing.{each_seen, rest_seen, unary_told, binary_told}
+use Rattle.plan_rules.proofs.laws.Erasing.{of_groups, each_seen, rest_seen, unary_told, binary_told}
 use Rattle.plan_rules.specs.Seen.{op_as_seen}
 use Rattle.laid_plans.specs.Shapes.{types_of}
 use Rattle.plan_rules.proofs.laws.Seen.{role_seen}
@@ -62,11 +63,11 @@ are_columns columns (c ∷ key) h = (λ i. lt-ltb c (length columns) h.0 i && li
 -- ---- the ways of trees
 
 -- the operator of a way is seen as it is
-pub unary_is : (how : Unary) → IsUnary how (unary_way how).op
-unary_is (filter_by condition) = ap (λ c. op.Filter (expr_of c)) (seen condition)
-unary_is (project_on items) = ap op.Project (each_as_seen (map expr_of items) ∙ ap (map expr_of) (each_seen items))
-unary_is (group_by keys aggs) = refl
-unary_is (rank_in partition order bound ranked) = refl
+pub unary_is : (mini_batch : ℕ) (how : Unary) → IsUnary mini_batch how ((unary_way how).op mini_batch)
+unary_is mini_batch (filter_by condition) = ap (λ c. op.Filter (expr_of c)) (seen condition)
+unary_is mini_batch (project_on items) = ap op.Project (each_as_seen (map expr_of items) ∙ ap (map expr_of) (each_seen items))
+unary_is mini_batch (group_by keys aggs) = of_groups (λ o. op_as_seen o ≡ o) mini_batch keys aggs refl (λ some keyed. refl)
+unary_is mini_batch (rank_in partition order bound ranked) = refl
 
 pub binary_is : (how : Binary) → IsBinary how (binary_way how).op
 binary_is (join_on kind pairs rest) = ap (op.Join kind pairs) (rest_as_seen (option_map expr_of rest) ∙ ap (option_map expr_of) (rest_seen rest))
@@ -86,6 +87,7 @@ module _ (plan : Plan) where
     pub exchange : edge.exchange ≡ x
     pub node : Node
     pub is_node : numbered plan.nodes root ≡ Some node
+    pub ruled : has_rule node.op ≡ true
     pub feeds : (above : Option Op) → suits_consumer plan.sources node.op above ≡ true
 
   -- those of several trees, whose common columns these are; each may be an input of a union
@@ -101,6 +103,7 @@ module _ (plan : Plan) where
   feeds_port n x root columns o port asks t = record {
     node = t.node;
     is_node = t.is_node;
+    ruled = t.ruled;
     suits = t.feeds (Some o);
     edge = t.edge;
     is_edge = t.is_edge;
@@ -124,7 +127,7 @@ module _ (plan : Plan) where
       → Told n x root columns
   inner_node n last root x o roots columns is s next has carries high ports typed fed =
       let below : AllByRecursion (λ input. input < root) roots = of_each (λ input. input < root) roots (λ p input e. let c = (s.segment.contains p input e).1 in omega arith) in
-      let k : columns_at root ≡ Some columns = types_from plan root o roots has is.ruled below ∙ typed in
+      let k : columns_at root ≡ Some columns = types_from plan root o roots has fed below ∙ typed in
       record {
         part = next_part plan n last root roots o s next has (record {
           ruled = is.ruled;
@@ -141,6 +144,7 @@ module _ (plan : Plan) where
         exchange = refl;
         node = has.node;
         is_node = has.is_there;
+        ruled = ap has_rule has.is_op ∙ is.ruled;
         feeds = λ above. ap (λ (p : Op). suits_consumer plan.sources p above) has.is_op ∙ is.feeds above;
       }
 
@@ -178,28 +182,37 @@ module _ (plan : Plan) where
   BinaryFits how o = OpFits (two_of how) (binary_way how).left (binary_way how).right o
 
   -- the operator of a way
-  unary_way_fits : (how : Unary) → UnaryFits how (unary_way how).op
+  unary_way_fits : (how : Unary) → UnaryFits how ((unary_way how).op plan.mini_batch)
   unary_way_fits (filter_by condition) = record {
-    told = unary_told (filter_by condition);
+    told = unary_told plan.mini_batch (filter_by condition);
     made = λ inputs. refl;
     is_inner = inner plan (op.Filter (expr_of condition)) refl;
     asks = λ width. refl;
     other_asks = λ width. refl;
   }
   unary_way_fits (project_on items) = record {
-    told = unary_told (project_on items);
+    told = unary_told plan.mini_batch (project_on items);
     made = λ inputs. refl;
     is_inner = inner plan (op.Project (map expr_of items)) refl;
     asks = λ width. refl;
     other_asks = λ width. refl;
   }
-  unary_way_fits (group_by keys aggs) = record {
-    told = refl;
-    made = λ inputs. refl;
-    is_inner = inner plan (op.Group keys aggs) refl;
-    asks = λ width. ap (λ cols. Hash cols) (same_first keys);
-    other_asks = λ width. ap (λ cols. Hash cols) (same_first keys);
-  }
+  unary_way_fits (group_by keys aggs) =
+      of_groups (λ o. UnaryFits (group_by keys aggs) o) plan.mini_batch keys aggs
+      (record {
+        told = refl;
+        made = λ inputs. refl;
+        is_inner = inner plan (op.Group keys aggs) refl;
+        asks = λ width. ap (λ cols. Hash cols) (same_first keys);
+        other_asks = λ width. ap (λ cols. Hash cols) (same_first keys);
+      })
+      (λ some keyed. record {
+        told = refl;
+        made = λ inputs. refl;
+        is_inner = inner plan (op.BatchGroup keys aggs) (λ i. lt-ltb 0 plan.mini_batch some i && lt-ltb 0 keys keyed i);
+        asks = λ width. ap (λ cols. Hash cols) (same_first keys);
+        other_asks = λ width. ap (λ cols. Hash cols) (same_first keys);
+      })
   unary_way_fits (rank_in partition order bound ranked) = record {
     told = refl;
     made = λ inputs. refl;
@@ -236,7 +249,7 @@ module _ (plan : Plan) where
       record { told = sym (role_seen (op.Semi anti on rest)) ∙ f.told; made = λ inputs. refl; is_inner = inner plan (op.Semi anti on rest) refl; asks = f.asks; other_asks = f.other_asks }
   seen_fits r x y _ f = f
 
-  pub unary_fits : (how : Unary) (o : Op) → IsUnary how o → UnaryFits how o
+  pub unary_fits : (how : Unary) (o : Op) → IsUnary plan.mini_batch how o → UnaryFits how o
   unary_fits how o is = seen_fits (one_of how) (unary_way how).asks (unary_way how).asks o (subst (λ (p : Op). UnaryFits how p) (sym is) (unary_way_fits how))
 
   pub binary_fits : (how : Binary) (o : Op) → IsBinary how o → BinaryFits how o
@@ -253,7 +266,7 @@ module _ (plan : Plan) where
   -- a scan of a table that is there
   scan_meets : (v source : ℕ) (table : TableDef) → slice_get plan.sources source ≡ Some table → HasNode plan v (λ p. p ≡ op.Scan source) [] → v < length plan.nodes → (columns_at v ≡ Some (column_types table)) × OpMeets plan v (op.Scan source) []
   scan_meets v source table e has high =
-      let k : columns_at v ≡ Some (column_types table) = types_from plan v (op.Scan source) [] has refl tt ∙ ap (option_map column_types) e in (
+      let k : columns_at v ≡ Some (column_types table) = types_from plan v (op.Scan source) [] has (λ port input f. absurd (cc)) tt ∙ ap (option_map column_types) e in (
         k,
         record {
           ruled = refl;
@@ -279,6 +292,7 @@ module _ (plan : Plan) where
         exchange = refl;
         node = has.node;
         is_node = has.is_there;
+        ruled = ap has_rule has.is_op;
         feeds = λ above. ap (λ (p : Op). suits_consumer plan.sources p above) has.is_op ∙ ap (λ t. is_read t above) e ∙ ap (λ b. not b || normalizes_by table.key above) plain;
       }
 
@@ -299,8 +313,6 @@ module _ (plan : Plan) where
       let wide : length (column_types table) ≡ length table.cols = map_length (λ column. column.ty) table.cols in
       let there : list_all (is_column (column_types table)) key ≡ true = are_columns (column_types table) key (subst (λ w. AllByRecursion (λ column. column < w) key) (sym wide) (key_within table key d has_key)) in
       let lower : n + 1 < root = omega arith in
-      let k : columns_at root ≡ Some (column_types table) =
-      types_from plan root (op.Normalize key) ((n + 1) ∷ []) has refl (lower, tt) ∙ ap (λ (c : Option (List ColTy)). types_by plan.sources (op.Normalize key) (c ∷ [])) m.0 ∙ ap (λ b. columns_if b (column_types table)) there in
       let is_mode : is_upsert table.mode ≡ true = ap is_upsert mode in
       let read : suits_consumer plan.sources scan.node.op (Some (op.Normalize key)) ≡ true =
       ap (λ (p : Op). suits_consumer plan.sources p (Some (op.Normalize key))) scan.is_op ∙ ap (λ t. is_read t (Some (op.Normalize key))) e
@@ -311,11 +323,14 @@ module _ (plan : Plan) where
       let fed : IsFed plan (op.Normalize key) 0 (n + 1) = record {
         node = scan.node;
         is_node = scan.is_there;
+        ruled = ap has_rule scan.is_op;
         suits = read;
         edge = _;
         is_edge = l.2;
         exchanged = λ width. refl;
       } in
+      let k : columns_at root ≡ Some (column_types table) =
+      types_from plan root (op.Normalize key) ((n + 1) ∷ []) has (one_port (op.Normalize key) (n + 1) fed) (lower, tt) ∙ ap (λ (c : Option (List ColTy)). types_by plan.sources (op.Normalize key) (c ∷ [])) m.0 ∙ ap (λ b. columns_if b (column_types table)) there in
       record {
         part = next_part plan n (n + 1) root ((n + 1) ∷ []) (op.Normalize key) first (let h : root ≡ n + 1 + 1 = omega arith in h) has (record {
           ruled = refl;
@@ -332,6 +347,7 @@ module _ (plan : Plan) where
         exchange = refl;
         node = has.node;
         is_node = has.is_there;
+        ruled = ap has_rule has.is_op;
         feeds = λ above. ap (λ (p : Op). suits_consumer plan.sources p above) has.is_op;
       }
 
@@ -413,7 +429,7 @@ module _ (plan : Plan) (tables : (source : ℕ) (table : TableDef) → slice_get
         let o = laid.3.node.op in
         let f : UnaryFits plan how o = unary_fits plan how laid.3.node.op laid.3.is_op in
         on_one plan n laid.0 root (unary_way how).asks x o p.0 columns f.is_inner (tree input n (unary_way how).asks laid.0 laid.1 low full p.0 p.1) f.asks (ap (λ r. takes_as r 1) f.told) (unary_typed plan how o f p.0 ∙ p.2) next
-        (renamed plan root (IsUnary how) (laid.0 ∷ []) o laid.3 refl) laid.4 high
+        (renamed plan root (IsUnary plan.mini_batch how) (laid.0 ∷ []) o laid.3 refl) laid.4 high
     tree (Two how left right) n x root laid high full columns t =
         let p = both_parts (binary_columns how) (columns_of (types_of plan.sources) left) (columns_of (types_of plan.sources) right) columns t in
         let next = laid.4 in

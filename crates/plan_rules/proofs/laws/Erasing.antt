@@ -1,6 +1,7 @@
 -- The tree of the plan of a tree is that tree.
-use Rattle.std.proofs.Common.{◌≡◌, ℕ, zero, suc, ◌+◌, List, [], ◌∷◌, ◌++◌, length, map, slice_get, Option, Some, None, option_map, refl, sym, ap, subst, ◌∙◌, arith, append_assoc, append-nil, length-append}
+use Rattle.std.proofs.Common.{◌≡◌, ℕ, zero, suc, ◌+◌, ◌<◌, ◌==◌, ◌||◌, Bool, true, false, cond, List, [], ◌∷◌, ◌++◌, length, map, slice_get, Option, Some, None, option_map, refl, sym, ap, subst, ◌∙◌, arith, append_assoc, append-nil, length-append}
 use Rattle.std.specs.Option.{unwrap_or}
+use Rattle.std.proofs.lemmas.Bool.{eqb-false}
 use Rattle.std.proofs.lemmas.List.{length-map, map-append}
 use Rattle.ct_change.specs.Changelog.{retract, upsert, kinds_of}
 use Rattle.ct_change.specs.declared.kind.Declared.{Declared}
@@ -13,6 +14,7 @@ use Rattle.ct_expr.specs.Expr.{Expr}
 use Rattle.ct_expr.specs.View.{expr_view}
 use Rattle.ct_expr.specs.Views.{expr_of}
 use Rattle.ct_expr.proofs.laws.Seen.{seen}
+use Rattle.rel_algebra.specs.declared.agg.Agg.{Agg}
 use Rattle.rel_algebra.specs.Rel.{Unary, filter_by, project_on, group_by, rank_in, Binary, join_on, semi_on, Rel, Rels, Scan, One, Two, Many, no_rels, rel_and, rels}
 use Rattle.phys_plan.specs.Reading.{at, numbered, read_up, wire, wires}
 use Rattle.phys_plan.specs.declared.edge.Exchange.{Exchange}
@@ -21,7 +23,7 @@ use Rattle.phys_plan.specs.declared.node.Op.{Op}
 use Rattle.phys_plan.specs.declared.node.Op.TheVariants as op
 use Rattle.phys_plan.proofs.laws.Reading.{read_append}
 use Rattle.plan_rules.specs.Answers.{TreesAreErased}
-use Rattle.plan_rules.specs.Pieces.{unary_way, binary_way, Piece, piece, scan_pieces, source_pieces, topped, topped_both, pieces_of, pieces_of_all, roots_of, nodes_in, Top, bare, shown, asks_of, with_top, with_sink}
+use Rattle.plan_rules.specs.Pieces.{group_op, unary_way, binary_way, Piece, piece, scan_pieces, source_pieces, topped, topped_both, pieces_of, pieces_of_all, roots_of, nodes_in, Top, bare, shown, asks_of, with_top, with_sink}
 use Rattle.plan_rules.specs.Roles.{nothing, one_of, two_of, same_as, role, tree_of}
 use Rattle.plan_rules.proofs.laws.Numbers.{get_at, get_more}
 
@@ -37,12 +39,24 @@ rest_seen (Some x) = ap Some (seen x)
 
 -- ---- by operator
 
+some_held : (n : ℕ) → (n == 0) ≡ false → 0 < n
+some_held n e = let other = eqb-false n 0 e in omega (arith, other)
+
+-- what is said of a group without bundles, and of one by keys in bundles that hold something, is said of the group of a tree
+pub of_groups : (Holds : Op → Type 0) (mini_batch keys : ℕ) (aggs : List Agg) → Holds (op.Group keys aggs) → (0 < mini_batch → 0 < keys → Holds (op.BatchGroup keys aggs)) → Holds (group_op mini_batch keys aggs)
+of_groups Holds mini_batch keys aggs plain bundles = by (mini_batch == 0) (keys == 0) refl refl
+  where
+    by : (none global : Bool) → (mini_batch == 0) ≡ none → (keys == 0) ≡ global → Holds (cond (none || global) (op.Group keys aggs) (op.BatchGroup keys aggs))
+    by true global e f = plain
+    by false true e f = plain
+    by false false e f = bundles (some_held mini_batch e) (some_held keys f)
+
 -- the operator of a tree's way is the tree's
-pub unary_told : (how : Unary) → role (unary_way how).op ≡ one_of how
-unary_told (filter_by condition) = ap (λ c. one_of (filter_by c)) (seen condition)
-unary_told (project_on items) = ap (λ l. one_of (project_on l)) (each_seen items)
-unary_told (group_by keys aggs) = refl
-unary_told (rank_in partition order bound ranked) = refl
+pub unary_told : (mini_batch : ℕ) (how : Unary) → role ((unary_way how).op mini_batch) ≡ one_of how
+unary_told mini_batch (filter_by condition) = ap (λ c. one_of (filter_by c)) (seen condition)
+unary_told mini_batch (project_on items) = ap (λ l. one_of (project_on l)) (each_seen items)
+unary_told mini_batch (group_by keys aggs) = of_groups (λ o. role o ≡ one_of (group_by keys aggs)) mini_batch keys aggs refl (λ some keyed. refl)
+unary_told mini_batch (rank_in partition order bound ranked) = refl
 
 pub binary_told : (how : Binary) → role (binary_way how).op ≡ two_of how
 binary_told (join_on kind pairs rest) = ap (λ r. two_of (join_on kind pairs r)) (rest_seen rest)
@@ -141,36 +155,36 @@ source_ends n done size x source (Some table) = scan_ends n done size x source t
 
 -- ---- the tree
 
-module _ (sources : List TableDef) where
+module _ (sources : List TableDef) (mini_batch : ℕ) where
   -- several trees behind n trees
   record AllEnd (n : ℕ) (done : List Rel) (inputs : Rels) : Type 0 where
-    pub goes : GoOn n done (pieces_of_all sources n inputs)
-    pub trees : rels (map (at nothing (after done (pieces_of_all sources n inputs))) (roots_of sources n inputs)) ≡ inputs
+    pub goes : GoOn n done (pieces_of_all sources mini_batch n inputs)
+    pub trees : rels (map (at nothing (after done (pieces_of_all sources mini_batch n inputs))) (roots_of sources mini_batch n inputs)) ≡ inputs
 
   mutual
-    tree_ends : (rel : Rel) (n : ℕ) (done : List Rel) → length done ≡ n → (x : Exchange) → Ends n done (pieces_of sources n x rel) rel
+    tree_ends : (rel : Rel) (n : ℕ) (done : List Rel) → length done ≡ n → (x : Exchange) → Ends n done (pieces_of sources mini_batch n x rel) rel
     tree_ends (Scan source) n done size x = source_ends n done size x source (slice_get sources source)
     tree_ends (One how input) n done size x =
-        topped_ends n done (pieces_of sources n (unary_way how).asks input) (unary_way how).op x input (One how input) (tree_ends input n done size (unary_way how).asks) (ap (λ r. tree_of r (input ∷ [])) (unary_told how))
+        topped_ends n done (pieces_of sources mini_batch n (unary_way how).asks input) ((unary_way how).op mini_batch) x input (One how input) (tree_ends input n done size (unary_way how).asks) (ap (λ r. tree_of r (input ∷ [])) (unary_told mini_batch how))
     tree_ends (Two how left right) n done size x =
-        let ps = pieces_of sources n (binary_way how).left left in
-        let qs = pieces_of sources (n + length ps) (binary_way how).right right in
+        let ps = pieces_of sources mini_batch n (binary_way how).left left in
+        let qs = pieces_of sources mini_batch (n + length ps) (binary_way how).right right in
         let first : Ends n done ps left = tree_ends left n done size (binary_way how).left in
         both_end n done ps qs (binary_way how).op x left right (Two how left right) first (tree_ends right (n + length ps) (after done ps) first.goes.many (binary_way how).right) (ap (λ r. tree_of r (left ∷ (right ∷ []))) (binary_told how))
     tree_ends (Many inputs) n done size x =
         let all = trees_end inputs n done size in
-        ends_on n done (pieces_of_all sources n inputs) op.Union (roots_of sources n inputs) x (kinds_of retract) Both (Many inputs) all.goes (ap Many all.trees)
+        ends_on n done (pieces_of_all sources mini_batch n inputs) op.Union (roots_of sources mini_batch n inputs) x (kinds_of retract) Both (Many inputs) all.goes (ap Many all.trees)
 
     trees_end : (inputs : Rels) (n : ℕ) (done : List Rel) → length done ≡ n → AllEnd n done inputs
     trees_end no_rels n done size = record { goes = none_more n done size; trees = refl }
     trees_end (rel_and input inputs) n done size =
-        let ps = pieces_of sources n Forward input in
-        let qs = pieces_of_all sources (n + length ps) inputs in
+        let ps = pieces_of sources mini_batch n Forward input in
+        let qs = pieces_of_all sources mini_batch (n + length ps) inputs in
         let first : Ends n done ps input = tree_ends input n done size Forward in
         let others : AllEnd (n + length ps) (after done ps) inputs = trees_end inputs (n + length ps) (after done ps) first.goes.many in
         let own : at nothing (after done (ps ++ qs)) (n + length ps) ≡ input = stays n done ps qs (n + length ps) input others.goes first.root in
-        let rest : rels (map (at nothing (after done (ps ++ qs))) (roots_of sources (n + length ps) inputs)) ≡ inputs =
-        ap (λ l. rels (map (at nothing l) (roots_of sources (n + length ps) inputs))) (after_more done ps qs) ∙ others.trees in
+        let rest : rels (map (at nothing (after done (ps ++ qs))) (roots_of sources mini_batch (n + length ps) inputs)) ≡ inputs =
+        ap (λ l. rels (map (at nothing l) (roots_of sources mini_batch (n + length ps) inputs))) (after_more done ps qs) ∙ others.trees in
         record { goes = both_go n done ps qs first.goes others.goes; trees = λ i. rel_and (own i) (rest i) }
 
 -- a node more over the root that passes its rows on leaves the tree
@@ -186,9 +200,9 @@ topped_on bare ps rel e = e
 topped_on (shown key) ps rel e = topped_ends 0 [] ps (op.Materialize key) Forward rel rel e refl
 
 pub trees_are_erased : TreesAreErased
-trees_are_erased sources sink parallelism top rel =
-    let ps = with_top top (pieces_of sources 0 (asks_of top) rel) in
-    let tree : Ends 0 [] ps rel = topped_on top (pieces_of sources 0 (asks_of top) rel) rel (tree_ends sources rel 0 [] refl (asks_of top)) in
+trees_are_erased sources sink parallelism mini_batch top rel =
+    let ps = with_top top (pieces_of sources mini_batch 0 (asks_of top) rel) in
+    let tree : Ends 0 [] ps rel = topped_on top (pieces_of sources mini_batch 0 (asks_of top) rel) rel (tree_ends sources mini_batch rel 0 [] refl (asks_of top)) in
     let whole : Ends 0 [] (with_sink ps) rel = passed_on ps op.Sink Forward (kinds_of retract) Absent rel refl tree in
     let count : length (nodes_in (with_sink ps)) ≡ 0 + length (with_sink ps) = length-map (with_sink ps) (λ p. p.node) ∙ (let same : length (with_sink ps) ≡ 0 + length (with_sink ps) = omega arith in same) in
     ap (at nothing (after [] (with_sink ps))) count ∙ root_is 0 [] (with_sink ps) rel whole

@@ -1,6 +1,6 @@
 -- What is inferred of the first nodes of a plan goes by them alone, and by the exchanges of the edges between them.
 use Rattle.std.specs.Prelude.{◌≡◌, ℕ, ◌+◌, ◌<◌, ◌≤◌, List, ◌++◌, length, map, slice_get, Option, option_map, unwrap_or}
-use Rattle.std.proofs.Common.{zero, suc, true, [], ◌∷◌, refl, sym, ap, ◌∙◌, arith}
+use Rattle.std.proofs.Common.{zero, suc, true, [], ◌∷◌, refl, sym, ap, ◌∙◌, arith, Some}
 use Rattle.std.proofs.lemmas.List.{length_push, map-append}
 use Rattle.std.proofs.lemmas.Option.{slice_get-map, unwrap_or-slice_get}
 use Rattle.std.specs.List.{AllByRecursion}
@@ -10,15 +10,17 @@ use Rattle.phys_plan.specs.declared.edge.Edge.{Edge}
 use Rattle.phys_plan.specs.declared.node.KeyInfo.{KeyInfo}
 use Rattle.phys_plan.specs.declared.node.Node.{Node}
 use Rattle.phys_plan.specs.declared.node.Op.{Op}
-use Rattle.phys_plan.specs.declared.node.Op.TheVariants as op
 use Rattle.phys_plan.specs.Columns.{columns_in}
 use Rattle.phys_plan.specs.Reading.{Wire, at, no_keys, numbered, read_up, wire, wires}
 use Rattle.phys_plan.proofs.laws.Reading.{read_append}
 use Rattle.upsert_keys.specs.Keys.{keys, keys_of}
 use Rattle.upsert_keys.specs.Seen.{all_seen, exchange_in, seen_over}
 use Rattle.plan_rules.specs.Behaviours.{has_rule}
+use Rattle.plan_rules.specs.Columns.{numbered_columns}
 use Rattle.plan_check.specs.Sound.{columns_or_none, sent_columns}
 use Rattle.plan_check.specs.Types.{all_types, input_columns, next_types, types_after, types_by}
+use Rattle.sound_plans.proofs.laws.Columns.{RuledAt, plain_inputs}
+use Rattle.sound_plans.proofs.laws.Lists.{of_each, the_same}
 
 -- ---- lists
 
@@ -30,6 +32,23 @@ in_front (x ∷ xs) ys (suc n) l = in_front xs ys n (omega arith)
 pub behind : {A : Type 0} (xs ys : List A) (n : ℕ) → slice_get (xs ++ ys) (length xs + n) ≡ slice_get ys n
 behind [] ys n = let none : 0 + n ≡ n = omega arith in ap (slice_get ys) none
 behind (x ∷ xs) ys n = let one : suc (length xs) + n ≡ suc (length xs + n) = omega arith in ap (slice_get (x ∷ (xs ++ ys))) one ∙ behind xs ys n
+
+pub at_last : {A : Type 0} (xs : List A) (x : A) → numbered (xs ++ x ∷ []) (suc (length xs)) ≡ Some x
+at_last [] x = refl
+at_last (y ∷ xs) x = at_last xs x
+
+-- ---- rules
+
+-- each node has one
+abbrev pub HaveRules : List Node → Type 0
+HaveRules nodes = (v : ℕ) → RuledAt nodes v
+
+pub ruled_with : (nodes : List Node) (last : Node) → AllByRecursion (λ node. has_rule node.op ≡ true) nodes → has_rule last.op ≡ true → HaveRules (nodes ++ last ∷ [])
+ruled_with nodes last r own zero node e = absurd (cc)
+ruled_with [] last r own (suc zero) node e = ap (λ (n : Node). has_rule n.op) (sym (the_same last node e)) ∙ own
+ruled_with [] last r own (suc (suc n)) node e = absurd (cc)
+ruled_with (first ∷ nodes) last r own (suc zero) node e = ap (λ (n : Node). has_rule n.op) (sym (the_same first node e)) ∙ r.0
+ruled_with (first ∷ nodes) last r own (suc (suc n)) node e = ruled_with nodes last r.1 own (suc n) node e
 
 -- ---- what is read from the inputs up
 
@@ -66,18 +85,16 @@ module _ {B : Type 0} (f : Wire → List B → B) (d : B) where
 -- ---- columns
 
 module _ (sources : List TableDef) where
-  -- a node with a rule counts the columns of its inputs as they are
-  plain_inputs : (all other : List Node) (done : List (Option (List ColTy))) (o : Op) (inputs : List ℕ) → has_rule o ≡ true → input_columns all done o inputs ≡ input_columns other done o inputs
-  plain_inputs all other done (op.BatchGroup keys aggs) inputs r = absurd (cc)
-  plain_inputs all other done _ inputs r = refl
+  -- where all nodes have rules, columns of inputs are counted as they are
+  counted : (all : List Node) → HaveRules all → (done : List (Option (List ColTy))) (o : Op) (inputs : List ℕ) → input_columns all done o inputs ≡ map (numbered_columns done) inputs
+  counted all r done o inputs = plain_inputs all done o inputs (of_each (RuledAt all) inputs (λ p input e. r input))
 
   -- whatever nodes stand behind
-  types_alike : (all other : List Node) (done : List (Option (List ColTy))) (nodes : List Node) → AllByRecursion (λ node. has_rule node.op ≡ true) nodes
-      → types_after sources all done nodes ≡ types_after sources other done nodes
-  types_alike all other done [] r = refl
-  types_alike all other done (node ∷ nodes) r =
-      ap (λ inputs. types_after sources all (done ++ types_by sources node.op inputs ∷ []) nodes) (plain_inputs all other done node.op node.inputs r.0)
-      ∙ types_alike all other (done ++ next_types sources other done node ∷ []) nodes r.1
+  types_alike : (all other : List Node) → HaveRules all → HaveRules other → (done : List (Option (List ColTy))) (nodes : List Node) → types_after sources all done nodes ≡ types_after sources other done nodes
+  types_alike all other r s done [] = refl
+  types_alike all other r s done (node ∷ nodes) =
+      ap (λ inputs. types_after sources all (done ++ types_by sources node.op inputs ∷ []) nodes) (counted all r done node.op node.inputs ∙ sym (counted other s done node.op node.inputs))
+      ∙ types_alike all other r s (done ++ next_types sources other done node ∷ []) nodes
 
   types_append : (all : List Node) (done : List (Option (List ColTy))) (nodes more : List Node) → types_after sources all done (nodes ++ more) ≡ types_after sources all (types_after sources all done nodes) more
   types_append all done [] more = refl
@@ -108,13 +125,13 @@ module _ (sources : List TableDef) where
   sent_at types n = sym (unwrap_or-slice_get (map columns_or_none types) n []) ∙ ap (λ o. unwrap_or o []) (slice_get-map columns_or_none types n)
 
   -- and by number, whatever stands behind them
-  pub columns_ahead : (nodes more others : List Node) → AllByRecursion (λ node. has_rule node.op ≡ true) nodes → (v : ℕ) → v ≤ length nodes
+  pub columns_ahead : (nodes more others : List Node) → HaveRules (nodes ++ more) → HaveRules (nodes ++ others) → (v : ℕ) → v ≤ length nodes
       → columns_in (sent_columns (all_types sources (nodes ++ more))) v ≡ columns_in (sent_columns (all_types sources (nodes ++ others))) v
-  columns_ahead nodes more others r zero l = refl
-  columns_ahead nodes more others r (suc n) l =
+  columns_ahead nodes more others r s zero l = refl
+  columns_ahead nodes more others r s (suc n) l =
       let here = types_ahead nodes more n (omega arith) in
       let there = types_ahead nodes others n (omega arith) in
-      let same = types_alike (nodes ++ more) (nodes ++ others) [] nodes r in
+      let same = types_alike (nodes ++ more) (nodes ++ others) r s [] nodes in
       sent_at (all_types sources (nodes ++ more)) n
       ∙ ap (λ o. unwrap_or (option_map columns_or_none o) []) (here ∙ ap (λ done. slice_get done n) same ∙ sym there)
       ∙ sym (sent_at (all_types sources (nodes ++ others)) n)

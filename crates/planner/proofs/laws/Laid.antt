@@ -30,11 +30,12 @@ use Rattle.planner.specs.Tops.{all_but_last, hash_last, shown_nodes, shown_edges
 -- ---- pieces behind what was laid
 
 pub adds_none : (l : Laying) → Adds l l []
-adds_none l = record { sources = refl; nodes = sym (append-nil (map node_as_seen l.nodes)); edges = sym (append-nil l.edges) }
+adds_none l = record { sources = refl; mini_batch = refl; nodes = sym (append-nil (map node_as_seen l.nodes)); edges = sym (append-nil l.edges) }
 
 pub adds_more : (old mid new : Laying) (ps qs : List Piece) → Adds old mid ps → Adds mid new qs → Adds old new (ps ++ qs)
 adds_more old mid new ps qs a b = record {
   sources = b.sources ∙ a.sources;
+  mini_batch = b.mini_batch ∙ a.mini_batch;
   nodes = b.nodes ∙ ap (λ (ns : List Node). ns ++ nodes_in qs) a.nodes ∙ append_assoc (map node_as_seen old.nodes) (nodes_in ps) (nodes_in qs)
       ∙ ap (λ (ns : List Node). map node_as_seen old.nodes ++ ns) (sym (map-append (λ (p : Piece). p.node) ps qs));
   edges = b.edges ∙ ap (λ es. es ++ edges_in qs) a.edges ∙ append_assoc old.edges (edges_in ps) (edges_in qs)
@@ -53,6 +54,7 @@ module _ (old new : Laying) (o : Op) (inputs : List ℕ) (x : Exchange) (kinds :
   pub pushed_adds : (seen : Op) → op_as_seen o ≡ seen → Adds old new (piece seen inputs x kinds update ∷ [])
   pushed_adds seen is = record {
     sources = p.sources;
+    mini_batch = p.mini_batch;
     nodes = ap (map node_as_seen) p.nodes ∙ map-append node_as_seen old.nodes (node_of o inputs ∷ []) ∙ ap (λ (q : Op). map node_as_seen old.nodes ++ node_of q inputs ∷ []) is;
     edges = p.edges;
   }
@@ -67,14 +69,14 @@ pushed_as (Err fault) old new o seen inputs x is p = tt
 
 -- ---- an operator over its inputs
 
-pub one_lays : (old mid new : Laying) (x : Exchange) (how : Unary) (input : Rel) (below root : ℕ) → Lays old mid (unary_way how).asks input below → PushedAs mid new (unary_way how).op (below ∷ []) x root
+pub one_lays : (old mid new : Laying) (x : Exchange) (how : Unary) (input : Rel) (below root : ℕ) → Lays old mid (unary_way how).asks input below → PushedAs mid new ((unary_way how).op mid.mini_batch) (below ∷ []) x root
     → Lays old new x (One how input) root
 one_lays old mid new x how input below root l p =
     let n = length old.nodes in
-    let o = (unary_way how).op in
-    let ps = pieces_of old.sources (length old.nodes) (unary_way how).asks input in
+    let o = (unary_way how).op old.mini_batch in
+    let ps = pieces_of old.sources old.mini_batch (length old.nodes) (unary_way how).asks input in
     let below_is : below ≡ n + length ps = l.root_is ∙ adds_count old mid ps l.adds in
-    let own : Adds mid new (full_piece o (below ∷ []) x ∷ []) = pushed_adds mid new p.0 (below ∷ []) x (kinds_of retract) Both root p.2 o p.1 in
+    let own : Adds mid new (full_piece o (below ∷ []) x ∷ []) = pushed_adds mid new p.0 (below ∷ []) x (kinds_of retract) Both root p.2 o (p.1 ∙ ap (unary_way how).op l.adds.mini_batch) in
     let top : Adds mid new (full_piece o ((n + length ps) ∷ []) x ∷ []) = subst (λ m. Adds mid new (full_piece o (m ∷ []) x ∷ [])) below_is own in
     record {
       adds = adds_more old mid new ps (full_piece o ((n + length ps) ∷ []) x ∷ []) l.adds top;
@@ -83,19 +85,21 @@ one_lays old mid new x how input below root l p =
     }
 
 -- a tree behind another, seen from before both
-pub adds_behind : (old mid new : Laying) (n : ℕ) (x : Exchange) (rel : Rel) (root : ℕ) → mid.sources ≡ old.sources → length mid.nodes ≡ n → Lays mid new x rel root → Adds mid new (pieces_of old.sources n x rel)
-adds_behind old mid new n x rel root sources count l =
-    subst (λ k. Adds mid new (pieces_of old.sources k x rel)) count (subst (λ (s : List TableDef). Adds mid new (pieces_of s (length mid.nodes) x rel)) sources l.adds)
+pub adds_behind : (old mid new : Laying) (n : ℕ) (x : Exchange) (rel : Rel) (root : ℕ) → mid.sources ≡ old.sources → mid.mini_batch ≡ old.mini_batch → length mid.nodes ≡ n → Lays mid new x rel root
+    → Adds mid new (pieces_of old.sources old.mini_batch n x rel)
+adds_behind old mid new n x rel root sources mini_batch count l =
+    subst (λ k. Adds mid new (pieces_of old.sources old.mini_batch k x rel)) count
+    (subst (λ size. Adds mid new (pieces_of old.sources size (length mid.nodes) x rel)) mini_batch (subst (λ (s : List TableDef). Adds mid new (pieces_of s mid.mini_batch (length mid.nodes) x rel)) sources l.adds))
 
 pub two_lay : (old mid new last : Laying) (x : Exchange) (how : Binary) (left right : Rel) (first second root : ℕ) → Lays old mid (binary_way how).left left first → Lays mid new (binary_way how).right right second
     → PushedAs new last (binary_way how).op (first ∷ (second ∷ [])) x root → Lays old last x (Two how left right) root
 two_lay old mid new last x how left right first second root l m p =
     let n = length old.nodes in
     let o = (binary_way how).op in
-    let ps = pieces_of old.sources (length old.nodes) (binary_way how).left left in
-    let qs = pieces_of old.sources (length old.nodes + length (pieces_of old.sources (length old.nodes) (binary_way how).left left)) (binary_way how).right right in
+    let ps = pieces_of old.sources old.mini_batch (length old.nodes) (binary_way how).left left in
+    let qs = pieces_of old.sources old.mini_batch (length old.nodes + length (pieces_of old.sources old.mini_batch (length old.nodes) (binary_way how).left left)) (binary_way how).right right in
     let count : length mid.nodes ≡ n + length ps = adds_count old mid ps l.adds in
-    let behind : Adds mid new qs = adds_behind old mid new (n + length ps) (binary_way how).right right second l.adds.sources count m in
+    let behind : Adds mid new qs = adds_behind old mid new (n + length ps) (binary_way how).right right second l.adds.sources l.adds.mini_batch count m in
     let first_is : first ≡ n + length ps = l.root_is ∙ count in
     let second_is : second ≡ n + length ps + length qs = m.root_is ∙ adds_count mid new qs behind ∙ ap (λ k. k + length qs) count in
     let own : Adds new last (full_piece o (first ∷ (second ∷ [])) x ∷ []) = pushed_adds new last p.0 (first ∷ (second ∷ [])) x (kinds_of retract) Both root p.2 o p.1 in
@@ -117,7 +121,7 @@ union_lays old mid new x inputs roots root all p =
     let own : Adds mid new (full_piece op.Union roots x ∷ []) = pushed_adds mid new op.Union roots x (kinds_of retract) Both root p op.Union refl in
     let top = subst (λ (ro : List ℕ). Adds mid new (full_piece op.Union ro x ∷ [])) all.roots_are own in
     record {
-      adds = adds_more old mid new (pieces_of_all old.sources (length old.nodes) inputs) (full_piece op.Union (roots_of old.sources (length old.nodes) inputs) x ∷ []) all.adds top;
+      adds = adds_more old mid new (pieces_of_all old.sources old.mini_batch (length old.nodes) inputs) (full_piece op.Union (roots_of old.sources old.mini_batch (length old.nodes) inputs) x ∷ []) all.adds top;
       root_is = pushed_root mid new op.Union roots x (kinds_of retract) Both root p;
       tables = all.tables;
     }
@@ -173,11 +177,11 @@ full_fails l rel fault is = subst (Fails l rel) (sym is) tt
 -- ---- the plan
 
 pub plan_is : (start mid new : Laying) (plan : Plan) (rel : Rel) (root v : ℕ) → start.nodes ≡ [] → start.edges ≡ [] → Lays start mid Forward rel root → Pushed mid new op.Sink (root ∷ []) Forward (kinds_of retract) Absent v
-    → plan.nodes ≡ new.nodes → plan.edges ≡ new.edges → plan.sources ≡ start.sources → plan.mini_batch ≡ 0 → plan_as_seen plan ≡ plan_of_tree start.sources plan.sink plan.parallelism bare rel
+    → plan.nodes ≡ new.nodes → plan.edges ≡ new.edges → plan.sources ≡ start.sources → plan.mini_batch ≡ start.mini_batch → plan_as_seen plan ≡ plan_of_tree start.sources plan.sink plan.parallelism start.mini_batch bare rel
 plan_is start mid new plan rel root v no_nodes no_edges l p nodes edges sources batches =
-    let ps = pieces_of start.sources 0 Forward rel in
+    let ps = pieces_of start.sources start.mini_batch 0 Forward rel in
     let count : length start.nodes ≡ 0 = ap length no_nodes in
-    let tree : Adds start mid ps = subst (λ n. Adds start mid (pieces_of start.sources n Forward rel)) count l.adds in
+    let tree : Adds start mid ps = subst (λ n. Adds start mid (pieces_of start.sources start.mini_batch n Forward rel)) count l.adds in
     let counted : length mid.nodes ≡ length start.nodes + length ps = adds_count start mid ps tree in
     let root_is : root ≡ length ps = omega (arith, l.root_is, count, counted) in
     let own : Adds mid new (piece op.Sink (root ∷ []) Forward (kinds_of retract) Absent ∷ []) = pushed_adds mid new op.Sink (root ∷ []) Forward (kinds_of retract) Absent v p op.Sink refl in

@@ -35,43 +35,43 @@ tables_behind sources (y ∷ xs) x all one =
     (tables_behind sources xs x (right_not (lacks_table sources y) (any_lacks sources (rels xs)) all) one)
 
 -- the pieces of a tree more, and its root
-module _ (sources : List TableDef) (x : Rel) where
+module _ (sources : List TableDef) (mini_batch : ℕ) (x : Rel) where
   -- where they begin
   abbrev next : ℕ → List Rel → ℕ
-  next n xs = n + length (pieces_of_all sources n (rels xs))
+  next n xs = n + length (pieces_of_all sources mini_batch n (rels xs))
 
-  more_pieces : (n : ℕ) (xs : List Rel) → pieces_of_all sources n (rels (xs ++ x ∷ [])) ≡ pieces_of_all sources n (rels xs) ++ pieces_of sources (next n xs) Forward x
+  more_pieces : (n : ℕ) (xs : List Rel) → pieces_of_all sources mini_batch n (rels (xs ++ x ∷ [])) ≡ pieces_of_all sources mini_batch n (rels xs) ++ pieces_of sources mini_batch (next n xs) Forward x
   more_pieces n [] =
       let none : n ≡ n + 0 = omega arith in
-      append-nil (pieces_of sources n Forward x) ∙ ap (λ m. pieces_of sources m Forward x) none
+      append-nil (pieces_of sources mini_batch n Forward x) ∙ ap (λ m. pieces_of sources mini_batch m Forward x) none
   more_pieces n (y ∷ xs) =
-      let ps = pieces_of sources n Forward y in
-      let mid : ℕ = n + length (pieces_of sources n Forward y) in
-      let qs = pieces_of_all sources (n + length (pieces_of sources n Forward y)) (rels xs) in
+      let ps = pieces_of sources mini_batch n Forward y in
+      let mid : ℕ = n + length (pieces_of sources mini_batch n Forward y) in
+      let qs = pieces_of_all sources mini_batch (n + length (pieces_of sources mini_batch n Forward y)) (rels xs) in
       let same : mid + length qs ≡ n + length (ps ++ qs) = omega (arith, length-append ps qs) in
-      ap (λ (rest : List Piece). ps ++ rest) (more_pieces mid xs ∙ ap (λ m. qs ++ pieces_of sources m Forward x) same) ∙ sym (append_assoc ps qs (pieces_of sources (n + length (ps ++ qs)) Forward x))
+      ap (λ (rest : List Piece). ps ++ rest) (more_pieces mid xs ∙ ap (λ m. qs ++ pieces_of sources mini_batch m Forward x) same) ∙ sym (append_assoc ps qs (pieces_of sources mini_batch (n + length (ps ++ qs)) Forward x))
 
-  more_roots : (n : ℕ) (xs : List Rel) → roots_of sources n (rels (xs ++ x ∷ [])) ≡ roots_of sources n (rels xs) ++ (next n xs + length (pieces_of sources (next n xs) Forward x)) ∷ []
+  more_roots : (n : ℕ) (xs : List Rel) → roots_of sources mini_batch n (rels (xs ++ x ∷ [])) ≡ roots_of sources mini_batch n (rels xs) ++ (next n xs + length (pieces_of sources mini_batch (next n xs) Forward x)) ∷ []
   more_roots n [] =
-      let none : n ≡ n + 0 = omega arith in ap (λ m. (m + length (pieces_of sources m Forward x)) ∷ []) none
+      let none : n ≡ n + 0 = omega arith in ap (λ m. (m + length (pieces_of sources mini_batch m Forward x)) ∷ []) none
   more_roots n (y ∷ xs) =
-      let ps = pieces_of sources n Forward y in
-      let mid : ℕ = n + length (pieces_of sources n Forward y) in
-      let qs = pieces_of_all sources (n + length (pieces_of sources n Forward y)) (rels xs) in
+      let ps = pieces_of sources mini_batch n Forward y in
+      let mid : ℕ = n + length (pieces_of sources mini_batch n Forward y) in
+      let qs = pieces_of_all sources mini_batch (n + length (pieces_of sources mini_batch n Forward y)) (rels xs) in
       let same : mid + length qs ≡ n + length (ps ++ qs) = omega (arith, length-append ps qs) in
-      ap (λ (rest : List ℕ). mid ∷ rest) (more_roots mid xs ∙ ap (λ m. roots_of sources mid (rels xs) ++ (m + length (pieces_of sources m Forward x)) ∷ []) same)
+      ap (λ (rest : List ℕ). mid ∷ rest) (more_roots mid xs ∙ ap (λ m. roots_of sources mini_batch mid (rels xs) ++ (m + length (pieces_of sources mini_batch m Forward x)) ∷ []) same)
 
 one_more_lays : (old mid new : Laying) (xs : List Rel) (x : Rel) (roots : List ℕ) (root : ℕ) → LaysAll old mid (rels xs) roots → Lays mid new Forward x root → LaysAll old new (rels (xs ++ x ∷ [])) (roots ++ root ∷ [])
 one_more_lays old mid new xs x roots root all l =
     let n = length old.nodes in
-    let ps = pieces_of_all old.sources (length old.nodes) (rels xs) in
-    let qs = pieces_of old.sources (length old.nodes + length (pieces_of_all old.sources (length old.nodes) (rels xs))) Forward x in
+    let ps = pieces_of_all old.sources old.mini_batch (length old.nodes) (rels xs) in
+    let qs = pieces_of old.sources old.mini_batch (length old.nodes + length (pieces_of_all old.sources old.mini_batch (length old.nodes) (rels xs))) Forward x in
     let count : length mid.nodes ≡ n + length ps = adds_count old mid ps all.adds in
-    let behind : Adds mid new qs = adds_behind old mid new (n + length ps) Forward x root all.adds.sources count l in
+    let behind : Adds mid new qs = adds_behind old mid new (n + length ps) Forward x root all.adds.sources all.adds.mini_batch count l in
     let root_is : root ≡ n + length ps + length qs = l.root_is ∙ adds_count mid new qs behind ∙ ap (λ k. k + length qs) count in
     record {
-      adds = subst (λ (pieces : List Piece). Adds old new pieces) (sym (more_pieces old.sources x n xs)) (adds_more old mid new ps qs all.adds behind);
-      roots_are = (λ i. all.roots_are i ++ root_is i ∷ []) ∙ sym (more_roots old.sources x n xs);
+      adds = subst (λ (pieces : List Piece). Adds old new pieces) (sym (more_pieces old.sources old.mini_batch x n xs)) (adds_more old mid new ps qs all.adds behind);
+      roots_are = (λ i. all.roots_are i ++ root_is i ∷ []) ∙ sym (more_roots old.sources old.mini_batch x n xs);
       tables = tables_behind old.sources xs x all.tables (subst (λ (s : List TableDef). lacks_table s x ≡ false) all.adds.sources l.tables);
     }
 

@@ -19,6 +19,7 @@ use Rattle.phys_plan.specs.declared.plan.Plan.{Plan}
 use Rattle.phys_plan.specs.Reading.{numbered}
 use Rattle.plan_rules.specs.Pieces.{unary_way, binary_way, Piece, node_of, edge_of, piece, full_piece, scan_pieces, source_pieces, pieces_of, pieces_of_all, roots_of, nodes_in, edges_in, Top, bare, shown, with_top, with_sink}
 use Rattle.plan_rules.specs.Seen.{node_as_seen, op_as_seen, plan_as_seen}
+use Rattle.plan_rules.proofs.laws.Erasing.{of_groups}
 use Rattle.sound_plans.proofs.laws.Agreed.{materializes}
 use Rattle.laid_plans.specs.Shapes.{IsLaidWith}
 use Rattle.planner.proofs.laws.Ahead.{in_front, behind}
@@ -93,26 +94,26 @@ source_ends : (n source : ℕ) (table : Option TableDef) → EndsAsAsked (λ x. 
 source_ends n source None = record { front = []; operator = op.Scan source; inputs = []; other = refl; are = λ x. refl }
 source_ends n source (Some table) = scan_ends n source table.mode _
 
-unary_other : (how : Unary) → materializes (unary_way how).op ≡ false
-unary_other (filter_by condition) = refl
-unary_other (project_on items) = refl
-unary_other (group_by keys aggs) = refl
-unary_other (rank_in partition order bound ranked) = refl
+unary_other : (mini_batch : ℕ) (how : Unary) → materializes ((unary_way how).op mini_batch) ≡ false
+unary_other mini_batch (filter_by condition) = refl
+unary_other mini_batch (project_on items) = refl
+unary_other mini_batch (group_by keys aggs) = of_groups (λ o. materializes o ≡ false) mini_batch keys aggs refl (λ some keyed. refl)
+unary_other mini_batch (rank_in partition order bound ranked) = refl
 
 binary_other : (how : Binary) → materializes (binary_way how).op ≡ false
 binary_other (join_on kind pairs rest) = refl
 binary_other (semi_on anti pairs rest) = refl
 
-tree_ends : (sources : List TableDef) (n : ℕ) (rel : Rel) → EndsAsAsked (λ x. pieces_of sources n x rel)
-tree_ends sources n (Scan source) = source_ends n source (slice_get sources source)
-tree_ends sources n (One how input) =
-    let ps = pieces_of sources n (unary_way how).asks input in
-    record { front = ps; operator = (unary_way how).op; inputs = (n + length ps) ∷ []; other = unary_other how; are = λ x. refl }
-tree_ends sources n (Two how left right) =
-    let ps = pieces_of sources n (binary_way how).left left in
-    let qs = pieces_of sources (n + length (pieces_of sources n (binary_way how).left left)) (binary_way how).right right in
+tree_ends : (sources : List TableDef) (mini_batch n : ℕ) (rel : Rel) → EndsAsAsked (λ x. pieces_of sources mini_batch n x rel)
+tree_ends sources mini_batch n (Scan source) = source_ends n source (slice_get sources source)
+tree_ends sources mini_batch n (One how input) =
+    let ps = pieces_of sources mini_batch n (unary_way how).asks input in
+    record { front = ps; operator = (unary_way how).op mini_batch; inputs = (n + length ps) ∷ []; other = unary_other mini_batch how; are = λ x. refl }
+tree_ends sources mini_batch n (Two how left right) =
+    let ps = pieces_of sources mini_batch n (binary_way how).left left in
+    let qs = pieces_of sources mini_batch (n + length (pieces_of sources mini_batch n (binary_way how).left left)) (binary_way how).right right in
     record { front = ps ++ qs; operator = (binary_way how).op; inputs = (n + length ps) ∷ ((n + length ps + length qs) ∷ []); other = binary_other how; are = λ x. refl }
-tree_ends sources n (Many inputs) = record { front = pieces_of_all sources n inputs; operator = op.Union; inputs = roots_of sources n inputs; other = refl; are = λ x. refl }
+tree_ends sources mini_batch n (Many inputs) = record { front = pieces_of_all sources mini_batch n inputs; operator = op.Union; inputs = roots_of sources mini_batch n inputs; other = refl; are = λ x. refl }
 
 nodes_end : (ps : List Piece) (p : Piece) → nodes_in (ps ++ p ∷ []) ≡ nodes_in ps ++ p.node ∷ []
 nodes_end ps p = map-append (λ (q : Piece). q.node) ps (p ∷ [])
@@ -120,15 +121,15 @@ nodes_end ps p = map-append (λ (q : Piece). q.node) ps (p ∷ [])
 edges_end : (ps : List Piece) (p : Piece) → edges_in (ps ++ p ∷ []) ≡ edges_in ps ++ p.edge ∷ []
 edges_end ps p = map-append (λ (q : Piece). q.edge) ps (p ∷ [])
 
-module _ (sources : List TableDef) (rel : Rel) (key : List ℕ) where
+module _ (sources : List TableDef) (mini_batch : ℕ) (rel : Rel) (key : List ℕ) where
   abbrev plain : List Piece
-  plain = pieces_of sources 0 Forward rel
+  plain = pieces_of sources mini_batch 0 Forward rel
 
   abbrev by_key : List Piece
-  by_key = pieces_of sources 0 (Hash key) rel
+  by_key = pieces_of sources mini_batch 0 (Hash key) rel
 
-  ends : EndsAsAsked (λ x. pieces_of sources 0 x rel)
-  ends = tree_ends sources 0 rel
+  ends : EndsAsAsked (λ x. pieces_of sources mini_batch 0 x rel)
+  ends = tree_ends sources mini_batch 0 rel
 
   same_nodes : nodes_in plain ≡ nodes_in by_key
   same_nodes =
@@ -163,8 +164,8 @@ module _ (sources : List TableDef) (rel : Rel) (key : List ℕ) where
 
 pub laid_with : (key : List ℕ) (laid : Plan) (rel : Rel) → IsLaidWith bare laid rel → IsLaidWith (shown key) (topped_plan (shown key) laid) rel
 laid_with key laid rel is =
-    let ps = plain laid.sources rel key in
-    let qs = by_key laid.sources rel key in
+    let ps = plain laid.sources laid.mini_batch rel key in
+    let qs = by_key laid.sources laid.mini_batch rel key in
     let tree : List Node = all_but_last laid.nodes in
     let nodes : map node_as_seen tree ≡ nodes_in ps =
     mapped node_as_seen laid.nodes ∙ ap (λ (p : Plan). all_but_last p.nodes) is
@@ -173,18 +174,17 @@ laid_with key laid rel is =
     ap (λ (p : Plan). all_but_last p.edges) is
     ∙ ap all_but_last (edges_end ps (piece op.Sink (length ps ∷ []) Forward (kinds_of retract) Absent)) ∙ all_of (edges_in ps) (edge_of Forward (kinds_of retract) Absent) in
     let count : length tree ≡ length qs =
-    sym (length-map tree node_as_seen) ∙ ap length nodes ∙ length-map ps (λ (p : Piece). p.node) ∙ same_count laid.sources rel key in
-    let longer : length (topped laid.sources rel key) ≡ length qs + 1 = length-append qs (full_piece (op.Materialize key) ((0 + length qs) ∷ []) Forward ∷ []) in
+    sym (length-map tree node_as_seen) ∙ ap length nodes ∙ length-map ps (λ (p : Piece). p.node) ∙ same_count laid.sources laid.mini_batch rel key in
+    let longer : length (topped laid.sources laid.mini_batch rel key) ≡ length qs + 1 = length-append qs (full_piece (op.Materialize key) ((0 + length qs) ∷ []) Forward ∷ []) in
     let root : length tree ≡ 0 + length qs = omega (arith, count) in
-    let last : length tree + 1 ≡ length (topped laid.sources rel key) = omega (arith, count, longer) in
-    let seen : map node_as_seen tree ≡ nodes_in qs = nodes ∙ same_nodes laid.sources rel key in
-    let all_nodes : map node_as_seen (shown_nodes key tree) ≡ nodes_in (with_sink (topped laid.sources rel key)) =
+    let last : length tree + 1 ≡ length (topped laid.sources laid.mini_batch rel key) = omega (arith, count, longer) in
+    let seen : map node_as_seen tree ≡ nodes_in qs = nodes ∙ same_nodes laid.sources laid.mini_batch rel key in
+    let all_nodes : map node_as_seen (shown_nodes key tree) ≡ nodes_in (with_sink (topped laid.sources laid.mini_batch rel key)) =
     map-append node_as_seen tree (node_of (op.Materialize key) (length tree ∷ []) ∷ (node_of op.Sink ((length tree + 1) ∷ []) ∷ []))
-    ∙ (λ i. seen i ++ (node_of (op.Materialize key) (root i ∷ []) ∷ (node_of op.Sink (last i ∷ []) ∷ []))) ∙ sym (topped_nodes laid.sources rel key) in
-    let all_edges : shown_edges (hash_last key (all_but_last laid.edges)) ≡ edges_in (with_sink (topped laid.sources rel key)) =
-    ap (λ (es : List Edge). shown_edges (hash_last key es)) edges ∙ ap shown_edges (other_edges laid.sources rel key) ∙ sym (topped_edges laid.sources rel key) in
-    let batches : laid.mini_batch ≡ 0 = ap (λ (p : Plan). p.mini_batch) is in
-    λ i. record { sources = laid.sources; sink = laid.sink; nodes = all_nodes i; edges = all_edges i; parallelism = laid.parallelism; mini_batch = batches i }
+    ∙ (λ i. seen i ++ (node_of (op.Materialize key) (root i ∷ []) ∷ (node_of op.Sink (last i ∷ []) ∷ []))) ∙ sym (topped_nodes laid.sources laid.mini_batch rel key) in
+    let all_edges : shown_edges (hash_last key (all_but_last laid.edges)) ≡ edges_in (with_sink (topped laid.sources laid.mini_batch rel key)) =
+    ap (λ (es : List Edge). shown_edges (hash_last key es)) edges ∙ ap shown_edges (other_edges laid.sources laid.mini_batch rel key) ∙ sym (topped_edges laid.sources laid.mini_batch rel key) in
+    λ i. record { sources = laid.sources; sink = laid.sink; nodes = all_nodes i; edges = all_edges i; parallelism = laid.parallelism; mini_batch = laid.mini_batch }
 
 -- what stands before the sink is put into a plan as it is seen
 pub topped_seen : (top : Top) (plan : Plan) → topped_plan top (plan_as_seen plan) ≡ plan_as_seen (topped_plan top plan)
@@ -217,8 +217,8 @@ some_same x y e = cc
 -- a tree's root is no materializer
 pub root_other : (laid : Plan) (rel : Rel) → IsLaidWith bare laid rel → (n : ℕ) (node : Node) → length laid.nodes ≡ suc (suc n) → slice_get laid.nodes n ≡ Some node → materializes node.op ≡ false
 root_other laid rel is n node many e =
-    let ps = pieces_of laid.sources 0 Forward rel in
-    let last = tree_ends laid.sources 0 rel in
+    let ps = pieces_of laid.sources laid.mini_batch 0 Forward rel in
+    let last = tree_ends laid.sources laid.mini_batch 0 rel in
     let own = node_of last.operator last.inputs in
     let sink = node_of op.Sink (length ps ∷ []) in
     let nodes : map node_as_seen laid.nodes ≡ nodes_in last.front ++ (own ∷ (sink ∷ [])) =

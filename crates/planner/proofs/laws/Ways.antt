@@ -25,7 +25,7 @@ scan_tops mid new below x source root l = record { tops = λ old same. subst (λ
 pub union_tops : (mid new : Laying) (below : ℕ) (x : Exchange) (inputs : Rels) (root : ℕ) → Lays mid new x (Many inputs) root → Tops mid new below x (Many inputs) root
 union_tops mid new below x inputs root l = record { tops = λ old same. subst (λ (start : Laying). Lays start new x (Many inputs) root) (sym same) l }
 
-pub one_tops : (mid new : Laying) (below : ℕ) (x : Exchange) (how : Unary) (input : Rel) (root : ℕ) → PushedAs mid new (unary_way how).op (below ∷ []) x root → Tops mid new below x (One how input) root
+pub one_tops : (mid new : Laying) (below : ℕ) (x : Exchange) (how : Unary) (input : Rel) (root : ℕ) → PushedAs mid new ((unary_way how).op mid.mini_batch) (below ∷ []) x root → Tops mid new below x (One how input) root
 one_tops mid new below x how input root p = record { tops = λ old l. one_lays old mid new x how input below root l p }
 
 pub two_tops : (mid behind new : Laying) (below second : ℕ) (x : Exchange) (how : Binary) (left right : Rel) (root : ℕ) → Lays mid behind (binary_way how).right right second

@@ -37,6 +37,7 @@ does (op.Project items) around tame = projects_stay (project_of (map expr_view i
 does op.Union around tame = unions_stay (union_of around)
 does (op.Normalize key) around tame = normalizes_stay (normalize_of key around)
 does (op.Group keys aggs) around tame = groups_stay (grouping_of keys aggs around) tame
+does (op.BatchGroup keys aggs) around tame = groups_stay (grouping_of keys aggs around) tame
 does (op.Join kind on rest) around tame = joins_stay (joining_of (joins kind) on (option_map expr_view rest) around) tame
 does (op.Semi anti on rest) around tame = joins_stay (joining_of (matched anti) on (option_map expr_view rest) around) tame
 does (op.TopN partition order bound ranked) around tame = topns_stay (ranking_of partition order bound ranked around)

@@ -70,7 +70,7 @@ module _ (plan : Plan) where
     tree_tame (One how input) tame n x root before laid =
         let p = and_parts _ _ tame in
         more laid.0 root (tree_tame input p.0 n (unary_way how).asks laid.0 before laid.1) laid.2
-        (at_node root (IsUnary how) (laid.0 ∷ []) laid.3 (λ o is. ap is_tame_role (unary_fits plan how o is).told ∙ p.1))
+        (at_node root (IsUnary plan.mini_batch how) (laid.0 ∷ []) laid.3 (λ o is. ap is_tame_role (unary_fits plan how o is).told ∙ p.1))
     tree_tame (Two how left right) tame n x root before laid =
         let p = and_parts _ _ tame in
         let q = and_parts _ _ p.1 in

@@ -12,7 +12,7 @@ use Rattle.phys_plan.specs.Reading.{numbered}
 use Rattle.plan_rules.specs.Columns.{columns_by, numbered_columns, node_columns, only}
 use Rattle.sound_plans.proofs.laws.Numbers.{columns_made}
 use Rattle.phys_plan.specs.Columns.{columns_in}
-use Rattle.plan_check.specs.Types.{all_types, input_columns, is_typed_by, keyed_columns, next_types, types_after, types_at, types_by}
+use Rattle.plan_check.specs.Types.{all_types, input_columns, is_typed_by, keyed_columns, next_types, summed_columns, summed_in, types_after, types_at, types_by, under_parts}
 use Rattle.plan_check.specs.Sound.{columns_or_none, sent_columns}
 use Rattle.plan_rules.specs.Behaviours.{has_rule}
 use Rattle.sound_plans.proofs.laws.Lists.{the_same, map_same}
@@ -36,9 +36,26 @@ all-map : {A : Type 0} (P Q : A → Type 0) → ((x : A) → P x → Q x) → (x
 all-map P Q f [] h = tt
 all-map P Q f (x ∷ xs) h = (f x h.0, all-map P Q f xs h.1)
 
--- a node with a rule counts the columns of its inputs as they are
-plain_inputs : (nodes : List Node) (done : List (Option (List ColTy))) (o : Op) (inputs : List ℕ) → has_rule o ≡ true → input_columns nodes done o inputs ≡ map (numbered_columns done) inputs
-plain_inputs nodes done (op.BatchGroup keys aggs) inputs r = absurd (cc)
+-- the node of a number, if there is one, has a rule
+abbrev pub RuledAt : List Node → ℕ → Type 0
+RuledAt nodes v = (node : Node) → numbered nodes v ≡ Some node → has_rule node.op ≡ true
+
+-- what it sends stands for nothing else
+under_same : (done : List (Option (List ColTy))) (v : ℕ) (o : Op) (inputs : List ℕ) → has_rule o ≡ true → under_parts done v o inputs ≡ numbered_columns done v
+under_same done v (op.LocalGroup keys aggs) inputs r = absurd (cc)
+under_same done v _ inputs r = refl
+
+summed_same : (done : List (Option (List ColTy))) (v : ℕ) (o : Option Node) → ((node : Node) → o ≡ Some node → has_rule node.op ≡ true) → summed_in done v o ≡ numbered_columns done v
+summed_same done v None r = refl
+summed_same done v (Some node) r = under_same done v node.op node.inputs (r node refl)
+
+each_summed : (nodes : List Node) (done : List (Option (List ColTy))) (inputs : List ℕ) → AllByRecursion (RuledAt nodes) inputs → map (summed_columns nodes done) inputs ≡ map (numbered_columns done) inputs
+each_summed nodes done [] r = refl
+each_summed nodes done (input ∷ inputs) r = λ i. summed_same done input (numbered nodes input) r.0 i ∷ each_summed nodes done inputs r.1 i
+
+-- so the columns of such inputs are counted as they are
+pub plain_inputs : (nodes : List Node) (done : List (Option (List ColTy))) (o : Op) (inputs : List ℕ) → AllByRecursion (RuledAt nodes) inputs → input_columns nodes done o inputs ≡ map (numbered_columns done) inputs
+plain_inputs nodes done (op.BatchGroup keys aggs) inputs r = each_summed nodes done inputs r
 plain_inputs nodes done _ inputs r = refl
 
 module _ (sources : List TableDef) (all : List Node) where
@@ -52,7 +69,7 @@ module _ (sources : List TableDef) (all : List Node) where
   number_stays done nodes zero l = refl
   number_stays done nodes (suc n) l = ap (option_and_then (λ columns. columns)) (sym (stays done nodes n (omega arith)))
 
-  type_from : (done : List (Option (List ColTy))) (nodes : List Node) (k : ℕ) (node : Node) → slice_get nodes k ≡ Some node → has_rule node.op ≡ true → AllByRecursion (λ v. v ≤ length done + k) node.inputs
+  type_from : (done : List (Option (List ColTy))) (nodes : List Node) (k : ℕ) (node : Node) → slice_get nodes k ≡ Some node → AllByRecursion (RuledAt all) node.inputs → AllByRecursion (λ v. v ≤ length done + k) node.inputs
       → slice_get (types_after sources all done nodes) (length done + k) ≡ Some (types_by sources node.op (map (numbered_columns (types_after sources all done nodes)) node.inputs))
   type_from done [] k node e r b = absurd (cc)
   type_from done (first ∷ nodes) zero node e r b =
@@ -71,7 +88,8 @@ module _ (sources : List TableDef) (all : List Node) where
       ap (slice_get (types_after sources all (done ++ x ∷ []) nodes)) (sym i)
       ∙ type_from (done ++ x ∷ []) nodes k node e r (subst (λ n. AllByRecursion (λ v. v ≤ n) node.inputs) (sym i) b)
 
-types_made : (sources : List TableDef) (nodes : List Node) (v : ℕ) (node : Node) → numbered nodes v ≡ Some node → has_rule node.op ≡ true → AllByRecursion (λ input. input < v) node.inputs
+-- a node whose inputs have rules
+pub types_made : (sources : List TableDef) (nodes : List Node) (v : ℕ) (node : Node) → numbered nodes v ≡ Some node → AllByRecursion (RuledAt nodes) node.inputs → AllByRecursion (λ input. input < v) node.inputs
     → types_at sources nodes v ≡ types_by sources node.op (map (types_at sources nodes) node.inputs)
 types_made sources nodes zero node e r b = absurd (cc)
 types_made sources nodes (suc k) node e r b =
@@ -96,7 +114,6 @@ passes_on key (input ∷ (other ∷ inputs)) made e = absurd (cc)
 pub same_columns : (sources : List TableDef) (o : Op) (inputs : List (Option (List ColTy))) (made : List ColTy) → has_rule o ≡ true → types_by sources o inputs ≡ Some made → columns_by sources o inputs ≡ Some made
 same_columns sources (op.Normalize key) inputs made r e = (passes_on key inputs made e).0
 same_columns sources (op.Materialize key) inputs made r e = (passes_on key inputs made e).0
-same_columns sources (op.BatchGroup keys aggs) inputs made r e = absurd (cc)
 same_columns sources (op.LocalGroup keys aggs) inputs made r e = absurd (cc)
 same_columns sources (op.MultiJoin on) inputs made r e = absurd (cc)
 same_columns sources (op.SetOp except all) inputs made r e = absurd (cc)
@@ -117,12 +134,16 @@ module _ (sources : List TableDef) (sink : TableDef) (nodes : List Node) (rules 
   lower : (v : ℕ) (node : Node) → numbered nodes v ≡ Some node → AllByRecursion (λ input. input < v) node.inputs
   lower v node e = all-map (λ input. (node_of : Node) × (numbered nodes input ≡ Some node_of) × (input < v)) (λ input. input < v) (λ input h. h.2) node.inputs (before v node e)
 
+  ruled : (inputs : List ℕ) → AllByRecursion (RuledAt nodes) inputs
+  ruled [] = tt
+  ruled (input ∷ inputs) = (rules input, ruled inputs)
+
   -- by the numbers below a bound
   agree : (bound v : ℕ) (node : Node) → v < bound → numbered nodes v ≡ Some node → types_at sources nodes v ≡ node_columns sources nodes v
   agree zero v node l e = absurd (omega arith)
   agree (suc bound) v node l e =
       let c = has_columns sink node.op (types_at sources nodes v) (typed v node e) in
-      let made = types_made sources nodes v node e (rules v node e) (lower v node e) in
+      let made = types_made sources nodes v node e (ruled node.inputs) (lower v node e) in
       let inputs = map_same (types_at sources nodes) (node_columns sources nodes) node.inputs
       (all-map (λ input. (node_of : Node) × (numbered nodes input ≡ Some node_of) × (input < v)) (λ input. types_at sources nodes input ≡ node_columns sources nodes input) (λ input h. agree bound input h.0 (let k = h.2 in omega arith) h.1) node.inputs (before v node e)) in
       let same = same_columns sources node.op (map (types_at sources nodes) node.inputs) c.0 (rules v node e) (sym made ∙ c.1) in
@@ -135,7 +156,7 @@ module _ (sources : List TableDef) (sink : TableDef) (nodes : List Node) (rules 
 
   -- the columns of a node by those of its inputs, as the rule counts them
   pub typed_by : (v : ℕ) (node : Node) → numbered nodes v ≡ Some node → types_at sources nodes v ≡ types_by sources node.op (map (types_at sources nodes) node.inputs)
-  typed_by v node e = types_made sources nodes v node e (rules v node e) (lower v node e)
+  typed_by v node e = types_made sources nodes v node e (ruled node.inputs) (lower v node e)
 
 -- in the table of the inferences too
 table_at : (types : List (Option (List ColTy))) (v : ℕ) (c : List ColTy) → numbered_columns types v ≡ Some c → columns_in (sent_columns types) v ≡ c

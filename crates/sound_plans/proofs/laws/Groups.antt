@@ -142,6 +142,33 @@ untaken : (sink : TableDef) (keys : ℕ) (aggs : List Agg) (update : Update) (ke
 untaken sink keys aggs update None = refl
 untaken sink keys aggs update (Some key) = refl
 
+-- nor does one in bundles; what is said of that is said of a group without them
+taken_alike : (sink : TableDef) (keys : ℕ) (aggs : List Agg) (update : Update) (key : Option (List ℕ)) → taken_by sink (op.BatchGroup keys aggs) 0 update key ≡ taken_by sink (op.Group keys aggs) 0 update key
+taken_alike sink keys aggs update None = refl
+taken_alike sink keys aggs update (Some key) = refl
+
+pub as_group : (sources : List TableDef) (sink : TableDef) (keys : ℕ) (aggs : List Agg) (input own : Output) → Agrees sources sink (op.BatchGroup keys aggs) (input ∷ []) own → Agrees sources sink (op.Group keys aggs) (input ∷ []) own
+as_group sources sink keys aggs input own agrees =
+    let asked = agrees.inputs_asked.0 in
+    record {
+      inputs_asked = (
+        record {
+          proper = asked.proper;
+          carries = asked.carries;
+          tells = asked.tells ∙ ap (told input.sent input.update_key) (taken_alike sink keys aggs own.edge.update input.update_key);
+          exchanged = asked.exchanged;
+        },
+        tt,
+      );
+      typed = agrees.typed;
+      keyed = agrees.keyed;
+      sends = agrees.sends;
+      updates = agrees.updates;
+      carries = agrees.carries;
+      taken = agrees.taken;
+      tells = agrees.tells;
+    }
+
 -- ---- the node
 
 key_there : (keys : ℕ) (aggs : List Agg) (width : ℕ) (key : List ℕ) → keys ≤ width → group_key keys aggs ≡ Some key → AreWithin width key

@@ -47,7 +47,7 @@ use Rattle.sound_plans.proofs.laws.Projects.{projects_fit}
 use Rattle.sound_plans.proofs.laws.Unions.{unions_fit}
 use Rattle.sound_plans.proofs.laws.Normalizes.{normalizes_fit}
 use Rattle.sound_plans.proofs.laws.Materializes.{materializes_fit}
-use Rattle.sound_plans.proofs.laws.Groups.{groups_fit}
+use Rattle.sound_plans.proofs.laws.Groups.{as_group, groups_fit}
 use Rattle.sound_plans.proofs.laws.Joins.{joins_fit, semis_fit}
 use Rattle.sound_plans.proofs.laws.TopN.{topns_fit}
 use Rattle.sound_plans.proofs.laws.Sinks.{sinks_fit}
@@ -126,6 +126,10 @@ module _ (many : ℕ) (some : 0 < many) (sources : List TableDef) (sink : TableD
         ),
         f.1,
       )
+
+  -- and so works one in bundles
+  bundles_work : (keys : ℕ) (aggs : List Agg) (input own : Output) → Agrees sources sink (op.BatchGroup keys aggs) (input ∷ []) own → Works (op.BatchGroup keys aggs) (input ∷ []) own
+  bundles_work keys aggs input own agrees = group_works keys aggs input own (as_group sources sink keys aggs input own agrees)
 
   join_works : (kind : JoinKind) (on : List Pair) (rest : Option Expr) (left right own : Output) → Agrees sources sink (op.Join kind on rest) (left ∷ (right ∷ [])) own → Works (op.Join kind on rest) (left ∷ (right ∷ [])) own
   join_works kind on rest left right own agrees =
@@ -399,7 +403,7 @@ module _ (laws : Laws) (plan : Plan) (ruled : IsRuled plan) where
       one v node e (op.TopN partition order bound ranked) is (λ n. refl) refl refl refl refl refl proper (rank_works plan.parallelism some plan.sources plan.sink partition order bound ranked)
   by_op v node e proper (op.Materialize key) is r = materialize v node e key is proper
   by_op v node e proper op.Sink is r = sink v node e is proper
-  by_op v node e proper (op.BatchGroup keys aggs) is r = absurd (cc)
+  by_op v node e proper (op.BatchGroup keys aggs) is r = one v node e (op.BatchGroup keys aggs) is (λ n. refl) refl refl refl refl refl proper (bundles_work plan.parallelism some plan.sources plan.sink keys aggs)
   by_op v node e proper (op.LocalGroup keys aggs) is r = absurd (cc)
   by_op v node e proper (op.MultiJoin on) is r = absurd (cc)
   by_op v node e proper (op.SetOp except all) is r = absurd (cc)

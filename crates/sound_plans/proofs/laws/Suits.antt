@@ -18,7 +18,7 @@ use Rattle.sound_plans.specs.Outputs.{Output, around_by}
 use Rattle.sound_plans.specs.Promises.{Laws}
 use Rattle.sound_plans.specs.Sound.{IsRuled, SoundPlansSuit}
 use Rattle.sound_plans.proofs.laws.Agreed as agreed
-use Rattle.sound_plans.proofs.laws.Groups.{groups_fit}
+use Rattle.sound_plans.proofs.laws.Groups.{as_group, groups_fit}
 use Rattle.sound_plans.proofs.laws.Normalizes.{normalizes_fit}
 use Rattle.sound_plans.proofs.laws.Outputs.{around_is, output_at}
 use Rattle.sound_plans.proofs.laws.Shapes as shapes
@@ -58,6 +58,13 @@ module _ (laws : Laws) (plan : Plan) (ruled : IsRuled plan) where
       let fits = groups_fit plan.parallelism shape.parallel plan.sources plan.sink keys aggs (output_at plan i.0) (output_at plan v) agrees in
       suits_over v node (op.Group keys aggs) i.0 i.1 fits.0.sound
 
+  bundles : (v : ℕ) (node : Node) → numbered plan.nodes v ≡ Some node → (keys : ℕ) (aggs : List Agg) → node.op ≡ op.BatchGroup keys aggs → Suits (op.BatchGroup keys aggs) (around_of plan v node.inputs)
+  bundles v node e keys aggs is =
+      let i = one_input v node e (op.BatchGroup keys aggs) is (λ n. refl) in
+      let agrees = agrees_over v node e (op.BatchGroup keys aggs) i.0 is i.1 refl refl refl refl in
+      let fits = groups_fit plan.parallelism shape.parallel plan.sources plan.sink keys aggs (output_at plan i.0) (output_at plan v) (as_group plan.sources plan.sink keys aggs (output_at plan i.0) (output_at plan v) agrees) in
+      suits_over v node (op.BatchGroup keys aggs) i.0 i.1 fits.0.sound
+
   pub ranks : (v : ℕ) (node : Node) → numbered plan.nodes v ≡ Some node → (partition : List ℕ) (order : List SortCol) (bound : ℕ) (ranked : Bool) → node.op ≡ op.TopN partition order bound ranked
       → Suits (op.TopN partition order bound ranked) (around_of plan v node.inputs)
   ranks v node e partition order bound ranked is =
@@ -69,6 +76,7 @@ module _ (laws : Laws) (plan : Plan) (ruled : IsRuled plan) where
   suits_by : (v : ℕ) (node : Node) → numbered plan.nodes v ≡ Some node → (o : Op) → node.op ≡ o → Suits o (around_of plan v node.inputs)
   suits_by v node e (op.Normalize key) is = normalizes v node e key is
   suits_by v node e (op.Group keys aggs) is = groups v node e keys aggs is
+  suits_by v node e (op.BatchGroup keys aggs) is = bundles v node e keys aggs is
   suits_by v node e (op.TopN partition order bound ranked) is = ranks v node e partition order bound ranked is
   suits_by v node e _ is = tt
 

@@ -12,20 +12,23 @@ returns-in_ok-join_by-in-Join c =
     let modes = c.in_ok-sides-in-Join.ensures.modes in
     let new = c.in_ok-join_by-in-Join.ensures in
     let inputs = c.args.node.now.inputs in
-    rw join.is (record {
-      rule_is_so = new.rule_is_so
-          ∙ (λ i. join_rule (record {
-            shape = joins join.kind;
-            on = join.on;
-            rest = option_map expr_view join.rest;
-            left_columns = (types.0 ∙ c.requires.columns) i;
-            right_columns = (types.1 ∙ c.requires.others) i;
-            left = modes.0 i;
-            right = (modes.1 ∙ other_mode c.args.plan.now c.args.number inputs) i;
-          }));
-      whole = new.whole;
-      stands_so = new.stands_so;
-    })
+    rw join.is (
+      record {
+        rule_is_so = new.rule_is_so
+            ∙ (λ i. join_rule (record {
+              shape = joins join.kind;
+              on = join.on;
+              rest = option_map expr_view join.rest;
+              left_columns = (types.0 ∙ c.requires.columns) i;
+              right_columns = (types.1 ∙ c.requires.others) i;
+              left = modes.0 i;
+              right = (modes.1 ∙ other_mode c.args.plan.now c.args.number inputs) i;
+            }));
+        whole = new.whole;
+        stands_so = new.stands_so;
+      },
+      tt,
+    )
 
 pub returns-in_ok-semi_by-in-Semi : goal.returns-in_ok-semi_by-in-Semi
 returns-in_ok-semi_by-in-Semi c =
@@ -34,17 +37,20 @@ returns-in_ok-semi_by-in-Semi c =
     let modes = c.in_ok-sides-in-Semi.ensures.modes in
     let new = c.in_ok-semi_by-in-Semi.ensures in
     let inputs = c.args.node.now.inputs in
-    rw semi.is (record {
-      rule_is_so = new.rule_is_so
-          ∙ (λ i. join_rule (record {
-            shape = matched semi.anti;
-            on = semi.on;
-            rest = option_map expr_view semi.rest;
-            left_columns = (types.0 ∙ c.requires.columns) i;
-            right_columns = (types.1 ∙ c.requires.others) i;
-            left = modes.0 i;
-            right = (modes.1 ∙ other_mode c.args.plan.now c.args.number inputs) i;
-          }));
-      whole = new.whole;
-      stands_so = new.stands_so;
-    })
+    rw semi.is (
+      record {
+        rule_is_so = new.rule_is_so
+            ∙ (λ i. join_rule (record {
+              shape = matched semi.anti;
+              on = semi.on;
+              rest = option_map expr_view semi.rest;
+              left_columns = (types.0 ∙ c.requires.columns) i;
+              right_columns = (types.1 ∙ c.requires.others) i;
+              left = modes.0 i;
+              right = (modes.1 ∙ other_mode c.args.plan.now c.args.number inputs) i;
+            }));
+        whole = new.whole;
+        stands_so = new.stands_so;
+      },
+      tt,
+    )

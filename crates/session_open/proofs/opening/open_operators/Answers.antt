@@ -4,7 +4,7 @@ use Rattle.std.proofs.lemmas.List.{length-append}
 use Rattle.std.proofs.lemmas.Option.{slice_get-get_or}
 use Rattle.std.proofs.lemmas.Result.{err_from_is_err_and}
 use Rattle.op_rules.specs.Tasks.{total}
-use Rattle.session_open.specs.Opening.{HaveOpened, IsMade, IsTooMany, opens_with}
+use Rattle.session_open.specs.Opening.{HaveOpened, IsStarted, IsTooMany, opens_with}
 use Rattle.session_open.proofs.Laying.{Each, each_push}
 use Rattle.session_open.proofs.Started.{in_table, made_runs, too_many, total_rises}
 use Rattle.session_open.proofs.opening.open_operators.Goals as goal
@@ -46,9 +46,9 @@ loop-place-preserved b c =
     record {
       count = omega (arith, longer, sum, c.loop-place.invariant.count);
       made = λ g limit opens.
-          subst (Each (λ k op. IsMade b.O.Operator.rule b.O.Operator.broken b.O.Operator.stands_for g (k / p) op)) (sym c.in_ok-put.ensures)
-          (each_push (λ k op. IsMade b.O.Operator.rule b.O.Operator.broken b.O.Operator.stands_for g (k / p) op) old op (c.loop-place.invariant.made g limit opens)
-          (subst (λ (n : ℕ). IsMade b.O.Operator.rule b.O.Operator.broken b.O.Operator.stands_for g (n / p) op) (sym c.loop-place.invariant.count) (c.in_ok-op.ensures.made g limit opens)));
+          subst (Each (λ k op. IsStarted b.O.Operator.rule b.O.Operator.broken b.O.Operator.stands_for b.O.PieceOperator.takes_pieces g (k / p) op)) (sym c.in_ok-put.ensures)
+          (each_push (λ k op. IsStarted b.O.Operator.rule b.O.Operator.broken b.O.Operator.stands_for b.O.PieceOperator.takes_pieces g (k / p) op) old op (c.loop-place.invariant.made g limit opens)
+          (subst (λ (n : ℕ). IsStarted b.O.Operator.rule b.O.Operator.broken b.O.Operator.stands_for b.O.PieceOperator.takes_pieces g (n / p) op) (sym c.loop-place.invariant.count) (c.in_ok-op.ensures.made g limit opens)));
       opened = λ g limit opens have.
           let before = subst (λ (n : ℕ). HaveOpened g limit n c.loop-place.channels) (sym digits) (c.loop-place.invariant.opened g limit opens have) in
           subst (λ (n : ℕ). HaveOpened g limit n c.open_subtask.new.channels) last (c.in_ok-op.ensures.opened g limit opens before);
@@ -56,7 +56,7 @@ loop-place-preserved b c =
 
 pub returns-clause-runs : goal.returns-clause-runs
 returns-clause-runs b c = λ g limit opens have. record {
-  at = λ v j some lv lj.
+  at = λ v j lv lj.
       let p = c.args.plan.now.parallelism in
       let items = c.loop-place.items.items in
       let place = v * p + j in
@@ -64,8 +64,8 @@ returns-clause-runs b c = λ g limit opens have. record {
       let size = ap (λ (n : ℕ). (n + 1) * p) c.len-nodes.ensures in
       let there = slice_get-get_or items place None (omega (arith, within, size, c.loop-place-test.false, c.loop-place.invariant.count)) in
       let made = c.loop-place.invariant.made g limit opens place (get_or items place None) there in
-      made_runs b.O.Operator.rule b.O.Operator.broken b.O.Operator.stands_for g v (get_or items place None)
-      (subst (λ (n : ℕ). IsMade b.O.Operator.rule b.O.Operator.broken b.O.Operator.stands_for g n (get_or items place None)) (div-mul-add v p j lj) made) some;
+      made_runs b.O.Operator.rule b.O.Operator.broken b.O.Operator.stands_for b.O.PieceOperator.takes_pieces g v (get_or items place None)
+      (subst (λ (n : ℕ). IsStarted b.O.Operator.rule b.O.Operator.broken b.O.Operator.stands_for b.O.PieceOperator.takes_pieces g n (get_or items place None)) (div-mul-add v p j lj) made);
 }
 
 pub returns-clause-opened : goal.returns-clause-opened

@@ -10,7 +10,7 @@ returns-in_err-start-clause-err b c = let p = err_from_is_err_and c.from_residua
     let plan = c.args.plan.now in
     let v = c.args.node in
     let j = c.args.subtask in
-    let may = may_start b.O.Operator.rule b.O.Operator.broken b.O.Operator.stands_for b.O.PlanOperator.runs plan c.args.columns.now c.args.wiring.now g limit c.args.channels.now v j c.in_ok-op.op c.in_ok-op.sent opens have c.requires.node c.requires.subtask (c.in_ok-op.ensures g opens.runs_as) in
+    let may = may_start b.O.Operator.rule b.O.Operator.broken b.O.Operator.stands_for b.O.PieceOperator.takes_pieces b.O.PlanOperator.runs plan c.args.columns.now c.args.wiring.now g limit c.args.channels.now v j c.in_ok-op.op c.in_ok-op.sent opens have c.requires.node c.requires.subtask (c.in_ok-op.ensures g opens.runs_as) in
     subst (λ (n : ℕ). IsTooMany limit (total (v * n + j + 1) (opens_with g)) c.in_err-start.field-0.0) opens.subtasks_are (c.in_err-start.ensures.err g limit may))
 
 pub returns-clause-opened : goal.returns-clause-opened
@@ -18,5 +18,5 @@ returns-clause-opened b c = λ g limit opens have.
     let plan = c.args.plan.now in
     let v = c.args.node in
     let j = c.args.subtask in
-    let may = may_start b.O.Operator.rule b.O.Operator.broken b.O.Operator.stands_for b.O.PlanOperator.runs plan c.args.columns.now c.args.wiring.now g limit c.args.channels.now v j c.in_ok-op.op c.in_ok-op.sent opens have c.requires.node c.requires.subtask (c.in_ok-op.ensures g opens.runs_as) in
+    let may = may_start b.O.Operator.rule b.O.Operator.broken b.O.Operator.stands_for b.O.PieceOperator.takes_pieces b.O.PlanOperator.runs plan c.args.columns.now c.args.wiring.now g limit c.args.channels.now v j c.in_ok-op.op c.in_ok-op.sent opens have c.requires.node c.requires.subtask (c.in_ok-op.ensures g opens.runs_as) in
     subst (λ (n : ℕ). HaveOpened g limit (v * n + j + 1) c.start.new.channels) opens.subtasks_are (c.in_ok-start.ensures.ok g limit may)

@@ -8,11 +8,10 @@ returns b c = λ of doing job.
     let plan = c.args.plan.now in
     let g = network_of of doing plan in
     let wires = c.in_ok-wires.ensures.wires of doing job.columns_are job.wired in
-    let lanes = c.in_ok-lanes.ensures g wires in
+    let stages = c.in_ok-stages.ensures g wires in
     let many = c.in_ok-wires.ensures.many in
     record {
       wired = job.wired;
-      unbundled = wires.unbundled;
       subtasks = wires.subtasks;
       nodes = wires.nodes;
       limit_is = refl;
@@ -25,6 +24,7 @@ returns b c = λ of doing job.
       tables = tables_laid of doing plan c.in_ok-tables.tables.items c.in_ok-tables.ensures.many c.in_ok-tables.ensures.tables;
       types_many = c.in_ok-types.ensures.many;
       types = c.in_ok-types.ensures.types g job.runs_as;
-      lanes = lanes.laid;
-      lanes_there = lanes.there (λ k d within. absurd (omega (arith, within)));
+      bundles = wires.bundles;
+      stages_are = stages.laid;
+      stages_there = stages.there (λ k d within. absurd (omega (arith, within)));
     }

@@ -1,4 +1,4 @@
-use Rattle.std.proofs.Common.{arith, rules, ◌++◌, [], ◌∷◌, sym, subst}
+use Rattle.std.proofs.Common.{arith, sym, subst}
 use Rattle.std.proofs.lemmas.Grind.{common_steps}
 use Rattle.session_core.specs.Lanes.{AreIdle}
 use Rattle.session_core.proofs.Lanes.{idle_push, none_sent, nothing_held}

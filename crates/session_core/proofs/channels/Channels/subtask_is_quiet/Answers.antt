@@ -1,4 +1,4 @@
-use Rattle.std.proofs.Common.{◌≡◌, ◌<◌, arith, List, []}
+use Rattle.std.proofs.Common.{arith}
 use Rattle.session_core.proofs.channels.Channels.subtask_is_quiet.Goals as goal
 
 pub returns-clause-quiet : goal.returns-clause-quiet

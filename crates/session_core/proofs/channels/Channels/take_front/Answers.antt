@@ -1,5 +1,5 @@
 use Rattle.std.proofs.Math.ListN.{length-set}
-use Rattle.std.proofs.Common.{◌≤◌, List, ap, ◌∙◌, arith}
+use Rattle.std.proofs.Common.{◌≤◌, ap, ◌∙◌, arith}
 use Rattle.std.proofs.lemmas.List.Elements.{All-set}
 use Rattle.route.specs.Channel.{Flow}
 use Rattle.session_core.proofs.Lanes.{front_taken, front_missing}

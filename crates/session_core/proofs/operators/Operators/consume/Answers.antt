@@ -1,21 +1,26 @@
-use Rattle.std.proofs.Common.{[], ◌∷◌}
-use Rattle.op_rules.specs.History.{arrival, joined}
-use Rattle.session_core.proofs.Running.{found, all_run_after, if_ok, if_range}
+use Rattle.session_core.proofs.Running.{found, if_ok, if_range}
+use Rattle.session_core.proofs.Slots.{consumed_in, may_take_in, out_taking_in}
 use Rattle.session_core.proofs.operators.Operators.consume.Goals as goal
 
-pub returns-clause-ok : goal.returns-clause-ok
-returns-clause-ok b c = if_ok _ _ c.consume_in.result c.consume_in.ensures.ok (λ sent told g pieces from some lv all may.
+pub take_in-requires : goal.take_in-requires
+take_in-requires b c =
     let s = c.args.self.now in
-    let v = c.args.feed.node in
-    let j = c.args.subtask in
-    let slot = found b.O.Operator.rule b.O.Operator.broken b.O.Operator.stands_for g s.width s.items.items pieces v j c.place-place.result c.in-Some.slot.now all some lv c.requires.subtask c.place-place.ensures.is c.place-place.ensures.within c.in-Some.ensures.value in
-    let t = told g v j (joined (pieces v j)) from slot may in
-    (t.0, all_run_after b.O.Operator.rule b.O.Operator.broken b.O.Operator.stands_for g s.width s.items.items pieces v j c.place-place.result (arrival c.args.feed.port from c.args.change) c.consume_in.new.slot all c.requires.subtask c.place-place.ensures.is c.place-place.ensures.within t.1))
+    let r = c.requires.ready in
+    record {
+      ready = may_take_in b.O.Operator.rule b.O.Operator.broken b.O.Operator.stands_for b.O.PieceOperator.takes_pieces s.width s.items.items c.args.size c.args.feed.node c.args.subtask c.args.feed.port c.args.change r.0 r.1 r.2 r.3 c.in-Some.slot.now r.4
+          (found b.O.Operator.rule b.O.Operator.broken b.O.Operator.stands_for b.O.PieceOperator.takes_pieces r.0 s.width s.items.items r.1 r.2 c.args.feed.node c.args.subtask c.place-place.result c.in-Some.slot.now r.4.all r.4.there c.requires.subtask c.place-place.ensures.is c.place-place.ensures.within c.in-Some.ensures.value);
+    }
+
+pub returns-clause-ok : goal.returns-clause-ok
+returns-clause-ok b c = if_ok _ _ c.take_in.result c.take_in.ensures.ok (λ sent told g pieces bundle from m.
+    let s = c.args.self.now in
+    consumed_in b.O.Operator.rule b.O.Operator.broken b.O.Operator.stands_for b.O.PieceOperator.takes_pieces s.width s.items.items c.args.size c.args.feed.node c.args.subtask c.args.feed.port c.args.change g pieces bundle from c.place-place.result c.in-Some.slot.now c.take_in.new.slot sent m
+    (found b.O.Operator.rule b.O.Operator.broken b.O.Operator.stands_for b.O.PieceOperator.takes_pieces g s.width s.items.items pieces bundle c.args.feed.node c.args.subtask c.place-place.result c.in-Some.slot.now m.all m.there c.requires.subtask c.place-place.ensures.is c.place-place.ensures.within c.in-Some.ensures.value)
+    c.requires.subtask c.place-place.ensures.is c.place-place.ensures.within told)
 
 pub returns-clause-range : goal.returns-clause-range
-returns-clause-range b c = if_range _ _ c.consume_in.result c.consume_in.ensures.range (λ row told g pieces from some lv all may.
+returns-clause-range b c = if_range _ _ c.take_in.result c.take_in.ensures.range (λ row told g pieces bundle from m.
     let s = c.args.self.now in
-    let v = c.args.feed.node in
-    let j = c.args.subtask in
-    let slot = found b.O.Operator.rule b.O.Operator.broken b.O.Operator.stands_for g s.width s.items.items pieces v j c.place-place.result c.in-Some.slot.now all some lv c.requires.subtask c.place-place.ensures.is c.place-place.ensures.within c.in-Some.ensures.value in
-    told g v j (joined (pieces v j)) from slot may)
+    out_taking_in b.O.Operator.rule b.O.Operator.broken b.O.Operator.stands_for b.O.PieceOperator.takes_pieces s.width s.items.items c.args.size c.args.feed.node c.args.subtask c.args.feed.port c.args.change g pieces bundle from c.in-Some.slot.now row m
+    (found b.O.Operator.rule b.O.Operator.broken b.O.Operator.stands_for b.O.PieceOperator.takes_pieces g s.width s.items.items pieces bundle c.args.feed.node c.args.subtask c.place-place.result c.in-Some.slot.now m.all m.there c.requires.subtask c.place-place.ensures.is c.place-place.ensures.within c.in-Some.ensures.value)
+    told)

@@ -1,14 +1,14 @@
-use Rattle.std.proofs.Common.{◌≡◌, ℕ, ◌+◌, ◌<◌, List, [], ◌∷◌, refl, sym, ap, subst, ◌∙◌, arith}
+use Rattle.std.proofs.Common.{ℕ, [], ◌∷◌, ◌++◌, sym, subst, ◌∙◌, arith}
 use Rattle.std.proofs.lemmas.Result.{err_from_is_err_and}
-use Rattle.op_rules.specs.History.{Arrival, arrival, joined}
-use Rattle.op_rules.specs.Rules.{Answer}
+use Rattle.op_rules.specs.History.{arrival}
 use Rattle.stream_model.specs.declared.events.Event.TheVariants.{Move}
-use Rattle.stream_model.specs.Machine.{move, answered, hand_on}
+use Rattle.stream_model.specs.Machine.{joins, move}
 use Rattle.stream_model.specs.Runs.{happens}
 use Rattle.session_core.specs.LaidOut.{port_of}
-use Rattle.session_core.specs.Runs.{AllRun, pieces_after}
-use Rattle.session_core.specs.Sources.{AllCheck}
-use Rattle.session_core.proofs.Steps.{channel_there, fed_there, fits_after, may_take, mid, mid_carries, mid_empty, mid_pieces, moved, open_after, stops_out, stops_same}
+use Rattle.session_core.specs.Runs.{AllHaveRun, is_full}
+use Rattle.session_core.specs.Stands.{next_if}
+use Rattle.session_core.proofs.Running.{if_err, on_ok}
+use Rattle.session_core.proofs.Steps.{channel_there, fed_there, joins_carries, may_take, move_next, open_after, outside_put, stops_out, stops_same}
 use Rattle.session_core.proofs.session.Session.advance.Goals as goal
 
 pub returns-in_err-feed-clause-err : goal.returns-in_err-feed-clause-err
@@ -43,8 +43,19 @@ consume_at-requires-clause-ready b c =
     let keeps = r.4 in
     let f = c.in_ok-feed.ensures.ok g limit r.2 s keeps.laid keeps.carries in
     let port = port_of c.in_ok-feed.feed in
-    let there = fed_there g keeps.laid.wired c.args.edge port f.fed in
-    (g, s.pieces, c.args.from, there.ports, there.node, keeps.runs, may_take g limit s c.args.edge c.args.from c.args.to port c.in_ok-feed.change f.rest keeps.laid.small keeps.opens keeps.unbundled f.fed f.channel f.front)
+    let there = fed_there g keeps.laid.wired c.args.edge port f.fed in (
+      g,
+      s.pieces,
+      s.bundle,
+      c.args.from,
+      record {
+        node = there.ports;
+        there = there.node;
+        all = keeps.runs;
+        size_is = c.bundle-size.ensures g limit keeps.laid;
+        may = may_take g limit s c.args.edge c.args.from c.args.to port c.in_ok-feed.change f.rest keeps.laid.small keeps.opens f.fed f.channel f.front;
+      },
+    )
 
 pub returns-in_err-sent-clause-err : goal.returns-in_err-sent-clause-err
 returns-in_err-sent-clause-err b c = let p = err_from_is_err_and c.from_residual-in_err-sent.result c.from_residual-in_err-sent.ensures.1 in rw (p.1, p.2) (λ g limit handed s keeps.
@@ -52,17 +63,23 @@ returns-in_err-sent-clause-err b c = let p = err_from_is_err_and c.from_residual
     let i = c.args.from in
     let j = c.args.to in
     let change = c.in_ok-feed.change in
+    let v = c.in_ok-feed.feed.node in
     let f = c.in_ok-feed.ensures.ok g limit handed s keeps.laid keeps.carries in
     let port = port_of c.in_ok-feed.feed in
     let there = fed_there g keeps.laid.wired e port f.fed in
-    let may = may_take g limit s e i j port change f.rest keeps.laid.small keeps.opens keeps.unbundled f.fed f.channel f.front in
-    stops_out g limit c.in_ok-feed.feed.node j (move g limit s e i j) (g.emits c.in_ok-feed.feed.node (joined (s.pieces c.in_ok-feed.feed.node j)) (arrival c.in_ok-feed.feed.port i change ∷ []))
-    (mid g limit s e i j port change f.rest) c.in_err-sent.field-0.0
-    (moved g limit s e i j port change f.rest (keeps.laid.unbundled c.in_ok-feed.feed.node) keeps.unbundled f.fed f.channel f.front)
-    (c.in_err-sent.ensures.err g s.pieces i there.ports there.node keeps.runs may limit keeps.laid))
+    let between = joins e i j port change f.rest s in
+    stops_out g limit v j (is_full g v (between.bundle v j)) between (move g limit s e i j) c.in_err-sent.field-0.0
+    (move_next g limit s e i j port change f.rest f.fed f.channel f.front)
+    (c.in_err-sent.ensures.err g s.pieces s.bundle i (record {
+      node = there.ports;
+      there = there.node;
+      all = keeps.runs;
+      size_is = c.bundle-size.ensures g limit keeps.laid;
+      may = may_take g limit s e i j port change f.rest keeps.laid.small keeps.opens f.fed f.channel f.front;
+    }) limit keeps.laid))
 
-pub hand_on-requires : goal.hand_on-requires
-hand_on-requires b c =
+pub hand_out-requires : goal.hand_out-requires
+hand_out-requires b c =
     let r = c.requires.ready in
     let g = r.0 in
     let limit = r.1 in
@@ -76,51 +93,38 @@ hand_on-requires b c =
     let f = c.in_ok-feed.ensures.ok g limit r.2 s keeps.laid keeps.carries in
     let port = port_of c.in_ok-feed.feed in
     let there = fed_there g keeps.laid.wired e port f.fed in
-    let may = may_take g limit s e i j port change f.rest keeps.laid.small keeps.opens keeps.unbundled f.fed f.channel f.front in
-    let told = c.in_ok-sent.ensures.ok g s.pieces i there.ports there.node keeps.runs may in
-    let between = mid g limit s e i j port change f.rest in
-    let is = moved g limit s e i j port change f.rest (keeps.laid.unbundled v) keeps.unbundled f.fed f.channel f.front ∙ ap (λ (a : Answer). answered g limit v j a between) told.0 in
+    let between = joins e i j port change f.rest s in
+    let due = is_full g v (between.bundle v j) in
+    let told = c.in_ok-sent.ensures.ok g s.pieces s.bundle i (record {
+      node = there.ports;
+      there = there.node;
+      all = keeps.runs;
+      size_is = c.bundle-size.ensures g limit keeps.laid;
+      may = may_take g limit s e i j port change f.rest keeps.laid.small keeps.opens f.fed f.channel f.front;
+    }) in
     record {
       ready = (
+        due,
         g,
         limit,
         r.2,
         between,
         record {
           laid = keeps.laid;
-          carries = mid_carries g limit s e i j port change f.rest c.fetch.new.self r.2 f.carries;
-          node = there.ports;
+          nodes_are = c.consume_at.ensures.nodes ∙ keeps.nodes_are;
+          width_is = c.consume_at.ensures.width ∙ keeps.width_is;
+          carries = joins_carries g limit s e i j port change f.rest c.fetch.new.self r.2 f.carries;
+          runs = subst (λ (w : ℕ). AllHaveRun b.O.Operator.rule b.O.Operator.broken b.O.Operator.stands_for b.O.PieceOperator.takes_pieces due g w c.consume_at.new.operators.items.items between.pieces between.bundle v j c.in_ok-sent.sent) (sym c.consume_at.ensures.width) told;
+          sources = keeps.sources;
+          outside = outside_put g s.bundle v j (s.bundle v j ++ arrival port.port i change ∷ []) (let n = there.node in omega (arith, n)) keeps.outside;
           subtask = (channel_there g e i j f.channel).1;
-          fit = fits_after g limit s (happens (Move e i j)) (hand_on g limit v j c.in_ok-sent.sent between) keeps.opens is tt;
+          opens = λ next done. open_after g limit s (happens (Move e i j)) next (move_next g limit s e i j port change f.rest f.fed f.channel f.front ∙ done) tt keeps.opens;
         },
       );
     }
 
-pub returns-in_err-hand_on-clause-err : goal.returns-in_err-hand_on-clause-err
-returns-in_err-hand_on-clause-err b c = let p = err_from_is_err_and c.from_residual-in_err-hand_on.result c.from_residual-in_err-hand_on.ensures.1 in rw (p.1, p.2) (λ g limit handed s keeps.
-    let e = c.args.edge in
-    let i = c.args.from in
-    let j = c.args.to in
-    let change = c.in_ok-feed.change in
-    let v = c.in_ok-feed.feed.node in
-    let f = c.in_ok-feed.ensures.ok g limit handed s keeps.laid keeps.carries in
-    let port = port_of c.in_ok-feed.feed in
-    let there = fed_there g keeps.laid.wired e port f.fed in
-    let may = may_take g limit s e i j port change f.rest keeps.laid.small keeps.opens keeps.unbundled f.fed f.channel f.front in
-    let told = c.in_ok-sent.ensures.ok g s.pieces i there.ports there.node keeps.runs may in
-    let between = mid g limit s e i j port change f.rest in
-    let is = moved g limit s e i j port change f.rest (keeps.laid.unbundled v) keeps.unbundled f.fed f.channel f.front ∙ ap (λ (a : Answer). answered g limit v j a between) told.0 in
-    stops_same (move g limit s e i j) (hand_on g limit v j c.in_ok-sent.sent between) c.in_err-hand_on.field-0.0 is
-    (c.in_err-hand_on.ensures.err g limit handed between (record {
-      laid = keeps.laid;
-      carries = mid_carries g limit s e i j port change f.rest c.fetch.new.self handed f.carries;
-      node = there.ports;
-      subtask = (channel_there g e i j f.channel).1;
-      fit = fits_after g limit s (happens (Move e i j)) (hand_on g limit v j c.in_ok-sent.sent between) keeps.opens is tt;
-    })))
-
 pub returns-clause-ok : goal.returns-clause-ok
-returns-clause-ok b c = λ g limit handed s keeps.
+returns-clause-ok b c = on_ok _ _ c.hand_out.result c.hand_out.ensures.ok (λ handed_out g limit handed s keeps.
     let e = c.args.edge in
     let i = c.args.from in
     let j = c.args.to in
@@ -129,29 +133,57 @@ returns-clause-ok b c = λ g limit handed s keeps.
     let f = c.in_ok-feed.ensures.ok g limit handed s keeps.laid keeps.carries in
     let port = port_of c.in_ok-feed.feed in
     let there = fed_there g keeps.laid.wired e port f.fed in
-    let may = may_take g limit s e i j port change f.rest keeps.laid.small keeps.opens keeps.unbundled f.fed f.channel f.front in
-    let told = c.in_ok-sent.ensures.ok g s.pieces i there.ports there.node keeps.runs may in
-    let between = mid g limit s e i j port change f.rest in
-    let none = keeps.laid.unbundled v in
-    let is = moved g limit s e i j port change f.rest none keeps.unbundled f.fed f.channel f.front ∙ ap (λ (a : Answer). answered g limit v j a between) told.0 in
-    let done = c.in_ok-hand_on.ensures.ok g limit handed between (record {
-      laid = keeps.laid;
-      carries = mid_carries g limit s e i j port change f.rest c.fetch.new.self handed f.carries;
+    let between = joins e i j port change f.rest s in
+    let due = is_full g v (between.bundle v j) in
+    let is = move_next g limit s e i j port change f.rest f.fed f.channel f.front in
+    let told = c.in_ok-sent.ensures.ok g s.pieces s.bundle i (record {
       node = there.ports;
-      subtask = (channel_there g e i j f.channel).1;
-      fit = fits_after g limit s (happens (Move e i j)) (hand_on g limit v j c.in_ok-sent.sent between) keeps.opens is tt;
+      there = there.node;
+      all = keeps.runs;
+      size_is = c.bundle-size.ensures g limit keeps.laid;
+      may = may_take g limit s e i j port change f.rest keeps.laid.small keeps.opens f.fed f.channel f.front;
     }) in
-    let ops = c.consume_at.new.operators in (
-      done.0,
-      is ∙ done.1,
-      record {
-        laid = keeps.laid;
-        nodes_are = c.consume_at.ensures.nodes ∙ keeps.nodes_are;
-        width_is = c.consume_at.ensures.width ∙ keeps.width_is;
-        carries = done.3;
-        runs = subst (AllRun b.O.Operator.rule b.O.Operator.broken b.O.Operator.stands_for g ops.width ops.items.items) (sym (done.2.pieces ∙ mid_pieces g limit s e i j port change f.rest none keeps.unbundled)) (subst (λ (w : ℕ). AllRun b.O.Operator.rule b.O.Operator.broken b.O.Operator.stands_for g w ops.items.items (pieces_after s.pieces v j (arrival port.port i change))) (sym c.consume_at.ensures.width) told.1);
-        sources = subst (AllCheck b.S.SourceCheck.stands_for g c.args.self.now.sources.items) (sym done.2.taken) keeps.sources;
-        unbundled = λ w k. ap (λ (h : ℕ → ℕ → List Arrival). h w k) done.2.bundle ∙ mid_empty g limit s e i j port change f.rest none keeps.unbundled w k;
-        opens = open_after g limit s (happens (Move e i j)) done.0 (is ∙ done.1) tt keeps.opens;
-      },
-    )
+    let done = handed_out due g limit handed between (record {
+      laid = keeps.laid;
+      nodes_are = c.consume_at.ensures.nodes ∙ keeps.nodes_are;
+      width_is = c.consume_at.ensures.width ∙ keeps.width_is;
+      carries = joins_carries g limit s e i j port change f.rest c.fetch.new.self handed f.carries;
+      runs = subst (λ (w : ℕ). AllHaveRun b.O.Operator.rule b.O.Operator.broken b.O.Operator.stands_for b.O.PieceOperator.takes_pieces due g w c.consume_at.new.operators.items.items between.pieces between.bundle v j c.in_ok-sent.sent) (sym c.consume_at.ensures.width) told;
+      sources = keeps.sources;
+      outside = outside_put g s.bundle v j (s.bundle v j ++ arrival port.port i change ∷ []) (let n = there.node in omega (arith, n)) keeps.outside;
+      subtask = (channel_there g e i j f.channel).1;
+      opens = λ next done. open_after g limit s (happens (Move e i j)) next (is ∙ done) tt keeps.opens;
+    }) in
+    (done.0, is ∙ done.1, done.2))
+
+pub returns-clause-err : goal.returns-clause-err
+returns-clause-err b c = if_err _ _ c.hand_out.result c.hand_out.ensures.err (λ fault stops g limit handed s keeps.
+    let e = c.args.edge in
+    let i = c.args.from in
+    let j = c.args.to in
+    let change = c.in_ok-feed.change in
+    let v = c.in_ok-feed.feed.node in
+    let f = c.in_ok-feed.ensures.ok g limit handed s keeps.laid keeps.carries in
+    let port = port_of c.in_ok-feed.feed in
+    let there = fed_there g keeps.laid.wired e port f.fed in
+    let between = joins e i j port change f.rest s in
+    let due = is_full g v (between.bundle v j) in
+    let is = move_next g limit s e i j port change f.rest f.fed f.channel f.front in
+    let told = c.in_ok-sent.ensures.ok g s.pieces s.bundle i (record {
+      node = there.ports;
+      there = there.node;
+      all = keeps.runs;
+      size_is = c.bundle-size.ensures g limit keeps.laid;
+      may = may_take g limit s e i j port change f.rest keeps.laid.small keeps.opens f.fed f.channel f.front;
+    }) in
+    stops_same (move g limit s e i j) (next_if due g limit v j between) fault is (stops due g limit handed between (record {
+      laid = keeps.laid;
+      nodes_are = c.consume_at.ensures.nodes ∙ keeps.nodes_are;
+      width_is = c.consume_at.ensures.width ∙ keeps.width_is;
+      carries = joins_carries g limit s e i j port change f.rest c.fetch.new.self handed f.carries;
+      runs = subst (λ (w : ℕ). AllHaveRun b.O.Operator.rule b.O.Operator.broken b.O.Operator.stands_for b.O.PieceOperator.takes_pieces due g w c.consume_at.new.operators.items.items between.pieces between.bundle v j c.in_ok-sent.sent) (sym c.consume_at.ensures.width) told;
+      sources = keeps.sources;
+      outside = outside_put g s.bundle v j (s.bundle v j ++ arrival port.port i change ∷ []) (let n = there.node in omega (arith, n)) keeps.outside;
+      subtask = (channel_there g e i j f.channel).1;
+      opens = λ next done. open_after g limit s (happens (Move e i j)) next (is ∙ done) tt keeps.opens;
+    })))

@@ -1,8 +1,7 @@
-use Rattle.std.proofs.Common.{sym, ap, subst, ◌∙◌}
+use Rattle.std.proofs.Common.{ap, subst, ◌∙◌}
 use Rattle.stream_model.specs.declared.events.Event.{Event}
 use Rattle.stream_model.specs.Machine.{step}
 use Rattle.stream_model.specs.Runs.{happens, IsTyped}
-use Rattle.stream_model.specs.Drain.{StopsBy}
 use Rattle.session_core.proofs.Running.{on_ok}
 use Rattle.session_core.proofs.session.Session.apply.Goals as goal
 
@@ -16,6 +15,7 @@ returns-in-Take-clause-ok b c = on_ok _ _ c.take.result c.take.ensures.ok (λ to
     let m = told g limit handed s keeps (subst (λ (e : Event). IsTyped g (happens e)) c.in-Take.is typed) in
     (m.0, ap (step g limit s) c.in-Take.is ∙ m.1, m.2))
 
-pub returns-in-Flush-clause-err : goal.returns-in-Flush-clause-err
-returns-in-Flush-clause-err b c = λ g limit handed s keeps typed.
-    subst (λ (e : Event). StopsBy (step g limit s e) c.flush_fault.result) (sym c.in-Flush.is) (c.flush_fault.ensures g limit s keeps.laid)
+pub returns-in-Flush-clause-ok : goal.returns-in-Flush-clause-ok
+returns-in-Flush-clause-ok b c = on_ok _ _ c.flush.result c.flush.ensures.ok (λ told g limit handed s keeps typed.
+    let m = told g limit handed s keeps in
+    (m.0, ap (step g limit s) c.in-Flush.is ∙ m.1, m.2))

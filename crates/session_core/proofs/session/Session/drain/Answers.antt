@@ -1,4 +1,4 @@
-use Rattle.std.proofs.Common.{◌≡◌, ◌++◌, sym, ap, subst, ◌∙◌}
+use Rattle.std.proofs.Common.{◌++◌, sym, subst, ◌∙◌}
 use Rattle.stream_model.specs.Machine.{opened}
 use Rattle.stream_model.specs.Runs.{after}
 use Rattle.stream_model.specs.Drain.{drain}
@@ -15,7 +15,7 @@ returns-in-Ok-clause-ok b c = λ g limit handed items stands.
       m.1,
       record {
         typed = typed-append g items (drain g limit s) stands.typed (typed_drain g limit s);
-        keeps = subst (Keeps b.O.Operator.rule b.O.Operator.broken b.O.Operator.stands_for b.S.SourceCheck.stands_for g limit c.run_drain.new.self handed)
+        keeps = subst (Keeps b.O.Operator.rule b.O.Operator.broken b.O.Operator.stands_for b.O.PieceOperator.takes_pieces b.S.SourceCheck.stands_for g limit c.run_drain.new.self handed)
             (sym (after-append g limit (opened g) items (drain g limit s) ∙ after_leads g limit s (drain g limit s) m.0 m.1)) m.2;
       },
       (runs_drain g stands.keeps.laid.wired limit items stands.typed).drained m.0 m.1,

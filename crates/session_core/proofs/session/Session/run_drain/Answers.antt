@@ -9,20 +9,20 @@ use Rattle.session_core.proofs.Runs.{leads-append, stops_before, stops_behind}
 use Rattle.session_core.proofs.Steps.{open_after}
 use Rattle.session_core.proofs.session.Session.run_drain.Goals as goal
 
-pub returns-in_err-deliver_all-clause-err : goal.returns-in_err-deliver_all-clause-err
-returns-in_err-deliver_all-clause-err b c = let p = err_from_is_err_and c.from_residual.result c.from_residual.ensures.1 in rw (p.1, p.2) (λ g limit handed s keeps.
-    stops_before g limit s (drain_stages g limit s (stages g)) (quiet ∷ []) c.in_err-deliver_all.field-0.0 (handed ++ c.deliver_all.new.self.traffic.printed) (c.in_err-deliver_all.ensures.err g limit handed s keeps))
+pub returns-in_err-run_stages-clause-err : goal.returns-in_err-run_stages-clause-err
+returns-in_err-run_stages-clause-err b c = let p = err_from_is_err_and c.from_residual.result c.from_residual.ensures.1 in rw (p.1, p.2) (λ g limit handed s keeps.
+    stops_before g limit s (drain_stages g limit s (stages g)) (quiet ∷ []) c.in_err-run_stages.field-0.0 (handed ++ c.run_stages.new.self.traffic.printed) (c.in_err-run_stages.ensures.err g limit handed s keeps))
 
 pub returns-in_err-tell_quiet-clause-err : goal.returns-in_err-tell_quiet-clause-err
 returns-in_err-tell_quiet-clause-err b c = let p = err_from_is_err_and c.from_residual-in_err-tell_quiet.result c.from_residual-in_err-tell_quiet.ensures.1 in rw (p.1, p.2) (λ g limit handed s keeps.
-    let m = c.in_ok-deliver_all.ensures.ok g limit handed s keeps in
+    let m = c.in_ok-run_stages.ensures.ok g limit handed s keeps in
     let printed = handed ++ c.tell_quiet.new.self.printed in
     let out : State.printed m.0 ≡ printed = m.2.carries.printed ∙ ap (λ (l : List PrintItem). handed ++ l) (sym c.in_err-tell_quiet.ensures.err) in
     stops_behind g limit s (drain_stages g limit s (stages g)) m.0 (quiet ∷ []) Memory printed m.1 (inl (tt, out)))
 
 pub returns-clause-ok : goal.returns-clause-ok
 returns-clause-ok b c = λ g limit handed s keeps.
-    let m = c.in_ok-deliver_all.ensures.ok g limit handed s keeps in
+    let m = c.in_ok-run_stages.ensures.ok g limit handed s keeps in
     let kept = m.2 in (
       told_quiet g m.0,
       leads-append g limit s (drain_stages g limit s (stages g)) m.0 (quiet ∷ []) (told_quiet g m.0) m.1 (told_quiet g m.0, refl, refl),
@@ -33,7 +33,7 @@ returns-clause-ok b c = λ g limit handed s keeps.
         carries = c.in_ok-tell_quiet.ensures.ok g limit handed m.0 kept.carries;
         runs = kept.runs;
         sources = kept.sources;
-        unbundled = kept.unbundled;
+        outside = kept.outside;
         opens = open_after g limit m.0 quiet (told_quiet g m.0) refl tt kept.opens;
       },
     )

@@ -1,4 +1,4 @@
-use Rattle.std.proofs.Common.{◌≡◌, [], ◌∷◌, ◌++◌, sym, ap, subst, ◌∙◌}
+use Rattle.std.proofs.Common.{[], ◌∷◌, sym, ap, subst, ◌∙◌}
 use Rattle.stream_model.specs.Machine.{opened}
 use Rattle.stream_model.specs.Runs.{after, happens, state_in}
 use Rattle.session_core.specs.Stands.{Keeps}
@@ -13,7 +13,7 @@ returns-in-Ok-clause-ok b c = λ g limit handed items stands typed.
       m.1,
       record {
         typed = typed-append g items (happens c.args.event ∷ []) stands.typed (typed, tt);
-        keeps = subst (Keeps b.O.Operator.rule b.O.Operator.broken b.O.Operator.stands_for b.S.SourceCheck.stands_for g limit c.apply.new.self handed)
+        keeps = subst (Keeps b.O.Operator.rule b.O.Operator.broken b.O.Operator.stands_for b.O.PieceOperator.takes_pieces b.S.SourceCheck.stands_for g limit c.apply.new.self handed)
             (sym (after-append g limit (opened g) items (happens c.args.event ∷ []) ∙ ap (state_in s) m.1)) m.2;
       },
     )

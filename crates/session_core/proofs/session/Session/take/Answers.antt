@@ -1,4 +1,4 @@
-use Rattle.std.proofs.Common.{◌≡◌, ◌∙◌}
+use Rattle.std.proofs.Common.{◌∙◌}
 use Rattle.std.proofs.lemmas.Result.{err_from_is_err_and}
 use Rattle.stream_model.specs.declared.events.Event.TheVariants.{Take}
 use Rattle.stream_model.specs.Tables.{scanned_at}
@@ -73,7 +73,7 @@ returns-clause-ok b c = λ g limit handed s keeps typed.
         carries = m.1;
         runs = keeps.runs;
         sources = ok.checks;
-        unbundled = keeps.unbundled;
+        outside = keeps.outside;
         opens = open_after g limit s (happens (Take c.args.table c.args.change)) next (is ∙ m.0) typed keeps.opens;
       },
     )

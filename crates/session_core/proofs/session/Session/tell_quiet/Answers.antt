@@ -12,7 +12,7 @@ returns-in-Ok-clause-ok b c = λ g limit handed items stands.
     let kept = stands.keeps in
     record {
       typed = typed-append g items (quiet ∷ []) stands.typed (tt, tt);
-      keeps = subst (Keeps b.O.Operator.rule b.O.Operator.broken b.O.Operator.stands_for b.S.SourceCheck.stands_for g limit (record c.args.self { traffic = c.tell_quiet.new.self }) handed)
+      keeps = subst (Keeps b.O.Operator.rule b.O.Operator.broken b.O.Operator.stands_for b.O.PieceOperator.takes_pieces b.S.SourceCheck.stands_for g limit (record c.args.self { traffic = c.tell_quiet.new.self }) handed)
           (sym (after-append g limit (opened g) items (quiet ∷ [])))
           (record {
             laid = kept.laid;
@@ -21,7 +21,7 @@ returns-in-Ok-clause-ok b c = λ g limit handed items stands.
             carries = c.in-Ok.ensures.ok g limit handed s kept.carries;
             runs = kept.runs;
             sources = kept.sources;
-            unbundled = kept.unbundled;
+            outside = kept.outside;
             opens = open_after g limit s quiet (told_quiet g s) refl tt kept.opens;
           });
     }

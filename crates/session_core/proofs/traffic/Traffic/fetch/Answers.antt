@@ -1,4 +1,4 @@
-use Rattle.std.proofs.Common.{◌≡◌, ℕ, ◌<◌, List, [], ◌∷◌, sym, ap, ◌∙◌, arith}
+use Rattle.std.proofs.Common.{sym, ◌∙◌, arith}
 use Rattle.session_core.specs.Lanes.{flight_in}
 use Rattle.session_core.specs.LaidOut.{port_of}
 use Rattle.session_core.proofs.Flights.{carry_front}

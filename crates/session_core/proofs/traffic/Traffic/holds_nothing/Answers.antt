@@ -1,4 +1,4 @@
-use Rattle.std.proofs.Common.{◌≡◌, ℕ, ◌<◌, List, [], Some, sym, ap, subst, ◌∙◌}
+use Rattle.std.proofs.Common.{ℕ, ◌<◌, sym, subst, ◌∙◌}
 use Rattle.session_core.specs.LaidOut.{port_of}
 use Rattle.session_core.proofs.traffic.Traffic.holds_nothing.Goals as goal
 

@@ -1,4 +1,4 @@
-use Rattle.std.proofs.Common.{◌≡◌, ℕ, ◌<◌, length, sym, ap, subst, ◌∙◌, arith}
+use Rattle.std.proofs.Common.{length, sym, ap, ◌∙◌, arith}
 use Rattle.session_core.specs.LaidOut.{port_of}
 use Rattle.session_core.proofs.Wires.{channel_there, fed_there, flight_on}
 use Rattle.session_core.proofs.traffic.Traffic.in_flight.Goals as goal

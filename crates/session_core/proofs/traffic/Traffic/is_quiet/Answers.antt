@@ -1,4 +1,4 @@
-use Rattle.std.proofs.Common.{◌≡◌, ℕ, ◌+◌, ◌<◌, arith, inl, inr, ◌⊎◌, subst, sym, ◌∙◌}
+use Rattle.std.proofs.Common.{ℕ, arith, inl, inr, subst, sym, ◌∙◌}
 use Rattle.std.proofs.lemmas.Bool.{cases_eq}
 use Rattle.session_core.specs.Kept.{IsEdgeQuiet}
 use Rattle.session_core.proofs.Wires.{fed_there}

@@ -5,4 +5,4 @@ use Rattle.session_open.specs.Wired.{AreWires, Lays}
 use Rattle.session_open.proofs.wires.Wires.lay_edge.Given as goal
 
 abbrev pub invariant-loop-from : goal.invariant-loop-from
-invariant-loop-from l = (g : Network) → AreWires l.self g → Lays g l.fn.lanes.items l.lanes.items (channels_from g l.edge 0 l.from)
+invariant-loop-from l = (g : Network) → AreWires l.self g → Lays g l.fn.stages.items l.stages.items (channels_from g l.edge 0 l.from)

@@ -5,4 +5,4 @@ use Rattle.session_open.specs.Wired.{AreWires, Lays}
 use Rattle.session_open.proofs.wires.Wires.lay_subtask.Given as goal
 
 abbrev pub invariant-loop-to : goal.invariant-loop-to
-invariant-loop-to l = (g : Network) → AreWires l.self g → Lays g l.fn.lanes.items l.lanes.items (channels_to g l.edge l.from 0 l.to)
+invariant-loop-to l = (g : Network) → AreWires l.self g → Lays g l.fn.stages.items l.stages.items (channels_to g l.edge l.from 0 l.to)
