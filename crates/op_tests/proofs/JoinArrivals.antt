@@ -1,4 +1,4 @@
--- What an operator of a join took, after one more change.
+-- What an operator of two inputs took, after one more change.
 use Rattle.std.proofs.Common.{◌≡◌, ℕ, ◌+◌, true, List, [], ◌∷◌, ◌++◌, length, sym, ap, subst, ◌∙◌, arith}
 use Rattle.std.proofs.lemmas.List.{length-append}
 use Rattle.ct_change.specs.declared.change.Change.{Change}
@@ -8,8 +8,6 @@ use Rattle.ct_value.specs.Bag.{none}
 use Rattle.rel_algebra.proofs.laws.Fits.{fits-length}
 use Rattle.op_rules.specs.History.{Arrival, arrival, at_port}
 use Rattle.op_rules.specs.Rules.{Rule, MayArrive}
-use Rattle.op_rules.specs.Values.{types_fit}
-use Rattle.op_rules.proofs.laws.Values.{types_of_row}
 use Rattle.emission_rules.proofs.laws.Walks.{rows-push}
 use Rattle.op_tests.specs.declared.join_feed.Feed.{Feed}
 use Rattle.op_tests.specs.declared.join_feed.Reads.{Reads}
@@ -46,24 +44,20 @@ module _ (rule : Rule) (stands_for : List Arrival → Type 0) (feed : Feed) (fed
   rights = fold (mode_of feed.right_reads) (at_port 1 fed.before)
 
   pub arrives_left : MayCome (mode_of feed.left_reads) lefts change → row_fits columns change.row ≡ true → MayArrive rule fed.before (arrival 0 0 change)
-  arrives_left may fits =
-      let j = fed.of_rows.joining in
-      subst (λ r. MayArrive r fed.before (arrival 0 0 change)) (sym fed.of_rows.is) record {
-        port = omega arith;
-        change = subst (λ mode. MayCome mode (fold mode (at_port 0 fed.before)) change) (sym fed.of_rows.left_mode) may;
-        fits = ap (λ c. types_fit c change.row) fed.of_rows.left_columns_are ∙ types_of_row columns change.row fits;
-        key = subst (λ mode. HasKey mode change.row) (sym fed.of_rows.left_mode) (has_key feed.left_reads change fits);
-      }
+  arrives_left may fits = record {
+    port = rw fed.of_rows.ports (omega arith);
+    change = subst (λ mode. MayCome mode (fold mode (at_port 0 fed.before)) change) (sym fed.of_rows.left_mode) may;
+    fits = fed.of_rows.fits 0 change fits;
+    key = subst (λ mode. HasKey mode change.row) (sym fed.of_rows.left_mode) (has_key feed.left_reads change fits);
+  }
 
   pub arrives_right : MayCome (mode_of feed.right_reads) rights change → row_fits columns change.row ≡ true → MayArrive rule fed.before (arrival 1 0 change)
-  arrives_right may fits =
-      let j = fed.of_rows.joining in
-      subst (λ r. MayArrive r fed.before (arrival 1 0 change)) (sym fed.of_rows.is) record {
-        port = omega arith;
-        change = subst (λ mode. MayCome mode (fold mode (at_port 1 fed.before)) change) (sym fed.of_rows.right_mode) may;
-        fits = ap (λ c. types_fit c change.row) fed.of_rows.right_columns_are ∙ types_of_row columns change.row fits;
-        key = subst (λ mode. HasKey mode change.row) (sym fed.of_rows.right_mode) (has_key feed.right_reads change fits);
-      }
+  arrives_right may fits = record {
+    port = rw fed.of_rows.ports (omega arith);
+    change = subst (λ mode. MayCome mode (fold mode (at_port 1 fed.before)) change) (sym fed.of_rows.right_mode) may;
+    fits = fed.of_rows.fits 1 change fits;
+    key = subst (λ mode. HasKey mode change.row) (sym fed.of_rows.right_mode) (has_key feed.right_reads change fits);
+  }
 
   more : (port : ℕ) → length (fed.before ++ arrival port 0 change ∷ []) ≡ feed.taken + 1
   more port = length-append fed.before (arrival port 0 change ∷ []) ∙ ap (λ n. n + 1) fed.count

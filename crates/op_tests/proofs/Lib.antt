@@ -1,6 +1,7 @@
 pub mod Comings
 pub mod GroupArrivals
 pub mod GroupFitting
+pub mod GroupPieces
 pub mod GroupSound
 pub mod JoinArrivals
 pub mod JoinFitting

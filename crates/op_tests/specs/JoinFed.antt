@@ -1,9 +1,10 @@
--- What an operator of a join took, where the rows that stand are kept beside it.
-use Rattle.std.specs.Prelude.{◌≡◌, List, [], ◌∷◌, length}
+-- What an operator of two inputs took, where the rows that stand are kept beside it.
+use Rattle.std.specs.Prelude.{◌≡◌, ℕ, true, List, [], ◌∷◌, length}
+use Rattle.ct_field.specs.Typed.{row_fits}
+use Rattle.ct_change.specs.declared.change.Change.{Change}
 use Rattle.ct_change.specs.Changelog.{Mode, append, retract, upsert, Rows, fold}
 use Rattle.op_rules.specs.History.{Arrival, at_port}
 use Rattle.op_rules.specs.Rules.{Rule}
-use Rattle.emission_rules.specs.Joining.{Joining, join_rule}
 use Rattle.op_tests.specs.declared.join_feed.Reads.{Reads}
 use Rattle.op_tests.specs.declared.join_feed.Reads.TheVariants.{Append, Retract, LastRows}
 use Rattle.op_tests.specs.declared.join_feed.Feed.{Feed}
@@ -20,14 +21,12 @@ Keeps append standing rows = Unit {0}
 Keeps retract standing rows = standing ≡ rows
 Keeps (upsert key) standing rows = Unit {0}
 
--- a rule of a join of the tests' rows, read so
+-- a rule of two inputs that takes the tests' rows, read so
 pub record IsOfRows (rule : Rule) (left right : Reads) : Type 0 where
-  pub joining : Joining
-  pub is : rule ≡ join_rule joining
-  pub left_mode : joining.left ≡ mode_of left
-  pub right_mode : joining.right ≡ mode_of right
-  pub left_columns_are : joining.left_columns ≡ columns
-  pub right_columns_are : joining.right_columns ≡ columns
+  pub ports : rule.ports ≡ 2
+  pub left_mode : rule.mode 0 ≡ mode_of left
+  pub right_mode : rule.mode 1 ≡ mode_of right
+  pub fits : (port : ℕ) (change : Change) → row_fits columns change.row ≡ true → rule.fits port change ≡ true
 
 -- the operator stands for as many arrivals, which leave these rows
 pub record IsFed (rule : Rule) (stands_for : List Arrival → Type 0) (feed : Feed) : Type 0 where

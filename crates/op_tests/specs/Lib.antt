@@ -1,4 +1,5 @@
 pub mod GroupFed
+pub mod GroupPieces
 pub mod GroupTables
 pub mod JoinFed
 pub mod JoinTables

@@ -12,7 +12,7 @@ use std::marker::Brand;
 use std::sync::ledger::Blank;
 use std::test::Fail;
 
-fn group(alloc: Global, keys: u32) -> Result<Group<Retract, Retract>, Memory>
+pub(crate) fn group(alloc: Global, keys: u32) -> Result<Group<Retract, Retract>, Memory>
     requires { keys ≤ 4 }
     ensures rows { IfOk result (λ made. IsOfRows (⟦<Group<Retract, Retract> as Operator>⟧.rule made)) }
     ensures stands { IfOk result (λ made. ⟦<Group<Retract, Retract> as Operator>⟧.stands_for made []) }
@@ -52,7 +52,7 @@ fn put_value(alloc: Global, text: &mut String, value: &Value) -> Result<(), Memo
 }
 
 // The changes with the values of their rows, NULL as `N`.
-fn shown(alloc: Global, told: &Changes) -> Result<String, Memory> {
+pub(crate) fn shown(alloc: Global, told: &Changes) -> Result<String, Memory> {
     let mut text = String::new(alloc);
     for change in told.as_slice() {
         text.push_str(sign(change.kind))?;

@@ -137,7 +137,7 @@ fn told_in_steps<O: Operator, L: Ledger>(
     Ok(told)
 }
 
-/// What an operator of a join tells when it opens and of these changes, or the last of it where it is much.
+/// What an operator of two inputs tells when it opens and of these changes, or the last of it where it is much.
 pub fn told<O: Operator>(
     alloc: Global,
     operator: &mut O,

@@ -37,9 +37,13 @@ mod materialize_histories;
 #[cfg(test)]
 mod modes;
 #[cfg(test)]
+mod pieces;
+#[cfg(test)]
 mod row_operators;
 #[cfg(test)]
 mod rows;
+#[cfg(test)]
+mod set_operations;
 #[cfg(test)]
 mod standing;
 #[cfg(test)]
