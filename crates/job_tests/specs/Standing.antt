@@ -40,12 +40,12 @@ pub record CountsWords (plan : Plan) : Type 0 where
   pub ruled : IsRuled plan
   pub takes : TakesWords (network plan)
 
-module _ {O S : Type 0} (rule_is : O → Rule) (is_broken : O → Bool) (stands : O → List Arrival → Type 0) (checks : S → Table → List Change → Type 0) where
+module _ {O S : Type 0} (rule_is : O → Rule) (is_broken : O → Bool) (stands : O → List Arrival → Type 0) (takes_pieces : O → Bool) (checks : S → Table → List Change → Type 0) where
   -- a session stands for some run, and takes words
   pub record StandsForWords (session : Session O S) : Type 0 where
     pub of : Network
     pub limit : ℕ
     pub handed : List PrintItem
     pub items : List Item
-    pub stands_for : StandsFor rule_is is_broken stands checks of limit session handed items
+    pub stands_for : StandsFor rule_is is_broken stands takes_pieces checks of limit session handed items
     pub takes : TakesWords of

@@ -7,7 +7,7 @@ use ct_change::{Change, Kind, Steps};
 use ct_field::number_text;
 use ct_value::{Bytes, Memory, Value};
 use exec_core::TableCheck;
-use op_rules::Operator;
+use op_rules::PieceOperator;
 use phys_plan::Plan;
 use plan_shape::columns_of;
 use session_core::{Session, SourceCheck};
@@ -51,14 +51,14 @@ pub(crate) fn driven<L: Ledger>(
 }
 
 // One order after the other.
-fn play<O: Operator + Drop, S: SourceCheck, L: Ledger>(
+fn play<O: PieceOperator + Drop, S: SourceCheck, L: Ledger>(
     alloc: Global,
     session: Session<O, S>,
     orders: &[Order],
     log: &mut Bytes,
     steps: &mut Steps<L>,
 ) -> Result<(), StepFault>
-    requires ready { StandsForWords O.rule O.broken O.stands_for S.stands_for session }
+    requires ready { StandsForWords O.rule O.broken O.stands_for O.takes_pieces S.stands_for session }
 {
     let mut driven = session;
     'orders: for number in 0..orders.len() {
@@ -68,15 +68,15 @@ fn play<O: Operator + Drop, S: SourceCheck, L: Ledger>(
 }
 
 // One order, and what it prints.
-fn obey<O: Operator + Drop, S: SourceCheck, L: Ledger>(
+fn obey<O: PieceOperator + Drop, S: SourceCheck, L: Ledger>(
     alloc: Global,
     session: Session<O, S>,
     order: Order,
     log: &mut Bytes,
     steps: &mut Steps<L>,
 ) -> Result<Session<O, S>, StepFault>
-    requires ready { StandsForWords O.rule O.broken O.stands_for S.stands_for session }
-    ensures { IfOk result (λ next. StandsForWords O.rule O.broken O.stands_for S.stands_for next) }
+    requires ready { StandsForWords O.rule O.broken O.stands_for O.takes_pieces S.stands_for session }
+    ensures { IfOk result (λ next. StandsForWords O.rule O.broken O.stands_for O.takes_pieces S.stands_for next) }
 {
     let mut next = done(alloc, session, order, steps)?;
     let printed = next.take_printed();
@@ -84,14 +84,14 @@ fn obey<O: Operator + Drop, S: SourceCheck, L: Ledger>(
     Ok(next)
 }
 
-fn done<O: Operator + Drop, S: SourceCheck, L: Ledger>(
+fn done<O: PieceOperator + Drop, S: SourceCheck, L: Ledger>(
     alloc: Global,
     session: Session<O, S>,
     order: Order,
     steps: &mut Steps<L>,
 ) -> Result<Session<O, S>, StepFault>
-    requires ready { StandsForWords O.rule O.broken O.stands_for S.stands_for session }
-    ensures { IfOk result (λ next. StandsForWords O.rule O.broken O.stands_for S.stands_for next) }
+    requires ready { StandsForWords O.rule O.broken O.stands_for O.takes_pieces S.stands_for session }
+    ensures { IfOk result (λ next. StandsForWords O.rule O.broken O.stands_for O.takes_pieces S.stands_for next) }
 {
     match order {
         Order::Take => take_word(alloc, session, steps),
@@ -103,39 +103,39 @@ fn done<O: Operator + Drop, S: SourceCheck, L: Ledger>(
 }
 
 #[tactic(auto, using(crate::proofs::Opening::word_fits))]
-fn take_word<O: Operator + Drop, S: SourceCheck, L: Ledger>(
+fn take_word<O: PieceOperator + Drop, S: SourceCheck, L: Ledger>(
     alloc: Global,
     session: Session<O, S>,
     steps: &mut Steps<L>,
 ) -> Result<Session<O, S>, StepFault>
-    requires ready { StandsForWords O.rule O.broken O.stands_for S.stands_for session }
-    ensures { IfOk result (λ next. StandsForWords O.rule O.broken O.stands_for S.stands_for next) }
+    requires ready { StandsForWords O.rule O.broken O.stands_for O.takes_pieces S.stands_for session }
+    ensures { IfOk result (λ next. StandsForWords O.rule O.broken O.stands_for O.takes_pieces S.stands_for next) }
 {
     let change = comes(alloc, "a")?;
     take(session, change, steps)
 }
 
 #[tactic(auto, using(crate::proofs::Opening::null_fits))]
-fn take_null<O: Operator + Drop, S: SourceCheck, L: Ledger>(
+fn take_null<O: PieceOperator + Drop, S: SourceCheck, L: Ledger>(
     alloc: Global,
     session: Session<O, S>,
     steps: &mut Steps<L>,
 ) -> Result<Session<O, S>, StepFault>
-    requires ready { StandsForWords O.rule O.broken O.stands_for S.stands_for session }
-    ensures { IfOk result (λ next. StandsForWords O.rule O.broken O.stands_for S.stands_for next) }
+    requires ready { StandsForWords O.rule O.broken O.stands_for O.takes_pieces S.stands_for session }
+    ensures { IfOk result (λ next. StandsForWords O.rule O.broken O.stands_for O.takes_pieces S.stands_for next) }
 {
     let change = comes_null(alloc)?;
     take(session, change, steps)
 }
 
-fn take<O: Operator + Drop, S: SourceCheck, L: Ledger>(
+fn take<O: PieceOperator + Drop, S: SourceCheck, L: Ledger>(
     session: Session<O, S>,
     change: Change,
     steps: &mut Steps<L>,
 ) -> Result<Session<O, S>, StepFault>
-    requires ready { StandsForWords O.rule O.broken O.stands_for S.stands_for session }
+    requires ready { StandsForWords O.rule O.broken O.stands_for O.takes_pieces S.stands_for session }
     requires word { IsWord change }
-    ensures { IfOk result (λ next. StandsForWords O.rule O.broken O.stands_for S.stands_for next) }
+    ensures { IfOk result (λ next. StandsForWords O.rule O.broken O.stands_for O.takes_pieces S.stands_for next) }
 {
     match session.step(Event::Take { table: 0, change }, steps) {
         Ok(next) => Ok(next),
@@ -143,13 +143,13 @@ fn take<O: Operator + Drop, S: SourceCheck, L: Ledger>(
     }
 }
 
-fn move_front<O: Operator + Drop, S: SourceCheck, L: Ledger>(
+fn move_front<O: PieceOperator + Drop, S: SourceCheck, L: Ledger>(
     session: Session<O, S>,
     edge: u32,
     steps: &mut Steps<L>,
 ) -> Result<Session<O, S>, StepFault>
-    requires ready { StandsForWords O.rule O.broken O.stands_for S.stands_for session }
-    ensures { IfOk result (λ next. StandsForWords O.rule O.broken O.stands_for S.stands_for next) }
+    requires ready { StandsForWords O.rule O.broken O.stands_for O.takes_pieces S.stands_for session }
+    ensures { IfOk result (λ next. StandsForWords O.rule O.broken O.stands_for O.takes_pieces S.stands_for next) }
 {
     let event = Event::Move {
         edge,
@@ -162,13 +162,13 @@ fn move_front<O: Operator + Drop, S: SourceCheck, L: Ledger>(
     }
 }
 
-fn flush<O: Operator + Drop, S: SourceCheck, L: Ledger>(
+fn flush<O: PieceOperator + Drop, S: SourceCheck, L: Ledger>(
     session: Session<O, S>,
     node: u32,
     steps: &mut Steps<L>,
 ) -> Result<Session<O, S>, StepFault>
-    requires ready { StandsForWords O.rule O.broken O.stands_for S.stands_for session }
-    ensures { IfOk result (λ next. StandsForWords O.rule O.broken O.stands_for S.stands_for next) }
+    requires ready { StandsForWords O.rule O.broken O.stands_for O.takes_pieces S.stands_for session }
+    ensures { IfOk result (λ next. StandsForWords O.rule O.broken O.stands_for O.takes_pieces S.stands_for next) }
 {
     match session.step(Event::Flush { node, subtask: 0 }, steps) {
         Ok(next) => Ok(next),
@@ -176,12 +176,12 @@ fn flush<O: Operator + Drop, S: SourceCheck, L: Ledger>(
     }
 }
 
-fn drain<O: Operator + Drop, S: SourceCheck, L: Ledger>(
+fn drain<O: PieceOperator + Drop, S: SourceCheck, L: Ledger>(
     session: Session<O, S>,
     steps: &mut Steps<L>,
 ) -> Result<Session<O, S>, StepFault>
-    requires ready { StandsForWords O.rule O.broken O.stands_for S.stands_for session }
-    ensures { IfOk result (λ next. StandsForWords O.rule O.broken O.stands_for S.stands_for next) }
+    requires ready { StandsForWords O.rule O.broken O.stands_for O.takes_pieces S.stands_for session }
+    ensures { IfOk result (λ next. StandsForWords O.rule O.broken O.stands_for O.takes_pieces S.stands_for next) }
 {
     match session.drain(steps) {
         Ok(next) => Ok(next),

@@ -30,6 +30,8 @@ mod made;
 #[cfg(test)]
 mod materialized;
 #[cfg(test)]
+mod mini_batches;
+#[cfg(test)]
 mod orders;
 #[cfg(test)]
 mod plans;

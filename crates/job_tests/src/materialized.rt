@@ -1,41 +1,12 @@
 // Runs into upsert tables before which a materializer stands.
-use crate::files::{held, hold, script_with, texts};
+use crate::files::{hold, texts};
 use crate::scripts::{
     COUNT_UPSERT, FORCED, LAST_BY_CUSTOMER, LAST_BY_PAIR, LAST_CITIES, NO_SINK_KEY, OFF, TOP_CITIES,
 };
-use crate::told::{Left, Told, is_told, told};
-use ct_io::{Files, SureShelf};
+use crate::told::{BY_ORDER, Left, Setup, files_with, is_told, left_by, told};
+use ct_io::SureShelf;
 use ct_value::{Bytes, Memory};
 use std::alloc::Global;
-
-// So many subtasks, other settings, and a script.
-type Setup = (u32, &'static str, &'static str);
-
-fn files_with(alloc: Global, setup: &Setup, changes: &str, order: &str) -> Result<Files, Memory> {
-    let mut files = held(alloc, &[("c", changes), ("o", order)])?;
-    hold(
-        alloc,
-        &mut files,
-        "s",
-        script_with(alloc, setup.0, setup.1, setup.2)?,
-    )?;
-    Ok(files)
-}
-
-// What these words leave over a script, a change file and an order.
-fn left_by(
-    alloc: Global,
-    words: &[&str],
-    setup: &Setup,
-    changes: &str,
-    order: &str,
-) -> Result<Told, Memory> {
-    let words = texts(alloc, words)?;
-    let files = files_with(alloc, setup, changes, order)?;
-    told(alloc, words.as_slice(), &mut SureShelf::new(files))
-}
-
-const BY_ORDER: [&str; 6] = ["--script", "s", "--changes", "c", "--order", "o"];
 
 const EXPLAINED: [&str; 4] = ["--script", "s", "--do", "explain"];
 

@@ -3,7 +3,7 @@ use crate::files::{calls, files, files_of, filled, texts, usual_words};
 use crate::scripts::{
     ANY_SPELLING, BAD_TOKEN_LATER, BATCHES_WITHOUT_GROUP, BEHIND_INSERT, COUNT_ALL, COUNT_APPEND,
     COUNT_BY_KEY, COUNT_INTO_APPEND, COUNT_RETRACT, COUNT_SECOND, COUNT_UPSERT, COUNTS_JOINED,
-    DISTINCT_OF_TWO, EXISTS_RETRACT, FIRST_OF_EQUALS, FULL_JOIN, GROUP_IN_BATCHES, IN_QUERY,
+    DISTINCT_OF_TWO, EXISTS_RETRACT, FIRST_OF_EQUALS, FULL_JOIN, GROUP_IN_TWO_PHASES, IN_QUERY,
     INTO_APPEND, LEFT_JOIN, MAX_BY_WORD, MEAN_BY_WORD, MORE_TABLES, NO_INSERT, NO_SINK_KEY,
     NOT_EXISTS, NULL_INTO_KEY, ONE_HOUR, OPEN_END, RIGHT_JOIN, SELECT_APPEND, SELECT_NULLABLE,
     SELECT_RETRACT, SELECT_TWO, SELECT_UPSERT, SUM_BY_WORD, THIRTY_TWO_DEEP, TOO_DEEP,
@@ -400,7 +400,7 @@ const REFUSED_SCRIPTS: [(&str, &str); 13] = [
         "CREATE TABLE t (a INT, a INT);",
         "script S6 DuplicateName statement 1\n",
     ),
-    (GROUP_IN_BATCHES, "script S18 Unsupported statement 4\n"),
+    (GROUP_IN_TWO_PHASES, "script S18 Unsupported statement 5\n"),
     (FIRST_OF_EQUALS, "script S11 Ties statement 3\n"),
     (COUNT_INTO_APPEND, "script S13 SinkMode statement 3\n"),
     (NO_SINK_KEY, "script S14 SinkKeyNotUnique statement 3\n"),

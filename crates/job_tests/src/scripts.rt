@@ -90,8 +90,15 @@ pub const WITH_CONDITION: &str =
     CREATE TABLE out_t (word STRING) WITH ('changelog' = 'retract');\
     INSERT INTO out_t SELECT word FROM t WHERE word LIKE 'a%';";
 
-/// Mini-batches of a group, which aren't run yet.
-pub const GROUP_IN_BATCHES: &str = "SET 'table.exec.mini-batch.enabled' = 'TRUE';\
+/// Counts how many words come so often.
+pub const COUNT_COUNTS: &str =
+    "CREATE TABLE t (word STRING NOT NULL) WITH ('changelog' = 'append');\
+    CREATE TABLE out_t (n BIGINT, m BIGINT) WITH ('changelog' = 'retract');\
+    INSERT INTO out_t SELECT n, COUNT(*) FROM (SELECT word, COUNT(*) AS n FROM t GROUP BY word) GROUP BY n;";
+
+/// Mini-batches of a group in two phases, which aren't run yet.
+pub const GROUP_IN_TWO_PHASES: &str = "SET 'table.exec.mini-batch.enabled' = 'TRUE';\
+    SET 'table.optimizer.agg-phase-strategy' = 'TWO_PHASE';\
     CREATE TABLE t (word STRING NOT NULL) WITH ('changelog' = 'append');\
     CREATE TABLE out_t (word STRING, n BIGINT) WITH ('changelog' = 'retract');\
     INSERT INTO out_t SELECT word, COUNT(*) FROM t GROUP BY word;";
