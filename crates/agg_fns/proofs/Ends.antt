@@ -150,10 +150,10 @@ greater_stays : (x : Value) (o : Option Value) → is_above x o ≡ false → gr
 greater_stays x None e = absurd (cc)
 greater_stays x (Some y) e = ap (λ b. Some (cond b x y)) e
 
-first-add : (kept : Values) (value : Value) (o : Option Value) → o ≡ first_item (items kept) → first_item (items (add kept value)) ≡ lesser value o
+pub first-add : (kept : Values) (value : Value) (o : Option Value) → o ≡ first_item (items kept) → first_item (items (add kept value)) ≡ lesser value o
 first-add kept value o e = ap first_item (items-add value_total kept value) ∙ first-put value (items kept) ∙ ap (lesser value) (sym e)
 
-last-add : (kept : Values) (value : Value) (o : Option Value) → o ≡ last_item (items kept) → last_item (items (add kept value)) ≡ greater value o
+pub last-add : (kept : Values) (value : Value) (o : Option Value) → o ≡ last_item (items kept) → last_item (items (add kept value)) ≡ greater value o
 last-add kept value o e = ap last_item (items-add value_total kept value) ∙ last-put value (items kept) (items_in_order kept) ∙ ap (greater value) (sym e)
 
 pub least_taken : (kept : Values) (value : Value) (o : Option Value) → o ≡ first_item (items kept) → is_below value o ≡ true → Some value ≡ first_item (items (add kept value))

@@ -1,5 +1,7 @@
 pub mod Counts
 pub mod Extremes
+pub mod Merging
+pub mod Partial
 pub mod Seen
 pub mod Standing
 pub mod Sums
