@@ -1,7 +1,10 @@
 //! Changes that are held back, key by key.
-ghost use Rattle.std.specs.Prelude.{true, false, ◌≡◌, ◌==◌, ◌∷◌, ◌<◌, ◌≤◌, [], IfNone, IfOk, IfSome, OnOk, OnErr};
+ghost use Rattle.std.specs.Prelude.{true, false, ◌≡◌, ◌==◌, ◌∷◌, ◌<◌, ◌≤◌, [], take, IfNone, IfOk, IfSome, OnOk, OnErr};
+ghost use Rattle.indexmap.specs.IndexMap.{insert_entry};
+ghost use Rattle.ct_change.specs.Changelog.{same_row};
 ghost use Rattle.mini_batch.specs.Held.{held_in, in_order, with_change};
 
+use crate::first_values::FirstValues;
 use ct_change::{Change, Changes};
 use ct_value::{Memory, Row};
 use indexmap::IndexMap;
@@ -66,6 +69,21 @@ impl Bundle {
         Ok(self.held == self.size)
     }
 
+    /// Adds a change under the first values of its row, `keys` of them, or all where there are fewer, and says whether the bundle is now
+    /// full. They are copied only where they aren't a key yet. Without memory the bundle stays as it was.
+    pub fn push_by_first(&mut self, keys: u32, change: Change) -> Result<bool, Memory>
+        requires { held_in self.old.entries < self.old.size }
+        ensures pushed { OnOk result (self.new ≡ record self.old { entries = with_change self.old.entries (take keys change.row) change }) }
+        ensures full { IfOk result (λ full. full ≡ (held_in self.new.entries == self.new.size)) }
+        ensures err { OnErr result (self.new ≡ self.old) }
+    {
+        face(&mut self.map, self.reversed, false);
+        self.reversed = false;
+        add_by_first(&mut self.map, self.alloc, keys, change)?;
+        self.held += 1;
+        Ok(self.held == self.size)
+    }
+
     /// Takes the changes of the key that was seen first, and `None` exactly where nothing is held.
     pub fn take_first(&mut self) -> Option<(Row, Changes)>
         ensures none { IfNone result ((self.old.entries ≡ []) × (self.new.entries ≡ [])) }
@@ -95,6 +113,38 @@ fn add_change(
         changes.push(change)?;
         return Ok(());
     }
+    begin(map, alloc, key, change)
+}
+
+// One more change, of the key that the first values of its row are.
+fn add_by_first(
+    map: &mut IndexMap<Row, Changes>,
+    alloc: Global,
+    keys: u32,
+    change: Change,
+) -> Result<(), Memory>
+    ensures ok { OnOk result (map.new.entries ≡ with_change map.old.entries (take keys change.row) change) }
+    ensures err { OnErr result (map.new.entries ≡ map.old.entries) }
+{
+    if let Some(place) = map.get_index_of(FirstValues::new(&change.row, keys)) {
+        let changes = &mut map[place];
+        changes.push(change)?;
+        return Ok(());
+    }
+    let key = change.row.prefix(keys)?;
+    begin(map, alloc, key, change)
+}
+
+// The first change of a key, which isn't there.
+fn begin(
+    map: &mut IndexMap<Row, Changes>,
+    alloc: Global,
+    key: Row,
+    change: Change,
+) -> Result<(), Memory>
+    ensures ok { OnOk result (map.new.entries ≡ insert_entry same_row map.old.entries key (change ∷ [])) }
+    ensures err { OnErr result (map.new.entries ≡ map.old.entries) }
+{
     let mut changes = Changes::with_capacity(alloc, 1)?;
     changes.push(change)?;
     match map.insert(key, changes) {

@@ -5,5 +5,6 @@
 #![tactic(auto)]
 
 mod bundle;
+mod first_values;
 
 pub use bundle::Bundle;

@@ -252,14 +252,21 @@ module _ (by : GroupBy) (input output : Mode) (rows : Rows) (groups : BTreeMap R
         | false ↦ λ e. subst P (sym (others_stay k e)) there
       ] refl
 
-  pub grouped_after : (mid new : BTreeMap Row Kept) (kept : Kept) → HasShiftedAlong (grouping by input output) rows kept key changes → is_counted (grouping by input output) (fold_from input rows changes) key ≡ true
-      → ((other : Row) → get row_cmp mid other ≡ cond (same_row key other) None (get row_cmp groups other))
-      → ((other : Row) → get row_cmp new other ≡ cond (same_row key other) (unless_empty (kept.rows == 0) kept) (get row_cmp mid other))
+  -- what is kept of the group is written anew
+  pub grouped_anew : (new : BTreeMap Row Kept) (kept : Kept) → HasShiftedAlong (grouping by input output) rows kept key changes → is_counted (grouping by input output) (fold_from input rows changes) key ≡ true
+      → ((other : Row) → get row_cmp new other ≡ cond (same_row key other) (unless_empty (kept.rows == 0) kept) (get row_cmp groups other))
       → IsOrdered row_cmp new → IsGrouped by (grouping by input output) (fold_from input rows changes) new (held + length changes)
-  grouped_after mid new kept shifted counted out put ordered = record {
-    kept = kept_anew by key (λ k. members h k rows) (λ k. members h k after) others_stay groups new kept may.grouped.kept shifted.is (λ e. shifted.retracts (sym may.set.1 ∙ e)) (put_anew key groups mid new kept out put) ordered;
+  grouped_anew new kept shifted counted put ordered = record {
+    kept = kept_anew by key (λ k. members h k rows) (λ k. members h k after) others_stay groups new kept may.grouped.kept shifted.is (λ e. shifted.retracts (sym may.set.1 ∙ e)) put ordered;
     fit = λ k. each_after (λ r. sums_fit h r ≡ true) k (fits_after h key rows changes (may.grouped.fit key) may.of shifted.fits) (may.grouped.fit k);
     counted = λ k. each_after (λ r. is_some (calls_over h r) ≡ true) k counted (may.grouped.counted k);
     wide = wide_along h key rows changes sound.keeps may.grouped.wide may.of may.valid;
     few = let few = few_after input rows changes may.valid in omega (arith, few, may.grouped.few);
   }
+
+  -- or taken out, and put back
+  pub grouped_after : (mid new : BTreeMap Row Kept) (kept : Kept) → HasShiftedAlong (grouping by input output) rows kept key changes → is_counted (grouping by input output) (fold_from input rows changes) key ≡ true
+      → ((other : Row) → get row_cmp mid other ≡ cond (same_row key other) None (get row_cmp groups other))
+      → ((other : Row) → get row_cmp new other ≡ cond (same_row key other) (unless_empty (kept.rows == 0) kept) (get row_cmp mid other))
+      → IsOrdered row_cmp new → IsGrouped by (grouping by input output) (fold_from input rows changes) new (held + length changes)
+  grouped_after mid new kept shifted counted out put ordered = grouped_anew new kept shifted counted (put_anew key groups mid new kept out put) ordered

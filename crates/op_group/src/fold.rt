@@ -10,7 +10,7 @@ ghost use Rattle.op_group.specs.Kept.{row_in};
 ghost use Rattle.op_group.specs.Folding.{ForFolded, ForShifted, HasShiftedAlong, IsFolded, MayFoldSome, MayShift};
 
 use crate::group::{row_of, told};
-use crate::groups::{GroupBy, Results, put_back, take_out};
+use crate::groups::{GroupBy, Results, forget, put_back, take_out};
 use crate::kept::Kept;
 use agg_fns::AccFault;
 use ct_change::{Change, Changes, InMode, OutMode};
@@ -45,6 +45,36 @@ pub(crate) fn take_group<I: InMode, O: OutMode>(
 // The group with this key takes changes of its rows in turn, and is forgotten where it then has no rows. It is out of range, at its
 /// key, exactly where a sum leaves its limit on the way or a call is out of range at the end.
 fn fold_group<I: InMode>(
+    by: &GroupBy,
+    groups: &mut BTreeMap<Row, Kept>,
+    input: &I,
+    rows: &mut I::Kept,
+    key: Row,
+    changes: Changes,
+) -> Result<Results, OpFault>
+    requires { (output : Mode) × MayFoldSome by.now (I.mode input.now) output (I.stands_for input.now rows.old) groups.old key changes }
+    ensures told { IfOk result (λ results. (output : Mode) → ForFolded by.now (I.mode input.now) output (I.stands_for input.now rows.old) groups.old key changes (λ g stood held. IsFolded g stood key changes results)) }
+    ensures rows { OnOk result ((output : Mode) → ForFolded by.now (I.mode input.now) output (I.stands_for input.now rows.old) groups.old key changes (λ g stood held. I.stands_for input.now rows.new (fold_from (I.mode input.now) stood changes))) }
+    ensures kept { OnOk result ((output : Mode) → ForFolded by.now (I.mode input.now) output (I.stands_for input.now rows.old) groups.old key changes (λ g stood held. IsGrouped by.now g (fold_from g.input stood changes) groups.new (held + length changes))) }
+    ensures key { IfRange result (λ row. row ≡ key) }
+    ensures range { IfRange result (λ row. (output : Mode) → ForFolded by.now (I.mode input.now) output (I.stands_for input.now rows.old) groups.old key changes (λ g stood held. (fits_along g key stood changes && is_counted g (fold_from g.input stood changes) key) ≡ false)) }
+{
+    let Some(kept) = groups.get_mut(&key) else {
+        return fold_anew(by, groups, input, rows, key, changes);
+    };
+    let results = match fold_kept(kept, &key, by.keys, input, rows, changes) {
+        Ok(results) => results,
+        Err(AccFault::Out) => return Err(OpFault::Range(key)),
+        Err(AccFault::Memory) => return Err(OpFault::Memory),
+    };
+    if kept.rows == 0 {
+        forget(groups, &key);
+    }
+    Ok(results)
+}
+
+// The same of a group that isn't there.
+fn fold_anew<I: InMode>(
     by: &GroupBy,
     groups: &mut BTreeMap<Row, Kept>,
     input: &I,

@@ -102,7 +102,7 @@ fn start_group(
 }
 
 // Lets a group go.
-fn forget(groups: &mut BTreeMap<Row, Kept>, key: &Row)
+pub(crate) fn forget(groups: &mut BTreeMap<Row, Kept>, key: &Row)
     ensures gone { (other : Row) → get row_cmp groups.new other ≡ cond (same_row key.now other) None (get row_cmp groups.old other) }
     ensures ordered { IsOrdered row_cmp groups.new }
 {

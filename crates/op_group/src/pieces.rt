@@ -36,8 +36,7 @@ fn put_in(bundle: &mut Bundle, keys: u32, change: Change) -> Result<(), Memory>
     ensures put { OnOk result (bundle.new.entries ≡ with_change bundle.old.entries (take keys change.row) change) }
     ensures size { OnOk result (bundle.new.size ≡ bundle.old.size) }
 {
-    let key = change.row.prefix(keys)?;
-    bundle.push(key, change)?;
+    bundle.push_by_first(keys, change)?;
     Ok(())
 }
 

@@ -1,4 +1,4 @@
-use Rattle.std.proofs.Common.{◌≡◌, ◌∙◌, ◌+◌, ◌<◌, ℕ, ap, arith, sym, eqb}
+use Rattle.std.proofs.Common.{◌∙◌, ◌+◌, ◌<◌, ℕ, ap, arith, sym, eqb}
 use Rattle.mini_batch.specs.Held.{held_in, in_order}
 use Rattle.mini_batch.proofs.Changes.{held_more}
 use Rattle.mini_batch.proofs.bundle.Bundle.push.Goals as goal
