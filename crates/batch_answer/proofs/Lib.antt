@@ -10,6 +10,7 @@ pub mod Pairs
 pub mod Parts
 pub mod Ranking
 pub mod Scans
+pub mod SetRows
 pub mod Sums
 pub mod Tallies
 pub mod Turns

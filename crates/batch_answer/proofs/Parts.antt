@@ -1,5 +1,5 @@
 -- A node over parts: what it is answered with, and when it is out.
-use Rattle.std.proofs.Common.{◌≡◌, ◌⊎◌, inl, inr, ◌≤◌, ◌^◌, Bool, true, false, ◌||◌, List, [], ◌∷◌, Option, Some, None, refl, sym, ap, ◌∙◌, arith}
+use Rattle.std.proofs.Common.{◌≡◌, ◌⊎◌, inl, inr, ◌≤◌, ◌^◌, Bool, true, false, cond, ◌||◌, List, [], ◌∷◌, Option, Some, None, refl, sym, ap, ◌∙◌, arith}
 use Rattle.std.specs.Prelude.{nat_le, option_and_then}
 use Rattle.std.specs.List.{list_any, AllByRecursion}
 use Rattle.std.specs.Option.{unwrap_or}
@@ -83,6 +83,10 @@ narrow-whole tables o rows inputs e few narrow = ap (λ p. too_many tables p || 
 pub if_same : (test : Bool) (columns all : List ColTy) → columns_if test columns ≡ Some all → columns ≡ all
 if_same true columns all e = cc
 if_same false columns all e = absurd (cc)
+
+pub if_there : (test : Bool) (o : Option (List ColTy)) (all : List ColTy) → cond test o None ≡ Some all → o ≡ Some all
+if_there true o all e = e
+if_there false o all e = absurd (cc)
 
 -- ---- a node over one part
 

@@ -12,7 +12,7 @@ use Rattle.rel_algebra.specs.declared.rel.Rel.{Rel as Tree}
 use Rattle.rel_algebra.specs.declared.rel.Rel.TheVariants as v
 use Rattle.rel_algebra.specs.Rel as r
 use Rattle.rel_algebra.specs.View.{rel_view}
-use Rattle.rel_algebra.proofs.laws.Views.{view_project, view_group, view_rank, view_join, view_semi}
+use Rattle.rel_algebra.proofs.laws.Views.{view_project, view_group, view_rank, view_join, view_semi, view_set_op}
 
 module _ (rel : Tree) (held : Box Tree Global) (input : Tree) (is : input ≡ held.value) where
   pub project-view : (items : List Expr) → rel ≡ v.Project held items → rel_view rel ≡ r.Project (rel_view input) (exprs_view items)
@@ -23,6 +23,12 @@ module _ (rel : Tree) (held : Box Tree Global) (input : Tree) (is : input ≡ he
 
   pub rank-view : (partition : List ℕ) (order : List SortCol) (bound : ℕ) (ranked : Bool) → rel ≡ v.Rank held partition order bound ranked → rel_view rel ≡ r.Rank (rel_view input) partition order bound ranked
   rank-view partition order bound ranked e = ap rel_view e ∙ view_rank held partition order bound ranked ∙ ap (λ (t : Tree). r.Rank (rel_view t) partition order bound ranked) (sym is)
+
+  pub set-view : (held_right : Box Tree Global) (right : Tree) → right ≡ held_right.value → (except all : Bool) (columns : ℕ) → rel ≡ v.SetOp held held_right except all columns → rel_view rel ≡ r.SetOp (rel_view input) (rel_view right) except all columns
+  set-view held_right right is_right except all columns e =
+      ap rel_view e ∙ view_set_op held held_right except all columns
+      ∙ ap (λ (t : Tree). r.SetOp (rel_view t) (rel_view held_right.value) except all columns) (sym is)
+      ∙ ap (λ (t : Tree). r.SetOp (rel_view input) (rel_view t) except all columns) (sym is_right)
 
   module _ (held_right : Box Tree Global) (right : Tree) (is_right : right ≡ held_right.value) (pairs : List Pair) (rest : Option Expr) where
     pub join-view : (kind : JoinKind) → rel ≡ v.Join held held_right kind pairs rest → rel_view rel ≡ r.Join (rel_view input) (rel_view right) kind pairs (option_map expr_view rest)

@@ -55,6 +55,13 @@ impl Tally {
         Ok(())
     }
 
+    /// How many copies of the row there are.
+    pub fn count(&self, row: &Row) -> u64
+        ensures { result ≡ bag.copies self.now row.now }
+    {
+        standing(self.counts(), row)
+    }
+
     /// The rows with their counts, in the order of rows. It takes no memory.
     pub fn counts(&self) -> &BTreeMap<Row, u64>
         ensures same { bag.bag_of_counts result.now.entries ≡ self.now }

@@ -10,6 +10,7 @@ ghost use Rattle.batch_answer.specs.Tables.{IsTypedOver, IsOut, tables_of};
 use crate::columns::more_columns;
 use crate::nodes::{
     Part, filter_part, group_part, join_part, project_part, rank_part, scan_part, semi_part,
+    set_part,
 };
 use crate::tables::bag_of;
 use crate::{Bags, Tally, TypeLists, union_rows};
@@ -81,6 +82,17 @@ fn part_of(alloc: Global, rel: &Rel, tables: &Bags, types: &TypeLists) -> Result
             let left = part_of(alloc, left, tables, types)?;
             let right = part_of(alloc, right, tables, types)?;
             semi_part(alloc, *anti, on, rest, left, right)
+        }
+        Rel::SetOp {
+            left,
+            right,
+            except,
+            all,
+            columns,
+        } => {
+            let left = part_of(alloc, left, tables, types)?;
+            let right = part_of(alloc, right, tables, types)?;
+            set_part(alloc, *except, *all, *columns, left, right)
         }
         Rel::Rank {
             input,

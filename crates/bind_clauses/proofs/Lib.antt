@@ -4,4 +4,5 @@ pub mod Grouped
 pub mod Heads
 pub mod InTurn
 pub mod Projects
+pub mod Runs
 pub mod Unites

@@ -1,4 +1,5 @@
 pub mod Conditions
 pub mod Lists
+pub mod Sets
 pub mod Unions
 pub mod Views

@@ -2,17 +2,15 @@
 ghost use Rattle.bind_names.specs.declared.fault.BindFault.TheVariants as f;
 ghost use Rattle.std.specs.Prelude.{◌≡◌, Ok, Err, IfOk, IsErrOf};
 ghost use Rattle.ct_value.specs.declared.codes.ScriptCode.{ScriptCode};
-ghost use Rattle.rel_algebra.specs.Types.{common_column};
 ghost use Rattle.binding.specs.Queries as q;
 ghost use Rattle.bind_clauses.specs.Unions.{one_united};
 ghost use Rattle.bind_clauses.specs.Views.{relation_view};
 
 use crate::relation::Relation;
 use bind_names::{BindFault, dup_name};
-use ct_expr::common_ty;
 use ct_value::{ColTy, Memory, ScriptCode};
 use query_answer::{Scope, ScopeColumn};
-use rel_algebra::{Aggs, Rel};
+use rel_algebra::{Aggs, Rel, SetKind, set_column};
 use std::alloc::Global;
 
 /// DISTINCT, which is a Group of all columns.
@@ -37,20 +35,16 @@ pub fn once(alloc: Global, distinct: bool, relation: Relation) -> Result<Relatio
     })
 }
 
-fn common_column(column: ColTy, other: ColTy) -> Option<ColTy>
-    ensures { result ≡ common_column column other }
-{
-    Some(ColTy {
-        ty: common_ty(column.ty, other.ty)?,
-        nullable: column.nullable || other.nullable,
-    })
-}
-
-/// The columns of both selects, whose names are those of the first.
+/// The columns of both terms, whose names are those of the first.
 #[tactic(auto, using(crate::proofs::Unites::united_refused, crate::proofs::Unites::united_ends))]
-pub fn united(alloc: Global, first: &Scope, second: &Scope) -> Result<Scope, BindFault>
-    ensures ok { IfOk result (λ scope. q.united first.now second.now ≡ Ok scope) }
-    ensures refused { (code : ScriptCode) → IsErrOf result (f.Refused code) → q.united first.now second.now ≡ Err code }
+pub(crate) fn united(
+    alloc: Global,
+    kind: SetKind,
+    first: &Scope,
+    second: &Scope,
+) -> Result<Scope, BindFault>
+    ensures ok { IfOk result (λ scope. q.united_by kind first.now second.now ≡ Ok scope) }
+    ensures refused { (code : ScriptCode) → IsErrOf result (f.Refused code) → q.united_by kind first.now second.now ≡ Err code }
 {
     if first.len() != second.len() {
         return Err(BindFault::Refused(ScriptCode::TypeMismatch));
@@ -60,18 +54,22 @@ pub fn united(alloc: Global, first: &Scope, second: &Scope) -> Result<Scope, Bin
     'columns: while place < first.len() {
         let column = &first.as_slice()[place];
         let other = &second.as_slice()[place];
-        scope.push(united_column(column, other.ty)?)?;
+        scope.push(united_column(kind, column, other.ty)?)?;
         place += 1;
     }
     Ok(scope)
 }
 
 // A column of both.
-fn united_column(column: &ScopeColumn, other: ColTy) -> Result<ScopeColumn, BindFault>
-    ensures ok { IfOk result (λ c. one_united column.now other ≡ Ok c) }
-    ensures refused { (code : ScriptCode) → IsErrOf result (f.Refused code) → one_united column.now other ≡ Err code }
+fn united_column(
+    kind: SetKind,
+    column: &ScopeColumn,
+    other: ColTy,
+) -> Result<ScopeColumn, BindFault>
+    ensures ok { IfOk result (λ c. one_united kind column.now other ≡ Ok c) }
+    ensures refused { (code : ScriptCode) → IsErrOf result (f.Refused code) → one_united kind column.now other ≡ Err code }
 {
-    match common_column(column.ty, other) {
+    match set_column(kind, column.ty, other) {
         None => Err(BindFault::Refused(ScriptCode::TypeMismatch)),
         Some(ty) => Ok(ScopeColumn {
             source: dup_name(&column.source)?,

@@ -1,22 +1,22 @@
 -- Names within a subquery, and of which names sources have columns.
-use Rattle.std.proofs.Common.{◌≡◌, ℕ, ◌+◌, ◌<◌, ◌≤◌, Bool, true, false, ◌||◌, ◌&&◌, List, [], ◌∷◌, length, Option, Some, None, drop, get_or, refl, sym, ap, ◌∙◌, arith}
-use Rattle.std.specs.Prelude.{not}
+use Rattle.std.proofs.Common.{◌≡◌, ℕ, ◌+◌, ◌<◌, Bool, true, false, ◌||◌, ◌&&◌, List, ◌∷◌, length, Option, Some, None, drop, get_or, refl, sym, ap, ◌∙◌}
+use Rattle.std.specs.Prelude.{cond, not}
 use Rattle.std.specs.Str.{bytes_eq}
 use Rattle.std.proofs.lemmas.List.{at_drop_more}
 use Rattle.std.proofs.lemmas.Slice.Eq.{bytes_eq-Decides}
 use Rattle.ct_catalog.specs.declared.table.TableDef.{TableDef}
-use Rattle.sql_syntax.specs.declared.tree.Args.TheViews.{out-Query}
+use Rattle.sql_syntax.specs.declared.tree.Args.TheViews.{out-Query, out-Term}
 use Rattle.sql_syntax.specs.declared.tree.JoinItem.{JoinItem}
 use Rattle.sql_syntax.specs.declared.tree.Query.{Query}
-use Rattle.sql_syntax.specs.declared.tree.Select.{Select}
 use Rattle.sql_syntax.specs.Tree.{Text}
 use Rattle.sql_syntax.specs.Tree as t
-use Rattle.sql_syntax.specs.View.{joins_view, query_view, select_view, selects_view, sorts_view, source_view}
-use Rattle.sql_syntax.proofs.laws.Views.{join_item, query}
-use Rattle.query_answer.specs.Mentions.{in_exists, unless_own}
+use Rattle.sql_syntax.specs.View.{joins_view, query_view, select_view, source_view}
+use Rattle.sql_syntax.proofs.laws.Views.{join_item, query_parts}
+use Rattle.query_answer.specs.Forms.{first_select, is_alone, is_sole}
+use Rattle.query_answer.specs.Mentions.{in_exists, in_where, unless_own}
 use Rattle.query_answer.specs.Names.{is_called}
-use Rattle.query_answer.specs.Ranks.{reads_rank}
-use Rattle.query_answer.specs.SourceColumns.{joins_have, of_source, query_has, source_has, sources_have}
+use Rattle.query_answer.specs.Ranks.{ranked_query, ranked_select, reads_rank}
+use Rattle.query_answer.specs.SourceColumns.{joins_have, of_source, query_has, select_has, source_has, sources_have}
 use Rattle.bind_names.specs.declared.sought.RankName.{RankName}
 use Rattle.bind_names.specs.Sought.{reads}
 
@@ -67,38 +67,27 @@ module _ (tables : List TableDef) (from : t.Source) (joins : t.JoinItems) where
       at None name = (λ i. h i && bytes_eq (n i).now name) ∙ bare_at r.bare None r.name.now name
       at (Some s) name = (λ i. k i && (is_called s (a i).now && bytes_eq (n i).now name)) ∙ sourced_at r.sourced r.alias.now r.name.now name s
 
-module _ (tables : List TableDef) (test : Option Text → Text → Bool) where
-  by_exists_selects : (xs : t.Selects) (order : t.SortList) (limit : Option Text) → in_exists tables test (t.query_of xs order limit) ≡ in_exists tables test (t.query_of xs t.no_sorts None)
-  by_exists_selects t.no_selects order limit = refl
-  by_exists_selects (t.select_and (t.select_of distinct items from joins condition groups having) t.no_selects) order limit = refl
-  by_exists_selects (t.select_and (t.select_of distinct items from joins condition groups having) (t.select_and y ys)) order limit = refl
+-- ---- a query by its first select
 
-  pub by_exists : (x : Query) → in_exists tables test (query_view x) ≡ in_exists tables test (t.query_of (t.selects (selects_view (out-Query x).selects)) t.no_sorts None)
-  by_exists x = ap (in_exists tables test) (query x) ∙ by_exists_selects (t.selects (selects_view (out-Query x).selects)) (t.sort_list (sorts_view (out-Query x).order)) (out-Query x).limit
+first_parts : (x : Query) → first_select (query_view x) ≡ select_view (out-Term (out-Query x).first).first
+first_parts x = ap first_select (query_parts x)
 
-  two : (x : t.Select) (y : t.Select) (ys : t.Selects) → in_exists tables test (t.query_of (t.select_and x (t.select_and y ys)) t.no_sorts None) ≡ false
-  two (t.select_of distinct items from joins condition groups having) y ys = refl
+pub by_first : (tables : List TableDef) (name : Text) (x : Query) → query_has tables name (query_view x) ≡ select_has tables name (select_view (out-Term (out-Query x).first).first)
+by_first tables name x = ap (query_has tables name) (query_parts x)
 
-  pub several : (xs : List Select) → 2 ≤ length xs → in_exists tables test (t.query_of (t.selects (selects_view xs)) t.no_sorts None) ≡ false
-  several [] l = absurd (omega arith)
-  several (x ∷ []) l = absurd (omega arith)
-  several (x ∷ y ∷ xs) l = two (select_view x) (select_view y) (t.selects (selects_view xs))
+pub exists_then : (tables : List TableDef) (test : Option Text → Text → Bool) (x : Query) → is_alone (query_view x) ≡ true → in_where tables test (select_view (out-Term (out-Query x).first).first) ≡ in_exists tables test (query_view x)
+exists_then tables test x e = ap (in_where tables test) (sym (first_parts x)) ∙ sym (ap (λ b. b && in_where tables test (first_select (query_view x))) e)
+
+pub exists_else : (tables : List TableDef) (test : Option Text → Text → Bool) (x : Query) → is_alone (query_view x) ≡ false → false ≡ in_exists tables test (query_view x)
+exists_else tables test x e = sym (ap (λ b. b && in_where tables test (first_select (query_view x))) e)
+
+pub ranked_then : (x : Query) → is_sole (query_view x) ≡ true → ranked_select (select_view (out-Term (out-Query x).first).first) ≡ ranked_query (query_view x)
+ranked_then x e = ap ranked_select (sym (first_parts x)) ∙ sym (ap (λ b. cond b (ranked_select (first_select (query_view x))) None) e)
+
+pub ranked_else : (x : Query) → is_sole (query_view x) ≡ false → None ≡ ranked_query (query_view x)
+ranked_else x e = sym (ap (λ b. cond b (ranked_select (first_select (query_view x))) None) e)
 
 -- ---- columns
-
-module _ (tables : List TableDef) (name : Text) where
-  by_query_selects : (xs : t.Selects) (order : t.SortList) (limit : Option Text) → query_has tables name (t.query_of xs order limit) ≡ query_has tables name (t.query_of xs t.no_sorts None)
-  by_query_selects t.no_selects order limit = refl
-  by_query_selects (t.select_and (t.select_of distinct items from joins condition groups having) xs) order limit = refl
-
-  pub by_selects : (x : Query) → query_has tables name (query_view x) ≡ query_has tables name (t.query_of (t.selects (selects_view (out-Query x).selects)) t.no_sorts None)
-  by_selects x = ap (query_has tables name) (query x) ∙ by_query_selects (t.selects (selects_view (out-Query x).selects)) (t.sort_list (sorts_view (out-Query x).order)) (out-Query x).limit
-
-  first : (x : t.Select) (xs : t.Selects) → query_has tables name (t.query_of (t.select_and x xs) t.no_sorts None) ≡ query_has tables name (t.query_of (t.select_and x t.no_selects) t.no_sorts None)
-  first (t.select_of distinct items from joins condition groups having) xs = refl
-
-  pub by_first : (x : Select) (xs : List Select) → query_has tables name (t.query_of (t.selects (selects_view (x ∷ xs))) t.no_sorts None) ≡ query_has tables name (t.query_of (t.select_and (select_view x) t.no_selects) t.no_sorts None)
-  by_first x xs = first (select_view x) (t.selects (selects_view xs))
 
 module _ (tables : List TableDef) (meant : Option Text → Bool) (name : Text) where
   abbrev pub joins_from : List JoinItem → Bool

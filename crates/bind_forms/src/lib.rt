@@ -18,5 +18,5 @@ mod top;
 pub use conjuncts::{Conjunct, Conjuncts, push_conjuncts};
 pub use kept::is_kept;
 pub use rank_entries::ranked_entries;
-pub use ranked_lists::{Ranked, ranked_select};
+pub use ranked_lists::{Ranked, ranked_query, ranked_select};
 pub use top::{Top, top_of};

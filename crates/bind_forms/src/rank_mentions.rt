@@ -1,18 +1,17 @@
 //! Who reads a rank: the clauses of the select outside, and the WHERE of an EXISTS in it.
 ghost use Rattle.std.specs.Prelude.{◌≡◌, ◌&&◌, not, None, option_map};
-ghost use Rattle.sql_syntax.specs.Tree.{items as item_list, joins as join_list, optional_tree, selects as select_list};
-ghost use Rattle.sql_syntax.specs.Tree as t;
-ghost use Rattle.sql_syntax.specs.View.{item_view, items_view, joins_view, query_view, select_view, selects_view, source_view, view};
+ghost use Rattle.sql_syntax.specs.Tree.{items as item_list, joins as join_list, optional_tree};
+ghost use Rattle.sql_syntax.specs.View.{item_view, items_view, joins_view, query_view, select_view, source_view, view};
 ghost use Rattle.query_answer.specs.Mentions as m;
 ghost use Rattle.query_answer.specs.Ranks.{reads_rank};
 ghost use Rattle.query_answer.specs.SourceColumns as q;
 ghost use Rattle.bind_names.specs.Sought.{reads};
 
 use crate::source_columns::{Meant, sources_have};
-use bind_names::{RankName, Sought, mentions};
+use bind_names::{RankName, Sought, is_alone, mentions};
 use ct_catalog::Sources;
 use ct_value::Text;
-use sql_syntax::{Item, Items, JoinItems, Query, Select, Selects, Source, Tree};
+use sql_syntax::{Item, Items, JoinItems, Query, Select, Source, Tree};
 
 /// The name of a rank, whose query has this alias.
 #[tactic(auto, using(crate::proofs::Owns::both_ways))]
@@ -92,28 +91,17 @@ fn within<'a>(
 }
 
 fn where_mentions(sources: &Sources, rank: &RankName<'_>, select: &Select) -> bool
-    ensures { result ≡ m.in_exists sources.now (reads rank.now) (t.query_of (t.select_and (select_view select.now) t.no_selects) t.no_sorts None) }
+    ensures { result ≡ m.in_where sources.now (reads rank.now) (select_view select.now) }
 {
     let rank = within(sources, rank, &select.from, &select.joins);
     condition_mentions(&rank, &select.cond)
 }
 
-#[tactic(auto, using(crate::proofs::Owns::several))]
-fn selects_mention(sources: &Sources, rank: &RankName<'_>, selects: &Selects) -> bool
-    ensures { result ≡ m.in_exists sources.now (reads rank.now) (t.query_of (select_list (selects_view selects.now)) t.no_sorts None) }
-{
-    match selects.as_slice() {
-        [] => false,
-        [select] => where_mentions(sources, rank, select),
-        [_, _, ..] => false,
-    }
-}
-
-#[tactic(auto, using(crate::proofs::Owns::by_exists))]
+#[tactic(auto, using(crate::proofs::Owns::exists_then, crate::proofs::Owns::exists_else))]
 fn exists_mentions(sources: &Sources, rank: &RankName<'_>, query: &Query) -> bool
     ensures { result ≡ m.in_exists sources.now (reads rank.now) (query_view query.now) }
 {
-    selects_mention(sources, rank, &query.selects)
+    is_alone(query) && where_mentions(sources, rank, &query.first.first)
 }
 
 /// Whether a conjunct reads the rank.

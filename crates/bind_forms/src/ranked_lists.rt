@@ -1,16 +1,16 @@
 //! Which select lists have a rank.
 ghost use Rattle.std.specs.Prelude.{◌≡◌, ◌+◌, ◌<◌, Some, drop, length, option_map, slice_get, take, IfOk};
 ghost use Rattle.sql_syntax.specs.Tree.{items as item_list, optional_over, optional_tree, some_over};
-ghost use Rattle.sql_syntax.specs.View.{view, args_view, item_view, items_view, over_view, select_view};
+ghost use Rattle.sql_syntax.specs.View.{view, args_view, item_view, items_view, over_view, query_view, select_view};
 ghost use Rattle.query_answer.specs.Ranks as q;
 ghost use Rattle.bind_forms.specs.Lists.{over_ranked, ranked_by};
 ghost use Rattle.bind_forms.specs.Views.{ranked_view};
 
 use crate::places::only_place;
-use bind_names::{function_of, is_simple};
+use bind_names::{function_of, is_simple, is_sole};
 use ct_value::{Memory, Text};
 use query_answer::Function;
-use sql_syntax::{Args, Item, Over, Select, SortList, Tree, Trees};
+use sql_syntax::{Args, Item, Over, Query, Select, SortList, Tree, Trees};
 use std::alloc::Global;
 
 /// A select list with one rank, which has a name, and the items that stand ahead of it and behind it.
@@ -137,4 +137,16 @@ pub fn ranked_select(alloc: Global, select: &Select) -> Result<Option<Ranked<'_>
         return Ok(None);
     }
     Ok(ranked_items(select.items.as_slice()))
+}
+
+/// The list of a query that is a select with a rank.
+#[tactic(auto, using(crate::proofs::Owns::ranked_then, crate::proofs::Owns::ranked_else))]
+pub fn ranked_query(alloc: Global, query: &Query) -> Result<Option<Ranked<'_>>, Memory>
+    ensures { IfOk result (λ ranked. option_map ranked_view ranked ≡ q.ranked_query (query_view query.now)) }
+{
+    if !is_sole(query) {
+        return Ok(None);
+    }
+    let ranked = ranked_select(alloc, &query.first.first)?;
+    Ok(ranked)
 }

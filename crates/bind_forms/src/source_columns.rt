@@ -3,16 +3,15 @@ ghost use Rattle.std.specs.Prelude.{◌≡◌, ◌&&◌, None, option_map};
 ghost use Rattle.std.specs.List.{list_any};
 ghost use Rattle.std.specs.Option.{unwrap_or};
 ghost use Rattle.std.specs.Str.{bytes_eq};
-ghost use Rattle.sql_syntax.specs.Tree.{items as item_list, joins as join_list, selects as select_list};
-ghost use Rattle.sql_syntax.specs.Tree as t;
-ghost use Rattle.sql_syntax.specs.View.{item_view, items_view, joins_view, query_view, select_view, selects_view, source_view, view};
+ghost use Rattle.sql_syntax.specs.Tree.{items as item_list, joins as join_list};
+ghost use Rattle.sql_syntax.specs.View.{item_view, items_view, joins_view, query_view, select_view, source_view, view};
 ghost use Rattle.query_answer.specs.Names as n;
 ghost use Rattle.query_answer.specs.SourceColumns as q;
 ghost use Rattle.bind_forms.specs.Meant.{meant_by};
 
 use ct_catalog::{Sources, TableDef};
 use ct_value::Text;
-use sql_syntax::{Item, Items, JoinItems, Query, Select, Selects, Source, Tree};
+use sql_syntax::{Item, Items, JoinItems, Query, Select, Source, Tree};
 
 /// Which sources are meant.
 #[derive(Clone, Copy)]
@@ -171,24 +170,13 @@ fn joins_have(sources: &Sources, meant: &Meant<'_>, name: &Text, joins: &JoinIte
 fn query_has(sources: &Sources, name: &Text, query: &Query) -> bool
     ensures { result ≡ q.query_has sources.now name.now (query_view query.now) }
 {
-    selects_have(sources, name, &query.selects)
-}
-
-#[cycle(columns)]
-#[tactic(auto, using(crate::proofs::Owns::by_first))]
-fn selects_have(sources: &Sources, name: &Text, selects: &Selects) -> bool
-    ensures { result ≡ q.query_has sources.now name.now (t.query_of (select_list (selects_view selects.now)) t.no_sorts None) }
-{
-    match selects.as_slice() {
-        [] => false,
-        [select, ..] => select_has(sources, name, select),
-    }
+    select_has(sources, name, &query.first.first)
 }
 
 #[cycle(columns)]
 #[tactic(auto, using(sql_syntax::proofs::laws::Views::select))]
 fn select_has(sources: &Sources, name: &Text, select: &Select) -> bool
-    ensures { result ≡ q.query_has sources.now name.now (t.query_of (t.select_and (select_view select.now) t.no_selects) t.no_sorts None) }
+    ensures { result ≡ q.select_has sources.now name.now (select_view select.now) }
 {
     let meant = Meant::Listed(&select.items);
     makes(name, &select.items)

@@ -1,14 +1,14 @@
-//! The form of an EXISTS's subquery.
+//! The form of a select and of a query.
 ghost use Rattle.std.specs.Prelude.{◌≡◌, option_map, IfOk};
-ghost use Rattle.sql_syntax.specs.Tree.{items as item_list, optional_tree, trees as tree_list};
-ghost use Rattle.sql_syntax.specs.View.{view, item_view, items_view, select_view, trees_view};
+ghost use Rattle.sql_syntax.specs.Tree.{items as item_list, optional_tree, sort_list, trees as tree_list};
+ghost use Rattle.sql_syntax.specs.View.{view, item_view, items_view, query_view, select_view, sorts_view, trees_view};
 ghost use Rattle.query_answer.specs.Shapes.{has_tree};
 ghost use Rattle.query_answer.specs.Forms as q;
 ghost use Rattle.bind_names.specs.Calls.{has_calls};
 
 use crate::calls::{CallRefs, push_calls};
-use ct_value::Memory;
-use sql_syntax::{Item, Items, Select, Tree, Trees};
+use ct_value::{Memory, Text};
+use sql_syntax::{Item, Items, Query, Select, SortList, Tree, Trees};
 use std::alloc::Global;
 
 // Whether an item has an aggregate.
@@ -61,4 +61,31 @@ pub fn is_simple(alloc: Global, select: &Select) -> Result<bool, Memory>
     let found = items_have_calls(alloc, &select.items)?;
     let grouped = has_groups(&select.groups) || has_tree(&select.having);
     Ok(!(select.distinct || found || grouped))
+}
+
+/// Whether neither ORDER BY nor LIMIT stands on a query.
+#[tactic(auto, using(crate::proofs::Forms::by_order, crate::proofs::Forms::limited))]
+pub fn is_plain(order: &SortList, limit: &Option<Text>) -> bool
+    ensures { result ≡ q.is_plain (sort_list (sorts_view order.now)) limit.now }
+{
+    match limit {
+        None => order.is_empty(),
+        Some(_) => false,
+    }
+}
+
+/// Whether a query has one select alone.
+#[tactic(auto, using(crate::proofs::Forms::alone_then, crate::proofs::Forms::alone_else))]
+pub fn is_alone(query: &Query) -> bool
+    ensures { result ≡ q.is_alone (query_view query.now) }
+{
+    query.first.rest.is_empty() && query.rest.is_empty()
+}
+
+/// Whether a query is one select, without ORDER BY and LIMIT.
+#[tactic(auto, using(crate::proofs::Forms::sole_then, crate::proofs::Forms::sole_else))]
+pub fn is_sole(query: &Query) -> bool
+    ensures { result ≡ q.is_sole (query_view query.now) }
+{
+    is_alone(query) && is_plain(&query.order, &query.limit)
 }

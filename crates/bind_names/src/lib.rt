@@ -22,7 +22,7 @@ pub use calls::{
 };
 pub use entries::{Entries, Entry, Listed, entries_of};
 pub use fault::BindFault;
-pub use form::is_simple;
+pub use form::{is_alone, is_plain, is_simple, is_sole};
 pub use functions::{function_of, is_changing};
 pub use literals::{is_null, is_short, number_of};
 pub use names::{Lookup, dup_name, find, find_linked, is_called, next_number};

@@ -1,10 +1,10 @@
-pub mod BySelects
 pub mod Columns
 pub mod Exists
 pub mod IntoSinks
 pub mod Joins
 pub mod Lefts
+pub mod Members
 pub mod OnlySources
 pub mod Selects
-pub mod Unions
+pub mod Terms
 pub mod Wheres

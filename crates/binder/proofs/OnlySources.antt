@@ -1,23 +1,23 @@
 -- What a select reads, by the form of its sources.
-use Rattle.std.proofs.Common.{◌≡◌, ◌≤◌, ◌==◌, Bool, true, false, List, [], ◌∷◌, length, cond, Option, Some, None, option_map, Ok, Err, refl, sym, ap, ◌∙◌, arith}
+use Rattle.std.proofs.Common.{◌≡◌, ◌==◌, Bool, true, false, List, [], ◌∷◌, length, cond, Option, Some, None, option_map, Ok, Err, refl, sym, ap, ◌∙◌, arith}
 use Rattle.std.proofs.lemmas.Bool.Decides.{nat_tests}
-use Rattle.ct_value.specs.declared.codes.ScriptCode.TheVariants.{RankUnbounded, Unsupported}
+use Rattle.ct_value.specs.declared.codes.ScriptCode.TheVariants.{RankUnbounded}
 use Rattle.ct_catalog.specs.declared.table.TableDef.{TableDef}
-use Rattle.sql_syntax.specs.declared.tree.Args.TheViews.{out-Query, out-Select}
+use Rattle.sql_syntax.specs.declared.tree.Args.TheViews.{out-Query, out-Select, out-Term}
 use Rattle.sql_syntax.specs.declared.tree.JoinItem.{JoinItem}
 use Rattle.sql_syntax.specs.declared.tree.Query.{Query}
 use Rattle.sql_syntax.specs.declared.tree.Select.{Select}
 use Rattle.sql_syntax.specs.Tree.{Text}
 use Rattle.sql_syntax.specs.Tree as t
-use Rattle.sql_syntax.specs.View.{items_view, join_view, joins_view, query_view, select_view, selects_view, sorts_view, source_view, trees_view, view}
-use Rattle.sql_syntax.proofs.laws.Views.{query, select}
-use Rattle.query_answer.specs.Ranks.{Ranked, ranked_select, with_rank}
+use Rattle.sql_syntax.specs.View.{items_view, join_view, joins_view, query_view, select_view, source_view, trees_view, view}
+use Rattle.sql_syntax.proofs.laws.Views.{query_parts, select}
+use Rattle.query_answer.specs.Forms.{first_select}
+use Rattle.query_answer.specs.Ranks.{Ranked, ranked_query, ranked_select, with_rank}
 use Rattle.binding.specs.Checked.{Checked, ◌>>=◌}
 use Rattle.binding.specs.Expressions.{names, window_bound}
 use Rattle.binding.specs.Nodes.{Bound}
-use Rattle.binding.specs.Queries.{Framed, FromWhere, Only, RankedList, Relation, alone_bound, alone_of, exists_over, exists_part, few, find_source, framed, gathered_bound, is_plain, items_bound, joined_read, joins_bound, kept, list_inside, places_bound, query_bound, rank_bound, Part, ranked_list, read, read_by, renamed, select_bound, sorts_bound, source_bound, unbounded}
-use Rattle.binder.specs.Steps.{all_bound, from_list, joined_framed, only_framed, only_select, plain_exists, ranked_exists, read_framed, select_framed, selects_framed}
-use Rattle.binder.proofs.BySelects.{by_selects}
+use Rattle.binding.specs.Queries.{Framed, FromWhere, Only, RankedList, Relation, alone_bound, alone_of, exists_over, exists_part, few, find_source, framed, gathered_bound, items_bound, joined_read, joins_bound, kept, list_inside, places_bound, query_bound, rank_bound, Part, ranked_list, read, read_by, renamed, sorts_bound, source_bound, unbounded}
+use Rattle.binder.specs.Steps.{from_list, joined_framed, only_framed, plain_exists, ranked_exists, read_framed}
 
 module _ (free : Bool) (sources : List TableDef) (outer : t.Select) where
   -- ---- side by side
@@ -60,48 +60,13 @@ module _ (free : Bool) (sources : List TableDef) (outer : t.Select) where
   of_query : (q : t.Query) (alias : Option Text) → alone_bound free sources (t.FromQuery q alias) ≡ None → only_framed free sources outer (t.FromQuery q alias) ≡ under alias (query_bound free sources q)
   of_query q alias e = plainly (t.FromQuery q alias) e ∙ aliased alias (query_bound free sources q)
 
-  not_plain : (xs : t.Selects) (order : t.SortList) (limit : Option Text) (alias : Option Text) → is_plain order limit ≡ false → alone_bound free sources (t.FromQuery (t.query_of xs order limit) alias) ≡ None
-  not_plain t.no_selects order limit alias e = refl
-  not_plain (t.select_and x t.no_selects) t.no_sorts None alias e = absurd (cc)
-  not_plain (t.select_and x t.no_selects) t.no_sorts (Some limit) alias e = refl
-  not_plain (t.select_and x t.no_selects) (t.sort_and s order) limit alias e = refl
-  not_plain (t.select_and x (t.select_and y ys)) order limit alias e = refl
+  by_rank : (q : t.Query) (alias : Option Text) → alone_bound free sources (t.FromQuery q alias) ≡ option_map (alone_of alias (gathered_bound free sources None (first_select q))) (ranked_query q)
+  by_rank (t.query_of (t.term_of x xs) ts order limit) alias = refl
 
-  pub ordered : (x : Query) (alias : Option Text) → is_plain (t.sort_list (sorts_view (out-Query x).order)) (out-Query x).limit ≡ false → only_framed free sources outer (t.FromQuery (query_view x) alias) ≡ under alias (query_bound free sources (query_view x))
-  ordered x alias e =
-      of_query (query_view x) alias
-      (ap (λ q. alone_bound free sources (t.FromQuery q alias)) (query x) ∙ not_plain (t.selects (selects_view (out-Query x).selects)) (t.sort_list (sorts_view (out-Query x).order)) (out-Query x).limit alias e)
+  pub unranked : (q : t.Query) (alias : Option Text) → ranked_query q ≡ None → only_framed free sources outer (t.FromQuery q alias) ≡ under alias (query_bound free sources q)
+  unranked q alias e = of_query q alias (by_rank q alias ∙ ap (option_map (alone_of alias (gathered_bound free sources None (first_select q)))) e)
 
-  plain_is : (xs : t.Selects) (order : t.SortList) (limit : Option Text) (alias : Option Text) → is_plain order limit ≡ true → only_framed free sources outer (t.FromQuery (t.query_of xs order limit) alias) ≡ selects_framed free sources outer xs alias
-  plain_is xs t.no_sorts None alias e = refl
-  plain_is xs t.no_sorts (Some limit) alias e = absurd (cc)
-  plain_is xs (t.sort_and s order) None alias e = absurd (cc)
-  plain_is xs (t.sort_and s order) (Some limit) alias e = absurd (cc)
-
-  pub plain_query : (x : Query) (alias : Option Text) → is_plain (t.sort_list (sorts_view (out-Query x).order)) (out-Query x).limit ≡ true → only_framed free sources outer (t.FromQuery (query_view x) alias) ≡ selects_framed free sources outer (t.selects (selects_view (out-Query x).selects)) alias
-  plain_query x alias e = ap (λ q. only_framed free sources outer (t.FromQuery q alias)) (query x) ∙ plain_is (t.selects (selects_view (out-Query x).selects)) (t.sort_list (sorts_view (out-Query x).order)) (out-Query x).limit alias e
-
-  unordered : (r : Checked Relation) → (r >>= λ x. cond true (Ok x) (Err Unsupported)) ≡ r
-  unordered (Ok x) = refl
-  unordered (Err code) = refl
-
-  by_all : (xs : t.Selects) (alias : Option Text) → alone_bound free sources (t.FromQuery (t.query_of xs t.no_sorts None) alias) ≡ None → selects_framed free sources outer xs alias ≡ under alias (all_bound free sources xs)
-  by_all xs alias e = of_query (t.query_of xs t.no_sorts None) alias e ∙ ap (under alias) (by_selects free sources xs t.no_sorts None ∙ unordered (all_bound free sources xs))
-
-  pub not_alone : (xs : t.Selects) (alias : Option Text) → only_select xs ≡ None → selects_framed free sources outer xs alias ≡ under alias (all_bound free sources xs)
-  not_alone t.no_selects alias e = by_all t.no_selects alias refl
-  not_alone (t.select_and x t.no_selects) alias e = absurd (cc)
-  not_alone (t.select_and x (t.select_and y ys)) alias e = by_all (t.select_and x (t.select_and y ys)) alias refl
-
-  pub alone : (xs : t.Selects) (x : t.Select) (alias : Option Text) → only_select xs ≡ Some x → selects_framed free sources outer xs alias ≡ select_framed free sources outer x alias
-  alone t.no_selects x alias e = absurd (cc)
-  alone (t.select_and y t.no_selects) x alias e = let same : y ≡ x = cc in ap (λ z. select_framed free sources outer z alias) same
-  alone (t.select_and y (t.select_and z ys)) x alias e = absurd (cc)
-
-  -- ---- one select
-
-  pub unranked : (x : t.Select) (alias : Option Text) → ranked_select x ≡ None → select_framed free sources outer x alias ≡ under alias (select_bound free sources x)
-  unranked x alias e = by_all (t.select_and x t.no_selects) alias (ap (option_map (alone_of alias (gathered_bound free sources None x))) e)
+  -- ---- one that has
 
   with_list : (alias : Option Text) (q : Ranked) (g : Checked FromWhere) → ((alone_of alias g q >>= λ y. Ok (Only y)) >>= framed free sources outer) ≡ (g >>= from_list free sources outer alias q)
   with_list alias q (Err code) = refl
@@ -111,10 +76,13 @@ module _ (free : Bool) (sources : List TableDef) (outer : t.Select) where
       go (Ok x) = refl
       go (Err code) = refl
 
-  pub ranked : (x : t.Select) (alias : Option Text) (q : Ranked) → ranked_select x ≡ Some q → select_framed free sources outer x alias ≡ (gathered_bound free sources None x >>= from_list free sources outer alias q)
+  pub ranked : (x : Query) (alias : Option Text) (q : Ranked) → ranked_query (query_view x) ≡ Some q
+      → only_framed free sources outer (t.FromQuery (query_view x) alias) ≡ (gathered_bound free sources None (select_view (out-Term (out-Query x).first).first) >>= from_list free sources outer alias q)
   ranked x alias q e =
-      ap (λ o. read_by t.no_joins (option_map (alone_of alias (gathered_bound free sources None x)) o) (source_bound free sources (t.FromQuery (t.query_of (t.select_and x t.no_selects) t.no_sorts None) alias)) >>= framed free sources outer) e
-      ∙ with_list alias q (gathered_bound free sources None x)
+      ap (λ o. read_by t.no_joins o (source_bound free sources (t.FromQuery (query_view x) alias)) >>= framed free sources outer)
+      (by_rank (query_view x) alias ∙ ap (option_map (alone_of alias (gathered_bound free sources None (first_select (query_view x))))) e)
+      ∙ with_list alias q (gathered_bound free sources None (first_select (query_view x)))
+      ∙ ap (λ y. gathered_bound free sources None y >>= from_list free sources outer alias q) (ap first_select (query_parts x))
 
 -- ---- by the joins of a select
 
@@ -185,10 +153,3 @@ input_same q x y =
     let made : RankedList = record { list = q; input = x; ahead = xs; partition = ns; order = ss; behind = ys } in
     let same : made ≡ y = cc in
     ap (λ z. z.input) (sym same)))))))
-
--- ---- selects
-
-pub none_alone : (xs : List Select) → 2 ≤ length xs → only_select (t.selects (selects_view xs)) ≡ None
-none_alone [] l = absurd (omega arith)
-none_alone (x ∷ []) l = absurd (omega arith)
-none_alone (x ∷ y ∷ xs) l = refl

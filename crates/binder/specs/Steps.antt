@@ -1,57 +1,22 @@
 -- Steps of the walk of a query, as the code takes them.
-use Rattle.std.specs.Prelude.{◌≡◌, ℕ, ◌-◌, nat_lt, length, Bool, false, not, ◌&&◌, ◌||◌, cond, List, [], ◌∷◌, ◌++◌, Option, Some, None, Ok, Err}
+use Rattle.std.specs.Prelude.{◌≡◌, ℕ, ◌-◌, nat_lt, length, Bool, false, not, ◌&&◌, ◌||◌, cond, List, Option, Some, None, Ok, Err}
 use Rattle.ct_value.specs.declared.codes.ScriptCode.TheVariants.{RankUnbounded, Unsupported}
 use Rattle.ct_catalog.specs.declared.table.TableDef.{TableDef}
-use Rattle.rel_algebra.specs.Rel.{Rel, Rels, Union, rels, rel_and}
 use Rattle.sql_syntax.specs.Tree.{Tree, Text}
 use Rattle.sql_syntax.specs.Tree as t
 use Rattle.query_answer.specs.Answer.{Entry, conjuncts, entries, is_grouped, types}
-use Rattle.query_answer.specs.Forms.{is_simple}
+use Rattle.query_answer.specs.Forms.{is_plain, is_simple}
 use Rattle.query_answer.specs.Names.{Scope}
 use Rattle.query_answer.specs.Ranks.{Ranked}
 use Rattle.binding.specs.Checked.{Checked, ◌>>=◌}
 use Rattle.binding.specs.Inserts.{scans}
 use Rattle.rel_algebra.specs.GoesInto.{go_into}
 use Rattle.ct_catalog.specs.Columns.{column_types}
-use Rattle.binding.specs.Queries.{Outside, Part, Relation, Framed, FromWhere, Only, all_parts_bound, all_parts_but, alone, alone_bound, denied_bound, exists_bound, exists_part, framed, grouped_select, inside_bound, is_plain, joins_bound, kept, list_bound, member_part, own_value, parts_bound, parts_but, plain_listed, plain_part, plain_select, query_bound, ranked_list, read_by, select_bound, selects_bound, source_bound, united}
+use Rattle.binding.specs.Queries.{Outside, Part, Relation, Run, Framed, FromWhere, Only, all_parts_bound, all_parts_but, alone, alone_bound, closed, denied_bound, exists_bound, exists_part, framed, grouped_select, inside_bound, joins_bound, kept, list_bound, member_part, own_value, parts_bound, parts_but, plain_listed, plain_part, plain_select, query_bound, ranked_list, read_by, source_bound}
 
--- a query with ORDER BY or LIMIT is refused behind its selects
-abbrev pub unless_ordered : t.SortList → Option Text → Relation → Checked Relation
-unless_ordered order limit x = cond (is_plain order limit) (Ok x) (Err Unsupported)
-
--- inputs before those of a list
-abbrev pub onto : List Rel → Rels → Rels
-onto [] ys = ys
-onto (x ∷ xs) ys = rel_and x (onto xs ys)
-
-abbrev pub union_of_all : List Rel → Rels × Scope → Relation
-union_of_all inputs p = record { rel = Union (onto inputs p.0); scope = p.1 }
-
--- the UNION ALL of inputs and of the selects behind them
-abbrev pub union_from : Bool → List TableDef → List Rel → Scope → t.Selects → Checked Relation
-union_from free sources inputs scope xs = selects_bound free sources scope xs >>= λ p. Ok (union_of_all inputs p)
-
--- the columns of a select and of those before it, if there are any
-abbrev pub common_scope : Option Scope → Scope → Checked Scope
-common_scope None scope = Ok scope
-common_scope (Some before) scope = united before scope
-
--- the same where the columns of those before may not be known yet; no text has a UNION ALL of nothing
-abbrev pub union_of_rest : Bool → List TableDef → List Rel → Option Scope → t.Selects → Checked Relation
-union_of_rest free sources inputs (Some scope) xs = union_from free sources inputs scope xs
-union_of_rest free sources inputs None t.no_selects = Err Unsupported
-union_of_rest free sources inputs None (t.select_and x xs) = select_bound free sources x >>= λ a. union_from free sources (inputs ++ a.rel ∷ []) a.scope xs
-
--- the Union of inputs that have these columns
-abbrev pub whole_union : List Rel → Option Scope → Checked Relation
-whole_union inputs None = Err Unsupported
-whole_union inputs (Some scope) = Ok (record { rel = Union (rels inputs); scope = scope })
-
--- one select alone, or several
-abbrev pub all_bound : Bool → List TableDef → t.Selects → Checked Relation
-all_bound free sources t.no_selects = Err Unsupported
-all_bound free sources (t.select_and x t.no_selects) = select_bound free sources x
-all_bound free sources (t.select_and x (t.select_and y ys)) = select_bound free sources x >>= λ a. union_from free sources (a.rel ∷ []) a.scope (t.select_and y ys)
+-- a query with ORDER BY or LIMIT is refused behind its terms
+abbrev pub unless_ordered : t.SortList → Option Text → Run → Checked Relation
+unless_ordered order limit run = cond (is_plain order limit) (Ok (closed run)) (Err Unsupported)
 
 -- the select list, before DISTINCT
 abbrev pub listed : List Entry → List Tree → t.OptionalTree → Relation → Checked Relation
@@ -80,14 +45,9 @@ part_bound free sources outside own x = plain_part outside own x
 abbrev pub only_part : Bool → List TableDef → Outside → Scope → Tree → Checked (List Part)
 only_part free sources outside own x = part_bound free sources outside own x >>= alone
 
--- the subquery of an EXISTS, by its selects
+-- the subquery of an EXISTS, by its first select; it is sole where nothing else stands in it
 abbrev pub exists_simple : Bool → List TableDef → Bool → Scope → Bool → t.Select → Checked Part
-exists_simple free sources anti outside plain x = cond (is_simple x && plain) (inside_bound free sources anti outside x) (Err Unsupported)
-
-abbrev pub exists_only : Bool → List TableDef → Bool → Scope → Bool → t.Selects → Checked Part
-exists_only free sources anti outside plain t.no_selects = Err Unsupported
-exists_only free sources anti outside plain (t.select_and x t.no_selects) = exists_simple free sources anti outside plain x
-exists_only free sources anti outside plain (t.select_and x (t.select_and y ys)) = Err Unsupported
+exists_simple free sources anti outside sole x = cond (is_simple x && sole) (inside_bound free sources anti outside x) (Err Unsupported)
 
 -- ---- conjuncts, but for one that may be spent
 
@@ -121,20 +81,7 @@ abbrev pub read_framed : Bool → List TableDef → t.Select → Checked Framed
 read_framed free sources (t.select_of distinct items from joins condition groups having) =
     read_by joins (alone_bound free sources from) (source_bound free sources from >>= joins_bound free sources joins) >>= framed free sources (t.select_of distinct items from joins condition groups having)
 
--- a select that is alone
-abbrev pub only_select : t.Selects → Option t.Select
-only_select t.no_selects = None
-only_select (t.select_and x t.no_selects) = Some x
-only_select (t.select_and x (t.select_and y ys)) = None
-
--- of a query without ORDER BY and LIMIT
-abbrev pub selects_framed : Bool → List TableDef → t.Select → t.Selects → Option Text → Checked Framed
-selects_framed free sources outer xs alias = only_framed free sources outer (t.FromQuery (t.query_of xs t.no_sorts None) alias)
-
-abbrev pub select_framed : Bool → List TableDef → t.Select → t.Select → Option Text → Checked Framed
-select_framed free sources outer x alias = selects_framed free sources outer (t.select_and x t.no_selects) alias
-
--- of one with a rank
+-- of a query with a rank
 abbrev pub from_list : Bool → List TableDef → t.Select → Option Text → Ranked → FromWhere → Checked Framed
 from_list free sources outer alias q f = ranked_list q (kept f.parts f.relation) >>= λ x. framed free sources outer (Only (record { alias = alias; list = x }))
 

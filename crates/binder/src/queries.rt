@@ -1,30 +1,31 @@
-//! Queries: selects, their sources and joins, the subqueries of a WHERE, and UNION ALL.
+//! Queries: terms, selects, their sources and joins, and the subqueries of a WHERE.
 ghost use Rattle.bind_names.specs.declared.fault.BindFault.TheVariants as f;
-ghost use Rattle.std.specs.Prelude.{◌≡◌, ◌∷◌, true, false, [], None, Ok, Err, option_map, IfOk, IfSome, OnOk, IsErrOf};
+ghost use Rattle.std.specs.Prelude.{◌≡◌, true, false, Ok, Err, option_map, IfOk, OnOk, IsErrOf};
 ghost use Rattle.ct_value.specs.declared.codes.ScriptCode.{ScriptCode};
-ghost use Rattle.sql_syntax.specs.Tree.{joins as join_list, optional_tree, selects as select_list, sort_list, trees as tree_list};
-ghost use Rattle.sql_syntax.specs.View.{joins_view, query_view, select_view, selects_view, sorts_view, source_view, trees_view, view};
-ghost use Rattle.rel_algebra.specs.View.{rels_view};
-ghost use Rattle.binding.specs.Queries.{all_parts_bound, all_parts_but, denied_bound, exists_bound, gathered_bound, inside_bound, is_plain, joins_bound, parts_bound, parts_but, query_bound, select_bound, source_bound, where_bound};
-ghost use Rattle.bind_clauses.specs.Views.{relation_view};
+ghost use Rattle.sql_syntax.specs.Tree.{joins as join_list, optional_tree, select_tails as select_list, sort_list, term_tails as term_list, trees as tree_list};
+ghost use Rattle.sql_syntax.specs.View.{joins_view, query_view, select_tails_view, select_view, sorts_view, source_view, term_tails_view, term_view, trees_view, view};
+ghost use Rattle.query_answer.specs.Forms.{is_plain};
+ghost use Rattle.binding.specs.Queries.{all_parts_bound, all_parts_but, beside_bound, denied_bound, exists_bound, gathered_bound, inside_bound, intersected_bound, joins_bound, parts_bound, parts_but, query_bound, select_bound, source_bound, term_bound, where_bound};
+ghost use Rattle.bind_clauses.specs.Views.{relation_view, run_view};
 ghost use Rattle.bind_nested.specs.PartViews.{outside_view, part_view, parts_view};
 ghost use Rattle.bind_nested.specs.RankViews.{framed_view};
 ghost use Rattle.binder.specs.Views.{from_where_view};
 ghost use Rattle.sql_syntax.specs.Tree as t;
-ghost use Rattle.binder.specs.Steps.{all_bound, common_scope, exists_only, exists_simple, joined_framed, left_bound, member_bound, only_framed, only_part, only_select, part_bound, read_framed, select_framed, selects_framed, union_of_rest, whole_union};
+ghost use Rattle.binder.specs.Steps.{exists_simple, joined_framed, left_bound, member_bound, only_framed, only_part, part_bound, read_framed};
 
 use crate::gathered::{FromWhere, exists_over, select_over, side_by_side, sole, under_alias};
 use crate::spent::split_spent;
-use bind_clauses::{Relation, read, renamed, united};
-use bind_forms::ranked_select;
-use bind_names::{BindFault, is_simple};
+use bind_clauses::{Relation, Run, begun, by_word, closed, operated, read, renamed};
+use bind_forms::ranked_query;
+use bind_names::{BindFault, is_plain, is_simple, is_sole};
 use bind_nested::{Framed, Outside, Part, Parts, alone, member_part, own_value, plain_part, tests};
 use bind_sources::{joined, kind_of};
 use ct_catalog::Sources;
 use ct_value::{ScriptCode, Text};
 use query_answer::Scope;
-use rel_algebra::{Rel, Rels};
-use sql_syntax::{JoinItems, Query, Select, Selects, SortList, Source, Tree, Trees};
+use sql_syntax::{
+    JoinItems, Query, Select, SelectTails, SortList, Source, Term, TermTails, Tree, Trees,
+};
 use std::alloc::Global;
 
 /// The algebra of a query over these tables, with the columns in reach over its rows; or the first refusal. Where ranks are free, one
@@ -39,9 +40,10 @@ pub fn bind_query(
     ensures ok { IfOk result (λ x. query_bound free sources.now (query_view query.now) ≡ Ok (relation_view x)) }
     ensures refused { (code : ScriptCode) → IsErrOf result (f.Refused code) → query_bound free sources.now (query_view query.now) ≡ Err code }
 {
-    let relation = bind_selects(alloc, free, sources, &query.selects)?;
+    let first = bind_term(alloc, free, sources, &query.first)?;
+    let run = bind_beside(alloc, free, sources, begun(alloc, first), &query.rest)?;
     refuse_ordered(&query.order, &query.limit)?;
-    Ok(relation)
+    Ok(closed(alloc, run)?)
 }
 
 // ORDER BY and LIMIT have no place on a query.
@@ -55,77 +57,59 @@ fn refuse_ordered(order: &SortList, limit: &Option<Text>) -> Result<(), BindFaul
     Err(BindFault::Refused(ScriptCode::Unsupported))
 }
 
-#[tactic(auto, using(crate::proofs::BySelects::by_order, crate::proofs::BySelects::limited))]
-fn is_plain(order: &SortList, limit: &Option<Text>) -> bool
-    ensures { result ≡ is_plain (sort_list (sorts_view order.now)) limit.now }
-{
-    match limit {
-        None => order.is_empty(),
-        Some(_) => false,
-    }
-}
-
-// One select alone, or the UNION ALL of several.
+// The terms behind the first, put together from the left.
 #[cycle(query)]
-fn bind_selects(
+fn bind_beside(
     alloc: Global,
     free: bool,
     sources: &Sources,
-    selects: &Selects,
-) -> Result<Relation, BindFault>
-    ensures ok { IfOk result (λ x. all_bound free sources.now (select_list (selects_view selects.now)) ≡ Ok (relation_view x)) }
-    ensures refused { (code : ScriptCode) → IsErrOf result (f.Refused code) → all_bound free sources.now (select_list (selects_view selects.now)) ≡ Err code }
+    first: Run,
+    tails: &TermTails,
+) -> Result<Run, BindFault>
+    ensures ok { IfOk result (λ x. beside_bound free sources.now (term_list (term_tails_view tails.now)) (run_view first) ≡ Ok (run_view x)) }
+    ensures refused { (code : ScriptCode) → IsErrOf result (f.Refused code) → beside_bound free sources.now (term_list (term_tails_view tails.now)) (run_view first) ≡ Err code }
 {
-    match selects.as_slice() {
-        [] => Err(BindFault::Refused(ScriptCode::Unsupported)),
-        [select] => bind_select(alloc, free, sources, select),
-        [_, _, ..] => bind_union(alloc, free, sources, selects),
+    let mut run = first;
+    for tail in tails.as_slice() {
+        let term = bind_term(alloc, free, sources, &tail.term)?;
+        run = by_word(alloc, tail.word, run, term)?;
     }
+    Ok(run)
 }
 
-// The UNION ALL of selects.
+// A term, whose selects are intersected from the left.
 #[cycle(query)]
-fn bind_union(
+fn bind_term(
     alloc: Global,
     free: bool,
     sources: &Sources,
-    selects: &Selects,
+    term: &Term,
 ) -> Result<Relation, BindFault>
-    ensures ok { IfOk result (λ x. union_of_rest free sources.now [] None (select_list (selects_view selects.now)) ≡ Ok (relation_view x)) }
-    ensures refused { (code : ScriptCode) → IsErrOf result (f.Refused code) → union_of_rest free sources.now [] None (select_list (selects_view selects.now)) ≡ Err code }
+    ensures ok { IfOk result (λ x. term_bound free sources.now (term_view term.now) ≡ Ok (relation_view x)) }
+    ensures refused { (code : ScriptCode) → IsErrOf result (f.Refused code) → term_bound free sources.now (term_view term.now) ≡ Err code }
 {
-    let mut inputs = Rels::with_capacity(alloc, selects.len())?;
-    let mut scope = None;
-    for select in selects.as_slice() {
-        let relation = bind_select(alloc, free, sources, select)?;
-        scope = Some(common_scope(alloc, scope, relation.scope)?);
-        inputs.push(Box::into_inner(relation.rel))?;
-    }
-    union_of_all(alloc, inputs, scope)
+    let first = bind_select(alloc, free, sources, &term.first)?;
+    bind_intersected(alloc, free, sources, first, &term.rest)
 }
 
-// The Union of inputs that have these columns; no text has a UNION ALL of nothing.
-#[tactic(auto, using(rel_algebra::proofs::laws::Views::view_union))]
-fn union_of_all(alloc: Global, inputs: Rels, scope: Option<Scope>) -> Result<Relation, BindFault>
-    ensures ok { IfOk result (λ x. whole_union (rels_view inputs) scope ≡ Ok (relation_view x)) }
-    ensures refused { (code : ScriptCode) → IsErrOf result (f.Refused code) → whole_union (rels_view inputs) scope ≡ Err code }
+// The selects behind the first.
+#[cycle(query)]
+fn bind_intersected(
+    alloc: Global,
+    free: bool,
+    sources: &Sources,
+    first: Relation,
+    tails: &SelectTails,
+) -> Result<Relation, BindFault>
+    ensures ok { IfOk result (λ x. intersected_bound free sources.now (select_list (select_tails_view tails.now)) (relation_view first) ≡ Ok (relation_view x)) }
+    ensures refused { (code : ScriptCode) → IsErrOf result (f.Refused code) → intersected_bound free sources.now (select_list (select_tails_view tails.now)) (relation_view first) ≡ Err code }
 {
-    let Some(scope) = scope else {
-        return Err(BindFault::Refused(ScriptCode::Unsupported));
-    };
-    let rel = Box::new(alloc, Rel::Union { inputs })?;
-    Ok(Relation { rel, scope })
-}
-
-// The columns of a select and of those before it.
-fn common_scope(alloc: Global, before: Option<Scope>, scope: Scope) -> Result<Scope, BindFault>
-    ensures ok { IfOk result (λ both. common_scope before scope ≡ Ok both) }
-    ensures refused { (code : ScriptCode) → IsErrOf result (f.Refused code) → common_scope before scope ≡ Err code }
-{
-    match before {
-        None => Ok(scope),
-        Some(before) => united(alloc, &before, &scope),
+    let mut all = first;
+    for tail in tails.as_slice() {
+        let select = bind_select(alloc, free, sources, &tail.select)?;
+        all = operated(alloc, false, tail.all, all, select)?;
     }
+    Ok(all)
 }
 
 // The clauses of a select, in the order in which they are walked.
@@ -228,8 +212,9 @@ fn bind_alone(
     }
 }
 
-// A query as the only source.
+// A query as the only source, which may have a rank.
 #[cycle(query)]
+#[tactic(auto, using(crate::proofs::OnlySources::ranked, crate::proofs::OnlySources::unranked))]
 fn bind_alone_query(
     alloc: Global,
     free: bool,
@@ -241,68 +226,13 @@ fn bind_alone_query(
     ensures ok { IfOk result (λ x. only_framed free sources.now (select_view outer.now) (t.FromQuery (query_view query.now) alias.now) ≡ Ok (framed_view x)) }
     ensures refused { (code : ScriptCode) → IsErrOf result (f.Refused code) → only_framed free sources.now (select_view outer.now) (t.FromQuery (query_view query.now) alias.now) ≡ Err code }
 {
-    if is_plain(&query.order, &query.limit) {
-        return bind_alone_selects(alloc, free, sources, &query.selects, outer, alias);
-    }
-    let relation = bind_query(alloc, free, sources, query)?;
-    Ok(under_alias(alloc, alias, relation)?)
-}
-
-// A select that is alone.
-#[tactic(auto, using(crate::proofs::OnlySources::none_alone))]
-fn only_select(selects: &Selects) -> Option<&Select>
-    ensures select { option_map (λ s. select_view s.now) result ≡ only_select (select_list (selects_view selects.now)) }
-    ensures alone { IfSome result (λ s. selects.now ≡ s.now ∷ []) }
-{
-    match selects.as_slice() {
-        [] => None,
-        [select] => Some(select),
-        [_, _, ..] => None,
-    }
-}
-
-// The selects of a query without ORDER BY and LIMIT as the only source.
-#[cycle(query)]
-fn bind_alone_selects(
-    alloc: Global,
-    free: bool,
-    sources: &Sources,
-    selects: &Selects,
-    outer: &Select,
-    alias: &Option<Text>,
-) -> Result<Framed, BindFault>
-    ensures ok { IfOk result (λ x. selects_framed free sources.now (select_view outer.now) (select_list (selects_view selects.now)) alias.now ≡ Ok (framed_view x)) }
-    ensures refused { (code : ScriptCode) → IsErrOf result (f.Refused code) → selects_framed free sources.now (select_view outer.now) (select_list (selects_view selects.now)) alias.now ≡ Err code }
-{
-    match only_select(selects) {
+    match ranked_query(alloc, query)? {
         None => {
-            let relation = bind_selects(alloc, free, sources, selects)?;
-            Ok(under_alias(alloc, alias, relation)?)
-        }
-        Some(select) => bind_alone_select(alloc, free, sources, select, outer, alias),
-    }
-}
-
-// The only select of a query, which may have a rank.
-#[cycle(query)]
-#[tactic(auto, using(crate::proofs::OnlySources::ranked, crate::proofs::OnlySources::unranked))]
-fn bind_alone_select(
-    alloc: Global,
-    free: bool,
-    sources: &Sources,
-    select: &Select,
-    outer: &Select,
-    alias: &Option<Text>,
-) -> Result<Framed, BindFault>
-    ensures ok { IfOk result (λ x. select_framed free sources.now (select_view outer.now) (select_view select.now) alias.now ≡ Ok (framed_view x)) }
-    ensures refused { (code : ScriptCode) → IsErrOf result (f.Refused code) → select_framed free sources.now (select_view outer.now) (select_view select.now) alias.now ≡ Err code }
-{
-    match ranked_select(alloc, select)? {
-        None => {
-            let relation = bind_select(alloc, free, sources, select)?;
+            let relation = bind_query(alloc, free, sources, query)?;
             Ok(under_alias(alloc, alias, relation)?)
         }
         Some(list) => {
+            let select = &query.first.first;
             let gathered = bind_from_where(alloc, free, sources, Outside::Hidden, select)?;
             sole(alloc, free, sources, outer, alias, list, gathered)
         }
@@ -467,9 +397,10 @@ fn bind_parts(
         ),
         Tree::Compare { .. } | Tree::IsNull { .. } => one(alloc, free, sources, outside, own, tree),
         Tree::Between { .. } | Tree::InList { .. } => one(alloc, free, sources, outside, own, tree),
-        Tree::InQuery { .. } | Tree::Like { .. } => one(alloc, free, sources, outside, own, tree),
-        Tree::Sum { .. } | Tree::Product { .. } => one(alloc, free, sources, outside, own, tree),
-        Tree::Sign { .. } | Tree::Number(_) => one(alloc, free, sources, outside, own, tree),
+        Tree::InQuery { .. } => one(alloc, free, sources, outside, own, tree),
+        Tree::Like { .. } | Tree::Sum { .. } => one(alloc, free, sources, outside, own, tree),
+        Tree::Product { .. } | Tree::Sign { .. } => one(alloc, free, sources, outside, own, tree),
+        Tree::Number(_) => one(alloc, free, sources, outside, own, tree),
         Tree::Str(_) | Tree::Bool(_) | Tree::Null => one(alloc, free, sources, outside, own, tree),
         Tree::Name { .. } | Tree::Call { .. } => one(alloc, free, sources, outside, own, tree),
         Tree::Cast { .. } | Tree::Sub(_) => one(alloc, free, sources, outside, own, tree),
@@ -609,32 +540,19 @@ fn bind_exists(
     ensures ok { IfOk result (λ p. exists_bound free sources.now anti outside.now (query_view query.now) ≡ Ok (part_view p)) }
     ensures refused { (code : ScriptCode) → IsErrOf result (f.Refused code) → exists_bound free sources.now anti outside.now (query_view query.now) ≡ Err code }
 {
-    let plain = is_plain(&query.order, &query.limit);
-    bind_only(alloc, free, sources, anti, outside, plain, &query.selects)
+    let sole = is_sole(query);
+    bind_simple(
+        alloc,
+        free,
+        sources,
+        anti,
+        outside,
+        sole,
+        &query.first.first,
+    )
 }
 
-// Its selects, of which there is one; the query has neither ORDER BY nor LIMIT if it is plain.
-#[cycle(query)]
-#[tactic(auto, using(crate::proofs::Exists::several))]
-fn bind_only(
-    alloc: Global,
-    free: bool,
-    sources: &Sources,
-    anti: bool,
-    outside: &Scope,
-    plain: bool,
-    selects: &Selects,
-) -> Result<Part, BindFault>
-    ensures ok { IfOk result (λ p. exists_only free sources.now anti outside.now plain (select_list (selects_view selects.now)) ≡ Ok (part_view p)) }
-    ensures refused { (code : ScriptCode) → IsErrOf result (f.Refused code) → exists_only free sources.now anti outside.now plain (select_list (selects_view selects.now)) ≡ Err code }
-{
-    match selects.as_slice() {
-        [] => Err(BindFault::Refused(ScriptCode::Unsupported)),
-        [select] => bind_simple(alloc, free, sources, anti, outside, plain, select),
-        [_, _, ..] => Err(BindFault::Refused(ScriptCode::Unsupported)),
-    }
-}
-
+// Its first select; the query is sole where nothing else stands in it.
 #[cycle(query)]
 fn bind_simple(
     alloc: Global,
@@ -642,14 +560,14 @@ fn bind_simple(
     sources: &Sources,
     anti: bool,
     outside: &Scope,
-    plain: bool,
+    sole: bool,
     select: &Select,
 ) -> Result<Part, BindFault>
-    ensures ok { IfOk result (λ p. exists_simple free sources.now anti outside.now plain (select_view select.now) ≡ Ok (part_view p)) }
-    ensures refused { (code : ScriptCode) → IsErrOf result (f.Refused code) → exists_simple free sources.now anti outside.now plain (select_view select.now) ≡ Err code }
+    ensures ok { IfOk result (λ p. exists_simple free sources.now anti outside.now sole (select_view select.now) ≡ Ok (part_view p)) }
+    ensures refused { (code : ScriptCode) → IsErrOf result (f.Refused code) → exists_simple free sources.now anti outside.now sole (select_view select.now) ≡ Err code }
 {
     let simple = is_simple(alloc, select)?;
-    if simple && plain {
+    if simple && sole {
         return bind_inside(alloc, free, sources, anti, outside, select);
     }
     Err(BindFault::Refused(ScriptCode::Unsupported))

@@ -25,6 +25,7 @@ pub(crate) fn scans(table: usize, rel: &Rel) -> bool
         Rel::Union { inputs } => any_scans(table, inputs),
         Rel::Join { left, right, .. } => scans(table, left) || scans(table, right),
         Rel::Semi { left, right, .. } => scans(table, left) || scans(table, right),
+        Rel::SetOp { left, right, .. } => scans(table, left) || scans(table, right),
     }
 }
 

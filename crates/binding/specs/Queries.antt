@@ -14,19 +14,24 @@ use Rattle.rel_algebra.specs.declared.join.JoinKind.{JoinKind}
 use Rattle.rel_algebra.specs.declared.join.Pair.{Pair}
 use Rattle.rel_algebra.specs.declared.sort.SortCol.{SortCol}
 use Rattle.rel_algebra.specs.Ranks.{rank_column, rank_columns}
-use Rattle.rel_algebra.specs.Rel.{Rel, Rels, no_rels, rel_and}
+use Rattle.rel_algebra.specs.Rel.{Rel, Rels, no_rels, rel_and, rels}
 use Rattle.rel_algebra.specs.Rel as r
-use Rattle.rel_algebra.specs.Types.{common_columns, is_boolean}
+use Rattle.rel_algebra.specs.declared.sets.SetKind.{SetKind}
+use Rattle.rel_algebra.specs.declared.sets.SetKind.TheVariants.{Union}
+use Rattle.rel_algebra.specs.Sets.{set_columns, set_kind}
+use Rattle.rel_algebra.specs.Types.{is_boolean}
+use Rattle.sql_syntax.specs.declared.tree.SetWord.{SetWord}
+use Rattle.sql_syntax.specs.declared.tree.SetWord.TheVariants.{UnionAll, Except, ExceptAll}
 use Rattle.sql_syntax.specs.Tree.{Tree, Text}
 use Rattle.sql_syntax.specs.Tree as t
 use Rattle.query_answer.specs.declared.scope.Found.{Found}
 use Rattle.query_answer.specs.declared.scope.Found.TheVariants.{At}
 use Rattle.query_answer.specs.Calls.{Call}
-use Rattle.query_answer.specs.Forms.{is_simple}
+use Rattle.query_answer.specs.Forms.{is_plain, is_simple, is_sole}
 use Rattle.query_answer.specs.Joins.{kind_of, plain_column, pair_found, pair_of, with_pair, pairs_of, rest_of, join_scope}
 use Rattle.query_answer.specs.Names.{Scope, find, find_linked, is_called}
 use Rattle.query_answer.specs.Outside.{looks_outside}
-use Rattle.query_answer.specs.Ranks.{Ranked, Top, ranked_select, with_rank}
+use Rattle.query_answer.specs.Ranks.{Ranked, Top, ranked_query, ranked_select, with_rank}
 use Rattle.query_answer.specs.Shapes.{column_shape}
 use Rattle.query_answer.specs.Answer.{conjuncts, under, table_scope, renamed_scope, Listed, Placed, Written, NoSource, Entry, entries, listed_calls, select_calls, is_grouped, listed_trees, types, retyped, ranked_entries, select_conjuncts, top_of, is_kept}
 use Rattle.binding.specs.Checked.{Checked, ◌>>=◌, or_code, refused_if}
@@ -267,10 +272,6 @@ kept ps x = record { rel = all_matched ps (where_all (owns ps) x.rel); scope = x
 abbrev pub exists_part : Bool → List Part → Relation → Part
 exists_part anti ps x = Matched anti (kept ps x).rel (links ps) (all_if (rests ps))
 
-abbrev pub is_one : t.Selects → Bool
-is_one t.no_selects = true
-is_one (t.select_and x xs) = false
-
 -- a query of one column is asked for its column; a tree that looks outside isn't
 abbrev pub only_column : Scope → Checked ColTy
 only_column (c ∷ []) = Ok c.ty
@@ -422,32 +423,64 @@ exists_over free anti select f = list_inside free (ranked_select select) select 
 -- ---- UNION ALL
 
 -- the columns of both; the names are those of the first
+abbrev pub united_by : SetKind → Scope → Scope → Checked Scope
+united_by kind a b = or_code TypeMismatch (option_map (retyped a) (set_columns kind (types a) (types b)))
+
 abbrev pub united : Scope → Scope → Checked Scope
-united a b = or_code TypeMismatch (option_map (retyped a) (common_columns (types a) (types b)))
+united = united_by Union
 
 abbrev pub union_of : Rel → Rels → Rel
 union_of x no_rels = x
 union_of x (rel_and y ys) = r.Union (rel_and x (rel_and y ys))
 
--- ORDER BY and LIMIT on a query
-abbrev pub is_plain : t.SortList → Option Text → Bool
-is_plain t.no_sorts None = true
-is_plain _ _ = false
+-- a run of UNION ALL: what stands before its first word, the terms behind, and the columns that are common to all
+pub record Run : Type 0 where
+  pub first : Rel
+  pub others : List Rel
+  pub scope : Scope
+
+-- a term, or all that stands before a run
+abbrev pub begun : Relation → Run
+begun x = record { first = x.rel; others = []; scope = x.scope }
+
+-- the run is one Union, where it has two inputs or more
+abbrev pub closed : Run → Relation
+closed run = record { rel = union_of run.first (rels run.others); scope = run.scope }
+
+abbrev pub with_term : Run → Relation → Checked Run
+with_term run x = united run.scope x.scope >>= λ both. Ok (record { first = run.first; others = run.others ++ x.rel ∷ []; scope = both })
+
+-- ---- INTERSECT and EXCEPT
+
+abbrev pub operated : Bool → Bool → Relation → Relation → Checked Relation
+operated except all a b = united_by (set_kind except) a.scope b.scope >>= λ both. Ok (record { rel = r.SetOp a.rel b.rel except all (length a.scope); scope = both })
+
+-- EXCEPT ends a run: what it leaves of all before it begins the next
+abbrev pub by_word : SetWord → Run → Relation → Checked Run
+by_word UnionAll run x = with_term run x
+by_word Except run x = operated true false (closed run) x >>= λ y. Ok (begun y)
+by_word ExceptAll run x = operated true true (closed run) x >>= λ y. Ok (begun y)
 
 -- over these tables, of which the query names some; where ranks are free, one needs no bound
 module _ (free : Bool) (sources : List TableDef) where
   abbrev mutual
     pub query_bound : t.Query → Checked Relation
-    query_bound (t.query_of t.no_selects order limit) = Err Unsupported
-    query_bound (t.query_of (t.select_and x xs) order limit) =
-        gathered_bound None x >>= select_over free x >>= λ a. selects_bound a.scope xs >>= λ others.
-        cond (is_plain order limit) (Ok (record { rel = union_of a.rel others.0; scope = others.1 })) (Err Unsupported)
+    query_bound (t.query_of first rest order limit) =
+        term_bound first >>= λ x. beside_bound rest (begun x) >>= λ run. cond (is_plain order limit) (Ok (closed run)) (Err Unsupported)
 
-    -- the selects behind the first, with the columns that are common to all
-    pub selects_bound : Scope → t.Selects → Checked (Rels × Scope)
-    selects_bound scope t.no_selects = Ok (no_rels, scope)
-    selects_bound scope (t.select_and x xs) =
-        gathered_bound None x >>= select_over free x >>= λ a. united scope a.scope >>= λ both. selects_bound both xs >>= λ others. Ok (rel_and a.rel others.0, others.1)
+    -- terms are put together from the left
+    pub beside_bound : t.TermTails → Run → Checked Run
+    beside_bound t.no_term_tails run = Ok run
+    beside_bound (t.term_tail_and (t.term_tail_of word x) xs) run = term_bound x >>= λ y. by_word word run y >>= beside_bound xs
+
+    -- selects are intersected from the left
+    pub term_bound : t.Term → Checked Relation
+    term_bound (t.term_of x xs) = gathered_bound None x >>= select_over free x >>= intersected_bound xs
+
+    pub intersected_bound : t.SelectTails → Relation → Checked Relation
+    intersected_bound t.no_select_tails a = Ok a
+    intersected_bound (t.select_tail_and (t.select_tail_of all x) xs) a =
+        gathered_bound None x >>= select_over free x >>= λ b. operated false all a b >>= intersected_bound xs
 
     -- FROM and WHERE of a select
     pub gathered_bound : Outside → t.Select → Checked FromWhere
@@ -457,7 +490,8 @@ module _ (free : Bool) (sources : List TableDef) where
 
     -- a query of one select, which has a rank
     pub alone_bound : t.Source → Option (Checked Alone)
-    alone_bound (t.FromQuery (t.query_of (t.select_and x t.no_selects) t.no_sorts None) alias) = option_map (alone_of alias (gathered_bound None x)) (ranked_select x)
+    alone_bound (t.FromQuery (t.query_of (t.term_of x xs) ts order limit) alias) =
+        option_map (alone_of alias (gathered_bound None x)) (ranked_query (t.query_of (t.term_of x xs) ts order limit))
     alone_bound _ = None
 
     pub source_bound : t.Source → Checked Relation
@@ -509,9 +543,8 @@ module _ (free : Bool) (sources : List TableDef) where
 
     -- a query of another form is refused where it stands
     pub exists_bound : Bool → Scope → t.Query → Checked Part
-    exists_bound anti outside (t.query_of t.no_selects order limit) = Err Unsupported
-    exists_bound anti outside (t.query_of (t.select_and x xs) order limit) =
-        cond (is_simple x && (is_one xs && is_plain order limit)) (gathered_bound (Some outside) x >>= exists_over free anti x) (Err Unsupported)
+    exists_bound anti outside (t.query_of (t.term_of x xs) ts order limit) =
+        cond (is_simple x && is_sole (t.query_of (t.term_of x xs) ts order limit)) (gathered_bound (Some outside) x >>= exists_over free anti x) (Err Unsupported)
 
   abbrev pub select_bound : t.Select → Checked Relation
   select_bound x = gathered_bound None x >>= select_over free x

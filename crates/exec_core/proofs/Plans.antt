@@ -2,7 +2,7 @@
 use Rattle.std.specs.Prelude.{◌≡◌, ℕ, ◌<◌, ◌≤◌, ◌^◌, ◌==◌, ◌&&◌, nat_le, Bool, cond, max, List, ◌++◌, length, map, slice_get, Option, option_and_then, option_map}
 use Rattle.std.proofs.Common.{zero, suc, true, false, [], ◌∷◌, refl, sym, ap, subst, ◌∙◌, arith, Some, None}
 use Rattle.std.specs.List.{All, AllByRecursion}
-use Rattle.std.proofs.lemmas.Bool.{leb-true}
+use Rattle.std.proofs.lemmas.Bool.{leb-true, eqb-true}
 use Rattle.std.proofs.lemmas.List.Elements.{All-from_recursion}
 use Rattle.ct_value.specs.declared.ty.ColTy.{ColTy}
 use Rattle.ct_expr.specs.Expr.{Expr}
@@ -12,6 +12,9 @@ use Rattle.rel_algebra.specs.declared.join.Pair.{Pair}
 use Rattle.rel_algebra.specs.declared.sort.SortCol.{SortCol}
 use Rattle.rel_algebra.specs.Groups.{group_columns}
 use Rattle.rel_algebra.specs.Joins.{join_columns}
+use Rattle.rel_algebra.specs.Sets.{set_columns, set_kind}
+use Rattle.rel_algebra.proofs.laws.Sets.{set_columns-lengths}
+use Rattle.typing_laws.proofs.laws.CommonColumns.{if_all}
 use Rattle.rel_algebra.specs.Types.{columns_if, is_condition_if, match_fits, pairs_fit}
 use Rattle.phys_plan.specs.declared.edge.Edge.{Edge as PlanEdge}
 use Rattle.phys_plan.specs.declared.node.Node.{Node}
@@ -194,9 +197,25 @@ module _ (types : ColumnsHaveTypes) (laws : Laws) (plan : Plan) (ruled : IsRuled
       let typed = sym (same (Some left ∷ (Some right ∷ []))) ∙ made_of v node e o (i.0 ∷ (i.1 ∷ [])) is i.2 in
       at_port i.0 i.1 input p on (pairs_there left right on rest (joined left right) (columns_of v) typed) (sym (ap (λ (inputs : List ℕ). slice_get inputs p) i.2) ∙ h)
 
+  at_both : (left right input p columns : ℕ) → length (columns_of left) ≡ columns → length (columns_of right) ≡ columns → slice_get (left ∷ (right ∷ [])) p ≡ Some input → AreThere input (first_columns columns)
+  at_both left right input zero columns l r h = subst (λ (n : ℕ). AreThere n (first_columns columns)) (the_same left input h) (first_within columns (length (columns_of left)) (omega arith))
+  at_both left right input (suc zero) columns l r h = subst (λ (n : ℕ). AreThere n (first_columns columns)) (the_same right input h) (first_within columns (length (columns_of right)) (omega arith))
+  at_both left right input (suc (suc p)) columns l r h = absurd (cc)
+
+  all_there : (v : ℕ) (node : Node) (p input : ℕ) → numbered plan.nodes v ≡ Some node → slice_get node.inputs p ≡ Some input
+      → (except all : Bool) (columns : ℕ) → node.op ≡ op.SetOp except all columns → AreThere input (first_columns columns)
+  all_there v node p input e h except all columns is =
+      let i = agreed.two_inputs laws plan ruled v node e (λ n. ap (λ x. ports_of x n) is) in
+      let left = columns_of i.0 in
+      let right = columns_of i.1 in
+      let typed = if_all (length left == columns) (set_columns (set_kind except) left right) (columns_of v) (made_of v node e (op.SetOp except all columns) (i.0 ∷ (i.1 ∷ [])) is i.2) in
+      let many : length left ≡ columns = eqb-true (length left) columns typed.0 in
+      let as_many = set_columns-lengths (set_kind except) left right (columns_of v) typed.1 in
+      at_both i.0 i.1 input p columns many (sym as_many.1 ∙ as_many.0 ∙ many) (sym (ap (λ (inputs : List ℕ). slice_get inputs p) i.2) ∙ h)
+
   -- an input is asked for by columns that it has, whose types exist
   asked_by : (v : ℕ) (node : Node) (p input : ℕ) → numbered plan.nodes v ≡ Some node → slice_get node.inputs p ≡ Some input → Exist (columns_of input)
-      → (o : Op) → node.op ≡ o → has_rule o ≡ true → IsExchange (columns_of input) (by_columns (asked (length (columns_of input)) o p))
+      → (o : Op) → node.op ≡ o → has_rule o ≡ true → IsExchange (columns_of input) (by_columns (asked o p))
   asked_by v node p input e h there (op.Scan source) is r = tt
   asked_by v node p input e h there (op.Filter cond) is r = tt
   asked_by v node p input e h there (op.Project items) is r = tt
@@ -210,6 +229,7 @@ module _ (types : ColumnsHaveTypes) (laws : Laws) (plan : Plan) (ruled : IsRuled
       routable (columns_of input) (side_columns on p) (sides_there v node p input e h (op.Join kind on rest) is (λ n. refl) on (option_map expr_view rest) (join_columns kind) (λ inputs. refl)) there
   asked_by v node p input e h there (op.Semi anti on rest) is r =
       routable (columns_of input) (side_columns on p) (sides_there v node p input e h (op.Semi anti on rest) is (λ n. refl) on (option_map expr_view rest) (λ left right. left) (λ inputs. refl)) there
+  asked_by v node p input e h there (op.SetOp except all columns) is r = routable (columns_of input) (first_columns columns) (all_there v node p input e h except all columns is) there
   asked_by v node p input e h there (op.TopN partition order bound ranked) is r = routable (columns_of input) partition (partition_there v node p input e h partition order bound ranked is) there
   asked_by v node p input e h there (op.Materialize key) is r = routable (columns_of input) key (shown_there v node p input e h key is) there
   asked_by v node p input e h there op.Sink is r = tt

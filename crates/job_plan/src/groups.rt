@@ -20,6 +20,7 @@ pub(crate) fn has_keyed_group(rel: &Rel) -> bool
         Rel::Union { inputs } => any_has_keyed_group(inputs),
         Rel::Join { left, right, .. } => has_keyed_group(left) || has_keyed_group(right),
         Rel::Semi { left, right, .. } => has_keyed_group(left) || has_keyed_group(right),
+        Rel::SetOp { left, right, .. } => has_keyed_group(left) || has_keyed_group(right),
     }
 }
 

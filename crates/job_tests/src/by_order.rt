@@ -1,5 +1,5 @@
 // Runs by an order: what is written, the line of the ending, and the status.
-use crate::files::{calls, filled, held, hold, texts};
+use crate::files::{calls, held, hold, texts};
 use crate::scripts::{
     COUNT_ALL, COUNT_APPEND, LATE_RETRACTION, SELECT_NULLABLE, SELECT_RETRACT, TOP_CITIES,
 };
@@ -211,29 +211,6 @@ fn drains_many_times(alloc: Global) -> Result<bool, Memory> {
 #[test]
 fn a_job_is_drained_a_thousand_times(rt: HostRuntime) {
     assert!(rt; matches!(drains_many_times(rt.alloc()), Ok(true)));
-}
-
-// Lengths to which an order of one remark is filled, and what the run by it leaves.
-const FILLED: [(usize, Left); 2] = [
-    (67108864, ("+I,7,Oslo\n=,5\n", "", 0)),
-    (67108865, ("", "limit order\n", 6)),
-];
-
-fn filled_leaves(alloc: Global, len: usize, left: &Left) -> bool {
-    let Ok(order) = filled(alloc, "#", len) else {
-        return false;
-    };
-    match late_files(alloc, order) {
-        Ok(files) => leaves(alloc, files, left),
-        Err(_) => false,
-    }
-}
-
-#[test]
-fn orders_are_limited(rt: HostRuntime) {
-    for (len, left) in &FILLED {
-        assert!(rt; filled_leaves(rt.alloc(), *len, left), "length {len}");
-    }
 }
 
 // The `put` that fails, and what was written before.

@@ -1,5 +1,5 @@
 // Runs over one change file for each table.
-use crate::files::{filled, held, hold, texts};
+use crate::files::{held, hold, texts};
 use crate::scripts::{LEFT_JOIN, NAMED_BY_PATH, SELECT_APPEND};
 use crate::told::{Left, is_told, told};
 use ct_io::{Calls, Files, MemShelf, SureShelf};
@@ -185,35 +185,4 @@ fn each_table_has_a_file(rt: HostRuntime) {
     assert!(rt; matches!(is_read_fault(rt.alloc(), &[A]), Ok(true)));
     assert!(rt; matches!(is_read_fault(rt.alloc(), &[B]), Ok(true)));
     assert!(rt; matches!(is_read_fault(rt.alloc(), &[A, B]), Ok(false)));
-}
-
-// Lengths to which two files of blanks are filled, and what the run over them leaves.
-const FILLED: [(usize, usize, Left); 2] = [
-    (
-        40000000,
-        27108864,
-        ("", "change C1 FieldCount line 1 table 1\n", 3),
-    ),
-    (40000000, 27108865, ("", "limit changes\n", 6)),
-];
-
-fn filled_files(alloc: Global, first: usize, second: usize) -> Result<Files, Memory> {
-    let mut files = files(alloc, LEFT_JOIN, &[])?;
-    hold(alloc, &mut files, "d/a.csv", filled(alloc, "", first)?)?;
-    hold(alloc, &mut files, "d/b.csv", filled(alloc, "", second)?)?;
-    Ok(files)
-}
-
-fn filled_leaves(alloc: Global, first: usize, second: usize, left: &Left) -> Result<bool, Memory> {
-    let words = words(alloc, &["--feeds", "d/"])?;
-    let mut shelf = SureShelf::new(filled_files(alloc, first, second)?);
-    Ok(is_told(&told(alloc, words.as_slice(), &mut shelf), left))
-}
-
-#[test]
-fn files_of_tables_are_limited_together(rt: HostRuntime) {
-    for (first, second, left) in &FILLED {
-        let is_left = filled_leaves(rt.alloc(), *first, *second, left);
-        assert!(rt; matches!(is_left, Ok(true)), "lengths {first} and {second}");
-    }
 }

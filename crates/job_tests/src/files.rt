@@ -52,13 +52,6 @@ pub fn files_of(alloc: Global, script: &str, changes: &str) -> Result<Files, Mem
     files(alloc, script, changes)
 }
 
-/// A text filled with spaces to a length.
-pub fn filled(alloc: Global, text: &str, len: usize) -> Result<Bytes, Memory> {
-    let mut bytes = text.as_bytes().to_vec(alloc)?;
-    bytes.resize(len, b' ')?;
-    Ok(Bytes::from_vec(bytes))
-}
-
 /// The calls of these numbers.
 pub fn calls(alloc: Global, numbers: &[u64]) -> Result<Calls, Memory> {
     let mut calls = Calls::new(alloc);

@@ -20,11 +20,7 @@ mod files;
 #[cfg(test)]
 mod inserts;
 #[cfg(test)]
-mod interleavings;
-#[cfg(test)]
 mod judging;
-#[cfg(test)]
-mod long_runs;
 #[cfg(test)]
 mod made;
 #[cfg(test)]

@@ -1,11 +1,9 @@
 // Runs into upsert tables before which a materializer stands.
-use crate::files::{hold, texts};
 use crate::scripts::{
     COUNT_UPSERT, FORCED, LAST_BY_CUSTOMER, LAST_BY_PAIR, LAST_CITIES, NO_SINK_KEY, OFF, TOP_CITIES,
 };
-use crate::told::{BY_ORDER, Left, Setup, files_with, is_told, left_by, told};
-use ct_io::SureShelf;
-use ct_value::{Bytes, Memory};
+use crate::told::{BY_ORDER, Left, Setup, is_told, left_by};
+use ct_value::Memory;
 use std::alloc::Global;
 
 const EXPLAINED: [&str; 4] = ["--script", "s", "--do", "explain"];
@@ -255,84 +253,4 @@ fn ranks_are_told_with_a_materializer_and_without(rt: HostRuntime) {
             "{settings}"
         );
     }
-}
-
-// ---- many changes
-
-// Sixteen customers, and an order that goes round them, so many times from one to the next.
-fn moves(alloc: Global, count: u32) -> Result<Bytes, Memory> {
-    let mut lines = Bytes::new(alloc);
-    for i in 0..16u32 {
-        let line = format!(in alloc; "customers,+I,{i},city {i}\n")?;
-        lines.extend(line.as_bytes())?;
-    }
-    lines.extend(b"orders,+I,7,0\n")?;
-    push_moves(alloc, &mut lines, count)?;
-    Ok(lines)
-}
-
-fn push_moves(alloc: Global, lines: &mut Bytes, count: u32) -> Result<(), Memory> {
-    for i in 0..count {
-        let (old, new) = (i % 16, (i + 1) % 16);
-        let line = format!(in alloc; "orders,-U,7,{old}\norders,+U,7,{new}\n")?;
-        lines.extend(line.as_bytes())?;
-    }
-    Ok(())
-}
-
-// So many orders of one customer.
-fn many_orders(alloc: Global, count: u32) -> Result<Bytes, Memory> {
-    let mut lines = Bytes::new(alloc);
-    lines.extend(b"customers,+I,1,Rome\n")?;
-    for i in 1..=count {
-        let line = format!(in alloc; "orders,+I,{i},1\n")?;
-        lines.extend(line.as_bytes())?;
-    }
-    Ok(lines)
-}
-
-// Whether a run over these lines ends well, and what it prints ends so.
-fn ends(
-    alloc: Global,
-    subtasks: u32,
-    lines: Bytes,
-    order: &str,
-    end: &str,
-) -> Result<bool, Memory> {
-    let words = texts(alloc, &BY_ORDER)?;
-    let setup = (subtasks, "", LAST_CITIES);
-    let mut files = files_with(alloc, &setup, "", order)?;
-    hold(alloc, &mut files, "c", lines)?;
-    let (out, _, status) = told(alloc, words.as_slice(), &mut SureShelf::new(files))?;
-    Ok(status == 0 && out.as_str().ends_with(end))
-}
-
-fn goes_round(alloc: Global, subtasks: u32) -> Result<bool, Memory> {
-    let lines = moves(alloc, 32000)?;
-    ends(
-        alloc,
-        subtasks,
-        lines,
-        "take 16\ndrain\n",
-        ",7,city 0\n=,64017\n",
-    )
-}
-
-fn shows_many(alloc: Global) -> Result<bool, Memory> {
-    let lines = many_orders(alloc, 300000)?;
-    ends(alloc, 2, lines, "", "")
-}
-
-// More than thirty thousand rows come under one key and go, and few of them stand at once.
-#[test]
-fn many_rows_pass_under_one_key(rt: HostRuntime) {
-    for subtasks in &SUBTASKS {
-        let ends = goes_round(rt.alloc(), *subtasks);
-        assert!(rt; matches!(ends, Ok(true)), "in {subtasks}");
-    }
-}
-
-#[test]
-fn many_keys_are_materialized(rt: HostRuntime) {
-    assert!(rt; matches!(shows_many(rt.alloc()), Ok(true)));
 }

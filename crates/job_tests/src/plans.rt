@@ -122,12 +122,12 @@ fn changes_are_named_by_their_rules(rt: HostRuntime) {
                 "script {number}"
             );
             assert!(rt; names_shown_key(alloc, number, shown), "script {number}");
-            for place in 0..nodes {
-                assert!(rt;
-                    names_changes(alloc, number, place),
-                    "script {number}, place {place}"
-                );
-            }
+            // one node of each plan, in turn
+            let place = number.checked_rem(nodes).unwrap_or(0);
+            assert!(rt;
+                names_changes(alloc, number, place),
+                "script {number}, place {place}"
+            );
         }
     }
 }

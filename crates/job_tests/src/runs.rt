@@ -1,5 +1,5 @@
 // Worked runs: what is written, the line of the ending, and the status.
-use crate::files::{calls, files, files_of, filled, texts, usual_words};
+use crate::files::{calls, files, files_of, texts, usual_words};
 use crate::scripts::{
     ANY_SPELLING, BAD_TOKEN_LATER, BATCHES_WITHOUT_GROUP, BEHIND_INSERT, COUNT_ALL, COUNT_APPEND,
     COUNT_BY_KEY, COUNT_INTO_APPEND, COUNT_RETRACT, COUNT_SECOND, COUNT_UPSERT, COUNTS_JOINED,
@@ -586,34 +586,6 @@ fn a_load_that_fails_is_a_read_fault(rt: HostRuntime) {
     for (script, changes, failing) in &BAD_LOADS {
         let ends = is_read_fault(rt.alloc(), script, changes, *failing);
         assert!(rt; ends, "load {failing} of {script} and {changes}");
-    }
-}
-
-// Lengths to which a script and a change file of two lines are filled, and what the run over them leaves.
-const FILLED: [(usize, usize, Left); 3] = [
-    (262145, 14, ("", "limit script\n", 6)),
-    (262144, 14, ("+I,a,1\n-U,a,1\n+U,a,2\n=,2\n", "", 0)),
-    (262144, 67108865, ("", "limit changes\n", 6)),
-];
-
-fn filled_files(alloc: Global, script_len: usize, changes_len: usize) -> Result<Files, Memory> {
-    let script = filled(alloc, COUNT_APPEND, script_len)?;
-    let changes = filled(alloc, "t,+I,a\nt,+I,a\n", changes_len)?;
-    files(alloc, script, changes)
-}
-
-fn filled_leaves(alloc: Global, script_len: usize, changes_len: usize, left: &Left) -> bool {
-    match filled_files(alloc, script_len, changes_len) {
-        Ok(files) => usually_leaves(alloc, files, left),
-        Err(_) => false,
-    }
-}
-
-#[test]
-fn files_are_limited(rt: HostRuntime) {
-    for (script_len, changes_len, left) in &FILLED {
-        let is_left = filled_leaves(rt.alloc(), *script_len, *changes_len, left);
-        assert!(rt; is_left, "lengths {script_len} and {changes_len}");
     }
 }
 

@@ -24,15 +24,15 @@ abbrev pub chain_columns : List (List Pair) → ℕ → List ℕ
 chain_columns on zero = lefts_in (slice_get on 0)
 chain_columns on (suc port) = rights_in (slice_get on port)
 
--- the columns by which an operator asks for the rows of a port, of which each has so many; none where it takes them as they come
-abbrev pub asked : ℕ → Op → ℕ → Option (List ℕ)
-asked width (op.Normalize key) port = Some key
-asked width (op.Group keys aggs) port = Some (first_columns keys)
-asked width (op.BatchGroup keys aggs) port = Some (first_columns keys)
-asked width (op.Join kind on rest) port = Some (side_columns on port)
-asked width (op.Semi anti on rest) port = Some (side_columns on port)
-asked width (op.TopN partition order bound ranked) port = Some partition
-asked width (op.Materialize key) port = Some key
-asked width (op.MultiJoin on) port = Some (chain_columns on port)
-asked width (op.SetOp except all) port = Some (first_columns width)
-asked width _ port = None
+-- the columns by which an operator asks for the rows of a port; none where it takes them as they come
+abbrev pub asked : Op → ℕ → Option (List ℕ)
+asked (op.Normalize key) port = Some key
+asked (op.Group keys aggs) port = Some (first_columns keys)
+asked (op.BatchGroup keys aggs) port = Some (first_columns keys)
+asked (op.Join kind on rest) port = Some (side_columns on port)
+asked (op.Semi anti on rest) port = Some (side_columns on port)
+asked (op.TopN partition order bound ranked) port = Some partition
+asked (op.Materialize key) port = Some key
+asked (op.MultiJoin on) port = Some (chain_columns on port)
+asked (op.SetOp except all columns) port = Some (first_columns columns)
+asked _ port = None

@@ -120,7 +120,7 @@ flow_of sources (op.Materialize key) inputs = plain (kind_set true false true tr
 flow_of sources op.Sink inputs = with_one passed inputs
 flow_of sources (op.LocalGroup keys aggs) inputs = with_one partials inputs
 flow_of sources (op.MultiJoin on) inputs = plain (inner_kinds (map sent_of inputs))
-flow_of sources (op.SetOp except all) inputs = with_two (set_kinds except) inputs
+flow_of sources (op.SetOp except all columns) inputs = with_two (set_kinds except) inputs
 
 -- what the nodes send, behind those before them, as long as no edge leaves out the old rows
 abbrev pub flows_after : List TableDef → List Flow → List Wire → List Flow

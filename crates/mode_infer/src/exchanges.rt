@@ -8,10 +8,10 @@ use phys_plan::{Op, left_columns, right_columns};
 use rel_algebra::Pairs;
 use std::alloc::Global;
 
-/// The columns by which an operator asks for the rows of a port, of which each has `width` columns: those by which the edge is to be
-/// hashed, and `None` where it is to be a forward edge.
-pub fn asked(alloc: Global, width: u32, op: &Op, port: usize) -> Result<Option<Cols>, Memory>
-    ensures { IfOk result (λ cols. cols ≡ x.asked width op.now port) }
+/// The columns by which an operator asks for the rows of a port: those by which the edge is to be hashed, and `None` where it is to
+/// be a forward edge.
+pub fn asked(alloc: Global, op: &Op, port: usize) -> Result<Option<Cols>, Memory>
+    ensures { IfOk result (λ cols. cols ≡ x.asked op.now port) }
 {
     match op {
         Op::Normalize { key } => Ok(Some(key.dup()?)),
@@ -22,7 +22,7 @@ pub fn asked(alloc: Global, width: u32, op: &Op, port: usize) -> Result<Option<C
         Op::TopN { partition, .. } => Ok(Some(partition.dup()?)),
         Op::Materialize { key } => Ok(Some(key.dup()?)),
         Op::MultiJoin { on } => Ok(Some(chain_columns(alloc, on.as_slice(), port)?)),
-        Op::SetOp { .. } => Ok(Some(first_columns(alloc, width)?)),
+        Op::SetOp { columns, .. } => Ok(Some(first_columns(alloc, *columns)?)),
         _ => Ok(None),
     }
 }

@@ -16,4 +16,4 @@ pub use consumers::{is_input, port_of, takes};
 pub use exchanges::asked;
 pub use kinds::{Flow, flows};
 pub use modes::{EdgeMode, infer_modes, set_modes};
-pub use row_keys::{update_keys, width_at};
+pub use row_keys::update_keys;

@@ -42,7 +42,7 @@ fn input_width(columns: &[ColTys], inputs: &[u32]) -> usize
 }
 
 /// How many columns a node sends, by its number; none where there is no such node.
-pub fn width_at(columns: &[ColTys], number: u32) -> usize
+fn width_at(columns: &[ColTys], number: u32) -> usize
     ensures { result ≡ length (c.columns_in columns.now number) }
 {
     match columns.get(number as usize) {

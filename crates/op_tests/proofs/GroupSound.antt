@@ -19,7 +19,7 @@ use Rattle.op_rules.proofs.laws.Values.{types_of_row}
 use Rattle.emission_rules.specs.Grouping.{group_rule, IsSound}
 use Rattle.emission_rules.proofs.laws.Columns.{project-first}
 use Rattle.op_tests.specs.GroupFed.{IsOfRows}
-use Rattle.op_tests.specs.GroupTables.{columns, five_calls, all_calls, grouped}
+use Rattle.op_tests.specs.GroupTables.{columns, all_calls, grouped}
 
 abbrev count : ColTy
 count = record { ty = BigInt; nullable = false }
@@ -33,9 +33,6 @@ price = record { ty = Decimal 38 6; nullable = true }
 abbrev all_made : List ColTy
 all_made = count ∷ count ∷ count ∷ number ∷ number ∷ number ∷ number ∷ number ∷ price ∷ []
 
-abbrev five_made : List ColTy
-five_made = number ∷ number ∷ count ∷ number ∷ number ∷ []
-
 -- ---- soundness
 
 -- calls and columns that are the tests'
@@ -46,9 +43,6 @@ at keys calls aggs tys input output e f s =
 
 pub all_sound : (keys : ℕ) (aggs : List Agg) (tys : List ColTy) → keys ≤ 4 → aggs ≡ all_calls → tys ≡ columns → IsSound (record { keys = keys; aggs = aggs; columns = tys; input = retract; output = retract })
 all_sound keys aggs tys le e f = at keys all_calls aggs tys retract retract e f record { made = take keys columns ++ all_made; typed = ap (λ b. cond b (Some (take keys columns ++ all_made)) None) (le-leb keys 4 le); keeps = tt; tells = tt }
-
-pub five_sound : (aggs : List Agg) (tys : List ColTy) → aggs ≡ five_calls → tys ≡ columns → IsSound (record { keys = 1; aggs = aggs; columns = tys; input = retract; output = retract })
-five_sound aggs tys e f = at 1 five_calls aggs tys retract retract e f record { made = take 1 columns ++ five_made; typed = refl; keeps = tt; tells = tt }
 
 pub append_sound : (aggs : List Agg) (tys : List ColTy) → aggs ≡ all_calls → tys ≡ columns → IsSound (record { keys = 1; aggs = aggs; columns = tys; input = append; output = retract })
 append_sound aggs tys e f = at 1 all_calls aggs tys append retract e f record { made = take 1 columns ++ all_made; typed = refl; keeps = tt; tells = tt }

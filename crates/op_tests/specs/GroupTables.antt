@@ -16,10 +16,6 @@ columns = record { ty = BigInt; nullable = false } ∷ record { ty = BigInt; nul
 abbrev pub on : AggCall → ℕ → Agg
 on call column = record { call = call; arg = Some column; filter = None }
 
--- SUM(n), AVG(n), COUNT(DISTINCT n), MIN(n), MAX(n)
-abbrev pub five_calls : List Agg
-five_calls = on Sum 1 ∷ on Avg 1 ∷ on CountDistinct 1 ∷ on Min 1 ∷ on Max 1 ∷ []
-
 -- COUNT(*), COUNT(n), COUNT(DISTINCT n)
 abbrev pub count_calls : List Agg
 count_calls = record { call = CountAll; arg = None; filter = None } ∷ on Count 1 ∷ on CountDistinct 1 ∷ []

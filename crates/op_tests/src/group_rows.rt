@@ -1,6 +1,6 @@
 ghost use Rattle.std.specs.Prelude.{◌≡◌, ◌∷◌, [], true, false, IfOk};
 ghost use Rattle.ct_field.specs.Typed.{col_fits, value_fits, row_fits};
-ghost use Rattle.op_tests.specs.GroupTables.{columns, on, five_calls, count_calls, all_calls};
+ghost use Rattle.op_tests.specs.GroupTables.{columns, on, count_calls, all_calls};
 
 use ct_change::{Change, Kind};
 use ct_field::in_range;
@@ -98,19 +98,6 @@ fn on(call: AggCall, column: u32) -> Agg
         arg: Some(column),
         filter: None,
     }
-}
-
-/// `SUM(n)`, `AVG(n)`, `COUNT(DISTINCT n)`, `MIN(n)`, `MAX(n)`.
-pub fn five(alloc: Global) -> Result<Aggs, Memory>
-    ensures { IfOk result (λ aggs. aggs ≡ five_calls) }
-{
-    let mut aggs = Aggs::with_capacity(alloc, 5)?;
-    aggs.push(on(AggCall::Sum, 1))?;
-    aggs.push(on(AggCall::Avg, 1))?;
-    aggs.push(on(AggCall::CountDistinct, 1))?;
-    aggs.push(on(AggCall::Min, 1))?;
-    aggs.push(on(AggCall::Max, 1))?;
-    Ok(aggs)
 }
 
 /// `COUNT(*)`, `COUNT(n)`, `COUNT(DISTINCT n)`, `SUM(n)`, `AVG(n)`, `MIN(n)`, `MAX(n)`, `SUM(n) FILTER (WHERE keep)`,

@@ -25,12 +25,6 @@ mod join_shown;
 #[cfg(test)]
 mod joins;
 #[cfg(test)]
-mod many_groups;
-#[cfg(test)]
-mod many_joins;
-#[cfg(test)]
-mod many_tops;
-#[cfg(test)]
 mod materialize_feeding;
 #[cfg(test)]
 mod materialize_histories;

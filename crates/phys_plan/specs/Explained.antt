@@ -76,7 +76,7 @@ operator_text sources sink (op.Materialize key) inputs = called (codes "Material
 operator_text sources sink op.Sink inputs = called (codes "Sink") sink.name
 operator_text sources sink (op.LocalGroup keys aggs) inputs = called (codes "LocalGroup") (group_text keys (length aggs))
 operator_text sources sink (op.MultiJoin on) inputs = called (codes "MultiJoin") (decimal inputs)
-operator_text sources sink (op.SetOp except all) inputs = set_text except all
+operator_text sources sink (op.SetOp except all columns) inputs = set_text except all
 
 -- ---- edges
 

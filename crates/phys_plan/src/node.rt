@@ -73,10 +73,11 @@ pub enum Op {
     MultiJoin {
         on: PairLists,
     },
-    /// The rows of the left without those of the right, or those that are in both.
+    /// The rows of the left without those of the right, or those that are in both, of so many columns.
     SetOp {
         except: bool,
         all: bool,
+        columns: u32,
     },
 }
 

@@ -35,7 +35,7 @@ pub(crate) fn push_operator(
         Op::Sink => push_called(text, "Sink", plan.sink.name.as_slice()),
         Op::LocalGroup { keys, aggs } => push_group(alloc, text, "LocalGroup", *keys, aggs.len()),
         Op::MultiJoin { .. } => push_counted(alloc, text, "MultiJoin", inputs),
-        Op::SetOp { except, all } => text.extend(set_text(*except, *all).as_bytes()),
+        Op::SetOp { except, all, .. } => text.extend(set_text(*except, *all).as_bytes()),
     }
 }
 

@@ -1,5 +1,5 @@
 -- Columns gathered by a loop, as far as each of them is there.
-use Rattle.std.proofs.Common.{◌≡◌, ℕ, suc, ◌+◌, ◌<◌, ◌≤◌, Bool, List, [], ◌∷◌, ◌++◌, length, drop, get_or, Option, Some, None, refl, sym, ap, ◌∙◌, append_assoc, append-nil}
+use Rattle.std.proofs.Common.{◌≡◌, ℕ, ◌+◌, ◌<◌, ◌≤◌, List, [], ◌∷◌, ◌++◌, length, drop, get_or, Option, Some, None, refl, sym, ap, ◌∙◌, append_assoc, append-nil}
 use Rattle.std.specs.Prelude.{option_map}
 use Rattle.std.proofs.lemmas.List.{at_drop_more, drop_all}
 use Rattle.ct_value.specs.declared.ty.ColTy.{ColTy}
@@ -7,7 +7,6 @@ use Rattle.ct_expr.specs.Types.{both_of}
 use Rattle.rel_algebra.specs.declared.agg.Agg.{Agg}
 use Rattle.rel_algebra.specs.Aggregates.{type_in}
 use Rattle.plan_check.specs.Partials as p
-use Rattle.plan_check.specs.Types as t
 
 -- those so far, and then what is left, are the whole
 abbrev pub Gathered : Option (List ColTy) → Option (List ColTy) → List ColTy → Type 0
@@ -22,22 +21,6 @@ gathered-start whole left made e g = sym e ∙ nothing left ∙ ap (λ xs. optio
 
 pub gathered-end : (whole left : Option (List ColTy)) (made : List ColTy) → left ≡ Some [] → Gathered whole left made → Some made ≡ whole
 gathered-end whole left made e h = sym (h ∙ ap (option_map (λ others. made ++ others)) e ∙ ap (λ (xs : List ColTy). Some xs) (append-nil made))
-
--- ---- one column more
-
-abbrev pub before : Option ColTy → Option (List ColTy) → Option (List ColTy)
-before column columns = both_of (λ c others. Some (c ∷ others)) column columns
-
-pub column-none : (whole left right : Option (List ColTy)) (o : Option ColTy) (made : List ColTy) → left ≡ before o right → o ≡ None → Gathered whole left made → None ≡ whole
-column-none whole left right o made e f h = sym (h ∙ ap (option_map (λ others. made ++ others)) (e ∙ ap (λ x. before x right) f))
-
-pub column-turn : (whole left right : Option (List ColTy)) (o : Option ColTy) (column : ColTy) (made new : List ColTy) → left ≡ before o right → o ≡ Some column → new ≡ made ++ column ∷ [] → Gathered whole left made → Gathered whole right new
-column-turn whole left right o column made new e f g h =
-    h ∙ ap (option_map (λ others. made ++ others)) (e ∙ ap (λ x. before x right) f) ∙ more right ∙ ap (λ xs. option_map (λ others. xs ++ others) right) (sym g)
-  where
-    more : (q : Option (List ColTy)) → option_map (λ others. made ++ others) (before (Some column) q) ≡ option_map (λ others. (made ++ column ∷ []) ++ others) q
-    more None = refl
-    more (Some others) = ap (λ (xs : List ColTy). Some xs) (sym (append_assoc made (column ∷ []) others))
 
 -- ---- some columns more
 
@@ -65,28 +48,3 @@ parts_more columns aggs i d l = at_drop_more (p.parts_of columns) aggs i d l
 
 pub parts_end : (columns : List ColTy) (aggs : List Agg) (i : ℕ) → length aggs ≤ i → parts_from columns aggs i ≡ Some []
 parts_end columns aggs i l = ap (p.parts_of columns) (drop_all i aggs l)
-
--- ---- columns of both inputs
-
-abbrev pub set_from : Bool → List ColTy → List ColTy → ℕ → Option (List ColTy)
-set_from except lefts rights i = t.set_columns except (drop i lefts) (drop i rights)
-
-pub set_more : (except : Bool) (lefts rights : List ColTy) (i : ℕ) (d : ColTy) → i < length lefts → i < length rights → set_from except lefts rights i ≡ before (t.set_column except (get_or lefts i d) (get_or rights i d)) (set_from except lefts rights (i + 1))
-set_more except lefts rights i d l m =
-    at_drop_more (λ xs. t.set_columns except xs (drop i rights)) lefts i d l
-    ∙ at_drop_more (λ ys. t.set_columns except (get_or lefts i d ∷ drop (i + 1) lefts) ys) rights i d m
-
-pub set_end : (except : Bool) (lefts rights : List ColTy) (i : ℕ) → length lefts ≤ i → length rights ≤ i → set_from except lefts rights i ≡ Some []
-set_end except lefts rights i l m =
-    ap (λ (xs : List ColTy). t.set_columns except xs (drop i rights)) (drop_all i lefts l)
-    ∙ ap (λ (ys : List ColTy). t.set_columns except [] ys) (drop_all i rights m)
-
-no-rest : (o : Option ColTy) → before o None ≡ None
-no-rest None = refl
-no-rest (Some column) = refl
-
-pub uneven : (except : Bool) (lefts rights : List ColTy) → (length lefts ≡ length rights → ⊥) → t.set_columns except lefts rights ≡ None
-uneven except [] [] h = absurd (h refl)
-uneven except [] (right ∷ rights) h = refl
-uneven except (left ∷ lefts) [] h = refl
-uneven except (left ∷ lefts) (right ∷ rights) h = ap (before (t.set_column except left right)) (uneven except lefts rights (λ e. h (ap suc e))) ∙ no-rest (t.set_column except left right)

@@ -28,7 +28,7 @@ meets rule.Types plan v = has_types plan v
 meets rule.Keys plan v = has_keys (inferred_of plan) plan v
 meets rule.Kinds plan v = has_kinds (inferred_of plan) plan v
 meets rule.UpdateKind plan v = has_update (inferred_of plan) plan v
-meets rule.Exchanged plan v = is_exchanged (inferred_of plan) plan v
+meets rule.Exchanged plan v = is_exchanged plan v
 meets rule.SinkKey plan v = suits_sink (inferred_of plan) plan v
 
 -- how many numbers are looked at: at least one, as what Shape says of the whole plan counts at node 1

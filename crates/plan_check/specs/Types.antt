@@ -1,9 +1,8 @@
 -- The rule Types, said of one node of a plan: the columns that each node sends, for all operators, and what the sink takes.
-use Rattle.std.specs.Prelude.{ℕ, Bool, true, false, not, ◌&&◌, ◌||◌, List, [], ◌∷◌, ◌++◌, map, Option, Some, None, option_map, option_and_then}
+use Rattle.std.specs.Prelude.{ℕ, Bool, true, false, not, ◌&&◌, ◌||◌, List, [], ◌∷◌, ◌++◌, map, Option, Some, None, option_and_then}
 use Rattle.std.specs.List.{list_all}
 use Rattle.ct_value.specs.declared.ty.ColTy.{ColTy}
 use Rattle.ct_catalog.specs.declared.table.TableDef.{TableDef}
-use Rattle.ct_expr.specs.Types.{both_of, common_ty}
 use Rattle.rel_algebra.specs.Groups.{group_columns}
 use Rattle.rel_algebra.specs.Types.{columns_if, is_column}
 use Rattle.rel_algebra.specs.GoesInto.{go_into}
@@ -13,7 +12,7 @@ use Rattle.phys_plan.specs.declared.node.Node.{Node}
 use Rattle.phys_plan.specs.declared.plan.Plan.{Plan}
 use Rattle.phys_plan.specs.Reading.{numbered}
 use Rattle.ct_catalog.specs.Columns.{column_types}
-use Rattle.plan_rules.specs.Columns.{columns_by, numbered_columns, of_two, only}
+use Rattle.plan_rules.specs.Columns.{columns_by, numbered_columns, only}
 use Rattle.plan_check.specs.Chains.{chain_columns}
 use Rattle.plan_check.specs.Partials.{partial_columns}
 
@@ -23,21 +22,6 @@ use Rattle.plan_check.specs.Partials.{partial_columns}
 abbrev pub keyed_columns : List ℕ → List ColTy → Option (List ColTy)
 keyed_columns key columns = columns_if (list_all (is_column columns) key) columns
 
--- NULL may stand in a row of the left that isn't on the right where it may on the left, and in one of both where it may on both
-abbrev pub set_nullable : Bool → ColTy → ColTy → Bool
-set_nullable true left right = left.nullable
-set_nullable false left right = left.nullable && right.nullable
-
-abbrev pub set_column : Bool → ColTy → ColTy → Option ColTy
-set_column except left right = option_map (λ ty. record { ty = ty; nullable = set_nullable except left right }) (common_ty left.ty right.ty)
-
--- column by column, equally many
-abbrev pub set_columns : Bool → List ColTy → List ColTy → Option (List ColTy)
-set_columns except [] [] = Some []
-set_columns except [] (right ∷ rights) = None
-set_columns except (left ∷ lefts) [] = None
-set_columns except (left ∷ lefts) (right ∷ rights) = both_of (λ column columns. Some (column ∷ columns)) (set_column except left right) (set_columns except lefts rights)
-
 -- the columns of a node, from those of its inputs; none where it isn't well-typed
 abbrev pub types_by : List TableDef → Op → List (Option (List ColTy)) → Option (List ColTy)
 types_by sources (op.Normalize key) inputs = option_and_then (keyed_columns key) (only inputs)
@@ -45,7 +29,6 @@ types_by sources (op.Materialize key) inputs = option_and_then (keyed_columns ke
 types_by sources (op.BatchGroup keys aggs) inputs = option_and_then (λ columns. group_columns keys columns aggs) (only inputs)
 types_by sources (op.LocalGroup keys aggs) inputs = option_and_then (λ columns. partial_columns keys columns aggs) (only inputs)
 types_by sources (op.MultiJoin on) inputs = chain_columns on inputs
-types_by sources (op.SetOp except all) inputs = of_two (set_columns except) inputs
 types_by sources operator inputs = columns_by sources operator inputs
 
 -- ---- columns of the nodes of a plan

@@ -128,7 +128,7 @@ fn meets(alloc: Global, rule: Rule, plan: &Plan, known: &Known, number: u32) -> 
         Rule::Keys => Ok(has_keys(&known.inferred, plan, number)),
         Rule::Kinds => Ok(has_kinds(&known.inferred, plan, number)),
         Rule::UpdateKind => Ok(has_update(&known.inferred, plan, number)),
-        Rule::Exchanged => is_exchanged(alloc, &known.inferred, plan, number),
+        Rule::Exchanged => is_exchanged(alloc, plan, number),
         Rule::SinkKey => suits_sink(alloc, &known.inferred, plan, number),
     }
 }

@@ -13,7 +13,6 @@ mod groups;
 mod known;
 mod nodes;
 mod operators;
-mod sets;
 mod sinks;
 
 pub use check::{PlanFault, check_plan};

@@ -5,7 +5,6 @@ ghost use Rattle.plan_check.specs.Types as t;
 
 use crate::chains::chain_columns;
 use crate::groups::{merged, partial, summed_input};
-use crate::sets::set_joined;
 use ct_catalog::Sources;
 use ct_value::{ColTys, Cols, Memory};
 use phys_plan::{Node, Nodes, Op};
@@ -28,7 +27,6 @@ pub(crate) fn next_types(
         }
         Op::LocalGroup { keys, aggs } => partial(*keys, aggs, only_input(done, &node.inputs)),
         Op::MultiJoin { on } => chain_columns(on, done, &node.inputs),
-        Op::SetOp { except, .. } => set_joined(*except, done, &node.inputs),
         _ => next_columns(sources, done, node),
     }
 }

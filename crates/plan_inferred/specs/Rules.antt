@@ -1,6 +1,6 @@
 -- The rules of sound plans that speak of what is inferred, each said of one node by its number, from 1. A number without a node
 -- meets them all.
-use Rattle.std.specs.Prelude.{ℕ, Bool, true, false, not, ◌&&◌, ◌||◌, cond, List, [], ◌∷◌, length, Option, None, Some}
+use Rattle.std.specs.Prelude.{ℕ, Bool, true, false, not, ◌&&◌, ◌||◌, cond, List, [], ◌∷◌, Option, None, Some}
 use Rattle.std.specs.List.{list_all}
 use Rattle.ct_change.specs.declared.kind.Declared.{Declared}
 use Rattle.ct_change.specs.declared.kind.Declared.TheVariants.{Append, Retract, Upsert}
@@ -15,7 +15,6 @@ use Rattle.phys_plan.specs.declared.node.Op.{Op}
 use Rattle.phys_plan.specs.declared.node.Op.TheVariants as op
 use Rattle.phys_plan.specs.declared.plan.Plan.{Plan}
 use Rattle.phys_plan.specs.Reading.{numbered, first_input}
-use Rattle.phys_plan.specs.Columns.{columns_in}
 use Rattle.mode_infer.specs.declared.kinds.Flow.{Flow}
 use Rattle.mode_infer.specs.declared.modes.EdgeMode.{EdgeMode}
 use Rattle.ct_change.specs.Kinds.{has_more_than_inserts}
@@ -61,7 +60,7 @@ needs_old_rows op.Union = true
 needs_old_rows (op.Group keys aggs) = true
 needs_old_rows (op.BatchGroup keys aggs) = true
 needs_old_rows (op.LocalGroup keys aggs) = true
-needs_old_rows (op.SetOp except all) = true
+needs_old_rows (op.SetOp except all columns) = true
 needs_old_rows _ = false
 
 abbrev pub tells_old_rows : Update → Bool
@@ -86,9 +85,9 @@ abbrev pub by_columns : Option (List ℕ) → Exchange
 by_columns None = Forward
 by_columns (Some cols) = Hash cols
 
-abbrev pub exchange_by : ℕ → ℕ → Option Node → Exchange
-exchange_by width v None = Forward
-exchange_by width v (Some node) = by_columns (asked width node.op (port_of v node.inputs))
+abbrev pub exchange_by : ℕ → Option Node → Exchange
+exchange_by v None = Forward
+exchange_by v (Some node) = by_columns (asked node.op (port_of v node.inputs))
 
 -- the first node that has a number among its inputs
 abbrev pub consumer : ℕ → List Node → Option Node
@@ -99,12 +98,8 @@ abbrev pub says_exchange : Exchange → Option Edge → Bool
 says_exchange exchange None = true
 says_exchange exchange (Some edge) = same_exchange exchange edge.exchange
 
--- how many columns a node sends
-abbrev pub width_at : Inferred → ℕ → ℕ
-width_at inferred v = length (columns_in inferred.columns v)
-
-abbrev pub is_exchanged : Inferred → Plan → ℕ → Bool
-is_exchanged inferred plan v = says_exchange (exchange_by (width_at inferred v) v (consumer v plan.nodes)) (numbered plan.edges v)
+abbrev pub is_exchanged : Plan → ℕ → Bool
+is_exchanged plan v = says_exchange (exchange_by v (consumer v plan.nodes)) (numbered plan.edges v)
 
 -- ---- SinkKey: what comes to a sink suits its table
 

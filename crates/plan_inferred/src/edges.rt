@@ -8,7 +8,7 @@ ghost use Rattle.plan_inferred.specs.Same as s;
 use crate::Inferred;
 use ct_change::{KindSet, Update};
 use ct_value::Memory;
-use mode_infer::{EdgeMode, asked, is_input, port_of, width_at};
+use mode_infer::{EdgeMode, asked, is_input, port_of};
 use phys_plan::{Edge, Exchange, Node, Op, Plan, numbered};
 use std::alloc::Global;
 
@@ -120,48 +120,27 @@ fn needs_old_rows(op: &Op) -> bool
 // ---- exchanges
 
 /// Whether the edge that leaves a node, by its number, from 1, goes as the node that it feeds asks for it.
-pub fn is_exchanged(
-    alloc: Global,
-    inferred: &Inferred,
-    plan: &Plan,
-    number: u32,
-) -> Result<bool, Memory>
-    ensures { IfOk result (λ exchanged. exchanged ≡ r.is_exchanged inferred.now plan.now number) }
+pub fn is_exchanged(alloc: Global, plan: &Plan, number: u32) -> Result<bool, Memory>
+    ensures { IfOk result (λ exchanged. exchanged ≡ r.is_exchanged plan.now number) }
 {
     match numbered(plan.edges.as_slice(), number) {
         None => Ok(true),
         Some(edge) => {
-            let width = narrow(width_at(inferred.columns.as_slice(), number))?;
             let to = consumer(number, plan.nodes.as_slice());
-            let exchange = exchange_by(alloc, width, number, to)?;
+            let exchange = exchange_by(alloc, number, to)?;
             Ok(same_exchange(&exchange, &edge.exchange))
         }
     }
 }
 
-// How many columns a node sends; no row has more than 32 bits count.
-fn narrow(width: usize) -> Result<u32, Memory>
-    ensures { IfOk result (λ narrow. narrow ≡ width) }
-{
-    match u32::try_from(width) {
-        Ok(narrow) => Ok(narrow),
-        Err(_) => Err(Memory),
-    }
-}
-
-fn exchange_by(
-    alloc: Global,
-    width: u32,
-    number: u32,
-    to: Option<&Node>,
-) -> Result<Exchange, Memory>
-    ensures { IfOk result (λ exchange. exchange ≡ r.exchange_by width number (option_copied to.entry)) }
+fn exchange_by(alloc: Global, number: u32, to: Option<&Node>) -> Result<Exchange, Memory>
+    ensures { IfOk result (λ exchange. exchange ≡ r.exchange_by number (option_copied to.entry)) }
 {
     match to {
         None => Ok(Exchange::Forward),
         Some(node) => {
             let port = port_of(number, node.inputs.as_slice());
-            match asked(alloc, width, &node.op, port)? {
+            match asked(alloc, &node.op, port)? {
                 None => Ok(Exchange::Forward),
                 Some(cols) => Ok(Exchange::Hash(cols)),
             }

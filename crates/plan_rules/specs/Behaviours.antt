@@ -11,6 +11,7 @@ use Rattle.emission_rules.specs.Project.{project_rule}
 use Rattle.emission_rules.specs.Union.{union_rule}
 use Rattle.emission_rules.specs.Normalize.{normalize_rule, TellsKey}
 use Rattle.emission_rules.specs.Materialize.{materialize_rule}
+use Rattle.emission_rules.specs.SetOps.{set_rule}
 use Rattle.emission_rules.specs.Sink.{sink_rule}
 use Rattle.emission_rules.specs.Grouping.{group_rule, IsSound as GroupsWell}
 use Rattle.emission_rules.specs.Joining.{joins, matched, join_rule}
@@ -39,7 +40,7 @@ rule_of (op.Materialize key) = Some (λ around. materialize_rule key)
 rule_of op.Sink = Some (λ around. sink_rule (sink_of around))
 rule_of (op.LocalGroup keys aggs) = None
 rule_of (op.MultiJoin on) = None
-rule_of (op.SetOp except all) = None
+rule_of (op.SetOp except all columns) = Some (λ around. set_rule (record { except = except; all = all }))
 
 -- what an operator asks of what is around it: a normalizer tells by its key, a group's calls have types and modes suit it, and a Top-N's
 -- columns are there and modes suit it
@@ -58,7 +59,7 @@ Suits (op.Materialize key) around = Unit {0}
 Suits op.Sink around = Unit {0}
 Suits (op.LocalGroup keys aggs) around = Unit {0}
 Suits (op.MultiJoin on) around = Unit {0}
-Suits (op.SetOp except all) around = Unit {0}
+Suits (op.SetOp except all columns) around = Unit {0}
 
 -- it scans a table, or its rule is built
 abbrev pub has_rule : Op → Bool

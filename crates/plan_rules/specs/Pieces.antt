@@ -8,7 +8,7 @@ use Rattle.ct_change.specs.declared.kind.KindSet.{KindSet}
 use Rattle.ct_catalog.specs.declared.table.TableDef.{TableDef}
 use Rattle.ct_expr.specs.Views.{expr_of}
 use Rattle.rel_algebra.specs.declared.agg.Agg.{Agg}
-use Rattle.rel_algebra.specs.Rel.{Unary, filter_by, project_on, group_by, rank_in, Binary, join_on, semi_on, Rel, Rels, Scan, One, Two, Many, no_rels, rel_and}
+use Rattle.rel_algebra.specs.Rel.{Unary, filter_by, project_on, group_by, rank_in, Binary, join_on, semi_on, set_by, Rel, Rels, Scan, One, Two, Many, no_rels, rel_and}
 use Rattle.emission_rules.specs.GroupFits.{first_columns}
 use Rattle.emission_rules.specs.JoinFits.{left_pairs, right_pairs}
 use Rattle.phys_plan.specs.declared.edge.Edge.{Edge}
@@ -54,6 +54,7 @@ way_of_both operator left right = record { op = operator; left = left; right = r
 abbrev pub binary_way : Binary → BinaryWay
 binary_way (join_on kind pairs rest) = way_of_both (op.Join kind pairs (option_map expr_of rest)) (Hash (left_pairs pairs)) (Hash (right_pairs pairs))
 binary_way (semi_on anti pairs rest) = way_of_both (op.Semi anti pairs (option_map expr_of rest)) (Hash (left_pairs pairs)) (Hash (right_pairs pairs))
+binary_way (set_by except all columns) = way_of_both (op.SetOp except all columns) (Hash (first_columns columns)) (Hash (first_columns columns))
 
 -- ---- pieces
 

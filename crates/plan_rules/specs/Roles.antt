@@ -5,7 +5,7 @@ use Rattle.ct_value.specs.declared.ty.ColTy.{ColTy}
 use Rattle.ct_change.specs.Changelog.{Rows}
 use Rattle.ct_expr.specs.View.{expr_view}
 use Rattle.rel_algebra.specs.Batch.{unary_answer, binary_answer}
-use Rattle.rel_algebra.specs.Rel.{Unary, filter_by, project_on, group_by, rank_in, Binary, join_on, semi_on, Rel, Scan, One, Two, Many, no_rels, rels}
+use Rattle.rel_algebra.specs.Rel.{Unary, filter_by, project_on, group_by, rank_in, Binary, join_on, semi_on, set_by, Rel, Scan, One, Two, Many, no_rels, rels}
 use Rattle.emission_rules.specs.GroupFits.{part}
 use Rattle.emission_rules.specs.Union.{union_answer}
 use Rattle.phys_plan.specs.declared.node.Op.{Op}
@@ -40,7 +40,7 @@ role (op.Materialize key) = same_as
 role op.Sink = same_as
 role (op.LocalGroup keys aggs) = same_as
 role (op.MultiJoin on) = not_told (λ inputs. nat_le 3 inputs && nat_le inputs 8)
-role (op.SetOp except all) = not_told (λ inputs. inputs == 2)
+role (op.SetOp except all columns) = two_of (set_by except all columns)
 
 -- ---- what follows from a role
 

@@ -5,7 +5,8 @@ ghost use Rattle.plan_rules.specs.Columns as c;
 ghost use Rattle.rel_algebra.specs.Types as t;
 
 use ct_value::{ColTys, List, Memory, Numbers};
-use rel_columns::common_columns;
+use rel_algebra::SetKind;
+use rel_columns::set_columns;
 
 /// The columns of nodes in order, none of a node that isn't well-typed or isn't built yet.
 pub type NodeColumns = List<Option<ColTys>>;
@@ -58,7 +59,7 @@ fn with_input(common: Option<ColTys>, input: Option<&ColTys>) -> Result<Option<C
     let Some(others) = input else {
         return Ok(None);
     };
-    common_columns(&columns, others)
+    set_columns(SetKind::Union, &columns, others)
 }
 
 /// The columns of an input, where it has any.

@@ -9,6 +9,7 @@ ghost use Rattle.rel_algebra.specs.Groups as g;
 use crate::input_columns::{NodeColumns, common_input, only_input, same_columns};
 use crate::joins::{joined, semi_joined};
 use crate::ranks::ranked;
+use crate::sets::set_operated;
 use ct_catalog::Sources;
 use ct_expr::{Expr, Exprs};
 use ct_value::{ColTys, Memory};
@@ -35,6 +36,11 @@ pub fn next_columns(
         }
         Op::Join { kind, on, rest } => joined(*kind, on, rest, done, &node.inputs),
         Op::Semi { on, rest, .. } => semi_joined(on, rest, done, &node.inputs),
+        Op::SetOp {
+            except,
+            columns,
+            ..
+        } => set_operated(*except, *columns, done, &node.inputs),
         Op::TopN {
             partition,
             order,

@@ -1,7 +1,7 @@
 //! The nodes of operators, laid behind their inputs.
 ghost use Rattle.std.specs.Prelude.{◌≡◌, [], ◌∷◌, option_map, IfOk, IfErr};
 ghost use Rattle.ct_expr.specs.View.{expr_view, exprs_view};
-ghost use Rattle.rel_algebra.specs.Rel.{filter_by, project_on, group_by, rank_in, join_on, semi_on};
+ghost use Rattle.rel_algebra.specs.Rel.{filter_by, project_on, group_by, rank_in, join_on, semi_on, set_by};
 ghost use Rattle.plan_rules.specs.Pieces.{group_op, unary_way, binary_way};
 ghost use Rattle.planner.specs.Laying.{PushedAs};
 
@@ -125,5 +125,27 @@ impl Laying {
         let on = on.dup()?;
         let rest = dup_rest(rest)?;
         self.push_whole(Op::Semi { anti, on, rest }, inputs, exchange)
+    }
+
+    // A set operation on two nodes.
+    pub(crate) fn push_set_op(
+        &mut self,
+        left: u32,
+        right: u32,
+        except: bool,
+        all: bool,
+        columns: u32,
+        exchange: Exchange,
+    ) -> Result<u32, LayingFault>
+        ensures pushed { IfOk result (λ number. PushedAs self.old self.new (binary_way (set_by except all columns)).op (left ∷ (right ∷ [])) exchange number) }
+        ensures full { IfErr result (λ fault. fault ≡ LayingFault.Memory) }
+    {
+        let inputs = two_numbers(self.alloc, left, right)?;
+        let op = Op::SetOp {
+            except,
+            all,
+            columns,
+        };
+        self.push_whole(op, inputs, exchange)
     }
 }

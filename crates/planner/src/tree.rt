@@ -3,13 +3,14 @@ ghost use Rattle.std.specs.Prelude.{IfOk, IfErr};
 ghost use Rattle.rel_algebra.specs.Rel.{rels};
 ghost use Rattle.rel_algebra.specs.Rel as r;
 ghost use Rattle.rel_algebra.specs.View.{rel_view, rels_view};
+ghost use Rattle.emission_rules.specs.GroupFits.{first_columns};
 ghost use Rattle.emission_rules.specs.JoinFits.{right_pairs};
 ghost use Rattle.phys_plan.specs.declared.edge.Exchange.TheVariants.{Hash as ByHash};
 ghost use Rattle.planner.specs.Laying.{Lays, LaysAll, Fails, FailsAll, Tops};
 
 use crate::laying::Laying;
 use crate::laying_fault::LayingFault;
-use crate::parts::right_columns;
+use crate::parts::{first_columns, right_columns};
 use crate::way::way_down;
 use ct_value::Numbers;
 use phys_plan::{Exchange, Op};
@@ -78,6 +79,16 @@ impl Laying {
                 let second = self.lay_right(right, on, levels)?;
                 self.push_semi(below, second, *anti, on, rest, exchange)
             }
+            Rel::SetOp {
+                right,
+                except,
+                all,
+                columns,
+                ..
+            } => {
+                let second = self.lay_whole(right, *columns, levels)?;
+                self.push_set_op(below, second, *except, *all, *columns, exchange)
+            }
             Rel::Rank {
                 partition,
                 order,
@@ -95,6 +106,16 @@ impl Laying {
         ensures fails { IfErr result (λ fault. Fails self.old (rel_view right.now) fault) }
     {
         let columns = right_columns(self.alloc, on)?;
+        self.lay(right, Exchange::Hash(columns), levels)
+    }
+
+    // The right side of a set operation, hashed by all its columns.
+    #[cycle(tree)]
+    fn lay_whole(&mut self, right: &Rel, columns: u32, levels: u32) -> Result<u32, LayingFault>
+        ensures laid { IfOk result (λ root. Lays self.old self.new (ByHash (first_columns columns)) (rel_view right.now) root) }
+        ensures fails { IfErr result (λ fault. Fails self.old (rel_view right.now) fault) }
+    {
+        let columns = first_columns(self.alloc, columns)?;
         self.lay(right, Exchange::Hash(columns), levels)
     }
 

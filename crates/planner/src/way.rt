@@ -57,6 +57,10 @@ fn first_input<'a>(alloc: Global, rel: &'a Rel) -> Result<Option<Asked<'a>>, Mem
             let columns = left_columns(alloc, on)?;
             Ok(input_for(left, Exchange::Hash(columns)))
         }
+        Rel::SetOp { left, columns, .. } => {
+            let columns = first_columns(alloc, *columns)?;
+            Ok(input_for(left, Exchange::Hash(columns)))
+        }
         Rel::Rank {
             input,
             partition,

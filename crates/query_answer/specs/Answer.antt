@@ -15,8 +15,11 @@ use Rattle.rel_algebra.specs.declared.join.JoinKind.{JoinKind}
 use Rattle.rel_algebra.specs.declared.join.Pair.{Pair}
 use Rattle.rel_algebra.specs.Joins.{Matching, matching, join_rows, semi_join}
 use Rattle.rel_algebra.specs.Ranks.{rank_rows, rank_column}
+use Rattle.rel_algebra.specs.Sets.{set_columns, set_form, set_kind, set_rows}
 use Rattle.rel_algebra.specs.Sums.{distinct, plus}
 use Rattle.rel_algebra.specs.Types.{common_columns}
+use Rattle.sql_syntax.specs.declared.tree.SetWord.{SetWord}
+use Rattle.sql_syntax.specs.declared.tree.SetWord.TheVariants.{UnionAll, Except, ExceptAll}
 use Rattle.sql_syntax.specs.Tree.{Tree, Text}
 use Rattle.sql_syntax.specs.Tree as t
 use Rattle.query_answer.specs.declared.scope.Found.TheVariants.{Absent, At}
@@ -27,7 +30,7 @@ use Rattle.query_answer.specs.Groups.{grouped_rows, called, key_at, meanings}
 use Rattle.query_answer.specs.Joins.{kind_of, plain_column, pair_found, pairs_of, rest_of, join_scope}
 use Rattle.query_answer.specs.Names.{Scope, Lookup, find, find_linked, named, column_at, is_called}
 use Rattle.query_answer.specs.Outside.{looks_outside}
-use Rattle.query_answer.specs.Ranks.{Ranked, Top, ranked_select, places, sorts, top_from, with_rank, without, is_looked_at, reads_rank}
+use Rattle.query_answer.specs.Ranks.{Ranked, Top, ranked_query, places, sorts, top_from, with_rank, without, is_looked_at, reads_rank}
 use Rattle.query_answer.specs.Shapes.{shape, place_of, column_shape}
 use Rattle.query_answer.specs.SourceColumns.{item_name}
 use Rattle.query_answer.specs.Stands.{Leaf, stands, or_else}
@@ -337,6 +340,19 @@ union_scope a b = retyped a (unwrap_or (common_columns (types a) (types b)) [])
 abbrev pub union : Reach → Reach → Reach
 union a b = record { scope = union_scope a.scope b.scope; rows = plus a.rows b.rows }
 
+-- EXCEPT, or else INTERSECT, with ALL or without: the names are those of the left; NULL counts as equal to NULL
+abbrev pub set_scope : Bool → Scope → Scope → Scope
+set_scope except a b = retyped a (unwrap_or (set_columns (set_kind except) (types a) (types b)) [])
+
+abbrev pub operated : Bool → Bool → Reach → Reach → Reach
+operated except all a b = record { scope = set_scope except a.scope b.scope; rows = both_of (λ left right. Some (set_rows (set_form except all) left right)) a.rows b.rows }
+
+-- what a word between two terms says
+abbrev pub by_word : SetWord → Reach → Reach → Reach
+by_word UnionAll a b = union a b
+by_word Except a b = operated true false a b
+by_word ExceptAll a b = operated true true a b
+
 -- ---- Top-N
 
 -- what is listed ahead of a rank or behind it, over the columns of the sources
@@ -422,12 +438,20 @@ module _ (tables : List TableRows) where
   abbrev mutual
     -- the answer of a query: its columns with their names, and its rows
     pub answer : t.Query → Reach
-    answer (t.query_of t.no_selects order limit) = no_reach
-    answer (t.query_of (t.select_and x xs) order limit) = answers (select_over x (gathered x)) xs
+    answer (t.query_of first rest order limit) = beside (answer_term first) rest
 
-    pub answers : Reach → t.Selects → Reach
-    answers r t.no_selects = r
-    answers r (t.select_and x xs) = answers (union r (select_over x (gathered x))) xs
+    -- terms are put together from the left
+    pub beside : Reach → t.TermTails → Reach
+    beside r t.no_term_tails = r
+    beside r (t.term_tail_and (t.term_tail_of word x) xs) = beside (by_word word r (answer_term x)) xs
+
+    -- the answer of a term, whose selects are intersected from the left
+    pub answer_term : t.Term → Reach
+    answer_term (t.term_of x xs) = intersected (select_over x (gathered x)) xs
+
+    pub intersected : Reach → t.SelectTails → Reach
+    intersected r t.no_select_tails = r
+    intersected r (t.select_tail_and (t.select_tail_of all x) xs) = intersected (operated false all r (select_over x (gathered x))) xs
 
     -- what FROM and WHERE of a select give
     pub gathered : t.Select → FromWhere
@@ -436,7 +460,7 @@ module _ (tables : List TableRows) where
 
     -- a query of one select, which has a rank
     pub alone_in : t.Source → Option Alone
-    alone_in (t.FromQuery (t.query_of (t.select_and x t.no_selects) t.no_sorts None) alias) = alone_of alias (ranked_select x) (gathered x)
+    alone_in (t.FromQuery (t.query_of (t.term_of x xs) ts order limit) alias) = alone_of alias (ranked_query (t.query_of (t.term_of x xs) ts order limit)) (gathered x)
     alone_in _ = None
 
     pub answer_source : t.Source → Reach
@@ -473,8 +497,7 @@ module _ (tables : List TableRows) where
 
     -- its select list is not evaluated
     pub inside : t.Query → Inside
-    inside (t.query_of t.no_selects order limit) = record { reach = no_reach; linked = [] }
-    inside (t.query_of (t.select_and x xs) order limit) = let f = gathered x in within f.parts f.reach
+    inside (t.query_of (t.term_of x xs) ts order limit) = let f = gathered x in within f.parts f.reach
 
   abbrev pub answer_select : t.Select → Reach
   answer_select x = select_over x (gathered x)

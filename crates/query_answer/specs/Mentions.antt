@@ -5,6 +5,7 @@ use Rattle.std.specs.List.{list_any}
 use Rattle.ct_catalog.specs.declared.table.TableDef.{TableDef}
 use Rattle.sql_syntax.specs.Tree.{Tree, Text}
 use Rattle.sql_syntax.specs.Tree as t
+use Rattle.query_answer.specs.Forms.{first_select, is_alone}
 use Rattle.query_answer.specs.SourceColumns.{of_source, sources_have}
 
 module _ (test : Option Text → Text → Bool) where
@@ -80,10 +81,13 @@ module _ (test : Option Text → Text → Bool) where
 abbrev pub unless_own : List TableDef → t.Source → t.JoinItems → (Option Text → Text → Bool) → Option Text → Text → Bool
 unless_own tables from joins test of name = not (sources_have tables (of_source of) name from joins) && test of name
 
--- in the WHERE of an EXISTS's subquery, which has one select
+-- in the WHERE of a select
+abbrev pub in_where : List TableDef → (Option Text → Text → Bool) → t.Select → Bool
+in_where tables test (t.select_of distinct items from joins condition groups having) = in_optional (unless_own tables from joins test) condition
+
+-- in that of an EXISTS's subquery, which has one select
 abbrev pub in_exists : List TableDef → (Option Text → Text → Bool) → t.Query → Bool
-in_exists tables test (t.query_of (t.select_and (t.select_of distinct items from joins condition groups having) t.no_selects) order limit) = in_optional (unless_own tables from joins test) condition
-in_exists tables test _ = false
+in_exists tables test q = is_alone q && in_where tables test (first_select q)
 
 abbrev pub in_conjunct : List TableDef → (Option Text → Text → Bool) → Tree → Bool
 in_conjunct tables test (t.Exists q) = in_exists tables test q

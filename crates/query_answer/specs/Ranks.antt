@@ -14,7 +14,7 @@ use Rattle.query_answer.specs.declared.function.Function.{Function}
 use Rattle.query_answer.specs.declared.function.Function.TheVariants.{RowNumber}
 use Rattle.query_answer.specs.declared.scope.Found.{Found}
 use Rattle.query_answer.specs.declared.scope.Found.TheVariants.{Absent, At, Several}
-use Rattle.query_answer.specs.Forms.{is_simple}
+use Rattle.query_answer.specs.Forms.{first_select, is_simple, is_sole}
 use Rattle.query_answer.specs.Functions.{function_of}
 use Rattle.query_answer.specs.Joins.{plain_column}
 use Rattle.query_answer.specs.Literals.{number_of}
@@ -78,6 +78,10 @@ ranked_items (t.item_and x xs) = ranked_from (item_over x) x xs (ranked_items xs
 abbrev pub ranked_select : t.Select → Option Ranked
 ranked_select (t.select_of distinct items from joins condition groups having) =
     cond (is_simple (t.select_of distinct items from joins condition groups having)) (ranked_items items) None
+
+-- a query that is such a select
+abbrev pub ranked_query : t.Query → Option Ranked
+ranked_query q = cond (is_sole q) (ranked_select (first_select q)) None
 
 -- ---- PARTITION BY and ORDER BY
 

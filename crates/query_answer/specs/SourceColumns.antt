@@ -49,10 +49,13 @@ module _ (tables : List TableDef) where
     joins_have meant name t.no_joins = false
     joins_have meant name (t.join_and (t.join_of word source on) js) = source_has meant name source || joins_have meant name js
 
-    -- by the items of its first select, or by the sources whose columns these list
+    -- by its first select
     pub query_has : Text → t.Query → Bool
-    query_has name (t.query_of t.no_selects order limit) = false
-    query_has name (t.query_of (t.select_and (t.select_of distinct items from joins condition groups having) xs) order limit) =
+    query_has name (t.query_of (t.term_of x xs) ts order limit) = select_has name x
+
+    -- by its items, or by the sources whose columns these list
+    pub select_has : Text → t.Select → Bool
+    select_has name (t.select_of distinct items from joins condition groups having) =
         makes name items || (source_has (by_star items) name from || joins_have (by_star items) name joins)
 
   abbrev pub sources_have : (Option Text → Bool) → Text → t.Source → t.JoinItems → Bool

@@ -105,4 +105,10 @@ answered =
     -- DISTINCT and UNION ALL
     over_both (codes "SELECT DISTINCT a FROM t") (Some ((Null ∷ []) ∷ (n 1 ∷ []) ∷ (n 2 ∷ []) ∷ [])) ∷
     over_both (codes "SELECT a FROM u UNION ALL SELECT g FROM t WHERE a = 1 UNION ALL SELECT a FROM u") (Some ((n 1 ∷ []) ∷ (n 1 ∷ []) ∷ (n 1 ∷ []) ∷ (n 2 ∷ []) ∷ (n 3 ∷ []) ∷ (n 3 ∷ []) ∷ [])) ∷
-    over_both (codes "SELECT c, COUNT(*) FROM (SELECT a AS k, COUNT(*) AS c FROM t GROUP BY a) AS x GROUP BY c") (Some ((n 1 ∷ n 1 ∷ []) ∷ (n 2 ∷ n 2 ∷ []) ∷ [])) ∷ []
+    over_both (codes "SELECT c, COUNT(*) FROM (SELECT a AS k, COUNT(*) AS c FROM t GROUP BY a) AS x GROUP BY c") (Some ((n 1 ∷ n 1 ∷ []) ∷ (n 2 ∷ n 2 ∷ []) ∷ [])) ∷
+    -- INTERSECT and EXCEPT: each row once, or with ALL each copy; NULL counts as equal to NULL
+    over_both (codes "SELECT a FROM t EXCEPT SELECT a FROM u") (Some ((Null ∷ []) ∷ (n 2 ∷ []) ∷ [])) ∷
+    over_both (codes "SELECT a FROM t EXCEPT ALL SELECT a FROM u") (Some ((Null ∷ []) ∷ (Null ∷ []) ∷ (n 1 ∷ []) ∷ (n 2 ∷ []) ∷ [])) ∷
+    over_both (codes "SELECT a FROM t INTERSECT SELECT a FROM t WHERE b > 15") (Some ((Null ∷ []) ∷ (n 1 ∷ []) ∷ (n 2 ∷ []) ∷ [])) ∷
+    over_both (codes "SELECT a FROM t INTERSECT ALL SELECT a FROM t WHERE b > 15") (Some ((Null ∷ []) ∷ (Null ∷ []) ∷ (n 1 ∷ []) ∷ (n 2 ∷ []) ∷ [])) ∷
+    over_both (codes "SELECT a FROM u UNION ALL SELECT a FROM u EXCEPT ALL SELECT a FROM t UNION ALL SELECT g FROM t INTERSECT SELECT a FROM u") (Some ((n 1 ∷ []) ∷ (n 3 ∷ []) ∷ (n 3 ∷ []) ∷ (n 3 ∷ []) ∷ [])) ∷ []

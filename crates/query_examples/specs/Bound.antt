@@ -12,7 +12,7 @@ use Rattle.rel_algebra.specs.declared.agg.AggCall.{AggCall}
 use Rattle.rel_algebra.specs.declared.agg.AggCall.TheVariants.{CountAll, Count, CountDistinct, Sum, Max}
 use Rattle.rel_algebra.specs.declared.join.JoinKind.TheVariants.{Inner, Left, Right}
 use Rattle.rel_algebra.specs.declared.join.Pair.{Pair}
-use Rattle.rel_algebra.specs.Rel.{Rel, Scan, Filter, Project, Union, Group, Join, Semi, rels}
+use Rattle.rel_algebra.specs.Rel.{Rel, Scan, Filter, Project, Union, Group, Join, Semi, SetOp, rels}
 use Rattle.sql_syntax.specs.Tree.{Text}
 
 abbrev pub a : Expr
@@ -70,7 +70,13 @@ bound =
     (codes "SELECT 1 FROM u HAVING TRUE", Project (Filter (Group (Project (Scan 1) []) 0 []) (Literal (Truth true) Truths)) (int 1 ∷ [])) ∷
     -- DISTINCT, and UNION ALL as one node
     (codes "SELECT DISTINCT a FROM u", Group (Project (Scan 1) (a ∷ [])) 1 []) ∷
-    (codes "SELECT * FROM u UNION ALL SELECT a, s FROM t UNION ALL SELECT * FROM u", Union (rels (Scan 1 ∷ Project (Scan 0) (a ∷ Column 2 Texts ∷ []) ∷ Scan 1 ∷ []))) ∷ []
+    (codes "SELECT * FROM u UNION ALL SELECT a, s FROM t UNION ALL SELECT * FROM u", Union (rels (Scan 1 ∷ Project (Scan 0) (a ∷ Column 2 Texts ∷ []) ∷ Scan 1 ∷ []))) ∷
+    -- INTERSECT binds tighter than UNION ALL and EXCEPT, which are read from the left; a run of UNION ALL without EXCEPT is one node
+    (codes "SELECT a FROM t INTERSECT SELECT a FROM u", SetOp (Project (Scan 0) (a ∷ [])) (Project (Scan 1) (a ∷ [])) false false 1) ∷
+    (codes "SELECT * FROM u EXCEPT SELECT * FROM u EXCEPT ALL SELECT a, s FROM t", SetOp (SetOp (Scan 1) (Scan 1) true false 2) (Project (Scan 0) (a ∷ Column 2 Texts ∷ [])) true true 2) ∷ (
+      codes "SELECT * FROM u UNION ALL SELECT * FROM u EXCEPT SELECT * FROM u UNION ALL SELECT * FROM u INTERSECT ALL SELECT * FROM u",
+      Union (rels (SetOp (Union (rels (Scan 1 ∷ Scan 1 ∷ []))) (Scan 1) true false 2 ∷ SetOp (Scan 1) (Scan 1) false true 2 ∷ [])),
+    ) ∷ []
 
 abbrev must : Ty → ColTy
 must ty = record { ty = ty; nullable = false }
@@ -94,4 +100,7 @@ columns =
     -- the side whose rows may be missing
     (codes "SELECT t.b, u.x FROM t LEFT JOIN u ON t.a = u.a", (named (codes "b"), must Int) ∷ (named (codes "x"), may Texts) ∷ []) ∷
     (codes "SELECT t.b, u.x FROM t FULL JOIN u ON t.a = u.a", (named (codes "b"), may Int) ∷ (named (codes "x"), may Texts) ∷ []) ∷
-    (codes "SELECT b FROM t UNION ALL SELECT a FROM u", (named (codes "b"), may Int) ∷ []) ∷ []
+    (codes "SELECT b FROM t UNION ALL SELECT a FROM u", (named (codes "b"), may Int) ∷ []) ∷
+    -- NULL may stand in EXCEPT's columns where it may on the left, and in INTERSECT's where it may on both sides
+    (codes "SELECT a, b AS x FROM t EXCEPT SELECT b, g FROM t", (named (codes "a"), may Int) ∷ (named (codes "x"), must BigInt) ∷ []) ∷
+    (codes "SELECT a, b AS x, a AS y FROM t INTERSECT SELECT b, a, a FROM t", (named (codes "a"), must Int) ∷ (named (codes "x"), must Int) ∷ (named (codes "y"), may Int) ∷ []) ∷ []

@@ -7,9 +7,10 @@ use Rattle.ct_value.specs.declared.ty.ColTy.{ColTy}
 use Rattle.ct_value.specs.declared.ty.Ty.{Ty}
 use Rattle.ct_value.specs.declared.value.Value.{Value}
 use Rattle.rel_algebra.specs.Rel.{Rel}
-use Rattle.sql_syntax.specs.Tree.{Query, Tree, Text, Insert, query_of, select_of, select_and, no_selects, item_and, no_items, One, All, AllOf, Selects, Select, Items, Item}
+use Rattle.sql_syntax.specs.Tree.{Query, Tree, Text, Insert, select_of, item_and, no_items, One, All, AllOf, Select, Items, Item}
 use Rattle.sql_grammar.specs.ReadsScripts.{Answer, answered, refused, read_text}
 use Rattle.query_answer.specs.Answer.{over, table_scope}
+use Rattle.query_answer.specs.Forms.{first_select}
 use Rattle.query_answer.specs.Names.{Scope}
 use Rattle.binding.specs.Checked.{Checked, ◌>>=◌}
 use Rattle.binding.specs.Inserts.{Inserted, insert_bound}
@@ -85,12 +86,8 @@ items_tree (item_and x xs) = item_tree x
 abbrev pub select_tree : Select → Option Tree
 select_tree (select_of distinct items from joins condition groups having) = items_tree items
 
-abbrev pub selects_tree : Selects → Option Tree
-selects_tree no_selects = None
-selects_tree (select_and x xs) = select_tree x
-
 abbrev pub query_tree : Checked Query → Option Tree
-query_tree (Ok (query_of selects order limit)) = selects_tree selects
+query_tree (Ok q) = select_tree (first_select q)
 query_tree (Err code) = None
 
 abbrev pub tree_of : Text → Option Tree

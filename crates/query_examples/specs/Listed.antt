@@ -1,5 +1,5 @@
 -- The batch answer computed on lists of rows, so that examples of it can be worked.
-use Rattle.std.specs.Prelude.{ℕ, zero, suc, ◌==◌, ℤ, pos, ◌+ℤ◌, length, Bool, true, false, cond, not, List, [], ◌∷◌, ◌++◌, map, filter, take, Option, Some, None, option_map, option_and_then}
+use Rattle.std.specs.Prelude.{ℕ, zero, suc, ◌==◌, nat_lt, ℤ, pos, ◌+ℤ◌, length, Bool, true, false, cond, not, List, [], ◌∷◌, ◌++◌, map, filter, take, Option, Some, None, option_map, option_and_then}
 use Rattle.std.specs.Option.{unwrap_or}
 use Rattle.std.specs.declared.cmp.Ordering.{Ordering}
 use Rattle.ct_value.specs.Bag.{put, occurs, weigh, bag_of}
@@ -23,7 +23,8 @@ use Rattle.rel_algebra.specs.Aggregates.{count_value, in_type, sum_type, average
 use Rattle.rel_algebra.specs.Clauses.{collect, holds, row_of}
 use Rattle.rel_algebra.specs.Joins.{Matching, turned, apart_if, matching, nulls, keeps_left, keeps_right}
 use Rattle.rel_algebra.specs.Ranks.{rank_cmp, ranked_from, shown}
-use Rattle.rel_algebra.specs.Rel.{Unary, filter_by, project_on, group_by, rank_in, Binary, join_on, semi_on, Rel, Rels, Scan, One, Two, Many, no_rels, rel_and}
+use Rattle.rel_algebra.specs.Sets.{set_copies, set_form}
+use Rattle.rel_algebra.specs.Rel.{Unary, filter_by, project_on, group_by, rank_in, Binary, join_on, semi_on, set_by, Rel, Rels, Scan, One, Two, Many, no_rels, rel_and}
 use Rattle.rel_algebra.specs.Answer.{Table}
 use Rattle.rel_algebra.specs.Types.{columns_of}
 
@@ -120,6 +121,14 @@ list_first_rows sorts bound ranked members = map (shown ranked) (take bound (ran
 abbrev pub list_rank : List ℕ → List SortCol → ℕ → Bool → List Row → Option (List Row)
 list_rank partition sorts bound ranked rows = list_by_key (project partition) (λ key members. Some (list_first_rows sorts bound ranked members)) rows
 
+-- at most so many of each
+abbrev pub list_thinned : (Row → ℕ) → List Row → List Row
+list_thinned most [] = []
+list_thinned most (x ∷ xs) = cond (nat_lt (occurs row_cmp x (list_thinned most xs)) (most x)) (x ∷ list_thinned most xs) (list_thinned most xs)
+
+abbrev pub list_set : Bool → Bool → List Row → List Row → List Row
+list_set except all xs ys = list_thinned (λ row. set_copies (set_form except all) (occurs row_cmp row xs) (occurs row_cmp row ys)) xs
+
 -- ---- the answer
 
 pub record ListedTable : Type 0 where
@@ -145,6 +154,7 @@ list_unary (rank_in partition order bound ranked) columns = list_rank partition 
 abbrev pub list_binary : Binary → List ColTy → List ColTy → List Row → List Row → Option (List Row)
 list_binary (join_on kind pairs rest) l r = list_join kind (length l) (length r) (matching pairs (option_map eval rest))
 list_binary (semi_on anti pairs rest) l r = list_semi_join anti (matching pairs (option_map eval rest))
+list_binary (set_by except all columns) l r = λ xs ys. Some (list_set except all xs ys)
 
 module _ (tables : List ListedTable) where
   abbrev pub listed_columns : Rel → List ColTy

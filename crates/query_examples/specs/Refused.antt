@@ -40,6 +40,7 @@ ambiguous =
 -- S7
 abbrev pub mismatched : List Text
 mismatched =
+    codes "SELECT a FROM t EXCEPT SELECT x FROM u" ∷ codes "SELECT a FROM t INTERSECT ALL SELECT a, x FROM u" ∷
     codes "SELECT a + s FROM t" ∷ codes "SELECT a * f FROM t" ∷ codes "SELECT a || s FROM t" ∷ codes "SELECT -s FROM t" ∷
     codes "SELECT +f FROM t" ∷ codes "SELECT a = s FROM t" ∷ codes "SELECT a < f FROM t" ∷ codes "SELECT a AND f FROM t" ∷
     codes "SELECT f OR a FROM t" ∷ codes "SELECT NOT a FROM t" ∷ codes "SELECT a BETWEEN s AND 3 FROM t" ∷
@@ -104,6 +105,7 @@ unsupported =
     codes "SELECT a FROM t WHERE NOT (NOT EXISTS (SELECT 1 FROM u))" ∷ codes "SELECT a FROM t WHERE a NOT IN (SELECT a FROM u)" ∷
     codes "SELECT a FROM t WHERE NOT (a IN (SELECT a FROM u))" ∷ codes "SELECT t.a FROM t JOIN u ON EXISTS (SELECT 1 FROM u)" ∷
     codes "SELECT a FROM t GROUP BY a HAVING EXISTS (SELECT 1 FROM u)" ∷ codes "SELECT a FROM t WHERE EXISTS (SELECT DISTINCT a FROM u)" ∷
+    codes "SELECT a FROM t WHERE EXISTS (SELECT a FROM u EXCEPT SELECT a FROM u)" ∷ codes "SELECT a FROM t WHERE EXISTS (SELECT a FROM u INTERSECT ALL SELECT a FROM u)" ∷
     codes "SELECT a FROM t WHERE EXISTS (SELECT COUNT(*) FROM u)" ∷ codes "SELECT a FROM t WHERE EXISTS (SELECT a FROM u GROUP BY a)" ∷
     codes "SELECT a FROM t WHERE EXISTS (SELECT a FROM u HAVING TRUE)" ∷
     codes "SELECT a FROM t WHERE EXISTS (SELECT a FROM u UNION ALL SELECT a FROM u)" ∷

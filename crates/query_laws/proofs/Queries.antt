@@ -1,6 +1,7 @@
 -- What a query is bound to has the query's answer: one induction over the tree, a clause a step.
-use Rattle.std.proofs.Common.{◌≡◌, ℕ, zero, suc, ◌+◌, ◌-◌, ◌<◌, ◌≤◌, nat_lt, ltb-true, ltb-false, Bool, true, false, ◌&&◌, ◌||◌, List, [], ◌∷◌, ◌++◌, map, length, Option, Some, None, cond, Ok, Err, IfOk, refl, sym, ap, ◌∙◌, subst, option_map, slice_get, unwrap_or, arith, length-append}
+use Rattle.std.proofs.Common.{◌≡◌, ℕ, zero, suc, ◌+◌, ◌-◌, ◌<◌, ◌≤◌, nat_lt, ltb-true, ltb-false, ◌==◌, Bool, true, false, ◌&&◌, ◌||◌, List, [], ◌∷◌, ◌++◌, map, length, Option, Some, None, cond, Ok, Err, IfOk, refl, sym, ap, ◌∙◌, subst, option_map, slice_get, unwrap_or, arith, eq-eqb, length-append}
 use Rattle.std.specs.List.{list_all}
+use Rattle.std.proofs.lemmas.List.{length-map}
 use Rattle.std.specs.Str.{bytes_eq}
 use Rattle.ct_value.specs.Bag.{none}
 use Rattle.ct_value.specs.Order.{row_total, row_exact}
@@ -9,25 +10,30 @@ use Rattle.ct_value.specs.declared.ty.ColTy.{ColTy}
 use Rattle.ct_change.specs.Changelog.{Rows}
 use Rattle.ct_expr.specs.Types.{both_of}
 use Rattle.ct_catalog.specs.declared.table.TableDef.{TableDef}
-use Rattle.rel_algebra.specs.Sums.{plus, together, Each}
-use Rattle.rel_algebra.proofs.laws.Bags.{plus-assoc, plus-none-right, plus_parts, each-together, each-none}
+use Rattle.rel_algebra.specs.Sums.{plus, Each}
+use Rattle.rel_algebra.proofs.laws.Bags.{plus-assoc, plus-none, plus-none-right, plus_parts, each-together}
 use Rattle.rel_algebra.specs.Answer.{Table, answer, answers, types_in}
-use Rattle.rel_algebra.specs.Rel.{Rels, no_rels, rel_and}
+use Rattle.rel_algebra.proofs.laws.Sets.{each-set_rows, set_columns-lengths}
+use Rattle.rel_algebra.specs.Rel.{Binary, set_by, Rel, Rels, no_rels, rel_and, rels}
 use Rattle.rel_algebra.specs.Rel as r
-use Rattle.rel_algebra.specs.Types.{columns_of, common_from, common_columns, common_column}
+use Rattle.rel_algebra.specs.declared.sets.SetKind.TheVariants.{Union}
+use Rattle.rel_algebra.specs.Sets.{set_columns, set_form, set_kind, set_rows}
+use Rattle.rel_algebra.specs.Types.{binary_columns, columns_of, common_from, common_columns}
+use Rattle.sql_syntax.specs.declared.tree.SetWord.{SetWord}
+use Rattle.sql_syntax.specs.declared.tree.SetWord.TheVariants.{UnionAll, Except, ExceptAll}
 use Rattle.sql_syntax.specs.Tree.{Text}
 use Rattle.sql_syntax.specs.Tree as t
 use Rattle.query_answer.specs.Answer.{TableRows, Reach, Entry, types, entries, listed_trees, is_grouped, union, retyped, find_table, table_scope}
 use Rattle.query_answer.specs.Answer as a
-use Rattle.query_answer.specs.Forms.{is_simple}
+use Rattle.query_answer.specs.Forms.{is_plain, is_simple, is_sole}
 use Rattle.query_answer.specs.Joins.{kind_of}
 use Rattle.query_answer.specs.Names.{Scope, find}
-use Rattle.query_answer.specs.Ranks.{Ranked, Top, ranked_select, without}
+use Rattle.query_answer.specs.Ranks.{Ranked, Top, ranked_query, ranked_select, without}
 use Rattle.binding.specs.Checked.{Checked, ◌>>=◌, or_code}
-use Rattle.binding.specs.Queries.{Relation, Outside, RankedList, query_bound, selects_bound, source_bound, find_source, union_of, united, is_plain, is_test, tests, plain_part, own_value, member_part, alone, ranked_list}
+use Rattle.binding.specs.Queries.{Relation, Outside, RankedList, Run, begun, closed, query_bound, source_bound, find_source, union_of, united, is_test, tests, plain_part, own_value, member_part, alone, ranked_list}
 use Rattle.binding.specs.Queries as b
-use Rattle.query_laws.specs.Statement.{HaveWidths, tables_of, table_of, any_has_idle_project}
-use Rattle.rel_algebra.specs.Unions.{all_have_full_unions}
+use Rattle.query_laws.specs.Statement.{HaveWidths, tables_of, table_of, any_has_idle_project, has_idle_project}
+use Rattle.rel_algebra.specs.Unions.{all_have_full_unions, has_full_unions}
 use Rattle.query_laws.proofs.Bags.{each_map}
 use Rattle.query_laws.proofs.Clauses.{Fine}
 use Rattle.query_laws.proofs.GroupRight.{grouped_right}
@@ -125,34 +131,53 @@ module _ (tables : List TableRows) (fit : HaveWidths (tables_of tables)) where
 
   -- ---- UNION ALL
 
-  -- the selects behind the first, of these columns: the algebra of each, and the columns that are common to all
-  pub record Unions (scope : Scope) (rest : t.Selects) (rels : Rels) (last : Scope) : Type 0 where
-    pub told : (w : Reach) → w.scope ≡ scope → a.answers tables w rest ≡ record { scope = last; rows = plus w.rows (answers T rels) }
-    pub typed : common_from (types_in T) (Some (types scope)) rels ≡ Some (types last)
-    pub width : length (types last) ≡ length (types scope)
-    pub wide : (rows : Rows) → answers T rels ≡ Some rows → Each (λ row. length row ≡ length (types scope)) rows
-    pub unions : all_have_full_unions rels ≡ true
-    pub projects : any_has_idle_project (types_in T) rels ≡ false
+  -- a run so far: the algebra of its terms, and the columns that are common to all
+  pub record RunIs (run : Run) (w : Reach) : Type 0 where
+    pub reach_is : record { scope = run.scope; rows = plus (answer T run.first) (answers T (rels run.others)) } ≡ w
+    pub typed : common_from (types_in T) (columns_of (types_in T) run.first) (rels run.others) ≡ Some (types run.scope)
+    pub wide : (rows : Rows) → plus (answer T run.first) (answers T (rels run.others)) ≡ Some rows → Each (λ row. length row ≡ length (types run.scope)) rows
+    pub unions : (has_full_unions run.first && all_have_full_unions (rels run.others)) ≡ true
+    pub projects : (has_idle_project (types_in T) run.first || any_has_idle_project (types_in T) (rels run.others)) ≡ false
 
-  no_more : (scope : Scope) → Unions scope t.no_selects no_rels scope
-  no_more scope = record {
-    told = λ w q i. record { scope = q i; rows = sym (plus-none-right row_total row_exact w.rows) i };
-    typed = refl;
-    width = refl;
-    wide = λ rows q. let e : none ≡ rows = some_is none rows q in subst (λ (c : Rows). Each (λ row. length row ≡ length (types scope)) c) e (each-none row_total row_exact (λ row. length row ≡ length (types scope)));
-    unions = refl;
-    projects = refl;
+  and-true : (b : Bool) → (b && true) ≡ b
+  and-true true = refl
+  and-true false = refl
+
+  or-false : (b : Bool) → (b || false) ≡ b
+  or-false true = refl
+  or-false false = refl
+
+  begun_is : (x : Relation) (w : Reach) → Right x w → RunIs (begun x) w
+  begun_is x w h = record {
+    reach_is = ap (λ z. record { scope = x.scope; rows = z }) (plus-none-right row_total row_exact (answer T x.rel)) ∙ h.0;
+    typed = h.1.typed;
+    wide = λ rows q. h.1.wide rows (sym (plus-none-right row_total row_exact (answer T x.rel)) ∙ q);
+    unions = and-true (has_full_unions x.rel) ∙ h.1.unions;
+    projects = or-false (has_idle_project (types_in T) x.rel) ∙ h.1.projects;
   }
 
-  common_length : (cs ds es : List ColTy) → common_columns cs ds ≡ Some es → (length es ≡ length cs) × (length es ≡ length ds)
-  common_length [] [] es q = let e : [] ≡ es = some_is [] es q in (ap length (sym e), ap length (sym e))
-  common_length [] (d ∷ ds) es q = absurd (cc)
-  common_length (c ∷ cs) [] es q = absurd (cc)
-  common_length (c ∷ cs) (d ∷ ds) es q =
-      let p = both_parts (λ common rest. Some (common ∷ rest)) (common_column c d) (common_columns cs ds) es q in
-      let h = common_length cs ds p.1 p.3 in
-      let e : p.0 ∷ p.1 ≡ es = some_is (p.0 ∷ p.1) es p.4 in
-      (ap length (sym e) ∙ ap suc h.0, ap length (sym e) ∙ ap suc h.1)
+  closed_right : (run : Run) (w : Reach) → RunIs run w → Right (closed run) w
+  closed_right run w h = go (rels run.others) refl
+    where
+      go : (ys : Rels) → rels run.others ≡ ys → Right (record { rel = union_of run.first ys; scope = run.scope }) w
+      go no_rels e = (
+        ap (λ z. record { scope = run.scope; rows = z }) (sym (plus-none-right row_total row_exact (answer T run.first)) ∙ ap (λ z. plus (answer T run.first) (answers T z)) (sym e)) ∙ h.reach_is,
+        record {
+          typed = ap (common_from (types_in T) (columns_of (types_in T) run.first)) (sym e) ∙ h.typed;
+          wide = λ rows q. h.wide rows (ap (λ z. plus (answer T run.first) (answers T z)) e ∙ plus-none-right row_total row_exact (answer T run.first) ∙ q);
+          unions = sym (and-true (has_full_unions run.first)) ∙ ap (λ z. has_full_unions run.first && all_have_full_unions z) (sym e) ∙ h.unions;
+          projects = sym (or-false (has_idle_project (types_in T) run.first)) ∙ ap (λ z. has_idle_project (types_in T) run.first || any_has_idle_project (types_in T) z) (sym e) ∙ h.projects;
+        },
+      )
+      go (rel_and y ys) e = (
+        ap (λ z. record { scope = run.scope; rows = plus (answer T run.first) (answers T z) }) (sym e) ∙ h.reach_is,
+        record {
+          typed = ap (common_from (types_in T) (columns_of (types_in T) run.first)) (sym e) ∙ h.typed;
+          wide = λ rows q. h.wide rows (ap (λ z. plus (answer T run.first) (answers T z)) e ∙ q);
+          unions = ap (λ z. has_full_unions run.first && all_have_full_unions z) (sym e) ∙ h.unions;
+          projects = ap (λ z. has_idle_project (types_in T) run.first || any_has_idle_project (types_in T) z) (sym e) ∙ h.projects;
+        },
+      )
 
   retyped_types : (scope : Scope) (cs : List ColTy) → length cs ≡ length (types scope) → types (retyped scope cs) ≡ cs
   retyped_types [] [] l = refl
@@ -160,56 +185,49 @@ module _ (tables : List TableRows) (fit : HaveWidths (tables_of tables)) where
   retyped_types (s ∷ scope) [] l = absurd (omega arith)
   retyped_types (s ∷ scope) (c ∷ cs) l = ap (λ ds. c ∷ ds) (retyped_types scope cs (omega arith))
 
-  -- one more select, and the others
-  one_more : (scope : Scope) (x : t.Select) (xs : t.Selects) (c : Relation) (cs : List ColTy) (rels : Rels) (last : Scope) → Right c (a.answer_select tables x) → common_columns (types scope) (types c.scope) ≡ Some cs
-      → Unions (retyped scope cs) xs rels last → Unions scope (t.select_and x xs) (rel_and c.rel rels) last
-  one_more scope x xs c cs rels last h q u =
-      let l = common_length (types scope) (types c.scope) cs q in
-      let same : types (retyped scope cs) ≡ cs = retyped_types scope cs l.0 in
-      let width' : length (types (retyped scope cs)) ≡ length (types scope) = ap length same ∙ l.0 in
+  -- one more term, behind the others
+  answers_more : (os : List Rel) (x : Rel) → answers T (rels (os ++ x ∷ [])) ≡ plus (answers T (rels os)) (answer T x)
+  answers_more [] x = plus-none-right row_total row_exact (answer T x) ∙ sym (plus-none row_total row_exact (answer T x))
+  answers_more (o ∷ os) x = ap (plus (answer T o)) (answers_more os x) ∙ sym (plus-assoc row_total row_exact (answer T o) (answers T (rels os)) (answer T x))
+
+  common_more : (columns : Option (List ColTy)) (os : List Rel) (x : Rel) → common_from (types_in T) columns (rels (os ++ x ∷ [])) ≡ both_of common_columns (common_from (types_in T) columns (rels os)) (columns_of (types_in T) x)
+  common_more columns [] x = refl
+  common_more columns (o ∷ os) x = common_more (both_of common_columns columns (columns_of (types_in T) o)) os x
+
+  unions_more : (b : Bool) (os : List Rel) (x : Rel) → (b && all_have_full_unions (rels os)) ≡ true → has_full_unions x ≡ true → (b && all_have_full_unions (rels (os ++ x ∷ []))) ≡ true
+  unions_more true [] x h k = and-true (has_full_unions x) ∙ k
+  unions_more true (o ∷ os) x h k = unions_more (has_full_unions o) os x h k
+  unions_more false os x h k = absurd (cc)
+
+  projects_more : (b : Bool) (os : List Rel) (x : Rel) → (b || any_has_idle_project (types_in T) (rels os)) ≡ false → has_idle_project (types_in T) x ≡ false → (b || any_has_idle_project (types_in T) (rels (os ++ x ∷ []))) ≡ false
+  projects_more true os x h k = absurd (cc)
+  projects_more false [] x h k = or-false (has_idle_project (types_in T) x) ∙ k
+  projects_more false (o ∷ os) x h k = projects_more (has_idle_project (types_in T) o) os x h k
+
+  abbrev longer : Run → Relation → Scope → Run
+  longer run x both = record { first = run.first; others = run.others ++ x.rel ∷ []; scope = both }
+
+  one_more : (run : Run) (x : Relation) (cs : List ColTy) (w v : Reach) → RunIs run w → Right x v → common_columns (types run.scope) (types x.scope) ≡ Some cs → RunIs (longer run x (retyped run.scope cs)) (union w v)
+  one_more run x cs w v h k q =
+      let l = set_columns-lengths Union (types run.scope) (types x.scope) cs q in
+      let same : types (retyped run.scope cs) ≡ cs = retyped_types run.scope cs l.0 in
+      let width : length (types (retyped run.scope cs)) ≡ length (types run.scope) = ap length same ∙ l.0 in
+      let A = plus (answer T run.first) (answers T (rels run.others)) in
+      let rows_are : plus (answer T run.first) (answers T (rels (run.others ++ x.rel ∷ []))) ≡ plus A (answer T x.rel) =
+      ap (plus (answer T run.first)) (answers_more run.others x.rel) ∙ sym (plus-assoc row_total row_exact (answer T run.first) (answers T (rels run.others)) (answer T x.rel)) in
       record {
-        told = λ w e.
-            u.told (union w (a.answer_select tables x))
-            ((λ i. retyped (e i) (unwrap_or (common_columns (types (e i)) (types (sym h.0 i).scope)) [])) ∙ ap (λ o. retyped scope (unwrap_or o [])) q)
-            ∙ ap (λ o. record { scope = last; rows = o }) (plus-assoc row_total row_exact w.rows (a.answer_select tables x).rows (answers T rels) ∙ ap (λ z. plus w.rows (plus z (answers T rels))) (ap (λ z. z.rows) (sym h.0)));
-        typed = ap (λ o. common_from (types_in T) (both_of common_columns (Some (types scope)) o) rels) h.1.typed ∙ ap (λ o. common_from (types_in T) o rels) (q ∙ ap Some (sym same)) ∙ u.typed;
-        width = u.width ∙ width';
+        reach_is =
+            (λ i. record { scope = sym (ap (λ o. retyped run.scope (unwrap_or o [])) q) i; rows = rows_are i })
+            ∙ (λ i. union (h.reach_is i) (k.0 i));
+        typed = common_more (columns_of (types_in T) run.first) run.others x.rel ∙ (λ i. both_of common_columns (h.typed i) (k.1.typed i)) ∙ q ∙ ap Some (sym same);
         wide = λ rows e.
-            let p = plus_parts row_total row_exact (answer T c.rel) (answers T rels) rows e in
-            let first : Each (λ row. length row ≡ length (types scope)) p.0 = each_map (λ row. length row ≡ length (types c.scope)) (λ row. length row ≡ length (types scope)) (λ row k. k ∙ sym l.1 ∙ l.0) p.0 (h.1.wide p.0 p.2.0) in
-            let others : Each (λ row. length row ≡ length (types scope)) p.1 = each_map (λ row. length row ≡ length (types (retyped scope cs))) (λ row. length row ≡ length (types scope)) (λ row k. k ∙ width') p.1 (u.wide p.1 p.2.1) in
-            subst (λ (d : Rows). Each (λ row. length row ≡ length (types scope)) d) (sym p.2.2) (each-together row_total row_exact (λ row. length row ≡ length (types scope)) p.0 p.1 first others);
-        unions = λ i. h.1.unions i && u.unions i;
-        projects = λ i. h.1.projects i || u.projects i;
+            let p = plus_parts row_total row_exact A (answer T x.rel) rows (sym rows_are ∙ e) in
+            let before : Each (λ row. length row ≡ length (types (retyped run.scope cs))) p.0 = each_map (λ row. length row ≡ length (types run.scope)) (λ row. length row ≡ length (types (retyped run.scope cs))) (λ row m. m ∙ sym width) p.0 (h.wide p.0 p.2.0) in
+            let behind : Each (λ row. length row ≡ length (types (retyped run.scope cs))) p.1 = each_map (λ row. length row ≡ length (types x.scope)) (λ row. length row ≡ length (types (retyped run.scope cs))) (λ row m. m ∙ sym l.1 ∙ ap length (sym same)) p.1 (k.1.wide p.1 p.2.1) in
+            subst (λ (d : Rows). Each (λ row. length row ≡ length (types (retyped run.scope cs))) d) (sym p.2.2) (each-together row_total row_exact (λ row. length row ≡ length (types (retyped run.scope cs))) p.0 p.1 before behind);
+        unions = unions_more (has_full_unions run.first) run.others x.rel h.unions k.1.unions;
+        projects = projects_more (has_idle_project (types_in T) run.first) run.others x.rel h.projects k.1.projects;
       }
-
-  -- the first select with the others
-  all_united : (x : Relation) (xs : t.Selects) (rels : Rels) (last : Scope) (w : Reach) → Right x w → Unions x.scope xs rels last → Right (record { rel = union_of x.rel rels; scope = last }) (a.answers tables w xs)
-  all_united x xs rels last w h u = (reach_is rels refl ∙ sym (u.told w (ap (λ z. z.scope) (sym h.0)) ∙ ap (λ z. record { scope = last; rows = plus z (answers T rels) }) (ap (λ z. z.rows) (sym h.0))), fine rels refl)
-    where
-      reach_is : (ys : Rels) → rels ≡ ys → R (record { rel = union_of x.rel ys; scope = last }) ≡ record { scope = last; rows = plus (answer T x.rel) (answers T rels) }
-      reach_is no_rels e = ap (λ z. record { scope = last; rows = z }) (sym (plus-none-right row_total row_exact (answer T x.rel)) ∙ ap (λ z. plus (answer T x.rel) (answers T z)) (sym e))
-      reach_is (rel_and y ys) e = ap (λ z. record { scope = last; rows = plus (answer T x.rel) (answers T z) }) (sym e)
-
-      joined_wide : (rows : Rows) → plus (answer T x.rel) (answers T rels) ≡ Some rows → Each (λ row. length row ≡ length (types last)) rows
-      joined_wide rows q =
-          let p = plus_parts row_total row_exact (answer T x.rel) (answers T rels) rows q in
-          let both : Each (λ row. length row ≡ length (types x.scope)) (together p.0 p.1) = each-together row_total row_exact (λ row. length row ≡ length (types x.scope)) p.0 p.1 (h.1.wide p.0 p.2.0) (u.wide p.1 p.2.1) in
-          subst (λ (d : Rows). Each (λ row. length row ≡ length (types last)) d) (sym p.2.2) (each_map (λ row. length row ≡ length (types x.scope)) (λ row. length row ≡ length (types last)) (λ row k. k ∙ sym u.width) (together p.0 p.1) both)
-
-      fine : (ys : Rels) → rels ≡ ys → Fine T (union_of x.rel ys) (types last)
-      fine no_rels e = subst (λ cs. Fine T x.rel cs) (some_is (types x.scope) (types last) (ap (common_from (types_in T) (Some (types x.scope))) (sym e) ∙ u.typed)) h.1
-      fine (rel_and y ys) e = record {
-        typed = (λ i. common_from (types_in T) (h.1.typed i) (sym e i)) ∙ u.typed;
-        wide = λ rows q. joined_wide rows (ap (λ z. plus (answer T x.rel) (answers T z)) e ∙ q);
-        unions = (λ i. h.1.unions i && all_have_full_unions (sym e i)) ∙ u.unions;
-        projects = (λ i. h.1.projects i || any_has_idle_project (types_in T) (sym e i)) ∙ u.projects;
-      }
-
-  -- ---- the tree
-
-  abbrev D : List TableDef
-  D = map (λ x. x.table) tables
 
   united_right : (scope other : Scope) → IfOk (united scope other) (λ both. (cs : List ColTy) × (common_columns (types scope) (types other) ≡ Some cs) × (retyped scope cs ≡ both))
   united_right scope other = go (common_columns (types scope) (types other)) refl
@@ -217,6 +235,56 @@ module _ (tables : List TableRows) (fit : HaveWidths (tables_of tables)) where
       go : (o : Option (List ColTy)) → common_columns (types scope) (types other) ≡ o → IfOk (or_code TypeMismatch (option_map (retyped scope) o)) (λ both. (cs : List ColTy) × (common_columns (types scope) (types other) ≡ Some cs) × (retyped scope cs ≡ both))
       go None q = tt
       go (Some cs) q = (cs, q, refl)
+
+  -- ---- words between terms
+
+  operated_right : (except all : Bool) (x y : Relation) (w v : Reach) → Right x w → Right y v → IfOk (b.operated except all x y) (λ z. Right z (a.operated except all w v))
+  operated_right except all x y w v h k = go (set_columns (set_kind except) (types x.scope) (types y.scope)) refl
+    where
+      how : Binary
+      how = set_by except all (length x.scope)
+
+      made : Scope → Relation
+      made both = record { rel = r.SetOp x.rel y.rel except all (length x.scope); scope = both }
+
+      go : (o : Option (List ColTy)) → set_columns (set_kind except) (types x.scope) (types y.scope) ≡ o → IfOk (or_code TypeMismatch (option_map (retyped x.scope) o) >>= λ both. Ok (made both)) (λ z. Right z (a.operated except all w v))
+      go None q = tt
+      go (Some cs) q =
+          let l = set_columns-lengths (set_kind except) (types x.scope) (types y.scope) cs q in
+          let same : types (retyped x.scope cs) ≡ cs = retyped_types x.scope cs l.0 in
+          let width : length (types x.scope) ≡ length (types (retyped x.scope cs)) = sym (ap length same ∙ l.0) in
+          let few : (length (types x.scope) == length x.scope) ≡ true = eq-eqb (length (types x.scope)) (length x.scope) (length-map x.scope (λ c. c.ty)) in
+          let reach_is : R (made (retyped x.scope cs)) ≡ a.operated except all w v =
+          (λ i. record { scope = sym (ap (λ o. retyped x.scope (unwrap_or o [])) q) i; rows = both_of (λ left right. Some (set_rows (set_form except all) left right)) (answer T x.rel) (answer T y.rel) })
+          ∙ (λ i. a.operated except all (h.0 i) (k.0 i)) in
+          let fine : FineAt T (made (retyped x.scope cs)) = record {
+            typed = (λ i. both_of (binary_columns how) (h.1.typed i) (k.1.typed i)) ∙ ap (λ b. cond b (set_columns (set_kind except) (types x.scope) (types y.scope)) None) few ∙ q ∙ ap Some (sym same);
+            wide = λ rows e.
+                let p = both_parts (λ left right. Some (set_rows (set_form except all) left right)) (answer T x.rel) (answer T y.rel) rows e in
+                let wide_left : Each (λ row. length row ≡ length (types (retyped x.scope cs))) p.0 =
+                each_map (λ row. length row ≡ length (types x.scope)) (λ row. length row ≡ length (types (retyped x.scope cs))) (λ row m. m ∙ width) p.0 (h.1.wide p.0 p.2) in
+                subst (λ (d : Rows). Each (λ row. length row ≡ length (types (retyped x.scope cs))) d) (some_is (set_rows (set_form except all) p.0 p.1) rows p.4)
+                (each-set_rows (λ row. length row ≡ length (types (retyped x.scope cs))) except all p.0 p.1 wide_left);
+            unions = λ i. h.1.unions i && k.1.unions i;
+            projects = λ i. h.1.projects i || k.1.projects i;
+          } in
+          (reach_is, fine)
+
+  excepted_right : (all : Bool) (run : Run) (x : Relation) (w v : Reach) → RunIs run w → Right x v → IfOk (b.operated true all (closed run) x >>= λ y. Ok (begun y)) (λ next. RunIs next (a.operated true all w v))
+  excepted_right all run x w v h k =
+      bind (b.operated true all (closed run) x) (λ y. Ok (begun y)) (λ y. Right y (a.operated true all w v)) (λ next. RunIs next (a.operated true all w v)) (operated_right true all (closed run) x w v (closed_right run w h) k) (λ y l. begun_is y (a.operated true all w v) l)
+
+  word_right : (word : SetWord) (run : Run) (x : Relation) (w v : Reach) → RunIs run w → Right x v → IfOk (b.by_word word run x) (λ next. RunIs next (a.by_word word w v))
+  word_right UnionAll run x w v h k =
+      bind (united run.scope x.scope) _ (λ both. (cs : List ColTy) × (common_columns (types run.scope) (types x.scope) ≡ Some cs) × (retyped run.scope cs ≡ both)) _ (united_right run.scope x.scope) (λ both p.
+      subst (λ s. RunIs (longer run x s) (union w v)) p.2 (one_more run x p.0 w v h k p.1))
+  word_right Except run x w v h k = excepted_right false run x w v h k
+  word_right ExceptAll run x w v h k = excepted_right true run x w v h k
+
+  -- ---- the tree
+
+  abbrev D : List TableDef
+  D = map (λ x. x.table) tables
 
   -- ---- conjuncts of a WHERE
 
@@ -367,9 +435,9 @@ module _ (tables : List TableRows) (fit : HaveWidths (tables_of tables)) where
   select_is : (x : t.Select) → IfOk (b.gathered_bound false D None x) (λ f. GatheredIs None f (a.gathered tables x)) → IfOk (b.select_bound false D x) (λ y. Right y (a.answer_select tables x))
   select_is x h = bind (b.gathered_bound false D None x) (b.select_over false x) (λ f. GatheredIs None f (a.gathered tables x)) _ h (λ f k. listed_right x f (a.gathered tables x) k)
 
-  inside_is : (anti : Bool) (own : Scope) (x : t.Select) (xs : t.Selects) (order : t.SortList) (limit : Option Text) → IfOk (b.gathered_bound false D (Some own) x) (λ f. GatheredIs (Some own) f (a.gathered tables x))
-      → IfOk (b.inside_bound false D anti own x) (λ p. (outside : Outside) → PartIs T outside own p (a.Exists anti (a.inside tables (t.query_of (t.select_and x xs) order limit))))
-  inside_is anti own x xs order limit h =
+  inside_is : (anti : Bool) (own : Scope) (x : t.Select) (xs : t.SelectTails) (ts : t.TermTails) (order : t.SortList) (limit : Option Text) → IfOk (b.gathered_bound false D (Some own) x) (λ f. GatheredIs (Some own) f (a.gathered tables x))
+      → IfOk (b.inside_bound false D anti own x) (λ p. (outside : Outside) → PartIs T outside own p (a.Exists anti (a.inside tables (t.query_of (t.term_of x xs) ts order limit))))
+  inside_is anti own x xs ts order limit h =
       bind (b.gathered_bound false D (Some own) x) (b.exists_over false anti x) (λ f. GatheredIs (Some own) f (a.gathered tables x)) _ h (λ f k.
       then (b.list_inside false (ranked_select x) x f.relation) _ _ (λ listed e outside.
       exists_right T anti own f.relation (a.gathered tables x).reach f.parts (a.gathered tables x).parts k.reach_is k.fine k.parts_are k.tested))
@@ -394,19 +462,29 @@ module _ (tables : List TableRows) (fit : HaveWidths (tables_of tables)) where
 
   mutual
     pub query_right : (q : t.Query) → IfOk (query_bound false D q) (λ x. Right x (a.answer tables q))
-    query_right (t.query_of t.no_selects order limit) = tt
-    query_right (t.query_of (t.select_and x xs) order limit) =
-        bind (b.select_bound false D x) _ (λ y. Right y (a.answer_select tables x)) _ (select_is x (gathered_right None x)) (λ y h.
-        bind (selects_bound false D y.scope xs) _ (λ others. Unions y.scope xs others.0 others.1) _ (selects_right xs y.scope) (λ others u.
-        tested_else (is_plain order limit) (Ok (record { rel = union_of y.rel others.0; scope = others.1 })) Unsupported (λ z. Right z (a.answers tables (a.answer_select tables x) xs)) (λ e. all_united y xs others.0 others.1 (a.answer_select tables x) h u)))
+    query_right (t.query_of first rest order limit) =
+        let w = a.answer_term tables first in
+        bind (b.term_bound false D first) _ (λ x. Right x w) _ (term_right first) (λ x h.
+        bind (b.beside_bound false D rest (begun x)) _ (λ run. RunIs run (a.beside tables w rest)) _ (beside_right rest (begun x) w (begun_is x w h)) (λ run k.
+        tested_else (is_plain order limit) (Ok (closed run)) Unsupported (λ z. Right z (a.beside tables w rest)) (λ e. closed_right run (a.beside tables w rest) k)))
 
-    pub selects_right : (xs : t.Selects) (scope : Scope) → IfOk (selects_bound false D scope xs) (λ others. Unions scope xs others.0 others.1)
-    selects_right t.no_selects scope = no_more scope
-    selects_right (t.select_and x xs) scope =
-        bind (b.select_bound false D x) _ (λ c. Right c (a.answer_select tables x)) _ (select_is x (gathered_right None x)) (λ c h.
-        bind (united scope c.scope) _ (λ both. (cs : List ColTy) × (common_columns (types scope) (types c.scope) ≡ Some cs) × (retyped scope cs ≡ both)) _ (united_right scope c.scope) (λ both p.
-        bind (selects_bound false D both xs) _ (λ others. Unions both xs others.0 others.1) _ (selects_right xs both) (λ others u.
-        one_more scope x xs c p.0 others.0 others.1 h p.1 (subst (λ s. Unions s xs others.0 others.1) (sym p.2) u))))
+    beside_right : (xs : t.TermTails) (run : Run) (w : Reach) → RunIs run w → IfOk (b.beside_bound false D xs run) (λ next. RunIs next (a.beside tables w xs))
+    beside_right t.no_term_tails run w h = h
+    beside_right (t.term_tail_and (t.term_tail_of word x) xs) run w h =
+        let v = a.answer_term tables x in
+        bind (b.term_bound false D x) _ (λ y. Right y v) _ (term_right x) (λ y k.
+        bind (b.by_word word run y) (b.beside_bound false D xs) (λ next. RunIs next (a.by_word word w v)) _ (word_right word run y w v h k) (λ next l. beside_right xs next (a.by_word word w v) l))
+
+    term_right : (x : t.Term) → IfOk (b.term_bound false D x) (λ y. Right y (a.answer_term tables x))
+    term_right (t.term_of x xs) =
+        bind (b.select_bound false D x) (b.intersected_bound false D xs) (λ y. Right y (a.answer_select tables x)) _ (select_is x (gathered_right None x)) (λ y h. intersected_right xs y (a.answer_select tables x) h)
+
+    intersected_right : (xs : t.SelectTails) (x : Relation) (w : Reach) → Right x w → IfOk (b.intersected_bound false D xs x) (λ y. Right y (a.intersected tables w xs))
+    intersected_right t.no_select_tails x w h = h
+    intersected_right (t.select_tail_and (t.select_tail_of all y) ys) x w h =
+        let v = a.answer_select tables y in
+        bind (b.select_bound false D y) _ (λ z. Right z v) _ (select_is y (gathered_right None y)) (λ z k.
+        bind (b.operated false all x z) (b.intersected_bound false D ys) (λ u. Right u (a.operated false all w v)) _ (operated_right false all x z w v h k) (λ u l. intersected_right ys u (a.operated false all w v) l))
 
     gathered_right : (outside : Outside) (x : t.Select) → IfOk (b.gathered_bound false D outside x) (λ f. GatheredIs outside f (a.gathered tables x))
     gathered_right outside (t.select_of distinct items from joins condition groups having) =
@@ -435,11 +513,7 @@ module _ (tables : List TableRows) (fit : HaveWidths (tables_of tables)) where
     -- a query of one select, which has a rank
     alone_right : (from : t.Source) → AlonesAre (b.alone_bound false D from) (a.alone_in tables from)
     alone_right (t.Table name alias) = tt
-    alone_right (t.FromQuery (t.query_of t.no_selects order limit) alias) = tt
-    alone_right (t.FromQuery (t.query_of (t.select_and x t.no_selects) t.no_sorts None) alias) = alone_is alias x (gathered_right None x) (ranked_select x)
-    alone_right (t.FromQuery (t.query_of (t.select_and x t.no_selects) t.no_sorts (Some limit)) alias) = tt
-    alone_right (t.FromQuery (t.query_of (t.select_and x t.no_selects) (t.sort_and s order) limit) alias) = tt
-    alone_right (t.FromQuery (t.query_of (t.select_and x (t.select_and y ys)) order limit) alias) = tt
+    alone_right (t.FromQuery (t.query_of (t.term_of x xs) ts order limit) alias) = alone_is alias x (gathered_right None x) (ranked_query (t.query_of (t.term_of x xs) ts order limit))
 
     where_right : (spent : Option ℕ) (outside : Outside) (own : Scope) (c : t.OptionalTree) → IsSpent c spent → IfOk (b.where_bound false D spent outside own c) (λ ps. PartsAre T outside own ps (left_of spent (a.where_parts tables c)) × (list_all is_test ps ≡ true))
     where_right None outside own t.no_tree l = (tt, refl)
@@ -568,9 +642,8 @@ module _ (tables : List TableRows) (fit : HaveWidths (tables_of tables)) where
     denied_right outside own whole (t.Case whens otherwise) = plain_means T outside own whole
 
     exists_query_right : (anti : Bool) (own : Scope) (q : t.Query) → IfOk (b.exists_bound false D anti own q) (λ p. (outside : Outside) → PartIs T outside own p (a.Exists anti (a.inside tables q)))
-    exists_query_right anti own (t.query_of t.no_selects order limit) = tt
-    exists_query_right anti own (t.query_of (t.select_and x xs) order limit) =
-        tested_else (is_simple x && (b.is_one xs && is_plain order limit)) (b.inside_bound false D anti own x) Unsupported _ (λ e. inside_is anti own x xs order limit (gathered_right (Some own) x))
+    exists_query_right anti own (t.query_of (t.term_of x xs) ts order limit) =
+        tested_else (is_simple x && is_sole (t.query_of (t.term_of x xs) ts order limit)) (b.inside_bound false D anti own x) Unsupported _ (λ e. inside_is anti own x xs ts order limit (gathered_right (Some own) x))
 
     pub source_right : (from : t.Source) → IfOk (source_bound false D from) (λ x. Right x (a.answer_source tables from))
     source_right (t.Table name alias) = read_right alias (find_source 0 D name) (find_table tables name) (found_at 0 tables name)

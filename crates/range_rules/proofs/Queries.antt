@@ -2,36 +2,60 @@
 use Rattle.std.proofs.Common.{◌≡◌, ℕ, ◌-◌, nat_lt, Bool, true, false, cond, ◌&&◌, ◌||◌, not, List, [], ◌∷◌, ◌++◌, length, Option, Some, None, Ok, IfOk, refl, find}
 use Rattle.ct_value.specs.declared.codes.ScriptCode.TheVariants.{UnknownTable, SinkShape, Unsupported}
 use Rattle.ct_catalog.specs.declared.table.TableDef.{TableDef}
-use Rattle.rel_algebra.specs.Rel.{Rel, Rels, no_rels, rel_and}
+use Rattle.rel_algebra.specs.Rel.{Rel, Rels, no_rels, rel_and, rels}
+use Rattle.rel_algebra.specs.Rel as r
+use Rattle.rel_algebra.specs.Sets.{set_kind}
+use Rattle.sql_syntax.specs.declared.tree.SetWord.{SetWord}
+use Rattle.sql_syntax.specs.declared.tree.SetWord.TheVariants.{UnionAll, Except, ExceptAll}
 use Rattle.sql_syntax.specs.Tree.{Query, Text}
 use Rattle.sql_syntax.specs.Tree as t
 use Rattle.query_answer.specs.Answer.{conjuncts, types}
-use Rattle.query_answer.specs.Forms.{is_simple}
+use Rattle.query_answer.specs.Forms.{is_plain, is_simple, is_sole}
 use Rattle.query_answer.specs.Joins.{kind_of}
 use Rattle.query_answer.specs.Names.{Scope}
-use Rattle.query_answer.specs.Ranks.{ranked_select}
-use Rattle.range_rules.specs.Arithmetic.{in_query, in_select, in_source, in_join, in_tree, in_trees, in_optional, in_selects, in_items, in_joins, in_sorts}
+use Rattle.query_answer.specs.Ranks.{ranked_query, ranked_select}
+use Rattle.range_rules.specs.Arithmetic.{in_query, in_term, in_term_tails, in_select_tails, in_select, in_source, in_join, in_tree, in_trees, in_optional, in_items, in_joins, in_sorts}
 use Rattle.range_rules.specs.Tame.{is_tame_rel, are_tame_rels}
 use Rattle.binding.specs.Checked.{Checked, ◌>>=◌, or_code}
 use Rattle.binding.specs.Inserts.{Inserted, insert_bound, into_sink, sunk, is_table, sources_for, scans}
 use Rattle.rel_algebra.specs.GoesInto.{go_into}
 use Rattle.ct_catalog.specs.Columns.{column_types}
-use Rattle.binding.specs.Queries.{Relation, Outside, Part, find_source, joined, united, union_of, is_plain, is_one, tests, own_value, plain_part, member_part, alone, read_by, framed, select_over, exists_over, query_bound, selects_bound, select_bound, gathered_bound, alone_bound, source_bound, joins_bound, where_bound, parts_bound, all_parts_bound, parts_but, all_parts_but, denied_bound, exists_bound, inside_bound}
+use Rattle.binding.specs.Queries.{Relation, Run, Outside, Part, find_source, begun, closed, by_word, operated, joined, united, united_by, union_of, tests, own_value, plain_part, member_part, alone, read_by, framed, select_over, exists_over, query_bound, beside_bound, term_bound, intersected_bound, select_bound, gathered_bound, alone_bound, source_bound, joins_bound, where_bound, parts_bound, all_parts_bound, parts_but, all_parts_but, denied_bound, exists_bound, inside_bound}
 use Rattle.range_rules.specs.Statement.{QueriesAreTame, InsertsAreTame}
-use Rattle.range_rules.proofs.Checked.{bind, then, tested, tested_else, of_ok, neither}
+use Rattle.range_rules.proofs.Checked.{bind, then, tested, tested_else, of_ok, neither, both}
 use Rattle.range_rules.proofs.Nodes.{Tame}
-use Rattle.range_rules.proofs.Selects.{TameRel, TamePart, TameParts, TameRead, TameFrom, IfTame, parts_append, plain_part_tame, tests_tame, value_tame, member_tame, alone_tame, read_tame, joined_tame, ranked_free, read_by_tame, framed_tame, alone_tame_if, select_over_tame, exists_over_tame}
-
-abbrev TameRels : Rels × Scope → Type 0
-TameRels others = are_tame_rels others.0 ≡ true
+use Rattle.range_rules.proofs.Selects.{TameRel, TamePart, TameParts, TameRead, TameFrom, IfTame, parts_append, plain_part_tame, tests_tame, value_tame, member_tame, alone_tame, read_tame, joined_tame, FreeRanked, ranked_free, read_by_tame, framed_tame, alone_tame_if, select_over_tame, exists_over_tame}
 
 union_tame : (x : Rel) (ys : Rels) → is_tame_rel x ≡ true → are_tame_rels ys ≡ true → is_tame_rel (union_of x ys) ≡ true
 union_tame x no_rels h k = h
 union_tame x (rel_and y ys) h k = λ i. h i && k i
 
+abbrev TameRun : Run → Type 0
+TameRun run = (is_tame_rel run.first ≡ true) × (are_tame_rels (rels run.others) ≡ true)
+
+more_tame : (os : List Rel) (x : Rel) → are_tame_rels (rels os) ≡ true → is_tame_rel x ≡ true → are_tame_rels (rels (os ++ x ∷ [])) ≡ true
+more_tame [] x h k = λ i. k i && true
+more_tame (o ∷ os) x h k = let p = both (is_tame_rel o) (are_tame_rels (rels os)) h in λ i. p.0 i && more_tame os x p.1 k i
+
+operated_tame : (except all : Bool) (x y : Relation) → TameRel x → TameRel y → IfOk (operated except all x y) TameRel
+operated_tame except all x y h k = then (united_by (set_kind except) x.scope y.scope) _ TameRel (λ both. let both_are : is_tame_rel (r.SetOp x.rel y.rel except all (length x.scope)) ≡ true = (λ i. h i && (k i && true)) in both_are)
+
+excepted_tame : (all : Bool) (run : Run) (x : Relation) → TameRun run → TameRel x → IfOk (operated true all (closed run) x >>= λ y. Ok (begun y)) TameRun
+excepted_tame all run x h k =
+    bind (operated true all (closed run) x) (λ y. Ok (begun y)) TameRel TameRun (operated_tame true all (closed run) x (union_tame run.first (rels run.others) h.0 h.1) k) (λ y l. let made : TameRun (begun y) = (l, refl) in made)
+
+word_tame : (word : SetWord) (run : Run) (x : Relation) → TameRun run → TameRel x → IfOk (by_word word run x) TameRun
+word_tame UnionAll run x h k = then (united run.scope x.scope) _ TameRun (λ both. (h.0, more_tame run.others x.rel h.1 k))
+word_tame Except run x h k = excepted_tame false run x h k
+word_tame ExceptAll run x h k = excepted_tame true run x h k
+
 either : (t : Bool) (r s : Checked (List Part)) → IfOk r TameParts → IfOk s TameParts → IfOk (cond t r s) TameParts
 either true r s h k = h
 either false r s h k = k
+
+sole_free : (sole : Bool) (x : t.Select) → in_select x ≡ false → FreeRanked (cond sole (ranked_select x) None)
+sole_free true x f = ranked_free x f
+sole_free false x f = tt
 
 module _ (free : Bool) (sources : List TableDef) where
   sources_tame : (from : t.Source) (joins : t.JoinItems) → IfOk (source_bound free sources from) TameRel → ((x : Relation) → TameRel x → IfOk (joins_bound free sources joins x) TameRel) → IfOk (source_bound free sources from >>= joins_bound free sources joins) TameRel
@@ -41,25 +65,34 @@ module _ (free : Bool) (sources : List TableDef) where
   select_is x f h = bind (gathered_bound free sources None x) (select_over free x) TameFrom TameRel h (λ y k. select_over_tame free x y f k)
 
   mutual
-    unfolding in_query in_selects in_select in_source in_joins in_join in_optional in_tree in_trees
+    unfolding in_query in_term in_term_tails in_select_tails in_select in_source in_joins in_join in_optional in_tree in_trees
 
     pub query_tame : (q : Query) → in_query q ≡ false → IfOk (query_bound free sources q) TameRel
-    query_tame (t.query_of t.no_selects order limit) f = tt
-    query_tame (t.query_of (t.select_and x xs) order limit) f =
-        let g = neither _ (in_sorts order) f in
-        let k = neither (in_select x) (in_selects xs) g.0 in
-        bind (select_bound free sources x) _ TameRel TameRel (select_is x k.0 (gathered_tame None x k.0)) (λ y h.
-        bind (selects_bound free sources y.scope xs) _ TameRels TameRel (selects_tame xs y.scope k.1) (λ others l.
-        tested_else (is_plain order limit) (Ok (record { rel = union_of y.rel others.0; scope = others.1 })) Unsupported TameRel (union_tame y.rel others.0 h l)))
+    query_tame (t.query_of first rest order limit) f =
+        let g = neither (in_term first || in_term_tails rest) (in_sorts order) f in
+        let k = neither (in_term first) (in_term_tails rest) g.0 in
+        bind (term_bound free sources first) _ TameRel TameRel (term_tame first k.0) (λ x h.
+        bind (beside_bound free sources rest (begun x)) _ TameRun TameRel (let made : TameRun (begun x) = (h, refl) in beside_tame rest (begun x) k.1 made) (λ run l.
+        tested_else (is_plain order limit) (Ok (closed run)) Unsupported TameRel (union_tame run.first (rels run.others) l.0 l.1)))
 
-    selects_tame : (xs : t.Selects) (scope : Scope) → in_selects xs ≡ false → IfOk (selects_bound free sources scope xs) TameRels
-    selects_tame t.no_selects scope f = refl
-    selects_tame (t.select_and x xs) scope f =
-        let g = neither (in_select x) (in_selects xs) f in
-        bind (select_bound free sources x) _ TameRel TameRels (select_is x g.0 (gathered_tame None x g.0)) (λ y h.
-        then (united scope y.scope) _ TameRels (λ both.
-        bind (selects_bound free sources both xs) _ TameRels TameRels (selects_tame xs both g.1) (λ others l i.
-        h i && l i)))
+    beside_tame : (xs : t.TermTails) (run : Run) → in_term_tails xs ≡ false → TameRun run → IfOk (beside_bound free sources xs run) TameRun
+    beside_tame t.no_term_tails run f h = h
+    beside_tame (t.term_tail_and (t.term_tail_of word x) xs) run f h =
+        let g = neither (in_term x) (in_term_tails xs) f in
+        bind (term_bound free sources x) _ TameRel TameRun (term_tame x g.0) (λ y k.
+        bind (by_word word run y) (beside_bound free sources xs) TameRun TameRun (word_tame word run y h k) (λ next l. beside_tame xs next g.1 l))
+
+    term_tame : (x : t.Term) → in_term x ≡ false → IfOk (term_bound free sources x) TameRel
+    term_tame (t.term_of x xs) f =
+        let g = neither (in_select x) (in_select_tails xs) f in
+        bind (select_bound free sources x) (intersected_bound free sources xs) TameRel TameRel (select_is x g.0 (gathered_tame None x g.0)) (λ y h. intersected_tame xs y g.1 h)
+
+    intersected_tame : (xs : t.SelectTails) (x : Relation) → in_select_tails xs ≡ false → TameRel x → IfOk (intersected_bound free sources xs x) TameRel
+    intersected_tame t.no_select_tails x f h = h
+    intersected_tame (t.select_tail_and (t.select_tail_of all y) ys) x f h =
+        let g = neither (in_select y) (in_select_tails ys) f in
+        bind (select_bound free sources y) _ TameRel TameRel (select_is y g.0 (gathered_tame None y g.0)) (λ z k.
+        bind (operated false all x z) (intersected_bound free sources ys) TameRel TameRel (operated_tame false all x z h k) (λ u l. intersected_tame ys u g.1 l))
 
     gathered_tame : (outside : Outside) (x : t.Select) → in_select x ≡ false → IfOk (gathered_bound free sources outside x) TameFrom
     gathered_tame outside (t.select_of distinct items from joins condition groups having) f =
@@ -79,13 +112,9 @@ module _ (free : Bool) (sources : List TableDef) where
 
     alone_source_tame : (from : t.Source) → in_source from ≡ false → IfTame (alone_bound free sources from)
     alone_source_tame (t.Table name alias) f = tt
-    alone_source_tame (t.FromQuery (t.query_of t.no_selects order limit) alias) f = tt
-    alone_source_tame (t.FromQuery (t.query_of (t.select_and x t.no_selects) t.no_sorts None) alias) f =
-        let k = (neither (in_select x) false (neither _ false f).0).0 in
-        alone_tame_if alias (gathered_bound free sources None x) (ranked_select x) (ranked_free x k) (gathered_tame None x k)
-    alone_source_tame (t.FromQuery (t.query_of (t.select_and x t.no_selects) t.no_sorts (Some limit)) alias) f = tt
-    alone_source_tame (t.FromQuery (t.query_of (t.select_and x t.no_selects) (t.sort_and s order) limit) alias) f = tt
-    alone_source_tame (t.FromQuery (t.query_of (t.select_and x (t.select_and y ys)) order limit) alias) f = tt
+    alone_source_tame (t.FromQuery (t.query_of (t.term_of x xs) ts order limit) alias) f =
+        let k = (neither (in_select x) (in_select_tails xs) (neither _ (in_term_tails ts) (neither _ (in_sorts order) f).0).0).0 in
+        alone_tame_if alias (gathered_bound free sources None x) (ranked_query (t.query_of (t.term_of x xs) ts order limit)) (sole_free (is_sole (t.query_of (t.term_of x xs) ts order limit)) x k) (gathered_tame None x k)
 
     where_parts_tame : (spent : Option ℕ) (outside : Outside) (own : Scope) (c : t.OptionalTree) → in_optional c ≡ false → IfOk (where_bound free sources spent outside own c) TameParts
     where_parts_tame None outside own t.no_tree f = tt
@@ -138,12 +167,10 @@ module _ (free : Bool) (sources : List TableDef) where
     denied_tame outside own whole x w f = plain_part_tame outside own whole w
 
     exists_query_tame : (anti : Bool) (own : Scope) (q : Query) → in_query q ≡ false → IfOk (exists_bound free sources anti own q) TamePart
-    exists_query_tame anti own (t.query_of t.no_selects order limit) f = tt
-    exists_query_tame anti own (t.query_of (t.select_and x xs) order limit) f =
-        let g = neither _ (in_sorts order) f in
-        let k = neither (in_select x) (in_selects xs) g.0 in
-        tested_else (is_simple x && (is_one xs && is_plain order limit)) (inside_bound free sources anti own x) Unsupported TamePart
-        (bind (gathered_bound free sources (Some own) x) (exists_over free anti x) TameFrom TamePart (gathered_tame (Some own) x k.0) (λ f h. exists_over_tame free anti x f h))
+    exists_query_tame anti own (t.query_of (t.term_of x xs) ts order limit) f =
+        let k = (neither (in_select x) (in_select_tails xs) (neither _ (in_term_tails ts) (neither _ (in_sorts order) f).0).0).0 in
+        tested_else (is_simple x && is_sole (t.query_of (t.term_of x xs) ts order limit)) (inside_bound free sources anti own x) Unsupported TamePart
+        (bind (gathered_bound free sources (Some own) x) (exists_over free anti x) TameFrom TamePart (gathered_tame (Some own) x k) (λ f h. exists_over_tame free anti x f h))
 
     source_tame : (from : t.Source) → in_source from ≡ false → IfOk (source_bound free sources from) TameRel
     source_tame (t.Table name alias) f = read_tame alias (find_source 0 sources name)

@@ -7,4 +7,5 @@ pub mod Joins
 pub mod Materializes
 pub mod Ranks
 pub mod Rows
+pub mod SetOps
 pub mod Theorems

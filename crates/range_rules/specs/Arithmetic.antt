@@ -9,7 +9,18 @@ is_sum_or_avg name = str_eq_ignore_ascii_case name (codes "SUM") || str_eq_ignor
 
 unfoldable mutual
   pub in_query : t.Query → Bool
-  in_query (t.query_of selects order limit) = in_selects selects || in_sorts order
+  in_query (t.query_of first rest order limit) = (in_term first || in_term_tails rest) || in_sorts order
+
+  pub in_term : t.Term → Bool
+  in_term (t.term_of x xs) = in_select x || in_select_tails xs
+
+  pub in_term_tails : t.TermTails → Bool
+  in_term_tails t.no_term_tails = false
+  in_term_tails (t.term_tail_and (t.term_tail_of word x) xs) = in_term x || in_term_tails xs
+
+  pub in_select_tails : t.SelectTails → Bool
+  in_select_tails t.no_select_tails = false
+  in_select_tails (t.select_tail_and (t.select_tail_of all x) xs) = in_select x || in_select_tails xs
 
   pub in_select : t.Select → Bool
   in_select (t.select_of distinct items from joins kept groups having) = in_items items || (in_source from || (in_joins joins || (in_optional kept || (in_trees groups || in_optional having))))
@@ -64,10 +75,6 @@ unfoldable mutual
 
   pub in_over : t.Over → Bool
   in_over (t.over_of partition order) = in_trees partition || in_sorts order
-
-  pub in_selects : t.Selects → Bool
-  in_selects t.no_selects = false
-  in_selects (t.select_and x xs) = in_select x || in_selects xs
 
   pub in_items : t.Items → Bool
   in_items t.no_items = false

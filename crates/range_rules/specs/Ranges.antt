@@ -12,6 +12,7 @@ use Rattle.emission_rules.specs.Project.{Project, project_rule}
 use Rattle.emission_rules.specs.Union.{Union, union_rule}
 use Rattle.emission_rules.specs.Normalize.{Normalize, normalize_rule}
 use Rattle.emission_rules.specs.Materialize.{materialize_rule}
+use Rattle.emission_rules.specs.SetOps.{SetOperation, set_rule}
 use Rattle.emission_rules.specs.Sink.{Sink, sink_rule}
 use Rattle.emission_rules.specs.Grouping.{Grouping, group_rule}
 use Rattle.emission_rules.specs.Joining.{Joining, join_rule}
@@ -68,6 +69,9 @@ GroupsStayInRange = (g : Grouping) → list_all (λ agg. only_counts agg.call) g
 
 abbrev pub JoinsStayInRange : Type 0
 JoinsStayInRange = (j : Joining) → rest_is_tame j.rest ≡ true → RuleStaysInRange (join_rule j)
+
+abbrev pub SetOperationsStayInRange : Type 0
+SetOperationsStayInRange = (s : SetOperation) → RuleStaysInRange (set_rule s)
 
 abbrev pub TopNsStayInRange : Type 0
 TopNsStayInRange = (r : Ranking) → RuleStaysInRange (topn_rule r)

@@ -8,7 +8,7 @@ use Rattle.ct_field.specs.Fields.{longest_field}
 use Rattle.ct_expr.specs.Expr as e
 use Rattle.rel_algebra.specs.declared.agg.AggCall.{AggCall}
 use Rattle.rel_algebra.specs.declared.agg.AggCall.TheVariants as call
-use Rattle.rel_algebra.specs.Rel.{Unary, filter_by, project_on, group_by, rank_in, Binary, join_on, semi_on, Rel, Rels, Scan, One, Two, Many, no_rels, rel_and}
+use Rattle.rel_algebra.specs.Rel.{Unary, filter_by, project_on, group_by, rank_in, Binary, join_on, semi_on, set_by, Rel, Rels, Scan, One, Two, Many, no_rels, rel_and}
 
 -- a text is as short as a field's
 abbrev pub is_short : Value → Bool
@@ -73,6 +73,7 @@ is_tame_unary (rank_in partition order bound ranked) = true
 abbrev pub is_tame_binary : Binary → Bool
 is_tame_binary (join_on kind pairs rest) = rest_is_tame rest
 is_tame_binary (semi_on anti pairs rest) = rest_is_tame rest
+is_tame_binary (set_by except all columns) = true
 
 abbrev mutual
   pub is_tame_rel : Rel → Bool

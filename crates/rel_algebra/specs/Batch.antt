@@ -11,7 +11,7 @@ use Rattle.rel_algebra.specs.Aggregates.{agg_results}
 use Rattle.rel_algebra.specs.Clauses.{filter_rows, project_rows}
 use Rattle.rel_algebra.specs.Groups.{group_rows}
 use Rattle.rel_algebra.specs.Ranks.{rank_rows}
-use Rattle.rel_algebra.specs.Rel.{Unary, filter_by, project_on, group_by, rank_in, Binary, join_on, semi_on}
+use Rattle.rel_algebra.specs.Rel.{Unary, filter_by, project_on, group_by, rank_in, Binary, join_on, semi_on, set_by}
 use Rattle.rel_algebra.specs.Sets.{set_form, set_rows}
 use Rattle.rel_algebra.specs.Joins.{matching, join_rows, semi_join}
 
@@ -48,3 +48,4 @@ unary_answer (rank_in partition order bound ranked) columns rows = rank_rows par
 abbrev pub binary_answer : Binary → List ColTy → List ColTy → Rows → Rows → Option Rows
 binary_answer (join_on kind pairs rest) l r left right = join_answer l r kind pairs rest left right
 binary_answer (semi_on anti pairs rest) l r left right = semi_answer anti pairs rest left right
+binary_answer (set_by except all columns) l r left right = set_answer except all left right

@@ -21,6 +21,8 @@ pub data Binary : Type 0 where
   join_on : JoinKind → List Pair → Option Expr → Binary
   -- anti, pairs, rest
   semi_on : Bool → List Pair → Option Expr → Binary
+  -- EXCEPT, or else INTERSECT, whether each copy of a row counts, and how many columns both have
+  set_by : Bool → Bool → ℕ → Binary
 
 mutual
   pub data Rel : Type 0 where
@@ -53,6 +55,9 @@ Join left right kind pairs rest = Two (join_on kind pairs rest) left right
 
 pattern abbrev pub Semi : Rel → Rel → Bool → List Pair → Option Expr → Rel
 Semi left right anti pairs rest = Two (semi_on anti pairs rest) left right
+
+pattern abbrev pub SetOp : Rel → Rel → Bool → Bool → ℕ → Rel
+SetOp left right except all columns = Two (set_by except all columns) left right
 
 pattern abbrev pub Rank : Rel → List ℕ → List SortCol → ℕ → Bool → Rel
 Rank input partition order bound ranked = One (rank_in partition order bound ranked) input

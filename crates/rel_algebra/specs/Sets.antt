@@ -1,9 +1,11 @@
 -- Set operations: the rows of two inputs together, those of the left beyond those of the right, and those that both have.
-use Rattle.std.specs.Prelude.{ℕ, ◌+◌, ◌-◌, min, Bool, true, false, ◌&&◌, List, [], ◌∷◌, Option, Some, None, option_map}
+use Rattle.std.specs.Prelude.{ℕ, ◌+◌, ◌-◌, min, Bool, true, false, ◌&&◌, ◌||◌, List, [], ◌∷◌, Option, Some, None, option_map}
 use Rattle.ct_value.specs.Bag.{copies}
 use Rattle.ct_value.specs.declared.ty.ColTy.{ColTy}
 use Rattle.ct_change.specs.Changelog.{Rows}
 use Rattle.ct_expr.specs.Types.{both_of, common_ty}
+use Rattle.rel_algebra.specs.declared.sets.SetKind.{SetKind}
+use Rattle.rel_algebra.specs.declared.sets.SetKind.TheVariants.{Union, Except, Intersect}
 use Rattle.rel_algebra.specs.Sums.{together, thinned}
 
 -- which rows of two inputs there are: all of both, those of the left beyond those of the right, or those of both; with `all` each copy
@@ -41,17 +43,24 @@ set_rows (intersect_rows all) left right = left_over (intersect_rows all) left r
 
 -- ---- columns
 
--- NULL may stand in a row of the left that isn't on the right where it may on the left, and in one of both where it may on both
-abbrev pub set_nullable : Bool → ColTy → ColTy → Bool
-set_nullable true left right = left.nullable
-set_nullable false left right = left.nullable && right.nullable
+-- NULL may stand in a row of either where it may in one of them, in a row of the left that isn't on the right where it may on the left, and
+-- in one of both where it may on both
+abbrev pub set_nullable : SetKind → ColTy → ColTy → Bool
+set_nullable Union left right = left.nullable || right.nullable
+set_nullable Except left right = left.nullable
+set_nullable Intersect left right = left.nullable && right.nullable
 
-abbrev pub set_column : Bool → ColTy → ColTy → Option ColTy
-set_column except left right = option_map (λ ty. record { ty = ty; nullable = set_nullable except left right }) (common_ty left.ty right.ty)
+-- a column of two: their common type
+abbrev pub set_column : SetKind → ColTy → ColTy → Option ColTy
+set_column kind left right = option_map (λ ty. record { ty = ty; nullable = set_nullable kind left right }) (common_ty left.ty right.ty)
 
--- those of EXCEPT, or else of INTERSECT: column by column, equally many
-abbrev pub set_columns : Bool → List ColTy → List ColTy → Option (List ColTy)
-set_columns except [] [] = Some []
-set_columns except [] (right ∷ rights) = None
-set_columns except (left ∷ lefts) [] = None
-set_columns except (left ∷ lefts) (right ∷ rights) = both_of (λ column columns. Some (column ∷ columns)) (set_column except left right) (set_columns except lefts rights)
+-- column by column, equally many
+abbrev pub set_columns : SetKind → List ColTy → List ColTy → Option (List ColTy)
+set_columns kind [] [] = Some []
+set_columns kind [] (right ∷ rights) = None
+set_columns kind (left ∷ lefts) [] = None
+set_columns kind (left ∷ lefts) (right ∷ rights) = both_of (λ column columns. Some (column ∷ columns)) (set_column kind left right) (set_columns kind lefts rights)
+
+abbrev pub set_kind : Bool → SetKind
+set_kind true = Except
+set_kind false = Intersect

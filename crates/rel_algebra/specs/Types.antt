@@ -1,15 +1,17 @@
 -- The columns of each node, and whether it is well-typed over the columns of the tables.
-use Rattle.std.specs.Prelude.{ℕ, nat_le, nat_lt, Bool, true, false, cond, ◌&&◌, ◌||◌, List, [], ◌∷◌, ◌++◌, length, slice_get, Option, Some, None, option_map, option_and_then, is_some}
+use Rattle.std.specs.Prelude.{ℕ, nat_le, nat_lt, ◌==◌, Bool, true, false, cond, ◌&&◌, ◌||◌, List, [], ◌∷◌, ◌++◌, length, slice_get, Option, Some, None, option_map, option_and_then, is_some}
 use Rattle.std.specs.List.{list_all}
 use Rattle.ct_value.specs.declared.ty.ColTy.{ColTy}
 use Rattle.ct_expr.specs.Expr.{Expr}
-use Rattle.ct_expr.specs.Types.{type_of, common_ty, both_of, is_truths}
+use Rattle.ct_expr.specs.Types.{type_of, both_of, is_truths}
 use Rattle.rel_algebra.specs.declared.join.Pair.{Pair}
 use Rattle.rel_algebra.specs.declared.sort.SortCol.{SortCol}
 use Rattle.rel_algebra.specs.Groups.{group_columns}
 use Rattle.rel_algebra.specs.Joins.{join_columns}
 use Rattle.rel_algebra.specs.Ranks.{rank_columns}
-use Rattle.rel_algebra.specs.Rel.{Unary, filter_by, project_on, group_by, rank_in, Binary, join_on, semi_on, Rel, Rels, Scan, One, Two, Many, no_rels, rel_and}
+use Rattle.rel_algebra.specs.declared.sets.SetKind.TheVariants.{Union}
+use Rattle.rel_algebra.specs.Sets.{set_column, set_columns, set_kind}
+use Rattle.rel_algebra.specs.Rel.{Unary, filter_by, project_on, group_by, rank_in, Binary, join_on, semi_on, set_by, Rel, Rels, Scan, One, Two, Many, no_rels, rel_and}
 
 -- these columns, where a test holds
 abbrev pub columns_if : Bool → List ColTy → Option (List ColTy)
@@ -32,16 +34,12 @@ abbrev pub item_columns : List ColTy → List Expr → Option (List ColTy)
 item_columns columns [] = Some []
 item_columns columns (item ∷ items) = both_of (λ column others. Some (column ∷ others)) (type_of item columns) (item_columns columns items)
 
--- a column that may hold the values of either: their common type, and NULL where it may stand in one of them
+-- a column that may hold the values of either, and column by column those of both
 abbrev pub common_column : ColTy → ColTy → Option ColTy
-common_column column other = option_map (λ ty. record { ty = ty; nullable = column.nullable || other.nullable }) (common_ty column.ty other.ty)
+common_column = set_column Union
 
--- column by column, equally many
 abbrev pub common_columns : List ColTy → List ColTy → Option (List ColTy)
-common_columns [] [] = Some []
-common_columns [] (other ∷ others) = None
-common_columns (column ∷ columns) [] = None
-common_columns (column ∷ columns) (other ∷ others) = both_of (λ common rest. Some (common ∷ rest)) (common_column column other) (common_columns columns others)
+common_columns = set_columns Union
 
 -- the two columns are there, and have a common type
 abbrev pub pair_fits : List ColTy → List ColTy → Pair → Bool
@@ -74,6 +72,7 @@ unary_columns (rank_in partition order bound ranked) columns = columns_if (rank_
 abbrev pub binary_columns : Binary → List ColTy → List ColTy → Option (List ColTy)
 binary_columns (join_on kind pairs rest) l r = columns_if (match_fits l r pairs rest) (join_columns kind l r)
 binary_columns (semi_on anti pairs rest) l r = columns_if (match_fits l r pairs rest) l
+binary_columns (set_by except all columns) l r = cond (length l == columns) (set_columns (set_kind except) l r) None
 
 abbrev mutual
   -- the columns of a node, over the columns of the tables; none where it isn't well-typed

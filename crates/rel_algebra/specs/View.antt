@@ -15,6 +15,7 @@ rel_step (Rel-F.Union inputs) = r.Union (r.rels inputs)
 rel_step (Rel-F.Group input keys aggs) = r.Group input.value keys aggs
 rel_step (Rel-F.Join left right kind pairs rest) = r.Join left.value right.value kind pairs (option_map expr_view rest)
 rel_step (Rel-F.Semi left right anti pairs rest) = r.Semi left.value right.value anti pairs (option_map expr_view rest)
+rel_step (Rel-F.SetOp left right except all columns) = r.SetOp left.value right.value except all columns
 rel_step (Rel-F.Rank input partition order bound ranked) = r.Rank input.value partition order bound ranked
 
 unfoldable pub rel_view : Rel → r.Rel

@@ -16,5 +16,5 @@ mod sort;
 pub use agg::{Agg, AggCall, Aggs};
 pub use join::{JoinKind, Pair, Pairs};
 pub use rel::{Rel, Rels};
-pub use sets::set_copies;
+pub use sets::{SetKind, set_column, set_copies, set_kind};
 pub use sort::{SortCol, Sorts};

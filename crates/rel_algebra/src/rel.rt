@@ -48,6 +48,15 @@ pub enum Rel {
         on: Pairs,
         rest: Option<Expr>,
     },
+    /// The rows of the left that aren't on the right, or without `except` those that both have; with `all` each copy counts, and
+    /// else each row stands once. Both have so many columns.
+    SetOp {
+        left: Box<Rel>,
+        right: Box<Rel>,
+        except: bool,
+        all: bool,
+        columns: u32,
+    },
     /// The first `bound` rows of each partition, `ranked` with their ranks as the last column.
     Rank {
         input: Box<Rel>,
@@ -107,6 +116,16 @@ impl Drop for Rel {
                     drop(right);
                     drop(on);
                     drop(rest);
+                    self = Box::into_inner(left);
+                }
+                Rel::SetOp {
+                    left,
+                    right,
+                    except: _except,
+                    all: _all,
+                    columns: _columns,
+                } => {
+                    drop(right);
                     self = Box::into_inner(left);
                 }
                 Rel::Rank {

@@ -6,7 +6,9 @@ use Rattle.ct_value.specs.declared.ty.ColTy.{ColTy}
 use Rattle.ct_expr.specs.Types.{type_of, both_of}
 use Rattle.ct_expr.specs.View.{expr_view, exprs_view}
 use Rattle.ct_expr.specs.declared.expr.Expr.{Expr}
+use Rattle.rel_algebra.specs.Sets as s
 use Rattle.rel_algebra.specs.Types as t
+use Rattle.rel_algebra.specs.declared.sets.SetKind.{SetKind}
 use Rattle.rel_algebra.specs.Aggregates as a
 use Rattle.rel_algebra.specs.Joins.{nullable_if}
 use Rattle.rel_algebra.specs.declared.agg.Agg.{Agg}
@@ -75,30 +77,30 @@ calls_more columns global aggs i d l =
 pub calls_end : (columns : List ColTy) (global : Bool) (aggs : List Agg) (i : ℕ) → length aggs ≤ i → calls_from columns global aggs i ≡ Some []
 calls_end columns global aggs i l = ap (a.agg_types columns global) (drop_all i aggs l)
 
--- ---- common columns
+-- ---- columns of two inputs
 
-abbrev pub common_from : List ColTy → List ColTy → ℕ → Option (List ColTy)
-common_from columns others i = t.common_columns (drop i columns) (drop i others)
+abbrev pub sets_from : SetKind → List ColTy → List ColTy → ℕ → Option (List ColTy)
+sets_from kind lefts rights i = s.set_columns kind (drop i lefts) (drop i rights)
 
-pub common_more : (columns others : List ColTy) (i : ℕ) (d : ColTy) → i < length columns → i < length others → common_from columns others i ≡ before (t.common_column (get_or columns i d) (get_or others i d)) (common_from columns others (i + 1))
-common_more columns others i d l m =
-    at_drop_more (λ xs. t.common_columns xs (drop i others)) columns i d l
-    ∙ at_drop_more (λ ys. t.common_columns (get_or columns i d ∷ drop (i + 1) columns) ys) others i d m
+pub sets_more : (kind : SetKind) (lefts rights : List ColTy) (i : ℕ) (d : ColTy) → i < length lefts → i < length rights → sets_from kind lefts rights i ≡ before (s.set_column kind (get_or lefts i d) (get_or rights i d)) (sets_from kind lefts rights (i + 1))
+sets_more kind lefts rights i d l m =
+    at_drop_more (λ xs. s.set_columns kind xs (drop i rights)) lefts i d l
+    ∙ at_drop_more (λ ys. s.set_columns kind (get_or lefts i d ∷ drop (i + 1) lefts) ys) rights i d m
 
-pub common_end : (columns others : List ColTy) (i : ℕ) → length columns ≤ i → length others ≤ i → common_from columns others i ≡ Some []
-common_end columns others i l m =
-    ap (λ (xs : List ColTy). t.common_columns xs (drop i others)) (drop_all i columns l)
-    ∙ ap (λ (ys : List ColTy). t.common_columns [] ys) (drop_all i others m)
+pub sets_end : (kind : SetKind) (lefts rights : List ColTy) (i : ℕ) → length lefts ≤ i → length rights ≤ i → sets_from kind lefts rights i ≡ Some []
+sets_end kind lefts rights i l m =
+    ap (λ (xs : List ColTy). s.set_columns kind xs (drop i rights)) (drop_all i lefts l)
+    ∙ ap (λ (ys : List ColTy). s.set_columns kind [] ys) (drop_all i rights m)
 
 no-rest : (o : Option ColTy) → before o None ≡ None
 no-rest None = refl
 no-rest (Some column) = refl
 
-pub uneven : (columns others : List ColTy) → (length columns ≡ length others → ⊥) → t.common_columns columns others ≡ None
-uneven [] [] h = absurd (h refl)
-uneven [] (other ∷ others) h = refl
-uneven (column ∷ columns) [] h = refl
-uneven (column ∷ columns) (other ∷ others) h = ap (before (t.common_column column other)) (uneven columns others (λ e. h (ap suc e))) ∙ no-rest (t.common_column column other)
+pub uneven : (kind : SetKind) (lefts rights : List ColTy) → (length lefts ≡ length rights → ⊥) → s.set_columns kind lefts rights ≡ None
+uneven kind [] [] h = absurd (h refl)
+uneven kind [] (right ∷ rights) h = refl
+uneven kind (left ∷ lefts) [] h = refl
+uneven kind (left ∷ lefts) (right ∷ rights) h = ap (before (s.set_column kind left right)) (uneven kind lefts rights (λ e. h (ap suc e))) ∙ no-rest (s.set_column kind left right)
 
 -- ---- columns that stay
 

@@ -10,6 +10,6 @@ mod items;
 mod sides;
 
 pub use calls::group_columns;
-pub use common::common_columns;
+pub use common::set_columns;
 pub use items::{is_condition, item_columns};
 pub use sides::{join_columns, rank_columns};

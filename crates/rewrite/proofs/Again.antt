@@ -1,5 +1,5 @@
 -- The walk in which each rank needs its bound, beside that in which ranks are free: it takes the same steps, up to a rank without a bound.
-use Rattle.std.proofs.Common.{◌≡◌, ℕ, Bool, true, false, cond, List, [], ◌∷◌, ◌++◌, length, Option, Some, None, option_map, Ok, Err, refl, sym, ap, ◌∙◌, subst, ◌⊎◌, inl, inr}
+use Rattle.std.proofs.Common.{◌≡◌, ℕ, Bool, true, false, cond, List, [], ◌++◌, length, Option, Some, None, option_map, Ok, Err, refl, sym, ap, ◌∙◌, subst, ◌⊎◌, inl, inr}
 use Rattle.std.specs.Prelude.{◌-◌, nat_lt, ◌&&◌}
 use Rattle.ct_value.specs.declared.codes.ScriptCode.{ScriptCode}
 use Rattle.ct_value.specs.declared.codes.ScriptCode.TheVariants.{RankUnbounded, Unsupported}
@@ -7,12 +7,12 @@ use Rattle.ct_catalog.specs.declared.table.TableDef.{TableDef}
 use Rattle.sql_syntax.specs.Tree.{Query, Text, Tree}
 use Rattle.sql_syntax.specs.Tree as t
 use Rattle.query_answer.specs.Answer.{conjuncts, select_conjuncts, top_of}
-use Rattle.query_answer.specs.Forms.{is_simple}
+use Rattle.query_answer.specs.Forms.{is_simple, is_sole}
 use Rattle.query_answer.specs.Joins.{kind_of}
 use Rattle.query_answer.specs.Names.{Scope}
-use Rattle.query_answer.specs.Ranks.{Ranked, Top, ranked_select}
+use Rattle.query_answer.specs.Ranks.{Ranked, Top, ranked_query, ranked_select}
 use Rattle.binding.specs.Checked.{Checked, ◌>>=◌}
-use Rattle.binding.specs.Queries.{Alone, FromWhere, Joined, Only, Outside, RankedList, Read, Relation, all_parts_bound, all_parts_but, alone, alone_bound, alone_of, bounded, denied_bound, exists_bound, exists_over, exists_part, framed, gathered_bound, inside_bound, is_one, is_plain, joined, joins_bound, kept, list_inside, listed_by, member_part, own_value, parts_bound, parts_but, plain_part, query_bound, ranked_list, read_by, select_bound, select_over, selects_bound, source_bound, tests, unbounded, united, where_bound}
+use Rattle.binding.specs.Queries.{Alone, FromWhere, Joined, Only, Outside, RankedList, Read, Relation, Run, all_parts_bound, all_parts_but, alone, alone_bound, alone_of, begun, beside_bound, bounded, by_word, denied_bound, exists_bound, exists_over, exists_part, framed, gathered_bound, inside_bound, intersected_bound, joined, joins_bound, kept, list_inside, listed_by, member_part, operated, own_value, parts_bound, parts_but, plain_part, query_bound, ranked_list, read_by, select_bound, select_over, source_bound, term_bound, tests, unbounded, where_bound}
 use Rattle.binder.specs.Bound.{columns_bound}
 
 -- the second is the first, or is refused for a rank without a bound
@@ -97,17 +97,25 @@ module _ (sources : List TableDef) where
 
   mutual
     pub query_again : (q : t.Query) → Again (query_bound true sources q) (query_bound false sources q)
-    query_again (t.query_of t.no_selects order limit) = inl refl
-    query_again (t.query_of (t.select_and x xs) order limit) =
-        then (select_bound true sources x) (select_bound false sources x) _ _ (select_is x (gathered_again None x)) (λ a.
-        after (selects_bound true sources a.scope xs) (selects_bound false sources a.scope xs) _ (selects_again xs a.scope))
+    query_again (t.query_of first rest order limit) =
+        then (term_bound true sources first) (term_bound false sources first) _ _ (term_again first) (λ x.
+        after (beside_bound true sources rest (begun x)) (beside_bound false sources rest (begun x)) _ (beside_again rest (begun x)))
 
-    selects_again : (xs : t.Selects) (scope : Scope) → Again (selects_bound true sources scope xs) (selects_bound false sources scope xs)
-    selects_again t.no_selects scope = inl refl
-    selects_again (t.select_and x xs) scope =
-        then (select_bound true sources x) (select_bound false sources x) _ _ (select_is x (gathered_again None x)) (λ a.
-        then (united scope a.scope) (united scope a.scope) _ _ (same (united scope a.scope)) (λ both.
-        after (selects_bound true sources both xs) (selects_bound false sources both xs) _ (selects_again xs both)))
+    beside_again : (xs : t.TermTails) (run : Run) → Again (beside_bound true sources xs run) (beside_bound false sources xs run)
+    beside_again t.no_term_tails run = inl refl
+    beside_again (t.term_tail_and (t.term_tail_of word x) xs) run =
+        then (term_bound true sources x) (term_bound false sources x) _ _ (term_again x) (λ y.
+        then (by_word word run y) (by_word word run y) (beside_bound true sources xs) (beside_bound false sources xs) (same (by_word word run y)) (beside_again xs))
+
+    term_again : (x : t.Term) → Again (term_bound true sources x) (term_bound false sources x)
+    term_again (t.term_of x xs) =
+        then (select_bound true sources x) (select_bound false sources x) (intersected_bound true sources xs) (intersected_bound false sources xs) (select_is x (gathered_again None x)) (intersected_again xs)
+
+    intersected_again : (xs : t.SelectTails) (a : Relation) → Again (intersected_bound true sources xs a) (intersected_bound false sources xs a)
+    intersected_again t.no_select_tails a = inl refl
+    intersected_again (t.select_tail_and (t.select_tail_of all x) xs) a =
+        then (select_bound true sources x) (select_bound false sources x) _ _ (select_is x (gathered_again None x)) (λ b.
+        then (operated false all a b) (operated false all a b) (intersected_bound true sources xs) (intersected_bound false sources xs) (same (operated false all a b)) (intersected_again xs))
 
     gathered_again : (outside : Outside) (x : t.Select) → Again (gathered_bound true sources outside x) (gathered_bound false sources outside x)
     gathered_again outside (t.select_of distinct items from joins condition groups having) =
@@ -124,12 +132,8 @@ module _ (sources : List TableDef) where
 
     alone_again : (from : t.Source) → AgainIf (alone_bound true sources from) (alone_bound false sources from)
     alone_again (t.Table name alias) = tt
-    alone_again (t.FromQuery (t.query_of t.no_selects order limit) alias) = tt
-    alone_again (t.FromQuery (t.query_of (t.select_and x t.no_selects) t.no_sorts None) alias) =
-        alone_is alias (gathered_bound true sources None x) (gathered_bound false sources None x) (gathered_again None x) (ranked_select x)
-    alone_again (t.FromQuery (t.query_of (t.select_and x t.no_selects) t.no_sorts (Some limit)) alias) = tt
-    alone_again (t.FromQuery (t.query_of (t.select_and x t.no_selects) (t.sort_and s order) limit) alias) = tt
-    alone_again (t.FromQuery (t.query_of (t.select_and x (t.select_and y ys)) order limit) alias) = tt
+    alone_again (t.FromQuery (t.query_of (t.term_of x xs) ts order limit) alias) =
+        alone_is alias (gathered_bound true sources None x) (gathered_bound false sources None x) (gathered_again None x) (ranked_query (t.query_of (t.term_of x xs) ts order limit))
 
     source_again : (from : t.Source) → Again (source_bound true sources from) (source_bound false sources from)
     source_again (t.Table name alias) = inl refl
@@ -185,9 +189,8 @@ module _ (sources : List TableDef) where
     denied_again outside own whole _ = inl refl
 
     exists_query_again : (anti : Bool) (own : Scope) (q : t.Query) → Again (exists_bound true sources anti own q) (exists_bound false sources anti own q)
-    exists_query_again anti own (t.query_of t.no_selects order limit) = inl refl
-    exists_query_again anti own (t.query_of (t.select_and x xs) order limit) =
-        either (is_simple x && (is_one xs && is_plain order limit)) (inside_bound true sources anti own x) (inside_bound false sources anti own x) (Err Unsupported) (Err Unsupported)
+    exists_query_again anti own (t.query_of (t.term_of x xs) ts order limit) =
+        either (is_simple x && is_sole (t.query_of (t.term_of x xs) ts order limit)) (inside_bound true sources anti own x) (inside_bound false sources anti own x) (Err Unsupported) (Err Unsupported)
         (inside_is anti own x (gathered_again (Some own) x)) (inl refl)
 
 -- ---- a query whose names are bound

@@ -255,7 +255,7 @@ abbrev pub of_two : Bool → Bool → KindSet → KeyInfo → Example
 of_two except all kinds keys = record {
   sources = table (codes "a") (may ∷ []) Append None ∷ table (codes "b") (may ∷ []) Append None ∷ [];
   sink = table (codes "out_t") (may ∷ []) Append None;
-  laid = hashed 0 (op.Scan 0) [] (may ∷ []) ∷ hashed 0 (op.Scan 1) [] (may ∷ []) ∷ forward (op.SetOp except all) (1 ∷ 2 ∷ []) (may ∷ []) ∷ forward op.Sink (3 ∷ []) (may ∷ []) ∷ [];
+  laid = hashed 0 (op.Scan 0) [] (may ∷ []) ∷ hashed 0 (op.Scan 1) [] (may ∷ []) ∷ forward (op.SetOp except all 1) (1 ∷ 2 ∷ []) (may ∷ []) ∷ forward op.Sink (3 ∷ []) (may ∷ []) ∷ [];
   kinds = inserts ∷ inserts ∷ kinds ∷ kinds ∷ [];
   keys = fixed 0 ∷ fixed 0 ∷ keys ∷ keyless ∷ [];
   updates = Absent ∷ Absent ∷ Absent ∷ Absent ∷ [];

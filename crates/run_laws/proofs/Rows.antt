@@ -226,6 +226,7 @@ module _ (plan : Plan) (ruled : IsRuled plan) (takes : SoundPortsTake) (suited :
         group_outs (grouping_of keys aggs around) (fit_keys (grouping_of keys aggs around) (taken (op.BatchGroup keys aggs) own refl) refl suits.keeps) (fold (grouping_of keys aggs around).input (at_port 0 before))
     op_outs (op.Join kind on rest) own = let j = joining_of (joins kind) on (option_map expr_view rest) around in both_out j (both_fit j (taken (op.Join kind on rest) own refl) refl refl)
     op_outs (op.Semi anti on rest) own = let j = joining_of (matched anti) on (option_map expr_view rest) around in both_out j (both_fit j (taken (op.Semi anti on rest) own refl) refl refl)
+    op_outs (op.SetOp except all columns) own = λ row e. not_err _ row e
     op_outs (op.TopN partition order bound ranked) own = λ row e. not_err _ row e
     op_outs (op.Materialize key) own = λ row e. not_err _ row e
     op_outs op.Sink own =

@@ -8,6 +8,7 @@ use op_join::Join;
 use op_row::{FilterOp, NormalizeOp, ProjectOp, UnionOp};
 use op_rules::{OpFault, Operator, PieceOperator};
 use op_semi::SemiJoin;
+use op_setops::SetOp;
 use op_sink::{Materialize, SinkWriter};
 use op_topn::TopN;
 use std::sync::ledger::Ledger;
@@ -22,13 +23,14 @@ pub enum AnyOperator {
     Group(Group<AnyMode, AnyMode>),
     Join(Join<AnyMode, AnyMode>),
     Semi(SemiJoin<AnyMode, AnyMode>),
+    SetOp(SetOp),
     TopN(TopN<AnyMode, AnyMode>),
     Materialize(Materialize),
     Sink(SinkWriter),
 }
 
 impl Operator for AnyOperator {
-    ghost use Rattle.session_open.specs.declared.any.AnyOperator.TheVariants.{Filter, Project, Union, Normalize, Group as Grouped, Join as Joined, Semi, TopN as Top, Materialize as Shown, Sink};
+    ghost use Rattle.session_open.specs.declared.any.AnyOperator.TheVariants.{Filter, Project, Union, Normalize, Group as Grouped, Join as Joined, Semi, SetOp as Operated, TopN as Top, Materialize as Shown, Sink};
 
     ghost rule = { elim [
       | Filter o ↦ ⟦<FilterOp as Operator>⟧.rule o
@@ -38,6 +40,7 @@ impl Operator for AnyOperator {
       | Grouped o ↦ ⟦<Group<AnyMode, AnyMode> as Operator>⟧.rule o
       | Joined o ↦ ⟦<Join<AnyMode, AnyMode> as Operator>⟧.rule o
       | Semi o ↦ ⟦<SemiJoin<AnyMode, AnyMode> as Operator>⟧.rule o
+      | Operated o ↦ ⟦<SetOp as Operator>⟧.rule o
       | Top o ↦ ⟦<TopN<AnyMode, AnyMode> as Operator>⟧.rule o
       | Shown o ↦ ⟦<Materialize as Operator>⟧.rule o
       | Sink o ↦ ⟦<SinkWriter as Operator>⟧.rule o
@@ -51,6 +54,7 @@ impl Operator for AnyOperator {
       | Grouped o ↦ ⟦<Group<AnyMode, AnyMode> as Operator>⟧.broken o
       | Joined o ↦ ⟦<Join<AnyMode, AnyMode> as Operator>⟧.broken o
       | Semi o ↦ ⟦<SemiJoin<AnyMode, AnyMode> as Operator>⟧.broken o
+      | Operated o ↦ ⟦<SetOp as Operator>⟧.broken o
       | Top o ↦ ⟦<TopN<AnyMode, AnyMode> as Operator>⟧.broken o
       | Shown o ↦ ⟦<Materialize as Operator>⟧.broken o
       | Sink o ↦ ⟦<SinkWriter as Operator>⟧.broken o
@@ -64,6 +68,7 @@ impl Operator for AnyOperator {
       | Grouped o ↦ ⟦<Group<AnyMode, AnyMode> as Operator>⟧.stands_for o
       | Joined o ↦ ⟦<Join<AnyMode, AnyMode> as Operator>⟧.stands_for o
       | Semi o ↦ ⟦<SemiJoin<AnyMode, AnyMode> as Operator>⟧.stands_for o
+      | Operated o ↦ ⟦<SetOp as Operator>⟧.stands_for o
       | Top o ↦ ⟦<TopN<AnyMode, AnyMode> as Operator>⟧.stands_for o
       | Shown o ↦ ⟦<Materialize as Operator>⟧.stands_for o
       | Sink o ↦ ⟦<SinkWriter as Operator>⟧.stands_for o
@@ -87,6 +92,7 @@ impl Operator for AnyOperator {
             AnyOperator::Group(o) => o.consume(port, change, steps),
             AnyOperator::Join(o) => o.consume(port, change, steps),
             AnyOperator::Semi(o) => o.consume(port, change, steps),
+            AnyOperator::SetOp(o) => o.consume(port, change, steps),
             AnyOperator::TopN(o) => o.consume(port, change, steps),
             AnyOperator::Materialize(o) => o.consume(port, change, steps),
             AnyOperator::Sink(o) => o.consume(port, change, steps),
@@ -102,6 +108,7 @@ impl Operator for AnyOperator {
             AnyOperator::Group(o) => o.is_broken(),
             AnyOperator::Join(o) => o.is_broken(),
             AnyOperator::Semi(o) => o.is_broken(),
+            AnyOperator::SetOp(o) => o.is_broken(),
             AnyOperator::TopN(o) => o.is_broken(),
             AnyOperator::Materialize(o) => o.is_broken(),
             AnyOperator::Sink(o) => o.is_broken(),
@@ -110,7 +117,7 @@ impl Operator for AnyOperator {
 }
 
 impl PieceOperator for AnyOperator {
-    ghost use Rattle.session_open.specs.declared.any.AnyOperator.TheVariants.{Filter, Project, Union, Normalize, Group as Grouped, Join as Joined, Semi, TopN as Top, Materialize as Shown, Sink};
+    ghost use Rattle.session_open.specs.declared.any.AnyOperator.TheVariants.{Filter, Project, Union, Normalize, Group as Grouped, Join as Joined, Semi, SetOp as Operated, TopN as Top, Materialize as Shown, Sink};
     ghost use Rattle.std.specs.Prelude.{false};
 
     ghost takes_pieces = { elim [
@@ -121,6 +128,7 @@ impl PieceOperator for AnyOperator {
       | Grouped o ↦ ⟦<Group<AnyMode, AnyMode> as PieceOperator>⟧.takes_pieces o
       | Joined o ↦ false
       | Semi o ↦ false
+      | Operated o ↦ false
       | Top o ↦ false
       | Shown o ↦ false
       | Sink o ↦ false
@@ -139,6 +147,7 @@ impl PieceOperator for AnyOperator {
             AnyOperator::Normalize(_) => unreachable!(),
             AnyOperator::Join(_) => unreachable!(),
             AnyOperator::Semi(_) => unreachable!(),
+            AnyOperator::SetOp(_) => unreachable!(),
             AnyOperator::TopN(_) => unreachable!(),
             AnyOperator::Materialize(_) => unreachable!(),
             AnyOperator::Sink(_) => unreachable!(),
@@ -165,6 +174,7 @@ impl AnyOperator {
             AnyOperator::Group(o) => o.opening(subtask),
             AnyOperator::Join(o) => o.opening(subtask),
             AnyOperator::Semi(o) => o.opening(subtask),
+            AnyOperator::SetOp(o) => o.opening(subtask),
             AnyOperator::TopN(o) => o.opening(subtask),
             AnyOperator::Materialize(o) => o.opening(subtask),
             AnyOperator::Sink(o) => o.opening(subtask),

@@ -6,6 +6,7 @@ ghost use Rattle.emission_rules.specs.Project.{project_rule};
 ghost use Rattle.emission_rules.specs.Union.{union_rule};
 ghost use Rattle.emission_rules.specs.Normalize.{normalize_rule, TellsKey};
 ghost use Rattle.emission_rules.specs.Materialize.{materialize_rule};
+ghost use Rattle.emission_rules.specs.SetOps.{set_rule};
 ghost use Rattle.emission_rules.specs.Sink.{sink_rule};
 ghost use Rattle.emission_rules.specs.Grouping.{group_rule, IsSound as GroupsWell};
 ghost use Rattle.emission_rules.specs.Joining.{joins, matched, join_rule};
@@ -31,6 +32,7 @@ use op_join::Join;
 use op_row::{FilterOp, NormalizeOp, ProjectOp, UnionOp};
 use op_rules::{Operator, PieceOperator};
 use op_semi::SemiJoin;
+use op_setops::SetOp;
 use op_sink::{Materialize, SinkWriter};
 use op_topn::TopN;
 use phys_plan::{Node, Op, Plan};
@@ -103,6 +105,7 @@ fn operator_of(
             let sides = both_inputs(alloc, plan, columns, &node.inputs)?;
             Ok(Some(semi_by(alloc, sides, *anti, on, rest)?))
         }
+        Op::SetOp { except, all, .. } => Ok(Some(set_op_of(alloc, *except, *all))),
         Op::TopN {
             partition,
             order,
@@ -215,6 +218,12 @@ fn semi_by(
         right.mode,
     )?;
     Ok(AnyOperator::Semi(made))
+}
+
+fn set_op_of(alloc: Global, except: bool, all: bool) -> AnyOperator
+    ensures { IsNew ⟦<AnyOperator as Operator>⟧.rule ⟦<AnyOperator as Operator>⟧.broken ⟦<AnyOperator as Operator>⟧.stands_for ⟦<AnyOperator as PieceOperator>⟧.takes_pieces result (set_rule (record { except = except; all = all })) }
+{
+    AnyOperator::SetOp(SetOp::new(alloc, except, all))
 }
 
 fn top_by(

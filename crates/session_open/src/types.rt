@@ -29,6 +29,7 @@ pub(crate) fn range_types_of(
         Op::BatchGroup { keys, .. } => first_types(alloc, columns, node, *keys),
         Op::Join { .. } => joined_types(alloc, columns, &node.inputs),
         Op::Semi { .. } => joined_types(alloc, columns, &node.inputs),
+        Op::SetOp { .. } => joined_types(alloc, columns, &node.inputs),
         _ => Ok(ColTys::new(alloc)),
     }
 }

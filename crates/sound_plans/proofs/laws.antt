@@ -29,6 +29,7 @@ pub mod RowInputs
 pub mod Scans
 pub mod Seen
 pub mod SentTypes
+pub mod SetOps
 pub mod Sets
 pub mod Shapes
 pub mod Sinks

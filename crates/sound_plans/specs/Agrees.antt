@@ -37,7 +37,7 @@ pub record IsAsked (sink : TableDef) (o : Op) (own : Update) (port : ℕ) (input
   pub proper : IsProper input
   pub carries : Carries input
   pub tells : input.edge.update ≡ told input.sent input.update_key (taken_by sink o port own input.update_key)
-  pub exchanged : input.edge.exchange ≡ by_columns (asked (length input.columns) o port)
+  pub exchanged : input.edge.exchange ≡ by_columns (asked o port)
 
 -- each input, by its port, from this one on
 abbrev pub AtPorts : (ℕ → Output → Type 0) → ℕ → List Output → Type 0

@@ -1,4 +1,4 @@
--- Joins, semi joins and Top-N of a sound plan fit between their edges.
+-- Joins, semi joins, set operations and Top-N of a sound plan fit between their edges.
 use Rattle.std.specs.Prelude.{ℕ, ◌<◌, Bool, List, [], ◌∷◌, Option, option_map}
 use Rattle.ct_catalog.specs.declared.table.TableDef.{TableDef}
 use Rattle.ct_expr.specs.View.{expr_view}
@@ -12,7 +12,9 @@ use Rattle.phys_plan.specs.declared.node.Op.{Op}
 use Rattle.phys_plan.specs.declared.node.Op.TheVariants as op
 use Rattle.emission_rules.specs.Joining.{joins, matched}
 use Rattle.emission_rules.specs.JoinFits.{JoinFits}
+use Rattle.emission_rules.specs.SetOps.{SetFits}
 use Rattle.emission_rules.specs.TopFits.{TopNFits}
+use Rattle.column_sets.specs.Places.{first_columns}
 use Rattle.plan_rules.specs.Plans.{exchange_of, meaning_by}
 use Rattle.plan_rules.specs.Around.{joining_of, ranking_of}
 use Rattle.sound_plans.specs.Outputs.{Output, IsProper, around_by, edge_of, edges_of}
@@ -27,6 +29,11 @@ abbrev pub SemisFit : Type 0
 SemisFit = (many : ℕ) → 0 < many → (sources : List TableDef) (sink : TableDef) (anti : Bool) (on : List Pair) (rest : Option Expr) (left right own : Output)
     → Agrees sources sink (op.Semi anti on rest) (left ∷ (right ∷ [])) own
     → JoinFits many (joining_of (matched anti) on (option_map expr_view rest) (around_by sink (left ∷ (right ∷ [])) own)) (edges_of many (left ∷ (right ∷ []))) (edge_of many own) × IsProper own
+
+abbrev pub SetOperationsFit : Type 0
+SetOperationsFit = (many : ℕ) → 0 < many → (sources : List TableDef) (sink : TableDef) (except all : Bool) (columns : ℕ) (left right own : Output)
+    → Agrees sources sink (op.SetOp except all columns) (left ∷ (right ∷ [])) own
+    → SetFits many (record { except = except; all = all }) (first_columns columns) left.columns right.columns (edges_of many (left ∷ (right ∷ []))) (edge_of many own) × IsProper own
 
 abbrev pub TopNsFit : Type 0
 TopNsFit = (many : ℕ) → 0 < many → (sources : List TableDef) (sink : TableDef) (partition : List ℕ) (order : List SortCol) (bound : ℕ) (ranked : Bool) (input own : Output)

@@ -1,13 +1,13 @@
 -- Each form of reading is complete where its parts are: what tokens spell is read, whatever follows that doesn't go on.
 use Rattle.std.proofs.Common.{◌≡◌, ℕ, zero, suc, ◌<◌, ◌≤◌, true, false, List, [], ◌∷◌, ◌++◌, length, Option, Some, None, refl, sym, ap, ◌∙◌, subst, append_assoc, length-append, arith}
 use Rattle.sql_tokens.specs.declared.token.Token.{Token}
-use Rattle.sql_grammar.specs.Words.{AND, AS, ASC, BETWEEN, DESC, ELSE, FILTER, FULL, GROUP, HAVING, IN, INNER, IS, JOIN, LEFT, LIKE, LIMIT, NOT, OR, ORDER, OUTER, OVER, PARTITION, PRIMARY, RIGHT, UNION, WHEN, WHERE, WITH, OPEN, CLOSE, COMMA, DOT, EQUAL, NOT_EQUAL, LESS, LESS_EQUAL, GREATER, GREATER_EQUAL, PLUS, MINUS, TIMES, DIVIDE, MODULO, CONCAT, NAME, only}
+use Rattle.sql_grammar.specs.Words.{AND, AS, ASC, BETWEEN, DESC, ELSE, EXCEPT, FILTER, FULL, GROUP, HAVING, IN, INNER, INTERSECT, IS, JOIN, LEFT, LIKE, LIMIT, NOT, OR, ORDER, OUTER, OVER, PARTITION, PRIMARY, RIGHT, UNION, WHEN, WHERE, WITH, OPEN, CLOSE, COMMA, DOT, EQUAL, NOT_EQUAL, LESS, LESS_EQUAL, GREATER, GREATER_EQUAL, PLUS, MINUS, TIMES, DIVIDE, MODULO, CONCAT, NAME, only}
 use Rattle.sql_grammar.specs.Shapes.{Spelling, Word, Words, WordOf, Led, After, Seq2, Seq3, Seq4, Made, Maybe, Flag, OrNone, Many, Series, Listed, Bracketed, Chain}
 use Rattle.sql_grammar.proofs.laws.Steps.{bind_is}
 use Rattle.sql_grammar.specs.Reading.{Reader, ◌>>=◌, first_word, word_at, words_at, made, after, optional_word, optional, maybe_item, maybe, flag_item, flag, nothing, list_item, or_none, many_item, many, repeated, seq2, seq3, seq4, series, listed, bracketed, chain}
 use Rattle.sql_grammar.proofs.WordReading.{IfRead, IsWord, only_is}
 
--- how tightly a token goes on with what stands before it: 1 to 7 a query, 8 a list, 9 an item of a list, 10 to 14 the chains, 15 and 16 a primary
+-- how tightly a token goes on with what stands before it: 1 to 8 a query, 8 a list too, 9 an item of a list, 10 to 14 the chains, 15 and 16 a primary
 abbrev pub strength : Token → ℕ
 strength LIMIT = 1
 strength ELSE = 1
@@ -15,14 +15,16 @@ strength WITH = 1
 strength ORDER = 2
 strength WHEN = 2
 strength UNION = 3
-strength HAVING = 4
-strength GROUP = 5
-strength WHERE = 6
-strength JOIN = 7
-strength INNER = 7
-strength LEFT = 7
-strength RIGHT = 7
-strength FULL = 7
+strength EXCEPT = 3
+strength INTERSECT = 4
+strength HAVING = 5
+strength GROUP = 6
+strength WHERE = 7
+strength JOIN = 8
+strength INNER = 8
+strength LEFT = 8
+strength RIGHT = 8
+strength FULL = 8
 strength COMMA = 8
 strength AS = 9
 strength (NAME x quoted) = 9

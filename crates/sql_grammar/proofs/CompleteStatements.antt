@@ -72,7 +72,7 @@ statement_complete p I g us (Insert table query) rest (u1, u2, u3, one, (quoted,
 
 -- what the readers of every depth refuse
 refuses : (depth : ℕ) → Refuses (readers depth)
-unfolding readers Reads.expr_at Reads.conj_at Reads.neg_at Reads.test_at Reads.sum_test_at Reads.sum_at Reads.product_at Reads.sign_at Reads.primary_at Reads.begun_at Reads.named_at Reads.column_at Reads.query_at Reads.selects_at Reads.select_at
+unfolding readers Reads.expr_at Reads.conj_at Reads.neg_at Reads.test_at Reads.sum_test_at Reads.sum_at Reads.product_at Reads.sign_at Reads.primary_at Reads.begun_at Reads.named_at Reads.column_at Reads.query_at Reads.terms_at Reads.term_at Reads.select_at
 refuses zero = record { star = λ ts. refl; close = λ ts. refl; distinct = λ ts. refl; select = λ ts. refl; star_of = λ x quoted ts. refl; no_select = λ ts e. refl }
 refuses (suc depth) = record {
   star = λ ts. refl;
@@ -80,7 +80,7 @@ refuses (suc depth) = record {
   distinct = λ ts. refl;
   select = λ ts. refl;
   star_of = λ x quoted ts. refl;
-  no_select = λ ts e. fail_bind _ _ (fail_bind _ _ (fail_bind _ _ e));
+  no_select = λ ts e. fail_bind _ _ (fail_bind _ _ (fail_bind _ _ (fail_bind _ _ e)));
 }
 
 mutual

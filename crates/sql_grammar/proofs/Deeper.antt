@@ -3,8 +3,9 @@ use Rattle.std.proofs.Common.{◌≡◌, ℕ, zero, suc, ◌+◌, ◌<◌, ◌�
 use Rattle.sql_tokens.specs.declared.token.Token.{Token}
 use Rattle.sql_syntax.specs.declared.tree.JoinWord.{JoinWord}
 use Rattle.sql_syntax.specs.declared.tree.JoinWord.TheVariants.{Inner, Left, Right, Full}
-use Rattle.sql_syntax.specs.Tree.{Empty, Star, Values, sort_of, Number, Str, Truth, Null, Name, Call, Cast, Paren, Sub, Case, Exists, All, AllOf, One, Table, FromQuery, Statement, Create, Set, Insert, product_tail_of, sum_tail_of}
-use Rattle.sql_grammar.specs.Words.{ALL, AND, AS, BETWEEN, BY, CASE, CAST, DISTINCT, ELSE, END, EXISTS, FILTER, GROUP, HAVING, IN, JOIN, LIKE, LIMIT, NOT, ON, OR, ORDER, OUTER, OVER, PARTITION, THEN, UNION, WHERE, OPEN, CLOSE, COMMA, NUMBER, product_token, sum_token, compare_token, sign_token, join_token}
+use Rattle.sql_syntax.specs.declared.tree.SetWord.TheVariants.{UnionAll}
+use Rattle.sql_syntax.specs.Tree.{Empty, Star, Values, sort_of, Number, Str, Truth, Null, Name, Call, Cast, Paren, Sub, Case, Exists, All, AllOf, One, Table, FromQuery, Statement, Create, Set, Insert, product_tail_of, sum_tail_of, term_tail_of}
+use Rattle.sql_grammar.specs.Words.{ALL, AND, AS, BETWEEN, BY, CASE, CAST, DISTINCT, ELSE, END, EXISTS, FILTER, GROUP, HAVING, IN, JOIN, LIKE, LIMIT, NOT, ON, OR, ORDER, OUTER, OVER, PARTITION, THEN, WHERE, OPEN, CLOSE, COMMA, NUMBER, product_token, sum_token, compare_token, sign_token, set_token, join_token}
 use Rattle.sql_grammar.specs.Shapes.{Spelling, Word, WordOf, Led, After, Seq2, Seq3, Seq4, Made, Maybe, Flag, OrNone, Many, Series, Listed, Bracketed, Chain}
 use Rattle.sql_grammar.specs.Spells
 use Rattle.sql_grammar.specs.Nodes.{or_node, and_node, sum_node, product_node}
@@ -292,21 +293,43 @@ module _ (n : ℕ) (I J : Inside) (h : Below n I.expr J.expr) (g : Below n I.que
       let size : length us ≡ suc (length vs) = ap length e in
       (w, vs, (chosen, from, filters, seq3_below n (Spells.ChosenOf I) (Spells.ChosenOf J) (Spells.FromOf I) (Spells.FromOf J) (Spells.FiltersOf I) (Spells.FiltersOf J) chosen_below from_below filters_below vs chosen from filters (omega arith) s, made), e)
 
-  selects_below : Below (suc n) (Spells.SelectsOf I) (Spells.SelectsOf J)
-  unfolding Spells.SelectsOf
-  selects_below = series_below (suc n) (Spells.SelectOf I) (Spells.SelectOf J) (After UNION (After ALL (Spells.SelectOf I))) (After UNION (After ALL (Spells.SelectOf J))) select_below
-      (after_within (suc n) UNION (After ALL (Spells.SelectOf I)) (After ALL (Spells.SelectOf J)) (after_within (suc n) ALL (Spells.SelectOf I) (Spells.SelectOf J) select_below))
+  intersect_below : Below (suc n) (Spells.IntersectOf I) (Spells.IntersectOf J)
+  unfolding Spells.IntersectOf
+  intersect_below us x len (w, vs, (all, select, s, made), e) =
+      let size : length us ≡ suc (length vs) = ap length e in
+      (w, vs, (all, select, seq2_below (suc n) (Flag (Word ALL)) (Flag (Word ALL)) (Spells.SelectOf I) (Spells.SelectOf J) (same (suc n) (Flag (Word ALL))) select_below vs all select (omega arith) s, made), e)
+
+  term_below : Below (suc n) (Spells.TermOf I) (Spells.TermOf J)
+  unfolding Spells.TermOf
+  term_below us x len (first, rest, s, made) =
+      (first, rest, seq2_below (suc n) (Spells.SelectOf I) (Spells.SelectOf J) (Many (Spells.IntersectOf I)) (Many (Spells.IntersectOf J)) select_below (many_below (suc n) (Spells.IntersectOf I) (Spells.IntersectOf J) intersect_below) us first rest len s, made)
+
+  beside_below : (w : Bool) → Below (suc n) (Spells.BesideOf I w) (Spells.BesideOf J w)
+  unfolding Spells.BesideOf
+  beside_below false us x len s = made_below (suc n) (term_tail_of UnionAll) (After ALL (Spells.TermOf I)) (After ALL (Spells.TermOf J)) (after_within (suc n) ALL (Spells.TermOf I) (Spells.TermOf J) term_below) us x len s
+  beside_below true us x len (all, term, s, made) =
+      (all, term, seq2_below (suc n) (Flag (Word ALL)) (Flag (Word ALL)) (Spells.TermOf I) (Spells.TermOf J) (same (suc n) (Flag (Word ALL))) term_below us all term len s, made)
+
+  term_tail_below : Below (suc n) (Spells.TermTailOf I) (Spells.TermTailOf J)
+  unfolding Spells.TermTailOf
+  term_tail_below = fewer (suc n) (suc (suc n)) (Led set_token (λ w. Spells.BesideOf I w)) (Led set_token (λ w. Spells.BesideOf J w)) (omega arith)
+      (led_below (suc n) set_token (λ w. Spells.BesideOf I w) (λ w. Spells.BesideOf J w) beside_below)
+
+  terms_below : Below (suc n) (Spells.TermsOf I) (Spells.TermsOf J)
+  unfolding Spells.TermsOf
+  terms_below us x len s =
+      seq2_below (suc n) (Spells.TermOf I) (Spells.TermOf J) (Many (Spells.TermTailOf I)) (Many (Spells.TermTailOf J)) term_below (many_below (suc n) (Spells.TermTailOf I) (Spells.TermTailOf J) term_tail_below) us x.0 x.1 len s
+
+  ending_below : Below (suc n) (Spells.EndingOf I) (Spells.EndingOf J)
+  unfolding Spells.EndingOf
+  ending_below us x len s =
+      seq2_below (suc n) (OrNone (Spells.OrderOf I)) (OrNone (Spells.OrderOf J)) (Maybe (After LIMIT (WordOf NUMBER))) (Maybe (After LIMIT (WordOf NUMBER)))
+      (or_none_below (suc n) (Spells.OrderOf I) (Spells.OrderOf J) order_below) (same (suc n) (Maybe (After LIMIT (WordOf NUMBER)))) us x.0 x.1 len s
 
   query_below : Below (suc n) (Spells.QueryOf I) (Spells.QueryOf J)
   unfolding Spells.QueryOf
-  query_below us x len (all, order, limit, s, made) = (
-    all,
-    order,
-    limit,
-    seq3_below (suc n) (Spells.SelectsOf I) (Spells.SelectsOf J) (OrNone (Spells.OrderOf I)) (OrNone (Spells.OrderOf J)) (Maybe (After LIMIT (WordOf NUMBER))) (Maybe (After LIMIT (WordOf NUMBER)))
-        selects_below (or_none_below (suc n) (Spells.OrderOf I) (Spells.OrderOf J) order_below) (same (suc n) (Maybe (After LIMIT (WordOf NUMBER)))) us all order limit len s,
-    made,
-  )
+  query_below us x len (terms, ending, s, made) =
+      (terms, ending, seq2_below (suc n) (Spells.TermsOf I) (Spells.TermsOf J) (Spells.EndingOf I) (Spells.EndingOf J) terms_below ending_below us terms ending len s, made)
 
 statement_below : (n : ℕ) (I J : Inside) → Below n I.query J.query → Below (suc n) (StatementOf I) (StatementOf J)
 unfolding StatementOf

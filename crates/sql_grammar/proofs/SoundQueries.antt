@@ -1,19 +1,20 @@
 -- What is read as a query, or as a part of one, is spelled by the tokens that were taken.
-use Rattle.std.proofs.Common.{◌≡◌, Bool, List, [], ◌∷◌, ◌++◌, Option, Some, None, refl, sym, ap, ◌∙◌, append_assoc}
+use Rattle.std.proofs.Common.{◌≡◌, Bool, true, false, List, [], ◌∷◌, ◌++◌, Option, Some, None, refl, sym, ap, ◌∙◌, append_assoc}
 use Rattle.sql_tokens.specs.declared.token.Token.{Token}
 use Rattle.sql_syntax.specs.declared.tree.JoinWord.{JoinWord}
 use Rattle.sql_syntax.specs.declared.tree.JoinWord.TheVariants.{Inner, Left, Right, Full}
-use Rattle.sql_syntax.specs.Tree.{Text, Tree, query_of, Select, Item, One, Source, FromQuery, JoinItem, join_of, selects, sort_list}
-use Rattle.sql_grammar.specs.Words.{ALL, BY, DISTINCT, FROM, GROUP, HAVING, JOIN, LIMIT, ON, ORDER, OUTER, SELECT, UNION, WHERE, DOT, TIMES, NUMBER, only, name_word, name_token, number_word, join_word, join_token}
-use Rattle.sql_grammar.specs.Shapes.{Spelling, Word, WordOf, After, Seq3, Maybe, Flag, OrNone, Many, Listed, Bracketed}
+use Rattle.sql_syntax.specs.declared.tree.SetWord.TheVariants.{UnionAll}
+use Rattle.sql_syntax.specs.Tree.{Text, Tree, query_of, Select, Item, One, Source, FromQuery, JoinItem, join_of, SelectTail, select_tail_of, select_tails, term_of, term_tail_of, term_tails, sort_list}
+use Rattle.sql_grammar.specs.Words.{ALL, BY, DISTINCT, FROM, GROUP, HAVING, INTERSECT, JOIN, LIMIT, ON, ORDER, OUTER, SELECT, WHERE, DOT, TIMES, NUMBER, only, name_word, name_token, number_word, join_word, join_token, set_word, set_token}
+use Rattle.sql_grammar.specs.Shapes.{Spelling, Word, WordOf, After, Seq2, Seq3, Maybe, Flag, OrNone, Many, Listed, Bracketed}
 use Rattle.sql_grammar.specs.Spells
-use Rattle.sql_grammar.specs.Nodes.{select_node}
+use Rattle.sql_grammar.specs.Nodes.{select_node, except_word}
 use Rattle.sql_grammar.specs.Spells.{Inside, StarOf, AliasOf}
 use Rattle.sql_grammar.specs.Reading.{word_at, after, flag, nothing, bracketed}
 use Rattle.sql_grammar.specs.Reads
 use Rattle.sql_grammar.specs.Reads.{Readers, alias_at}
-use Rattle.sql_grammar.proofs.WordReading.{IfRead, only_is, name_is, number_is, join_is}
-use Rattle.sql_grammar.proofs.SoundShapes.{Took, Sound, bind, at_word, word_sound, only_sound, after_sound, maybe_sound, flag_word_sound, or_none_sound, repeated_sound, seq2_sound, seq3_sound, bracketed_sound, series_sound, listed_sound}
+use Rattle.sql_grammar.proofs.WordReading.{IfRead, only_is, name_is, number_is, join_is, set_is}
+use Rattle.sql_grammar.proofs.SoundShapes.{Took, Sound, bind, at_word, word_sound, only_sound, after_sound, maybe_sound, flag_word_sound, or_none_sound, made_sound, repeated_sound, seq2_sound, seq3_sound, bracketed_sound, listed_sound}
 use Rattle.sql_grammar.proofs.SoundExpressions.{alias_sound, trees_sound, trees_filled, order_by_sound, order_filled}
 
 pub star_of_sound : Sound Reads.star_of_at StarOf
@@ -124,17 +125,42 @@ module _ (p : Readers) (I : Inside) (h : Sound p.expr I.expr) (g : Sound p.query
   selected_sound = seq3_sound (λ chosen from filters. select_node chosen from filters) (Reads.chosen_at p) (Reads.from_at p) (Reads.filters_at p)
       (Spells.ChosenOf I) (Spells.FromOf I) (Spells.FiltersOf I) SelectedOf chosen_sound from_sound filters_sound (λ us chosen from filters s. (chosen, from, filters, s, refl))
 
+  -- behind INTERSECT
+  BehindIntersect : Spelling SelectTail
+  BehindIntersect ts tail = (all : Bool) × (select : Select) × Seq2 (Flag (Word ALL)) (Spells.SelectOf I) ts all select × (tail ≡ select_tail_of all select)
+
   select_sound : Sound (Reads.select_at p) (Spells.SelectOf I)
   unfolding Reads.select_at Spells.SelectOf SelectedOf
   select_sound = after_sound SELECT (Reads.selected_at p) SelectedOf selected_sound
 
-  union_sound : Sound (Reads.union_at p) (After ALL (Spells.SelectOf I))
-  unfolding Reads.union_at
-  union_sound = after_sound ALL (Reads.select_at p) (Spells.SelectOf I) select_sound
+  intersect_sound : Sound (Reads.intersect_at p) BehindIntersect
+  unfolding Reads.intersect_at BehindIntersect
+  intersect_sound = seq2_sound (λ all select. select_tail_of all select) (flag ALL nothing) (Reads.select_at p) (Flag (Word ALL)) (Spells.SelectOf I) BehindIntersect
+      (flag_word_sound ALL) select_sound (λ us all select s. (all, select, s, refl))
 
-  selects_sound : Sound (Reads.selects_at p) (Spells.SelectsOf I)
-  unfolding Reads.selects_at Spells.SelectsOf
-  selects_sound = series_sound (Reads.select_at p) (only UNION) (λ w. UNION) (λ w. Reads.union_at p) (Spells.SelectOf I) (λ w. After ALL (Spells.SelectOf I)) select_sound (only_is UNION) (λ w. union_sound)
+  intersects_sound : Sound (Reads.intersects_at p) (Many (Spells.IntersectOf I))
+  unfolding Reads.intersects_at Spells.IntersectOf BehindIntersect
+  intersects_sound = repeated_sound (only INTERSECT) (λ w. INTERSECT) (λ w. Reads.intersect_at p) (λ w. BehindIntersect) (only_is INTERSECT) (λ w. intersect_sound)
+
+  term_sound : Sound (Reads.term_at p) (Spells.TermOf I)
+  unfolding Reads.term_at Spells.TermOf
+  term_sound = seq2_sound (λ first rest. term_of first (select_tails rest)) (Reads.select_at p) (Reads.intersects_at p) (Spells.SelectOf I) (Many (Spells.IntersectOf I)) (Spells.TermOf I)
+      select_sound intersects_sound (λ us first rest s. (first, rest, s, refl))
+
+  beside_sound : (w : Bool) → Sound (λ ts. Reads.beside_at p w ts) (Spells.BesideOf I w)
+  unfolding Reads.beside_at Reads.union_at Reads.except_at Spells.BesideOf
+  beside_sound false = made_sound (term_tail_of UnionAll) (after ALL (Reads.term_at p)) (After ALL (Spells.TermOf I)) (after_sound ALL (Reads.term_at p) (Spells.TermOf I) term_sound)
+  beside_sound true = seq2_sound (λ all term. term_tail_of (except_word all) term) (flag ALL nothing) (Reads.term_at p) (Flag (Word ALL)) (Spells.TermOf I) (Spells.BesideOf I true)
+      (flag_word_sound ALL) term_sound (λ us all term s. (all, term, s, refl))
+
+  term_tails_sound : Sound (Reads.term_tails_at p) (Many (Spells.TermTailOf I))
+  unfolding Reads.term_tails_at Spells.TermTailOf
+  term_tails_sound = repeated_sound set_word set_token (λ w ts. Reads.beside_at p w ts) (λ w. Spells.BesideOf I w) set_is beside_sound
+
+  terms_sound : Sound (Reads.terms_at p) (Spells.TermsOf I)
+  unfolding Reads.terms_at Spells.TermsOf
+  terms_sound = seq2_sound (λ first rest. (first, rest)) (Reads.term_at p) (Reads.term_tails_at p) (Spells.TermOf I) (Many (Spells.TermTailOf I)) (Spells.TermsOf I)
+      term_sound term_tails_sound (λ us first rest s. s)
 
   order_sound : Sound (Reads.order_at p) (OrNone (Spells.OrderOf I))
   unfolding Reads.order_at Spells.OrderOf
@@ -144,7 +170,11 @@ module _ (p : Readers) (I : Inside) (h : Sound p.expr I.expr) (g : Sound p.query
   unfolding Reads.limit_at
   limit_sound = maybe_sound (only LIMIT) (λ w. LIMIT) (λ w. word_at number_word) (λ w. WordOf NUMBER) (only_is LIMIT) (λ w. word_sound number_word NUMBER number_is)
 
+  ending_sound : Sound (Reads.ending_at p) (Spells.EndingOf I)
+  unfolding Reads.ending_at Spells.EndingOf
+  ending_sound = seq2_sound (λ order limit. (order, limit)) (Reads.order_at p) Reads.limit_at (OrNone (Spells.OrderOf I)) (Maybe (After LIMIT (WordOf NUMBER))) (Spells.EndingOf I) order_sound limit_sound (λ us order limit s. s)
+
   pub query_sound : Sound (Reads.query_at p) (Spells.QueryOf I)
   unfolding Reads.query_at Spells.QueryOf
-  query_sound = seq3_sound (λ all order limit. query_of (selects all) (sort_list order) limit) (Reads.selects_at p) (Reads.order_at p) Reads.limit_at
-      (Spells.SelectsOf I) (OrNone (Spells.OrderOf I)) (Maybe (After LIMIT (WordOf NUMBER))) (Spells.QueryOf I) selects_sound order_sound limit_sound (λ us all order limit s. (all, order, limit, s, refl))
+  query_sound = seq2_sound (λ terms ending. query_of terms.0 (term_tails terms.1) (sort_list ending.0) ending.1) (Reads.terms_at p) (Reads.ending_at p) (Spells.TermsOf I) (Spells.EndingOf I) (Spells.QueryOf I)
+      terms_sound ending_sound (λ us terms ending s. (terms, ending, s, refl))

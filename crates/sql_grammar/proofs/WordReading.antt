@@ -15,7 +15,7 @@ use Rattle.sql_syntax.specs.declared.tree.ProductWord.TheVariants.{Times, Divide
 use Rattle.sql_syntax.specs.declared.tree.SumWord.{SumWord}
 use Rattle.sql_syntax.specs.declared.tree.SumWord.TheVariants.{Plus, Minus, Concat}
 use Rattle.sql_syntax.specs.Tree.{Text}
-use Rattle.sql_grammar.specs.Words.{same_keyword, same_symbol, there, only, NAME, STR, NUMBER, PLUS, MINUS, CONCAT, TIMES, DIVIDE, MODULO, ASC, DESC, JOIN, INNER, LEFT, RIGHT, FULL, TRUE, FALSE, NULL, CAST, OPEN, CASE, BETWEEN, IN, LIKE, IS, NOT, EQUAL, NOT_EQUAL, LESS, LESS_EQUAL, GREATER, GREATER_EQUAL, CREATE, SET, INSERT, name_word, name_token, text_word, number_word, sign_word, sign_token, product_word, product_token, sum_word, sum_token, compare_token, direction_word, direction_token, join_word, join_token}
+use Rattle.sql_grammar.specs.Words.{same_keyword, same_symbol, there, only, NAME, STR, NUMBER, PLUS, MINUS, CONCAT, TIMES, DIVIDE, MODULO, ASC, DESC, JOIN, INNER, LEFT, RIGHT, FULL, TRUE, FALSE, NULL, CAST, OPEN, CASE, BETWEEN, IN, LIKE, IS, NOT, EQUAL, NOT_EQUAL, LESS, LESS_EQUAL, GREATER, GREATER_EQUAL, CREATE, SET, INSERT, UNION, EXCEPT, name_word, name_token, text_word, number_word, sign_word, sign_token, product_word, product_token, sum_word, sum_token, compare_token, direction_word, direction_token, join_word, join_token, set_word, set_token}
 use Rattle.sql_grammar.specs.declared.words.PrimaryWord.{PrimaryWord}
 use Rattle.sql_grammar.specs.declared.words.PrimaryWord.TheVariants as first
 use Rattle.sql_grammar.specs.declared.words.NegatableWord.{NegatableWord}
@@ -97,6 +97,11 @@ join_is LEFT = refl
 join_is RIGHT = refl
 join_is FULL = refl
 join_is _ = tt
+
+pub set_is : IsWord set_word set_token
+set_is UNION = refl
+set_is EXCEPT = refl
+set_is _ = tt
 
 abbrev pub primary_token : PrimaryWord → Token
 primary_token (first.Number x) = NUMBER x
@@ -197,6 +202,10 @@ join_back (Some Inner) = refl
 join_back (Some Left) = refl
 join_back (Some Right) = refl
 join_back (Some Full) = refl
+
+pub set_back : (w : Bool) → set_word (set_token w) ≡ Some w
+set_back false = refl
+set_back true = refl
 
 pub rest_back : (w : RestWord) → rest_word (rest_token w) ≡ Some w
 rest_back (word.Compare Eq) = refl

@@ -1,5 +1,7 @@
 -- The trees that rules make of what stands in their parts.
 use Rattle.std.specs.Prelude.{Bool, true, false, List, [], ◌∷◌, Option, Some, None}
+use Rattle.sql_syntax.specs.declared.tree.SetWord.{SetWord}
+use Rattle.sql_syntax.specs.declared.tree.SetWord.TheVariants.{Except, ExceptAll}
 use Rattle.sql_syntax.specs.Tree.{Select, select_of, Item, Source, JoinItem, Tree, Or, And, Not, Sum, Product, Sign, SumTail, ProductTail, items, joins, trees, sum_tails, product_tails, optional_tree}
 
 -- a chain of one operand is that operand, without a node of its own
@@ -51,3 +53,8 @@ select_node chosen from filters =
 abbrev pub is_desc : Option Bool → Bool
 is_desc None = false
 is_desc (Some desc) = desc
+
+-- EXCEPT, with ALL beside it or without
+abbrev pub except_word : Bool → SetWord
+except_word false = Except
+except_word true = ExceptAll

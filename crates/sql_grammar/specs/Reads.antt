@@ -9,9 +9,10 @@ use Rattle.sql_syntax.specs.declared.tree.JoinWord.{JoinWord}
 use Rattle.sql_syntax.specs.declared.tree.JoinWord.TheVariants.{Inner, Left, Right, Full}
 use Rattle.sql_syntax.specs.declared.tree.ProductWord.{ProductWord}
 use Rattle.sql_syntax.specs.declared.tree.SumWord.{SumWord}
+use Rattle.sql_syntax.specs.declared.tree.SetWord.TheVariants.{UnionAll}
 use Rattle.sql_syntax.specs.declared.statement.TextPair.{TextPair}
 use Rattle.sql_syntax.specs.declared.statement.TypeName.{TypeName}
-use Rattle.sql_syntax.specs.Tree.{Text, Query, query_of, Select, Item, All, AllOf, One, Source, Table, FromQuery, JoinItem, join_of, Sort, sort_of, Tree, Exists, Compare, IsNull, Between, InList, InQuery, Like, Number, Str, Truth, Null, Name, Call, Cast, Paren, Sub, Case, SumTail, sum_tail_of, ProductTail, product_tail_of, TreeWhen, tree_when_of, Args, Empty, Star, Values, Over, over_of, Statement, Create, Set, Insert, selects, sort_list, trees, tree_whens, optional_tree, optional_over}
+use Rattle.sql_syntax.specs.Tree.{Text, Query, query_of, Select, Item, All, AllOf, One, Source, Table, FromQuery, JoinItem, join_of, Sort, sort_of, Tree, Exists, Compare, IsNull, Between, InList, InQuery, Like, Number, Str, Truth, Null, Name, Call, Cast, Paren, Sub, Case, SumTail, sum_tail_of, ProductTail, product_tail_of, TreeWhen, tree_when_of, Args, Empty, Star, Values, Over, over_of, Statement, Create, Set, Insert, Term, term_of, TermTail, term_tail_of, SelectTail, select_tail_of, term_tails, select_tails, sort_list, trees, tree_whens, optional_tree, optional_over}
 use Rattle.sql_grammar.specs.declared.words.NegatableWord.{NegatableWord}
 use Rattle.sql_grammar.specs.declared.words.NegatableWord.TheVariants as negatable
 use Rattle.sql_grammar.specs.declared.words.PrimaryWord.{PrimaryWord}
@@ -20,8 +21,8 @@ use Rattle.sql_grammar.specs.declared.words.RestWord.{RestWord}
 use Rattle.sql_grammar.specs.declared.words.RestWord.TheVariants as rest
 use Rattle.sql_grammar.specs.declared.words.StatementWord.{StatementWord}
 use Rattle.sql_grammar.specs.declared.words.StatementWord.TheVariants as statement
-use Rattle.sql_grammar.specs.Words.{ALL, AND, AS, BETWEEN, BY, CASE, CAST, CREATE, DISTINCT, ELSE, END, ENFORCED, EXISTS, FALSE, FILTER, FROM, GROUP, HAVING, IN, INSERT, INTO, IS, JOIN, KEY, LIKE, LIMIT, NOT, NULL, ON, OR, ORDER, OUTER, OVER, PARTITION, PRIMARY, SELECT, SET, TABLE, THEN, TRUE, UNION, WHEN, WHERE, WITH, OPEN, CLOSE, COMMA, DOT, EQUAL, NOT_EQUAL, LESS, LESS_EQUAL, GREATER, GREATER_EQUAL, TIMES, NAME, STR, NUMBER, only, name_word, text_word, number_word, sign_word, product_word, sum_word, direction_word, join_word}
-use Rattle.sql_grammar.specs.Nodes.{or_node, and_node, not_node, sign_node, sum_node, product_node, select_node, is_desc}
+use Rattle.sql_grammar.specs.Words.{ALL, AND, AS, BETWEEN, BY, CASE, CAST, CREATE, DISTINCT, ELSE, END, ENFORCED, EXISTS, FALSE, FILTER, FROM, GROUP, HAVING, IN, INSERT, INTERSECT, INTO, IS, JOIN, KEY, LIKE, LIMIT, NOT, NULL, ON, OR, ORDER, OUTER, OVER, PARTITION, PRIMARY, SELECT, SET, TABLE, THEN, TRUE, WHEN, WHERE, WITH, OPEN, CLOSE, COMMA, DOT, EQUAL, NOT_EQUAL, LESS, LESS_EQUAL, GREATER, GREATER_EQUAL, TIMES, NAME, STR, NUMBER, only, name_word, text_word, number_word, sign_word, product_word, sum_word, direction_word, join_word, set_word}
+use Rattle.sql_grammar.specs.Nodes.{or_node, and_node, not_node, sign_node, sum_node, product_node, select_node, is_desc, except_word}
 use Rattle.sql_grammar.specs.Reading.{Reader, ◌>>=◌, word_at, words_at, made, after, optional, maybe, flag, nothing, or_none, repeated, series, listed, bracketed, chain}
 
 -- how what may stand within other things is read
@@ -439,23 +440,52 @@ module _ (p : Readers) where
   unfoldable pub select_at : Reader Select
   select_at = after SELECT selected_at
 
-  -- behind UNION
-  unfoldable pub union_at : Reader Select
-  union_at = after ALL select_at
+  -- behind INTERSECT
+  unfoldable pub intersect_at : Reader SelectTail
+  intersect_at ts = flag ALL nothing ts >>= λ all. select_at all.1 >>= λ select. Some (select_tail_of all.0 select.0, select.1)
 
-  -- select { UNION ALL select }
-  unfoldable pub selects_at : Reader (List Select)
-  selects_at = series select_at (only UNION) (λ w. union_at)
+  -- { INTERSECT [ ALL ] select }
+  unfoldable pub intersects_at : Reader (List SelectTail)
+  intersects_at = repeated (only INTERSECT) (λ w. intersect_at)
+
+  -- select { INTERSECT [ ALL ] select }
+  unfoldable pub term_at : Reader Term
+  term_at ts = select_at ts >>= λ first. intersects_at first.1 >>= λ rest. Some (term_of first.0 (select_tails rest.0), rest.1)
+
+  -- behind UNION
+  unfoldable pub union_at : Reader TermTail
+  union_at ts = after ALL term_at ts >>= λ term. Some (term_tail_of UnionAll term.0, term.1)
+
+  -- behind EXCEPT
+  unfoldable pub except_at : Reader TermTail
+  except_at ts = flag ALL nothing ts >>= λ all. term_at all.1 >>= λ term. Some (term_tail_of (except_word all.0) term.0, term.1)
+
+  -- behind the first word between two terms
+  unfoldable pub beside_at : Bool → Reader TermTail
+  beside_at false ts = union_at ts
+  beside_at true ts = except_at ts
+
+  -- { ( UNION ALL | EXCEPT [ ALL ] ) term }
+  unfoldable pub term_tails_at : Reader (List TermTail)
+  term_tails_at = repeated set_word beside_at
+
+  -- term { ( UNION ALL | EXCEPT [ ALL ] ) term }
+  unfoldable pub terms_at : Reader (Term × List TermTail)
+  terms_at ts = term_at ts >>= λ first. term_tails_at first.1 >>= λ rest. Some ((first.0, rest.0), rest.1)
 
   -- [ ORDER BY sort { "," sort } ]
   unfoldable pub order_at : Reader (List Sort)
   order_at = or_none ORDER order_by_at
 
-  -- select { UNION ALL select } [ ORDER BY sort { "," sort } ] [ LIMIT number ]
+  -- [ ORDER BY sort { "," sort } ] [ LIMIT number ]
+  unfoldable pub ending_at : Reader (List Sort × Option Text)
+  ending_at ts = order_at ts >>= λ order. limit_at order.1 >>= λ limit. Some ((order.0, limit.0), limit.1)
+
+  -- term { ( UNION ALL | EXCEPT [ ALL ] ) term } [ ORDER BY sort { "," sort } ] [ LIMIT number ]
   unfoldable pub query_at : Reader Query
   query_at ts =
-      selects_at ts >>= λ all. order_at all.1 >>= λ order. limit_at order.1
-      >>= λ limit. Some (query_of (selects all.0) (sort_list order.0) limit.0, limit.1)
+      terms_at ts >>= λ terms. ending_at terms.1
+      >>= λ ending. Some (query_of terms.0.0 (term_tails terms.0.1) (sort_list ending.0.0) ending.0.1, ending.1)
 
 -- [ NOT NULL ]
 unfoldable pub not_null_at : Reader Bool

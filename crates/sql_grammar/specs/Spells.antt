@@ -6,11 +6,12 @@ use Rattle.sql_syntax.specs.declared.statement.Element.{Element}
 use Rattle.sql_syntax.specs.declared.statement.Element.TheVariants.{Column, Key}
 use Rattle.sql_syntax.specs.declared.tree.JoinWord.{JoinWord}
 use Rattle.sql_syntax.specs.declared.tree.JoinWord.TheVariants.{Inner, Left, Right, Full}
+use Rattle.sql_syntax.specs.declared.tree.SetWord.TheVariants.{UnionAll}
 use Rattle.sql_syntax.specs.declared.statement.TextPair.{TextPair}
 use Rattle.sql_syntax.specs.declared.statement.TypeName.{TypeName}
-use Rattle.sql_syntax.specs.Tree.{Text, Query, query_of, Select, Item, All, AllOf, One, Source, Table, FromQuery, JoinItem, join_of, Sort, sort_of, Tree, Exists, Compare, IsNull, Between, InList, InQuery, Like, Number, Str, Truth, Null, Name, Call, Cast, Paren, Sub, Case, sum_tail_of, product_tail_of, TreeWhen, tree_when_of, Args, Empty, Star, Values, Over, over_of, Statement, Create, Set, Insert, selects, sort_list, trees, tree_whens, optional_tree, optional_over}
-use Rattle.sql_grammar.specs.Words.{ALL, AND, AS, BETWEEN, BY, CASE, CAST, CREATE, DISTINCT, ELSE, END, ENFORCED, EXISTS, FALSE, FILTER, FROM, GROUP, HAVING, IN, INSERT, INTO, IS, JOIN, KEY, LIKE, LIMIT, NOT, NULL, ON, OR, ORDER, OUTER, OVER, PARTITION, PRIMARY, SELECT, SET, TABLE, THEN, TRUE, UNION, WHEN, WHERE, WITH, OPEN, CLOSE, COMMA, DOT, EQUAL, TIMES, NAME, STR, NUMBER, sign_token, product_token, sum_token, compare_token, direction_token, join_token}
-use Rattle.sql_grammar.specs.Nodes.{or_node, and_node, not_node, sign_node, sum_node, product_node, select_node, is_desc}
+use Rattle.sql_syntax.specs.Tree.{Text, Query, query_of, Select, Item, All, AllOf, One, Source, Table, FromQuery, JoinItem, join_of, Sort, sort_of, Tree, Exists, Compare, IsNull, Between, InList, InQuery, Like, Number, Str, Truth, Null, Name, Call, Cast, Paren, Sub, Case, sum_tail_of, product_tail_of, TreeWhen, tree_when_of, Args, Empty, Star, Values, Over, over_of, Statement, Create, Set, Insert, Term, term_of, TermTail, term_tail_of, SelectTail, select_tail_of, term_tails, select_tails, sort_list, trees, tree_whens, optional_tree, optional_over}
+use Rattle.sql_grammar.specs.Words.{ALL, AND, AS, BETWEEN, BY, CASE, CAST, CREATE, DISTINCT, ELSE, END, ENFORCED, EXISTS, FALSE, FILTER, FROM, GROUP, HAVING, IN, INSERT, INTERSECT, INTO, IS, JOIN, KEY, LIKE, LIMIT, NOT, NULL, ON, OR, ORDER, OUTER, OVER, PARTITION, PRIMARY, SELECT, SET, TABLE, THEN, TRUE, WHEN, WHERE, WITH, OPEN, CLOSE, COMMA, DOT, EQUAL, TIMES, NAME, STR, NUMBER, sign_token, product_token, sum_token, compare_token, direction_token, join_token, set_token}
+use Rattle.sql_grammar.specs.Nodes.{or_node, and_node, not_node, sign_node, sum_node, product_node, select_node, is_desc, except_word}
 use Rattle.sql_grammar.specs.Shapes.{Spelling, Word, Words, WordOf, Led, After, Seq2, Seq3, Seq4, Made, Maybe, Flag, OrNone, Many, Series, Listed, Bracketed, Chain}
 
 -- what may stand within other things
@@ -234,16 +235,38 @@ module _ (I : Inside) where
       (chosen : Bool × List Item) × (from : Source × List JoinItem) × (filters : Option Tree × List Tree × Option Tree)
       × Seq3 ChosenOf FromOf FiltersOf ts chosen from filters × (select ≡ select_node chosen from filters))
 
-  -- select { UNION ALL select }
-  unfoldable pub SelectsOf : Spelling (List Select)
-  SelectsOf = Series SelectOf (After UNION (After ALL SelectOf))
+  -- INTERSECT [ ALL ] select
+  unfoldable pub IntersectOf : Spelling SelectTail
+  IntersectOf = After INTERSECT (λ ts tail. (all : Bool) × (select : Select) × Seq2 (Flag (Word ALL)) SelectOf ts all select × (tail ≡ select_tail_of all select))
 
-  -- select { UNION ALL select } [ ORDER BY sort { "," sort } ] [ LIMIT number ]
+  -- select { INTERSECT [ ALL ] select }
+  unfoldable pub TermOf : Spelling Term
+  TermOf ts term =
+      (first : Select) × (rest : List SelectTail)
+      × Seq2 SelectOf (Many IntersectOf) ts first rest × (term ≡ term_of first (select_tails rest))
+
+  -- what stands behind UNION or EXCEPT
+  unfoldable pub BesideOf : Bool → Spelling TermTail
+  BesideOf false = Made (term_tail_of UnionAll) (After ALL TermOf)
+  BesideOf true = λ ts tail. (all : Bool) × (term : Term) × Seq2 (Flag (Word ALL)) TermOf ts all term × (tail ≡ term_tail_of (except_word all) term)
+
+  -- UNION ALL term | EXCEPT [ ALL ] term
+  unfoldable pub TermTailOf : Spelling TermTail
+  TermTailOf = Led set_token BesideOf
+
+  -- term { ( UNION ALL | EXCEPT [ ALL ] ) term }
+  unfoldable pub TermsOf : Spelling (Term × List TermTail)
+  TermsOf ts x = Seq2 TermOf (Many TermTailOf) ts x.0 x.1
+
+  -- [ ORDER BY sort { "," sort } ] [ LIMIT number ]
+  unfoldable pub EndingOf : Spelling (List Sort × Option Text)
+  EndingOf ts x = Seq2 (OrNone OrderOf) (Maybe (After LIMIT (WordOf NUMBER))) ts x.0 x.1
+
+  -- term { ( UNION ALL | EXCEPT [ ALL ] ) term } [ ORDER BY sort { "," sort } ] [ LIMIT number ]
   unfoldable pub QueryOf : Spelling Query
   QueryOf ts query =
-      (all : List Select) × (order : List Sort) × (limit : Option Text)
-      × Seq3 SelectsOf (OrNone OrderOf) (Maybe (After LIMIT (WordOf NUMBER))) ts all order limit
-      × (query ≡ query_of (selects all) (sort_list order) limit)
+      (terms : Term × List TermTail) × (ending : List Sort × Option Text)
+      × Seq2 TermsOf EndingOf ts terms ending × (query ≡ query_of terms.0 (term_tails terms.1) (sort_list ending.0) ending.1)
 
 -- name type [ NOT NULL ] [ PRIMARY KEY NOT ENFORCED ] | PRIMARY KEY "(" name { "," name } ")" NOT ENFORCED
 unfoldable pub ElementOf : Spelling Element

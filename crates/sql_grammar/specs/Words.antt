@@ -62,6 +62,9 @@ END = t.Keyword k.End
 pattern abbrev pub ENFORCED : Token
 ENFORCED = t.Keyword k.Enforced
 
+pattern abbrev pub EXCEPT : Token
+EXCEPT = t.Keyword k.Except
+
 pattern abbrev pub EXISTS : Token
 EXISTS = t.Keyword k.Exists
 
@@ -91,6 +94,9 @@ INNER = t.Keyword k.Inner
 
 pattern abbrev pub INSERT : Token
 INSERT = t.Keyword k.Insert
+
+pattern abbrev pub INTERSECT : Token
+INTERSECT = t.Keyword k.Intersect
 
 pattern abbrev pub INTO : Token
 INTO = t.Keyword k.Into
@@ -345,3 +351,14 @@ join_token (Some Inner) = INNER
 join_token (Some Left) = LEFT
 join_token (Some Right) = RIGHT
 join_token (Some Full) = FULL
+
+-- the first word between two terms of a query: UNION, or EXCEPT
+abbrev pub set_word : Token → Option Bool
+set_word UNION = Some false
+set_word EXCEPT = Some true
+set_word _ = None
+
+-- the token of such a word
+abbrev pub set_token : Bool → Token
+set_token false = UNION
+set_token true = EXCEPT

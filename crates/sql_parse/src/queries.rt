@@ -1,21 +1,18 @@
-//! Queries: select items, sources, joins, clauses and their unions.
+//! Selects: their items, sources, joins and clauses.
 ghost use Rattle.std.specs.Prelude.{◌≡◌, None, option_map, IfOk};
 ghost use Rattle.sql_syntax.specs.Tree as t;
-ghost use Rattle.sql_syntax.specs.View.{view, item_view, source_view, items_view, join_view, joins_view, query_view, select_view, selects_view, sorts_view, trees_view};
+ghost use Rattle.sql_syntax.specs.View.{view, item_view, source_view, items_view, join_view, joins_view, query_view, select_view, trees_view};
 ghost use Rattle.sql_grammar.specs.Words.{AS, ON, join_word, only};
 ghost use Rattle.sql_grammar.specs.Reading.{after, bracketed, word_at};
-ghost use Rattle.sql_grammar.specs.Reads.{alias_at, chosen_at, filters_at, from_at, group_at, having_at, item_at, items_at, joined_at, joins_at, limit_at, on_at, order_at, outer_at, query_at, select_at, selected_at, selects_at, source_at, star_of_at, table_at, union_at, where_at};
+ghost use Rattle.sql_grammar.specs.Reads.{alias_at, chosen_at, filters_at, from_at, group_at, having_at, item_at, items_at, joined_at, joins_at, on_at, outer_at, select_at, selected_at, source_at, star_of_at, table_at, where_at};
 ghost use Rattle.sql_reading.specs.Gives.{Answers, Gives, Parts};
 
 use ct_value::{Memory, Text};
 use sql_reading::{
     Again, Nested, Read, Rule, Stop, after_keyword, after_symbol, beside, flagged, join_word,
-    keyword, led, listed, name, name_word, number, order_by, repeat, symbol, trees,
+    keyword, listed, name, name_word, repeat, symbol, trees,
 };
-use sql_syntax::{
-    Item, Items, JoinItem, JoinItems, JoinWord, Query, Select, Selects, SortList, Source, Tree,
-    Trees,
-};
+use sql_syntax::{Item, Items, JoinItem, JoinItems, JoinWord, Query, Select, Source, Tree, Trees};
 use sql_tokens::{Keyword, Symbol, Token};
 use std::alloc::Global;
 
@@ -67,20 +64,6 @@ fn table(name: Text, tokens: &[Token]) -> Read<'_, Source>
 {
     let (alias, rest) = alias(tokens)?;
     Ok((Source::Table { name, alias }, rest))
-}
-
-// LIMIT and its number, if they stand there.
-#[tactic(auto, unfolding(sql_grammar::specs::Reads::limit_at))]
-fn limit(tokens: &[Token]) -> Read<'_, Option<Text>>
-    ensures { Answers result (limit_at tokens.now) }
-{
-    match after_keyword(tokens, Keyword::Limit) {
-        Some(rest) => {
-            let (limit, rest) = number(rest)?;
-            Ok((Some(limit), rest))
-        }
-        None => Ok((None, tokens)),
-    }
 }
 
 #[tactic(auto, using(sql_syntax::proofs::laws::Views::item_all, sql_syntax::proofs::laws::Views::item_all_of, sql_syntax::proofs::laws::Views::item_one), unfolding(sql_grammar::specs::Reads::item_at, sql_grammar::specs::Reads::value_item_at))]
@@ -390,8 +373,9 @@ fn selected<'t, N: Nested<'t>>(alloc: Global, nested: &N, tokens: &'t [Token]) -
     ))
 }
 
+/// Reads a select, and answers it with what follows it.
 #[tactic(auto, unfolding(sql_grammar::specs::Reads::select_at))]
-fn select_part<'t, N: Nested<'t>>(
+pub fn select_part<'t, N: Nested<'t>>(
     alloc: Global,
     nested: &N,
     tokens: &'t [Token],
@@ -401,84 +385,4 @@ fn select_part<'t, N: Nested<'t>>(
 {
     let rest = keyword(tokens, Keyword::Select)?;
     selected(alloc, nested, rest)
-}
-
-#[tactic(auto, unfolding(sql_grammar::specs::Reads::union_at))]
-fn union_part<'t, N: Nested<'t>>(alloc: Global, nested: &N, tokens: &'t [Token]) -> Read<'t, Select>
-    requires { N.sound nested.now }
-    ensures { Gives select_view result (union_at (N.readers nested.now) tokens.now) }
-{
-    let rest = keyword(tokens, Keyword::All)?;
-    select_part(alloc, nested, rest)
-}
-
-// A select behind UNION.
-#[derive(Drop)]
-struct UnionRule<'n, N> {
-    nested: &'n N,
-}
-
-impl<'t, N: Nested<'t>> Rule<'t> for UnionRule<'_, N> {
-    type Item = Select;
-
-    ghost Seen = { t.Select };
-
-    ghost seen = { select_view };
-
-    ghost reads = { λ r. union_at (N.readers r.nested.now) };
-
-    ghost sound = { λ r. N.sound r.nested.now };
-
-    fn read(&self, alloc: Global, tokens: &'t [Token]) -> Read<'t, Select> {
-        union_part(alloc, self.nested, tokens)
-    }
-}
-
-#[tactic(auto, using(sql_grammar::proofs::laws::Steps::series_is), unfolding(sql_grammar::specs::Reads::selects_at))]
-fn select_parts<'t, N: Nested<'t>>(
-    alloc: Global,
-    nested: &N,
-    tokens: &'t [Token],
-) -> Read<'t, Selects>
-    requires { N.sound nested.now }
-    ensures { Gives selects_view result (selects_at (N.readers nested.now) tokens.now) }
-{
-    let (first, behind) = select_part(alloc, nested, tokens)?;
-    led(alloc, Keyword::Union, &UnionRule { nested }, first, behind)
-}
-
-#[tactic(auto, unfolding(sql_grammar::specs::Reads::order_at))]
-fn order_part<'t, N: Nested<'t>>(
-    alloc: Global,
-    nested: &N,
-    tokens: &'t [Token],
-) -> Read<'t, SortList>
-    requires { N.sound nested.now }
-    ensures { Gives sorts_view result (order_at (N.readers nested.now) tokens.now) }
-{
-    match after_keyword(tokens, Keyword::Order) {
-        Some(rest) => { order_by(alloc, nested, rest) }
-        None => Ok((SortList::new(alloc), tokens)),
-    }
-}
-
-/// Reads a query, and answers it with what follows it.
-///
-/// `nested` reads the expressions and queries within it.
-#[tactic(auto, using(sql_syntax::proofs::laws::Views::query_made), unfolding(sql_grammar::specs::Reads::query_at))]
-pub fn query<'t, N: Nested<'t>>(alloc: Global, nested: &N, tokens: &'t [Token]) -> Read<'t, Query>
-    requires { N.sound nested.now }
-    ensures { Gives query_view result (query_at (N.readers nested.now) tokens.now) }
-{
-    let (selects, rest) = select_parts(alloc, nested, tokens)?;
-    let (order, rest) = order_part(alloc, nested, rest)?;
-    let (limit, rest) = limit(rest)?;
-    Ok((
-        Query {
-            selects,
-            order,
-            limit,
-        },
-        rest,
-    ))
 }

@@ -19,6 +19,6 @@ pub use nested::Nested;
 pub use types::type_name;
 pub use words::{
     Read, Stop, after_keyword, after_symbol, beside, direction_word, flagged, join_word, keyword,
-    name, name_word, negatable_word, number, primary_word, product_word, rest_word, sign_word,
-    statement_word, sum_word, symbol, text,
+    name, name_word, negatable_word, number, primary_word, product_word, rest_word, set_word,
+    sign_word, statement_word, sum_word, symbol, text,
 };

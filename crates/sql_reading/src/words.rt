@@ -1,7 +1,7 @@
 //! Single words at the head of tokens.
 ghost use Rattle.std.specs.Prelude.{◌≡◌, Some, None, Ok, option_map, IfOk, IsErrOf};
 ghost use Rattle.sql_tokens.specs.declared.token.Token.TheVariants as t;
-ghost use Rattle.sql_grammar.specs.Words.{only, name_word, text_word, number_word, sign_word, sum_word, product_word, direction_word, join_word};
+ghost use Rattle.sql_grammar.specs.Words.{only, name_word, text_word, number_word, sign_word, sum_word, product_word, direction_word, join_word, set_word};
 ghost use Rattle.sql_grammar.specs.Reading.{word_at, flag, nothing, optional};
 ghost use Rattle.sql_grammar.specs.Reads.{name_at, primary_word, rest_word, negatable_word, statement_word};
 ghost use Rattle.sql_reading.specs.Gives.{Answers, Passes};
@@ -215,6 +215,27 @@ fn join_of(token: &Token) -> Option<Option<JoinWord>>
         Token::Keyword(Keyword::Left) => Some(Some(JoinWord::Left)),
         Token::Keyword(Keyword::Right) => Some(Some(JoinWord::Right)),
         Token::Keyword(Keyword::Full) => Some(Some(JoinWord::Full)),
+        _ => None,
+    }
+}
+
+/// The first word between two terms of a query, UNION or EXCEPT, the latter being true, and what follows it, if it stands there.
+pub fn set_word(tokens: &[Token]) -> Option<(bool, &[Token])>
+    ensures { option_map (λ x. (x.0, x.1.now)) result ≡ word_at set_word tokens.now }
+{
+    match tokens {
+        [first, rest @ ..] => Some((set_of(first)?, rest)),
+        [] => None,
+    }
+}
+
+// What the token says as the first word between two terms.
+fn set_of(token: &Token) -> Option<bool>
+    ensures { result ≡ set_word token.now }
+{
+    match token {
+        Token::Keyword(Keyword::Union) => Some(false),
+        Token::Keyword(Keyword::Except) => Some(true),
         _ => None,
     }
 }

@@ -1,5 +1,5 @@
 // Scripts of the longest length, which are read within the time of a test.
-use crate::reading::{LONGEST, Reading, read, repeated};
+use crate::reading::{LONGEST, Reading, is_read, read, repeated};
 use ct_value::{Bytes, Memory, ScriptCode};
 use std::alloc::Global;
 
@@ -63,5 +63,29 @@ fn is_chain(alloc: Global, operand: &str) -> bool {
 fn longest_chains_are_read(rt: HostRuntime) {
     for operand in &CHAINS {
         assert!(rt; is_chain(rt.alloc(), operand), "the chain of {operand}");
+    }
+}
+
+// What stands behind the first select of a long query, again and again.
+const SELECTS: [&str; 3] = [
+    " UNION ALL SELECT a FROM t",
+    " INTERSECT SELECT a FROM t",
+    " EXCEPT ALL SELECT a FROM t",
+];
+
+fn is_long_query(alloc: Global, select: &str) -> bool {
+    match repeated(alloc, "INSERT INTO o SELECT a FROM t", 9_500, select, ";") {
+        Ok(text) => is_read(alloc, text.as_str(), Reading::Statements(1)),
+        Err(Memory) => false,
+    }
+}
+
+#[test]
+fn longest_queries_are_read(rt: HostRuntime) {
+    for select in &SELECTS {
+        assert!(rt;
+            is_long_query(rt.alloc(), select),
+            "the selects of {select}"
+        );
     }
 }

@@ -53,7 +53,8 @@ const SCRIPTS: [(&str, Reading); 5] = [
         FROM t AS x LEFT JOIN (SELECT k FROM u LIMIT 1) y ON x.a = y.k FULL OUTER JOIN v ON TRUE \
         WHERE a IN (1, 2) AND b NOT LIKE 'x%' OR NOT a IS NULL AND EXISTS (SELECT * FROM u WHERE k BETWEEN 1 AND 2) \
         GROUP BY a, b HAVING COUNT(DISTINCT a) FILTER (WHERE b <> 1) > 0 AND a IN (SELECT k FROM u) \
-        UNION ALL SELECT ROW_NUMBER() OVER (PARTITION BY a ORDER BY b DESC, a), `q q` FROM t ORDER BY a ASC, b;",
+        UNION ALL SELECT ROW_NUMBER() OVER (PARTITION BY a ORDER BY b DESC, a), `q q` FROM t INTERSECT SELECT a, b FROM u \
+        INTERSECT ALL SELECT a, b FROM t EXCEPT SELECT a, b FROM t EXCEPT ALL SELECT a, b FROM u ORDER BY a ASC, b;",
         Reading::Statements(4),
     ),
     ("", Reading::Statements(0)),
@@ -68,7 +69,8 @@ const SCRIPTS: [(&str, Reading); 5] = [
     ),
 ];
 
-fn is_read(alloc: Global, text: &str, wanted: Reading) -> bool {
+/// Whether a text is read as that.
+pub fn is_read(alloc: Global, text: &str, wanted: Reading) -> bool {
     match Bytes::from_slice(alloc, text.as_bytes()) {
         Ok(bytes) => read(alloc, &bytes) == wanted,
         Err(Memory) => false,

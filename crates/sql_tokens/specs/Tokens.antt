@@ -51,6 +51,7 @@ keywords =
     (codes "ELSE", k.Else) ∷
     (codes "END", k.End) ∷
     (codes "ENFORCED", k.Enforced) ∷
+    (codes "EXCEPT", k.Except) ∷
     (codes "EXISTS", k.Exists) ∷
     (codes "FALSE", k.False) ∷
     (codes "FILTER", k.Filter) ∷
@@ -61,6 +62,7 @@ keywords =
     (codes "IN", k.In) ∷
     (codes "INNER", k.Inner) ∷
     (codes "INSERT", k.Insert) ∷
+    (codes "INTERSECT", k.Intersect) ∷
     (codes "INTO", k.Into) ∷
     (codes "IS", k.Is) ∷
     (codes "JOIN", k.Join) ∷

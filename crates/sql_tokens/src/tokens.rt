@@ -11,7 +11,7 @@ use ct_value::{Bytes, Memory, Text, TextFault};
 use std::alloc::Global;
 use std::marker::Model;
 
-const KEYWORDS: [(&[u8], Keyword); 50] = [
+const KEYWORDS: [(&[u8], Keyword); 52] = [
     (b"ALL", Keyword::All),
     (b"AND", Keyword::And),
     (b"AS", Keyword::As),
@@ -26,6 +26,7 @@ const KEYWORDS: [(&[u8], Keyword); 50] = [
     (b"ELSE", Keyword::Else),
     (b"END", Keyword::End),
     (b"ENFORCED", Keyword::Enforced),
+    (b"EXCEPT", Keyword::Except),
     (b"EXISTS", Keyword::Exists),
     (b"FALSE", Keyword::False),
     (b"FILTER", Keyword::Filter),
@@ -36,6 +37,7 @@ const KEYWORDS: [(&[u8], Keyword); 50] = [
     (b"IN", Keyword::In),
     (b"INNER", Keyword::Inner),
     (b"INSERT", Keyword::Insert),
+    (b"INTERSECT", Keyword::Intersect),
     (b"INTO", Keyword::Into),
     (b"IS", Keyword::Is),
     (b"JOIN", Keyword::Join),

@@ -1,6 +1,6 @@
 -- Parentheses and CASEs within one another, of which 32 may be open at once.
 use Rattle.std.specs.Prelude.{ℕ, zero, suc, false, List, ◌++◌, None, codes, [], ◌∷◌}
-use Rattle.sql_syntax.specs.Tree.{Tree, Exists, InList, Call, Paren, Sub, Case, query_of, select_of, One, tree_when_of, Values, no_joins, no_sorts, no_trees, no_tree, some_tree, no_over, selects, items, trees, tree_whens, Set}
+use Rattle.sql_syntax.specs.Tree.{Tree, Exists, InList, Call, Paren, Sub, Case, select_of, One, tree_when_of, Values, no_joins, no_trees, no_tree, some_tree, no_over, items, trees, tree_whens, Set}
 use Rattle.sql_grammar.specs.ReadsScripts.{Answer, answered, refused}
 use Rattle.ct_value.specs.declared.codes.ScriptCode.TheVariants.{BadToken, Syntax, TooDeep}
 use Rattle.text_examples.specs.Words.{a, b, pick, the, table}
@@ -29,7 +29,7 @@ nests =
     record { front = codes "f("; back = codes ")"; around = λ tree. Call (codes "f") (Values false (trees (tree ∷ []))) no_tree no_over } ∷
     record { front = codes "a IN ("; back = codes ")"; around = λ tree. InList a (trees (tree ∷ [])) false } ∷
     record { front = codes "(SELECT "; back = codes " FROM t)"; around = λ tree. Sub (the (pick tree (table (codes "t")))) } ∷
-    record { front = codes "EXISTS (SELECT a FROM t WHERE "; back = codes ")"; around = λ tree. Exists (query_of (selects (select_of false (items (One a None ∷ [])) (table (codes "t")) no_joins (some_tree tree) no_trees no_tree ∷ [])) no_sorts None) } ∷
+    record { front = codes "EXISTS (SELECT a FROM t WHERE "; back = codes ")"; around = λ tree. Exists (the (select_of false (items (One a None ∷ [])) (table (codes "t")) no_joins (some_tree tree) no_trees no_tree)) } ∷
     []
 
 -- a text within so many of these

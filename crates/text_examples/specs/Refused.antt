@@ -59,6 +59,9 @@ bad_queries =
     codes "SELECT a FROM t WHERE b WHERE c" ∷ codes "SELECT a FROM t GROUP a" ∷ codes "SELECT a FROM t GROUP BY" ∷
     codes "SELECT a FROM t GROUP BY (a, b)" ∷ codes "SELECT a FROM t GROUP BY a WHERE b" ∷ codes "SELECT a FROM t HAVING b GROUP BY a" ∷
     codes "SELECT a FROM t UNION SELECT b FROM u" ∷ codes "SELECT a FROM t UNION ALL (SELECT b FROM u)" ∷
+    codes "SELECT a FROM t INTERSECT b" ∷ codes "SELECT a FROM t INTERSECT ALL" ∷ codes "SELECT a FROM t EXCEPT (SELECT b FROM u)" ∷
+    codes "SELECT a FROM t EXCEPT ALL ALL SELECT b FROM u" ∷ codes "SELECT a FROM t LIMIT 1 EXCEPT SELECT b FROM u" ∷
+    codes "SELECT intersect FROM t" ∷ codes "SELECT a FROM except" ∷
     codes "SELECT a FROM t ORDER BY b UNION ALL SELECT c FROM u" ∷ codes "SELECT a FROM t ORDER b" ∷
     codes "SELECT a FROM t ORDER BY b DESC ASC" ∷ codes "SELECT a FROM t LIMIT b" ∷ codes "SELECT a FROM t LIMIT 1, 2" ∷
     codes "SELECT a FROM t LIMIT 1 ORDER BY b" ∷ codes "(SELECT a FROM t)" ∷ []

@@ -1,6 +1,6 @@
 -- Whole scripts: their statements, or the first one that is refused, with its number.
 use Rattle.std.specs.Prelude.{ℕ, true, false, List, ◌++◌, None, codes, [], ◌∷◌}
-use Rattle.sql_syntax.specs.Tree.{Sum, query_of, select_of, One, sum_tail_of, no_joins, no_sorts, no_trees, no_tree, selects, items, sum_tails, Create, Set, Insert}
+use Rattle.sql_syntax.specs.Tree.{Sum, select_of, One, sum_tail_of, no_joins, no_trees, no_tree, items, sum_tails, Create, Set, Insert}
 use Rattle.sql_syntax.specs.declared.tree.SumWord.TheVariants.{Minus}
 use Rattle.sql_syntax.specs.declared.statement.Element.TheVariants.{Column, Key}
 use Rattle.sql_grammar.specs.ReadsScripts.{Answer, answered, refused}
@@ -23,7 +23,7 @@ read_scripts =
     (codes "/* a /* b */ SET 'a' = 'b';", answered (Set (codes "a") (codes "b") ∷ [])) ∷
     (codes "/* -- */ SET 'a' = 'b'; -- /*", answered (Set (codes "a") (codes "b") ∷ [])) ∷
     ((codes "/*" ++ (10 ∷ codes "*/SET '--' = '/*';")), answered (Set (codes "--") (codes "/*") ∷ [])) ∷
-    ((codes "INSERT INTO o SELECT a--b" ++ (10 ∷ codes "-c FROM t;")), answered (Insert (codes "o") (query_of (selects (select_of false (items (One (Sum a (sum_tails (sum_tail_of Minus c ∷ []))) None ∷ [])) (table (codes "t")) no_joins no_tree no_trees no_tree ∷ [])) no_sorts None) ∷ [])) ∷
+    ((codes "INSERT INTO o SELECT a--b" ++ (10 ∷ codes "-c FROM t;")), answered (Insert (codes "o") (the (select_of false (items (One (Sum a (sum_tails (sum_tail_of Minus c ∷ []))) None ∷ [])) (table (codes "t")) no_joins no_tree no_trees no_tree)) ∷ [])) ∷
     (codes "INSERT INTO o SELECT a/*b*/FROM t;", answered (Insert (codes "o") (the (pick a (table (codes "t")))) ∷ [])) ∷
     -- tables
     (codes "CREATE TABLE t (a INT);", answered (Create (codes "t") (Column (codes "a") (record { name = codes "INT"; numbers = [] }) false false ∷ []) [] ∷ [])) ∷

@@ -1,10 +1,10 @@
 -- What it is that a table of examples holds: each text is read as what stands beside it.
 use Rattle.std.specs.Prelude.{◌≡◌, ℕ, false, List, [], ◌∷◌, ◌++◌, ◌+◌, map, None, codes}
 use Rattle.ct_value.specs.declared.codes.ScriptCode.{ScriptCode}
-use Rattle.sql_syntax.specs.Tree.{Tree, Query, Item, One, Source, Table, query_of, select_of, items, selects, no_joins, no_tree, no_trees, no_sorts, Insert}
+use Rattle.sql_syntax.specs.Tree.{Query, Item, One, select_of, items, no_joins, no_tree, no_trees, Insert}
 use Rattle.sql_grammar.specs.ReadsScripts.{Answer, answered, refused, read_text}
 use Rattle.text_examples.specs.Nested.{Nest, nested, within}
-use Rattle.text_examples.specs.Words.{a, table}
+use Rattle.text_examples.specs.Words.{a, table, the}
 
 -- what the texts of a table are read as, is what stands beside them
 abbrev pub AreRead : {A B : Type 0} → (A → List ℕ) → (B → Answer) → List (A × B) → Type 0
@@ -20,7 +20,7 @@ abbrev pub item_text : List ℕ → List ℕ
 item_text text = codes "INSERT INTO o SELECT " ++ text ++ codes " FROM t;"
 
 abbrev pub item_answer : Item → Answer
-item_answer item = answered (Insert (codes "o") (query_of (selects (select_of false (items (item ∷ [])) (table (codes "t")) no_joins no_tree no_trees no_tree ∷ [])) no_sorts None) ∷ [])
+item_answer item = answered (Insert (codes "o") (the (select_of false (items (item ∷ [])) (table (codes "t")) no_joins no_tree no_trees no_tree)) ∷ [])
 
 abbrev pub query_text : List ℕ → List ℕ
 query_text text = codes "INSERT INTO o " ++ text ++ codes ";"

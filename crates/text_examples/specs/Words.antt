@@ -1,6 +1,7 @@
 -- Short names for what stands often in the examples.
-use Rattle.std.specs.Prelude.{ℕ, false, List, None, codes, [], ◌∷◌}
-use Rattle.sql_syntax.specs.Tree.{Tree, Name, Query, query_of, Select, select_of, One, Source, Table, no_joins, no_sorts, no_trees, no_tree, selects, items}
+use Rattle.std.specs.Prelude.{ℕ, false, List, map, Option, None, codes, [], ◌∷◌}
+use Rattle.sql_syntax.specs.declared.tree.SetWord.TheVariants.{UnionAll}
+use Rattle.sql_syntax.specs.Tree.{Text, Tree, Name, Query, query_of, Term, term_of, term_tail_of, Select, select_of, One, Source, Table, SortList, no_joins, no_select_tails, no_sorts, no_term_tails, no_trees, no_tree, items, term_tails}
 
 abbrev pub name : List ℕ → Tree
 name word = Name None word false
@@ -37,6 +38,14 @@ table word = Table word None
 abbrev pub pick : Tree → Source → Select
 pick value source = select_of false (items (One value None ∷ [])) source no_joins no_tree no_trees no_tree
 
+-- the term of one select
+abbrev pub one : Select → Term
+one select = term_of select no_select_tails
+
 -- the query of one select, and nothing else
 abbrev pub the : Select → Query
-the select = query_of (selects (select ∷ [])) no_sorts None
+the select = query_of (one select) no_term_tails no_sorts None
+
+-- selects with UNION ALL between them, their order, and their limit
+abbrev pub union_of : Select → List Select → SortList → Option Text → Query
+union_of first others order limit = query_of (one first) (term_tails (map (λ x. term_tail_of UnionAll (one x)) others)) order limit

@@ -1,6 +1,7 @@
 pub mod AnswerTypes
 pub mod Choices
 pub mod Columns
+pub mod CommonColumns
 pub mod Exists
 pub mod Forms
 pub mod Items

@@ -78,7 +78,7 @@ keys_of sources (op.Materialize key) inputs = keyed_by key
 keys_of sources op.Sink inputs = no_keys
 keys_of sources (op.LocalGroup keys aggs) inputs = no_keys
 keys_of sources (op.MultiJoin on) inputs = chain_keys on inputs
-keys_of sources (op.SetOp except all) inputs = with_two (set_keys except all) inputs
+keys_of sources (op.SetOp except all columns) inputs = with_two (set_keys except all) inputs
 
 -- the keys of the nodes, behind those of the nodes before them; `columns` are those that each node sends
 abbrev pub keys_after : (ℕ → List ColTy) → List TableDef → List Edge → List KeyInfo → List Wire → List KeyInfo

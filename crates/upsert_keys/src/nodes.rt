@@ -46,7 +46,7 @@ pub(crate) fn keys_of(
         Op::Sink => Ok(no_keys(alloc)),
         Op::LocalGroup { .. } => Ok(no_keys(alloc)),
         Op::MultiJoin { on } => chain_keys(alloc, on.as_slice(), inputs),
-        Op::SetOp { except, all } => set_operation(alloc, *except, *all, inputs),
+        Op::SetOp { except, all, .. } => set_operation(alloc, *except, *all, inputs),
     }
 }
 

@@ -22,7 +22,7 @@ use Rattle.mode_infer.specs.UpdateKeys as u
 use Rattle.mode_infer.specs.Modes.{edge_modes, moded}
 use Rattle.plan_inferred.specs.declared.inferred.Inferred.{Inferred}
 use Rattle.plan_inferred.specs.Inferred.{inferred}
-use Rattle.plan_inferred.specs.Rules.{comes_with_key, exchange_by, fills, fills_sink, is_exchanged, says_exchange, suits_sink, suits_table, width_at, consumer}
+use Rattle.plan_inferred.specs.Rules.{comes_with_key, exchange_by, fills, fills_sink, is_exchanged, says_exchange, suits_sink, suits_table, consumer}
 use Rattle.plan_check.specs.Sound.{inferred_of, sent_columns}
 use Rattle.plan_check.specs.Types.{all_types}
 use Rattle.laid_plans.proofs.laws.Columns.{types_same}
@@ -69,17 +69,17 @@ module _ (keys : List KeyInfo) (modes : List EdgeMode) (plan : Plan) where
   inferred_same =
       ap (λ types. inferred (sent_columns types) (given keys modes plan)) (types_same keys plan.sources plan.nodes) ∙ by_columns (sent_columns (all_types plan.sources plan.nodes))
 
+  -- ---- Exchanged
+
+  -- an edge goes as its consumer asks for it
+  pub exchanged_same : (v : ℕ) → is_exchanged (given keys modes plan) v ≡ is_exchanged plan v
+  exchanged_same v =
+      edge_read modes (says_exchange (exchange_by v (consumer v (given keys modes plan).nodes))) (λ edge mode. refl) plan.edges v
+      ∙ ap (λ exchange. says_exchange exchange (item plan.edges v)) (first_consumer_read keys (exchange_by v) (λ node of_node. refl) v plan.nodes)
+
+  -- ---- SinkKey
+
   module _ (x : Inferred) where
-    -- ---- Exchanged
-
-    -- an edge goes as its consumer asks for it
-    pub exchanged_same : (v : ℕ) → is_exchanged x (given keys modes plan) v ≡ is_exchanged x plan v
-    exchanged_same v =
-        edge_read modes (says_exchange (exchange_by (width_at x v) v (consumer v (given keys modes plan).nodes))) (λ edge mode. refl) plan.edges v
-        ∙ ap (λ exchange. says_exchange exchange (item plan.edges v)) (first_consumer_read keys (exchange_by (width_at x v) v) (λ node of_node. refl) v plan.nodes)
-
-    -- ---- SinkKey
-
     -- what comes to a sink with a key
     with_key_same : (key : Option (List ℕ)) (input : ℕ) → comes_with_key x key input (item (given keys modes plan).nodes input) ≡ comes_with_key x key input (item plan.nodes input)
     with_key_same None input = refl

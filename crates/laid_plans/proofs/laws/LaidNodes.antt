@@ -49,7 +49,7 @@ module _ (plan : Plan) where
     pub suits : suits_consumer plan.sources node.op (Some o) ≡ true
     pub edge : Edge
     pub is_edge : numbered plan.edges input ≡ Some edge
-    pub exchanged : (width : ℕ) → by_columns (asked width o port) ≡ edge.exchange
+    pub exchanged : by_columns (asked o port) ≡ edge.exchange
 
   -- of all its inputs and of the plan
   pub record OpMeets (v : ℕ) (o : Op) (inputs : List ℕ) : Type 0 where

@@ -20,7 +20,7 @@ use Rattle.phys_plan.specs.declared.node.Op.TheVariants as op
 use Rattle.phys_plan.specs.declared.plan.Plan.{Plan}
 use Rattle.phys_plan.specs.declared.plan.Rule.TheVariants as rule
 use Rattle.mode_infer.specs.Exchanges.{asked}
-use Rattle.plan_inferred.specs.Rules.{by_columns, consumer as consumer_of, exchange_by, says_exchange, width_at}
+use Rattle.plan_inferred.specs.Rules.{by_columns, consumer as consumer_of, exchange_by, says_exchange}
 use Rattle.plan_inferred.specs.Same.{same_exchange}
 use Rattle.plan_rules.specs.Pieces.{Top, bare, shown, asks_of}
 use Rattle.plan_rules.specs.Plans.{HasInput}
@@ -103,13 +103,13 @@ sends : (plan : Plan) (columns : List ColTy) → ((key : List ℕ) → is_sink_k
 sends plan columns has_key bare suits below root told between high = subst (λ v. Sends plan v columns) (sym between) (record {
   part = told.part;
   columns_are = told.columns_are;
-  fed = feeds_port plan 0 Forward below columns op.Sink 0 (λ width. refl) told;
+  fed = feeds_port plan 0 Forward below columns op.Sink 0 refl told;
 })
 sends plan columns has_key (shown key) suits below root told between high =
     let next = between.0 in
     let has = between.1 in
     let lower : below < root = omega (arith, next) in
-    let feeds = one_port plan (op.Materialize key) below (feeds_port plan 0 (Hash key) below columns (op.Materialize key) 0 (λ width. refl) told) in
+    let feeds = one_port plan (op.Materialize key) below (feeds_port plan 0 (Hash key) below columns (op.Materialize key) 0 refl told) in
     let k : types_at plan.sources plan.nodes root ≡ Some columns =
     types_from plan root (op.Materialize key) (below ∷ []) has feeds (lower, tt) ∙ ap (λ (c : Option (List ColTy)). types_by plan.sources (op.Materialize key) (c ∷ [])) told.columns_are
     ∙ ap (λ b. columns_if b columns) (has_key key suits) in
@@ -131,7 +131,7 @@ sends plan columns has_key (shown key) suits below root told between high =
         suits = ap (λ (p : Op). suits_consumer plan.sources p (Some op.Sink)) has.is_op;
         edge = _;
         is_edge = between.2;
-        exchanged = λ width. refl;
+        exchanged = refl;
       };
     }
 
@@ -217,7 +217,7 @@ module _ (plan : Plan) (rel : Rel) (is : IsLaidWell plan rel) where
   pub record IsTaken (v : ℕ) (node : Node) : Type 0 where
     pub used : uses v plan.nodes ≡ 1
     pub suits : suits_consumer plan.sources node.op (consumer v plan.nodes) ≡ true
-    pub exchanged : (width : ℕ) → says_exchange (exchange_by width v (consumer_of v plan.nodes)) (numbered plan.edges v) ≡ true
+    pub exchanged : says_exchange (exchange_by v (consumer_of v plan.nodes)) (numbered plan.edges v) ≡ true
 
   -- by a node that has it as an input
   taken_by : (v : ℕ) (node : Node) → numbered plan.nodes v ≡ Some node → (w p : ℕ) → HasInput plan w p v → IsTaken v node
@@ -234,10 +234,10 @@ module _ (plan : Plan) (rel : Rel) (is : IsLaidWell plan rel) where
         used = used_once v plan.nodes place p h.node u;
         suits = ap (λ c. suits_consumer plan.sources node.op (op_in c)) (found_once v plan.nodes place p h.node u)
             ∙ sym (λ i. suits_consumer plan.sources (here i).op (Some (o i))) ∙ f.suits;
-        exchanged = λ width.
-            let asks : exchange_by width v (consumer_of v plan.nodes) ≡ f.edge.exchange =
-            ap (exchange_by width v) (consumer_once v plan.nodes place p h.node u) ∙ ap (λ q. by_columns (asked width h.node.op q)) (port_once v plan.nodes place p h.node u)
-            ∙ sym (ap (λ q. by_columns (asked width q p)) o) ∙ f.exchanged width in
+        exchanged =
+            let asks : exchange_by v (consumer_of v plan.nodes) ≡ f.edge.exchange =
+            ap (exchange_by v) (consumer_once v plan.nodes place p h.node u) ∙ ap (λ q. by_columns (asked h.node.op q)) (port_once v plan.nodes place p h.node u)
+            ∙ sym (ap (λ q. by_columns (asked q p)) o) ∙ f.exchanged in
             (λ i. says_exchange (asks i) (f.is_edge i)) ∙ same_as_itself f.edge.exchange;
       }
 
@@ -335,16 +335,16 @@ module _ (plan : Plan) (rel : Rel) (is : IsLaidWell plan rel) where
       omega arith
 
   -- the rule on exchanges at a node
-  exchanged_at : (v : ℕ) (node : Node) → numbered plan.nodes v ≡ Some node → (width : ℕ) → says_exchange (exchange_by width v (consumer_of v plan.nodes)) (numbered plan.edges v) ≡ true
-  exchanged_at v node e width = go (side v root)
+  exchanged_at : (v : ℕ) (node : Node) → numbered plan.nodes v ≡ Some node → says_exchange (exchange_by v (consumer_of v plan.nodes)) (numbered plan.edges v) ≡ true
+  exchanged_at v node e = go (side v root)
     where
-      go : (v ≤ root) ⊎ (root < v) → says_exchange (exchange_by width v (consumer_of v plan.nodes)) (numbered plan.edges v) ≡ true
-      go (inl l) = (taken v node e (omega arith)).exchanged width
+      go : (v ≤ root) ⊎ (root < v) → says_exchange (exchange_by v (consumer_of v plan.nodes)) (numbered plan.edges v) ≡ true
+      go (inl l) = (taken v node e (omega arith)).exchanged
       go (inr l) =
           let h = (reached v node e).1 in
           let number : root + 1 ≡ v = omega arith in
-          subst (λ u. says_exchange (exchange_by width u (consumer_of u plan.nodes)) (numbered plan.edges u) ≡ true) number
-          ((λ i. says_exchange (exchange_by width (root + 1) (no_consumer (root + 1) plan.nodes sink_unused i)) (out.sink_edge i)))
+          subst (λ u. says_exchange (exchange_by u (consumer_of u plan.nodes)) (numbered plan.edges u) ≡ true) number
+          ((λ i. says_exchange (exchange_by (root + 1) (no_consumer (root + 1) plan.nodes sink_unused i)) (out.sink_edge i)))
 
   -- each number that is looked at has a node
   node_there : (v : ℕ) → 1 ≤ v → v ≤ max 1 (length plan.nodes) → (node : Node) × (numbered plan.nodes v ≡ Some node)
@@ -352,7 +352,7 @@ module _ (plan : Plan) (rel : Rel) (is : IsLaidWell plan rel) where
   node_there (suc n) low high = found plan.nodes n (let k = out.nodes in omega arith)
 
   exchanged : Meets rule.Exchanged plan
-  exchanged v low high = let n = node_there v low high in exchanged_at v n.0 n.1 (width_at (inferred_of plan) v)
+  exchanged v low high = let n = node_there v low high in exchanged_at v n.0 n.1
 
   -- ---- operators
 

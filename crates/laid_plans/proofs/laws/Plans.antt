@@ -78,7 +78,7 @@ module _ (shaped : ShapedPlansHaveShape) (plan : Plan) (rules : (v : ℕ) (node 
   sound rule.Kinds v low high = kinds_are_said v
   sound rule.UpdateKind v low high = updates_are_said v
   sound rule.Exchanged v low high =
-      ap (λ x. is_exchanged x made v) inferred_is ∙ exchanged_same (inferred_of plan).keys (inferred_of plan).modes plan (inferred_of plan) v ∙ exchanged v low (looked v high)
+      exchanged_same (inferred_of plan).keys (inferred_of plan).modes plan v ∙ exchanged v low (looked v high)
   sound rule.SinkKey v low high =
       ap (λ x. suits_sink x made v) inferred_is ∙ sink_same (inferred_of plan).keys (inferred_of plan).modes plan (inferred_of plan) v ∙ sink v low (looked v high)
 

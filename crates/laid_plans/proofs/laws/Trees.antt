@@ -13,7 +13,7 @@ use Rattle.ct_catalog.specs.declared.table.TableDef.{TableDef}
 use Rattle.ct_expr.specs.Types.{both_of}
 use Rattle.ct_expr.specs.Views.{expr_of}
 use Rattle.ct_expr.proofs.laws.Seen.{seen}
-use Rattle.rel_algebra.specs.Rel.{Unary, filter_by, project_on, group_by, rank_in, Binary, join_on, semi_on, Rel, Rels, Scan, One, Two, Many, no_rels, rel_and}
+use Rattle.rel_algebra.specs.Rel.{Unary, filter_by, project_on, group_by, rank_in, Binary, join_on, semi_on, set_by, Rel, Rels, Scan, One, Two, Many, no_rels, rel_and}
 use Rattle.rel_algebra.specs.Types.{columns_if, is_column, common_columns, columns_of, common_from, unary_columns, binary_columns}
 use Rattle.phys_plan.specs.declared.edge.Edge.{Edge}
 use Rattle.phys_plan.specs.declared.edge.Exchange.{Exchange}
@@ -72,6 +72,7 @@ unary_is mini_batch (rank_in partition order bound ranked) = refl
 pub binary_is : (how : Binary) → IsBinary how (binary_way how).op
 binary_is (join_on kind pairs rest) = ap (op.Join kind pairs) (rest_as_seen (option_map expr_of rest) ∙ ap (option_map expr_of) (rest_seen rest))
 binary_is (semi_on anti pairs rest) = ap (op.Semi anti pairs) (rest_as_seen (option_map expr_of rest) ∙ ap (option_map expr_of) (rest_seen rest))
+binary_is (set_by except all columns) = refl
 
 module _ (plan : Plan) where
   -- the columns that a node sends
@@ -99,7 +100,7 @@ module _ (plan : Plan) where
   -- ---- one node more
 
   -- the root of a tree may feed a port that asks for its exchange
-  pub feeds_port : (n : ℕ) (x : Exchange) (root : ℕ) (columns : List ColTy) (o : Op) (port : ℕ) → ((width : ℕ) → by_columns (asked width o port) ≡ x) → Told n x root columns → IsFed plan o port root
+  pub feeds_port : (n : ℕ) (x : Exchange) (root : ℕ) (columns : List ColTy) (o : Op) (port : ℕ) → by_columns (asked o port) ≡ x → Told n x root columns → IsFed plan o port root
   feeds_port n x root columns o port asks t = record {
     node = t.node;
     is_node = t.is_node;
@@ -107,7 +108,7 @@ module _ (plan : Plan) where
     suits = t.feeds (Some o);
     edge = t.edge;
     is_edge = t.is_edge;
-    exchanged = λ width. asks width ∙ sym t.exchange;
+    exchanged = asks ∙ sym t.exchange;
   }
 
   -- the only port of an operator with one input
@@ -149,7 +150,7 @@ module _ (plan : Plan) where
       }
 
   -- with one input
-  on_one : (n below root : ℕ) (x y : Exchange) (o : Op) (own columns : List ColTy) → IsInner plan o → Told n x below own → ((width : ℕ) → by_columns (asked width o 0) ≡ x) → takes o 1 ≡ true
+  on_one : (n below root : ℕ) (x y : Exchange) (o : Op) (own columns : List ColTy) → IsInner plan o → Told n x below own → by_columns (asked o 0) ≡ x → takes o 1 ≡ true
       → types_by plan.sources o (Some own ∷ []) ≡ Some columns → root ≡ below + 1 → HasNode plan root (λ p. p ≡ o) (below ∷ []) → CarriesAll plan root y → root < length plan.nodes → Told n y root columns
   on_one n below root x y o own columns is t asks ports typed next has carries high =
       inner_node n below root y o (below ∷ []) columns is t.part next has carries high ports
@@ -158,7 +159,7 @@ module _ (plan : Plan) where
 
   -- with two
   on_two : (n first second root : ℕ) (x y z : Exchange) (o : Op) (left right columns : List ColTy) → IsInner plan o → Told n x first left → Told first y second right
-      → ((width : ℕ) → by_columns (asked width o 0) ≡ x) → ((width : ℕ) → by_columns (asked width o 1) ≡ y) → takes o 2 ≡ true
+      → by_columns (asked o 0) ≡ x → by_columns (asked o 1) ≡ y → takes o 2 ≡ true
       → types_by plan.sources o (Some left ∷ (Some right ∷ [])) ≡ Some columns → root ≡ second + 1 → HasNode plan root (λ p. p ≡ o) (first ∷ (second ∷ [])) → CarriesAll plan root z → root < length plan.nodes → Told n z root columns
   on_two n first second root x y z o left right columns is s t left_asks right_asks ports typed next has carries high =
       inner_node n second root z o (first ∷ (second ∷ [])) columns is (two_parts plan n first second (second ∷ []) s.part t.part) next has carries high ports
@@ -172,8 +173,8 @@ module _ (plan : Plan) where
     pub told : role o ≡ r
     pub made : (inputs : List (Option (List ColTy))) → types_by plan.sources o inputs ≡ columns_as plan.sources (role o) inputs
     pub is_inner : IsInner plan o
-    pub asks : (width : ℕ) → by_columns (asked width o 0) ≡ x
-    pub other_asks : (width : ℕ) → by_columns (asked width o 1) ≡ y
+    pub asks : by_columns (asked o 0) ≡ x
+    pub other_asks : by_columns (asked o 1) ≡ y
 
   abbrev pub UnaryFits : Unary → Op → Type 0
   UnaryFits how o = OpFits (one_of how) (unary_way how).asks (unary_way how).asks o
@@ -187,15 +188,15 @@ module _ (plan : Plan) where
     told = unary_told plan.mini_batch (filter_by condition);
     made = λ inputs. refl;
     is_inner = inner plan (op.Filter (expr_of condition)) refl;
-    asks = λ width. refl;
-    other_asks = λ width. refl;
+    asks = refl;
+    other_asks = refl;
   }
   unary_way_fits (project_on items) = record {
     told = unary_told plan.mini_batch (project_on items);
     made = λ inputs. refl;
     is_inner = inner plan (op.Project (map expr_of items)) refl;
-    asks = λ width. refl;
-    other_asks = λ width. refl;
+    asks = refl;
+    other_asks = refl;
   }
   unary_way_fits (group_by keys aggs) =
       of_groups (λ o. UnaryFits (group_by keys aggs) o) plan.mini_batch keys aggs
@@ -203,22 +204,22 @@ module _ (plan : Plan) where
         told = refl;
         made = λ inputs. refl;
         is_inner = inner plan (op.Group keys aggs) refl;
-        asks = λ width. ap (λ cols. Hash cols) (same_first keys);
-        other_asks = λ width. ap (λ cols. Hash cols) (same_first keys);
+        asks = ap (λ cols. Hash cols) (same_first keys);
+        other_asks = ap (λ cols. Hash cols) (same_first keys);
       })
       (λ some keyed. record {
         told = refl;
         made = λ inputs. refl;
         is_inner = inner plan (op.BatchGroup keys aggs) (λ i. lt-ltb 0 plan.mini_batch some i && lt-ltb 0 keys keyed i);
-        asks = λ width. ap (λ cols. Hash cols) (same_first keys);
-        other_asks = λ width. ap (λ cols. Hash cols) (same_first keys);
+        asks = ap (λ cols. Hash cols) (same_first keys);
+        other_asks = ap (λ cols. Hash cols) (same_first keys);
       })
   unary_way_fits (rank_in partition order bound ranked) = record {
     told = refl;
     made = λ inputs. refl;
     is_inner = inner plan (op.TopN partition order bound ranked) refl;
-    asks = λ width. refl;
-    other_asks = λ width. refl;
+    asks = refl;
+    other_asks = refl;
   }
 
   binary_way_fits : (how : Binary) → BinaryFits how (binary_way how).op
@@ -226,15 +227,22 @@ module _ (plan : Plan) where
     told = binary_told (join_on kind pairs rest);
     made = λ inputs. refl;
     is_inner = inner plan (op.Join kind pairs (option_map expr_of rest)) refl;
-    asks = λ width. refl;
-    other_asks = λ width. refl;
+    asks = refl;
+    other_asks = refl;
   }
   binary_way_fits (semi_on anti pairs rest) = record {
     told = binary_told (semi_on anti pairs rest);
     made = λ inputs. refl;
     is_inner = inner plan (op.Semi anti pairs (option_map expr_of rest)) refl;
-    asks = λ width. refl;
-    other_asks = λ width. refl;
+    asks = refl;
+    other_asks = refl;
+  }
+  binary_way_fits (set_by except all columns) = record {
+    told = refl;
+    made = λ inputs. refl;
+    is_inner = inner plan (op.SetOp except all columns) refl;
+    asks = ap (λ cols. Hash cols) (same_first columns);
+    other_asks = ap (λ cols. Hash cols) (same_first columns);
   }
 
   -- one fits as it does as it is seen
@@ -327,7 +335,7 @@ module _ (plan : Plan) where
         suits = read;
         edge = _;
         is_edge = l.2;
-        exchanged = λ width. refl;
+        exchanged = refl;
       } in
       let k : columns_at root ≡ Some (column_types table) =
       types_from plan root (op.Normalize key) ((n + 1) ∷ []) has (one_port (op.Normalize key) (n + 1) fed) (lower, tt) ∙ ap (λ (c : Option (List ColTy)). types_by plan.sources (op.Normalize key) (c ∷ [])) m.0 ∙ ap (λ b. columns_if b (column_types table)) there in
@@ -392,7 +400,7 @@ module _ (plan : Plan) where
   -- the roots of a tree and of others behind it
   fed_both : (n mid : ℕ) (columns : List ColTy) (others : List ℕ) → Told n Forward mid columns → ((p root : ℕ) → slice_get others p ≡ Some root → (port : ℕ) → IsFed plan op.Union port root)
       → (p root : ℕ) → slice_get (mid ∷ others) p ≡ Some root → (port : ℕ) → IsFed plan op.Union port root
-  fed_both n mid columns others t f zero root e port = subst (λ v. IsFed plan op.Union port v) (the_same mid root e) (feeds_port n Forward mid columns op.Union port (λ width. refl) t)
+  fed_both n mid columns others t f zero root e port = subst (λ v. IsFed plan op.Union port v) (the_same mid root e) (feeds_port n Forward mid columns op.Union port refl t)
   fed_both n mid columns others t f (suc p) root e port = f p root e port
 
   -- a tree, and others behind it

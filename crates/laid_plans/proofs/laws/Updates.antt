@@ -43,7 +43,7 @@ takes_none sink op.Union port update key n = refl
 takes_none sink (op.Group keys aggs) port update key n = refl
 takes_none sink (op.BatchGroup keys aggs) port update key n = refl
 takes_none sink (op.LocalGroup keys aggs) port update key n = refl
-takes_none sink (op.SetOp except all) port update key n = refl
+takes_none sink (op.SetOp except all columns) port update key n = refl
 takes_none sink _ port update key n = absurd (cc)
 
 -- in full the old rows are told

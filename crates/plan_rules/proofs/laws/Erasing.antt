@@ -15,7 +15,7 @@ use Rattle.ct_expr.specs.View.{expr_view}
 use Rattle.ct_expr.specs.Views.{expr_of}
 use Rattle.ct_expr.proofs.laws.Seen.{seen}
 use Rattle.rel_algebra.specs.declared.agg.Agg.{Agg}
-use Rattle.rel_algebra.specs.Rel.{Unary, filter_by, project_on, group_by, rank_in, Binary, join_on, semi_on, Rel, Rels, Scan, One, Two, Many, no_rels, rel_and, rels}
+use Rattle.rel_algebra.specs.Rel.{Unary, filter_by, project_on, group_by, rank_in, Binary, join_on, semi_on, set_by, Rel, Rels, Scan, One, Two, Many, no_rels, rel_and, rels}
 use Rattle.phys_plan.specs.Reading.{at, numbered, read_up, wire, wires}
 use Rattle.phys_plan.specs.declared.edge.Exchange.{Exchange}
 use Rattle.phys_plan.specs.declared.edge.Exchange.TheVariants.{Forward, Hash}
@@ -61,6 +61,7 @@ unary_told mini_batch (rank_in partition order bound ranked) = refl
 pub binary_told : (how : Binary) → role (binary_way how).op ≡ two_of how
 binary_told (join_on kind pairs rest) = ap (λ r. two_of (join_on kind pairs r)) (rest_seen rest)
 binary_told (semi_on anti pairs rest) = ap (λ r. two_of (semi_on anti pairs r)) (rest_seen rest)
+binary_told (set_by except all columns) = refl
 
 -- ---- the trees of pieces behind these trees
 

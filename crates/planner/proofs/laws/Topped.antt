@@ -8,7 +8,7 @@ use Rattle.ct_change.specs.declared.kind.Declared.{Declared}
 use Rattle.ct_change.specs.declared.kind.Declared.TheVariants.{Append, Retract, Upsert}
 use Rattle.ct_change.specs.declared.update.Update.TheVariants.{Absent, After, Both}
 use Rattle.ct_catalog.specs.declared.table.TableDef.{TableDef}
-use Rattle.rel_algebra.specs.Rel.{Unary, filter_by, project_on, group_by, rank_in, Binary, join_on, semi_on, Rel, Scan, One, Two, Many}
+use Rattle.rel_algebra.specs.Rel.{Unary, filter_by, project_on, group_by, rank_in, Binary, join_on, semi_on, set_by, Rel, Scan, One, Two, Many}
 use Rattle.phys_plan.specs.declared.edge.Edge.{Edge}
 use Rattle.phys_plan.specs.declared.edge.Exchange.{Exchange}
 use Rattle.phys_plan.specs.declared.edge.Exchange.TheVariants.{Forward, Hash}
@@ -103,6 +103,7 @@ unary_other mini_batch (rank_in partition order bound ranked) = refl
 binary_other : (how : Binary) → materializes (binary_way how).op ≡ false
 binary_other (join_on kind pairs rest) = refl
 binary_other (semi_on anti pairs rest) = refl
+binary_other (set_by except all columns) = refl
 
 tree_ends : (sources : List TableDef) (mini_batch n : ℕ) (rel : Rel) → EndsAsAsked (λ x. pieces_of sources mini_batch n x rel)
 tree_ends sources mini_batch n (Scan source) = source_ends n source (slice_get sources source)

@@ -1,6 +1,6 @@
 -- The answer computed on lists is the answer.
-use Rattle.std.proofs.Common.{◌≡◌, ℕ, zero, suc, ◌==◌, Bool, true, false, cond, not, List, [], ◌∷◌, ◌++◌, map, filter, length, take, Option, Some, None, refl, sym, ap, ◌∙◌}
-use Rattle.std.specs.Prelude.{◌+ℤ◌, option_map, option_and_then}
+use Rattle.std.proofs.Common.{◌≡◌, ℕ, zero, suc, ◌==◌, Bool, true, false, cond, not, List, [], ◌∷◌, ◌++◌, map, filter, length, take, Option, Some, None, refl, sym, ap, ◌∙◌, arith}
+use Rattle.std.specs.Prelude.{min, nat_lt, ◌+ℤ◌, option_map, option_and_then}
 use Rattle.std.specs.Option.{unwrap_or}
 use Rattle.std.specs.declared.cmp.Ordering.{Ordering}
 use Rattle.std.specs.Cmp.{IsTotalOrder}
@@ -30,15 +30,17 @@ use Rattle.rel_algebra.specs.Groups.{group_rows}
 use Rattle.rel_algebra.specs.Joins.{Matching, turned, inner_join, has_match, apart_if, semi_join, padded_if, matching, nulls, keeps_left, keeps_right, join_rows}
 use Rattle.rel_algebra.specs.Keys.{by_key}
 use Rattle.rel_algebra.specs.Ranks.{rank_cmp, first_rows, rank_rows, ranked_from, shown}
+use Rattle.rel_algebra.specs.Sets.{set_copies, set_form, set_rows}
+use Rattle.rel_algebra.proofs.laws.Sets.{copies-set_form, few_copies, list_thins}
 use Rattle.rel_algebra.proofs.laws.Ranks.{rank_total, rank_exact}
 use Rattle.rel_algebra.proofs.laws.Aggregates.{sum_of-none, sum_of-add}
 use Rattle.rel_algebra.proofs.laws.Bags.{together-none, together-add, sum_over-none, sum_over-add, restrict-none, restrict-add, mapped-none, mapped-add, copies-distinct, distinct_from}
-use Rattle.rel_algebra.specs.Rel.{Unary, filter_by, project_on, group_by, rank_in, Binary, join_on, semi_on, Rel, Rels, Scan, One, Two, Many, no_rels, rel_and}
+use Rattle.rel_algebra.specs.Rel.{Unary, filter_by, project_on, group_by, rank_in, Binary, join_on, semi_on, set_by, Rel, Rels, Scan, One, Two, Many, no_rels, rel_and}
 use Rattle.rel_algebra.specs.Batch.{unary_answer, binary_answer}
 use Rattle.rel_algebra.specs.Types.{columns_of}
 use Rattle.rel_algebra.specs.Answer.{types_in, rows_in, columns_in, answer, answers}
 use Rattle.query_examples.specs.Relations.{examples}
-use Rattle.query_examples.specs.Listed.{sorted, each_once, appended, list_sum, kept_list, list_where, list_inner_join, list_has_match, list_semi_join, list_padded_if, list_join, list_by_key, list_known, list_size, list_sum_of, list_unless_none, list_agg_value, list_result, list_results, list_group, list_first_rows, list_rank, list_unary, list_binary, ListedTable, table_of, listed_rows, listed_columns, listed, listed_all}
+use Rattle.query_examples.specs.Listed.{sorted, each_once, appended, list_sum, kept_list, list_where, list_inner_join, list_has_match, list_semi_join, list_padded_if, list_join, list_by_key, list_known, list_size, list_sum_of, list_unless_none, list_agg_value, list_result, list_results, list_group, list_first_rows, list_rank, list_thinned, list_set, list_unary, list_binary, ListedTable, table_of, listed_rows, listed_columns, listed, listed_all}
 
 -- ---- bags of lists
 
@@ -224,9 +226,33 @@ unary-listed (project_on items) columns xs = sum_over-bag_of row_total row_exact
 unary-listed (group_by keys aggs) columns xs = group-listed keys columns aggs xs
 unary-listed (rank_in partition order bound ranked) columns xs = rank-listed partition order bound ranked xs
 
+thinned-listed : (most : Row → ℕ) (xs : List Row) → bag_of {R = row_cmp} (list_thinned most xs) ≡ gather (λ x c. add_where (nat_lt (copies c x) (most x)) x c) none xs
+thinned-listed most [] = refl
+thinned-listed most (x ∷ xs) = step (list_thinned most xs) (gather (λ x c. add_where (nat_lt (copies c x) (most x)) x c) none xs) (thinned-listed most xs)
+  where
+    step : (rest : List Row) (c : Rows) → bag_of {R = row_cmp} rest ≡ c → bag_of {R = row_cmp} (cond (nat_lt (occurs row_cmp x rest) (most x)) (x ∷ rest) rest) ≡ add_where (nat_lt (copies c x) (most x)) x c
+    step rest c h =
+        go (nat_lt (occurs row_cmp x rest) (most x))
+        ∙ (λ i. add_where (nat_lt ((sym (copies-bag_of row_total rest x) ∙ ap (λ (b : Rows). copies b x) h) i) (most x)) x (h i))
+      where
+        go : (b : Bool) → bag_of {R = row_cmp} (cond b (x ∷ rest) rest) ≡ add_where b x (bag_of {R = row_cmp} rest)
+        go true = refl
+        go false = refl
+
+set-listed : (except all : Bool) (xs ys : List Row) → set_rows (set_form except all) (bag_of xs) (bag_of ys) ≡ bag_of (list_set except all xs ys)
+set-listed except all xs ys =
+    let form = set_form except all in
+    let most : Row → ℕ = λ row. set_copies form (occurs row_cmp row xs) (occurs row_cmp row ys) in
+    same_bag row_total row_exact _ _ (λ row.
+    copies-set_form except all (bag_of xs) (bag_of ys) row
+    ∙ (λ i. set_copies form (copies-bag_of row_total xs row i) (copies-bag_of row_total ys row i))
+    ∙ (let l = few_copies except all (occurs row_cmp row xs) (occurs row_cmp row ys) in let e : most row ≡ min (occurs row_cmp row xs) (most row) = omega arith in e)
+    ∙ sym (ap (λ (b : Rows). copies b row) (thinned-listed most xs) ∙ list_thins row_total row_exact most xs row))
+
 binary-listed : (how : Binary) (l r : List ColTy) (xs ys : List Row) → binary_answer how l r (bag_of xs) (bag_of ys) ≡ option_map bag_of (list_binary how l r xs ys)
 binary-listed (join_on kind pairs rest) l r xs ys = join-listed kind (length l) (length r) (matching pairs (option_map eval rest)) xs ys
 binary-listed (semi_on anti pairs rest) l r xs ys = semi-listed anti (matching pairs (option_map eval rest)) xs ys
+binary-listed (set_by except all columns) l r xs ys = ap Some (set-listed except all xs ys)
 
 module _ (tables : List ListedTable) where
   columns-listed : (rel : Rel) → columns_in (map table_of tables) rel ≡ listed_columns tables rel

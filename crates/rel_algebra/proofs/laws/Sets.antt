@@ -1,6 +1,6 @@
 -- Laws of set operations: how many copies they leave, and that of parts that have no row in common they are the sum.
 use Rattle.std.proofs.Common.{◌≡◌, ℕ, suc, ◌+◌, ◌-◌, ◌<◌, ◌≤◌, ◌⊎◌, nat_lt, Bool, true, false, cond, List, [], ◌∷◌, Some, refl, sym, ap, subst, ◌∙◌, arith, inl, inr}
-use Rattle.std.specs.Prelude.{min}
+use Rattle.std.specs.Prelude.{min, length, Option, None}
 use Rattle.std.proofs.lemmas.Bool.{ltb-true, ltb-false}
 use Rattle.std.specs.declared.cmp.Ordering.{Ordering}
 use Rattle.std.specs.Ordering.{eq_by_cmp}
@@ -10,9 +10,12 @@ use Rattle.ct_value.specs.Bag.{Bag, items, none, copies, occurs, one_at}
 use Rattle.ct_value.specs.Order.{row_total, row_exact}
 use Rattle.ct_value.specs.declared.row.Row.{Row}
 use Rattle.ct_value.proofs.laws.Bags.{copies-none, copies-add, copies-occurs, same_bag}
+use Rattle.ct_value.specs.declared.ty.ColTy.{ColTy}
 use Rattle.ct_change.specs.Changelog.{Rows}
+use Rattle.ct_expr.specs.Types.{both_of}
+use Rattle.rel_algebra.specs.declared.sets.SetKind.{SetKind}
 use Rattle.rel_algebra.specs.Sums.{gather, together, plus, add_where, thinned, Each}
-use Rattle.rel_algebra.specs.Sets.{SetForm, union_all, except_rows, intersect_rows, set_form, counted, set_copies, left_over, set_rows}
+use Rattle.rel_algebra.specs.Sets.{SetForm, union_all, except_rows, intersect_rows, set_form, counted, set_copies, left_over, set_rows, set_column, set_columns}
 use Rattle.rel_algebra.specs.Batch.{set_answer}
 use Rattle.rel_algebra.proofs.laws.Bags.{copies-together, each-copies, copies-each}
 
@@ -159,3 +162,22 @@ module _ (except all : Bool) (a b c d : Rows) where
 
 pub set_answer-together : (except all : Bool) (a b c d : Rows) → Apart a b c d → set_answer except all (together a b) (together c d) ≡ plus (set_answer except all a c) (set_answer except all b d)
 set_answer-together except all a b c d apart = ap (λ (r : Rows). Some r) (set_rows-together except all a b c d apart)
+
+-- ---- columns
+
+-- as many as on both sides
+pub set_columns-lengths : (kind : SetKind) (lefts rights made : List ColTy) → set_columns kind lefts rights ≡ Some made → (length made ≡ length lefts) × (length made ≡ length rights)
+set_columns-lengths kind [] [] made e = let i : [] ≡ made = cc in (ap length (sym i), ap length (sym i))
+set_columns-lengths kind [] (right ∷ rights) made e = absurd (cc)
+set_columns-lengths kind (left ∷ lefts) [] made e = absurd (cc)
+set_columns-lengths kind (left ∷ lefts) (right ∷ rights) made e = go (set_columns-lengths kind lefts rights) (set_column kind left right) (set_columns kind lefts rights) refl e
+  where
+    go : ((columns : List ColTy) → set_columns kind lefts rights ≡ Some columns → (length columns ≡ length lefts) × (length columns ≡ length rights))
+        → (o : Option ColTy) (p : Option (List ColTy)) → set_columns kind lefts rights ≡ p → both_of (λ column columns. Some (column ∷ columns)) o p ≡ Some made
+        → (length made ≡ suc (length lefts)) × (length made ≡ suc (length rights))
+    go ih None p q f = absurd (cc)
+    go ih (Some column) None q f = absurd (cc)
+    go ih (Some column) (Some columns) q f =
+        let h = ih columns q in
+        let i : column ∷ columns ≡ made = cc in
+        (ap length (sym i) ∙ ap suc h.0, ap length (sym i) ∙ ap suc h.1)

@@ -43,6 +43,10 @@ pub view_semi : (left right : Box Rel Global) (anti : Bool) (pairs : List Pair) 
 unfolding rel_view
 view_semi left right anti pairs rest = ap rel_view (sym (v.rolls-Semi left right anti pairs rest)) ∙ fold-roll-Rel r.Rel rel_step (Rel-F.Semi left right anti pairs rest)
 
+pub view_set_op : (left right : Box Rel Global) (except all : Bool) (columns : ℕ) → rel_view (v.SetOp left right except all columns) ≡ r.SetOp (rel_view left.value) (rel_view right.value) except all columns
+unfolding rel_view
+view_set_op left right except all columns = ap rel_view (sym (v.rolls-SetOp left right except all columns)) ∙ fold-roll-Rel r.Rel rel_step (Rel-F.SetOp left right except all columns)
+
 pub view_rank : (input : Box Rel Global) (partition : List ℕ) (order : List SortCol) (bound : ℕ) (ranked : Bool) → rel_view (v.Rank input partition order bound ranked) ≡ r.Rank (rel_view input.value) partition order bound ranked
 unfolding rel_view
 view_rank input partition order bound ranked = ap rel_view (sym (v.rolls-Rank input partition order bound ranked)) ∙ fold-roll-Rel r.Rel rel_step (Rel-F.Rank input partition order bound ranked)

@@ -19,6 +19,7 @@ use Rattle.range_rules.proofs.laws.Groups.{groups_stay}
 use Rattle.range_rules.proofs.laws.Joins.{joins_stay}
 use Rattle.range_rules.proofs.laws.Materializes.{materializes_stay}
 use Rattle.range_rules.proofs.laws.Ranks.{topns_stay}
+use Rattle.range_rules.proofs.laws.SetOps.{set_operations_stay}
 use Rattle.run_laws.specs.Runs.{is_tame_op, is_tame_plan}
 
 -- nothing is sent
@@ -40,6 +41,7 @@ does (op.Group keys aggs) around tame = groups_stay (grouping_of keys aggs aroun
 does (op.BatchGroup keys aggs) around tame = groups_stay (grouping_of keys aggs around) tame
 does (op.Join kind on rest) around tame = joins_stay (joining_of (joins kind) on (option_map expr_view rest) around) tame
 does (op.Semi anti on rest) around tame = joins_stay (joining_of (matched anti) on (option_map expr_view rest) around) tame
+does (op.SetOp except all columns) around tame = set_operations_stay (record { except = except; all = all })
 does (op.TopN partition order bound ranked) around tame = topns_stay (ranking_of partition order bound ranked around)
 does (op.Materialize key) around tame = materializes_stay key
 does op.Sink around tame = sinks_stay (sink_of around)

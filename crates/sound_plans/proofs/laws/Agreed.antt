@@ -329,7 +329,7 @@ module _ (laws : Laws) (plan : Plan) (ruled : IsRuled plan) where
         input_sent = a.sends ∙ ap (λ m. kinds_of (mode_of m [])) n.mode;
         input_tells = a.tells ∙ (λ k. table_update (n.mode k) (n.key_is k) (out input).sent);
         input_keyed = a.keyed ∙ ap (λ o. table_keys o (length n.table.cols)) n.key_is;
-        exchanged = l.exchanged laws plan ruled v node 0 input e first ∙ ap (λ x. by_columns (asked (length (out input).columns) x 0)) is;
+        exchanged = l.exchanged laws plan ruled v node 0 input e first ∙ ap (λ x. by_columns (asked x 0)) is;
         typed =
             sym (the_same (out input).columns (out v).columns
             (sym (λ k. columns_by plan.sources (is k) (map (λ o. Some o.columns) (outs k))) ∙ l.columns_made laws plan ruled v node e));
@@ -446,7 +446,7 @@ module _ (laws : Laws) (plan : Plan) (ruled : IsRuled plan) where
     where
       before_sink : node.op ≡ op.Sink → IsKeyedBy (meaning_by (out input).edge.update) (exchange_of (out input).edge.exchange)
       before_sink is =
-          let forwards : (out input).edge.exchange ≡ Forward = l.exchanged laws plan ruled v node p input e h ∙ ap (λ x. by_columns (asked (length (out input).columns) x p)) is in
+          let forwards : (out input).edge.exchange ≡ Forward = l.exchanged laws plan ruled v node p input e h ∙ ap (λ x. by_columns (asked x p)) is in
           subst (λ x. IsKeyedBy (meaning_by (out input).edge.update) (exchange_of x)) (sym forwards) (any_forward_keyed (out input).edge.update)
 
       under : (key : List ℕ) → node.op ≡ op.Normalize key → IsKeyedBy (meaning_by (out input).edge.update) (exchange_of (out input).edge.exchange)
@@ -494,7 +494,7 @@ module _ (laws : Laws) (plan : Plan) (ruled : IsRuled plan) where
             proper = proper 0 input first;
             carries = own_carries input below f (ap sinks m);
             tells = shown_tells input below key f m;
-            forwards = l.exchanged laws plan ruled v node 0 input e first ∙ ap (λ x. by_columns (asked (length (out input).columns) x 0)) is;
+            forwards = l.exchanged laws plan ruled v node 0 input e first ∙ ap (λ x. by_columns (asked x 0)) is;
           }
 
       direct : slice_get node.inputs 0 ≡ Some input → (below : Node) → numbered plan.nodes input ≡ Some below → materializes below.op ≡ false → ComesDirect plan.sink (out input)

@@ -116,7 +116,6 @@ same_columns sources (op.Normalize key) inputs made r e = (passes_on key inputs 
 same_columns sources (op.Materialize key) inputs made r e = (passes_on key inputs made e).0
 same_columns sources (op.LocalGroup keys aggs) inputs made r e = absurd (cc)
 same_columns sources (op.MultiJoin on) inputs made r e = absurd (cc)
-same_columns sources (op.SetOp except all) inputs made r e = absurd (cc)
 same_columns sources _ inputs made r e = e
 
 has_columns : (sink : TableDef) (o : Op) (columns : Option (List ColTy)) → is_typed_by sink o columns ≡ true → (c : List ColTy) × (columns ≡ Some c)

@@ -30,7 +30,7 @@ use Rattle.sound_plans.proofs.laws.Routes.{routed}
 -- ---- an input that is asked for by columns
 
 module _ (many : ℕ) (some : 0 < many) (sink : TableDef) (o : Op) (own : Update) (port : ℕ) (columns : List ℕ) (input : Output) (is_asked : IsAsked sink o own port input)
-    (asks : asked (length input.columns) o port ≡ Some columns) where
+    (asks : asked o port ≡ Some columns) where
   pub exchanged : input.edge.exchange ≡ Hash columns
   exchanged = is_asked.exchanged ∙ ap by_columns asks
 
@@ -78,25 +78,25 @@ module _ (many : ℕ) (some : 0 < many) (sink : TableDef) (o : Op) (own : Update
 
 -- ---- each key in one channel
 
-keyed_at : (sink : TableDef) (o : Op) (own : Update) (port width : ℕ) (key : List ℕ) → takes sink o port own key ≡ true → IsKeyedBy (last_rows key) (exchange_of (by_columns (asked width o port)))
-keyed_at sink (op.Scan source) own port width key taken = tt
-keyed_at sink (op.Filter condition) own port width key taken = tt
-keyed_at sink (op.Project items) own port width key taken = tt
-keyed_at sink op.Union own port width key taken = tt
-keyed_at sink (op.Normalize columns) own port width key taken = absurd (cc)
-keyed_at sink (op.Group keys aggs) own port width key taken = absurd (cc)
-keyed_at sink (op.BatchGroup keys aggs) own port width key taken = absurd (cc)
-keyed_at sink (op.Join kind on rest) own port width key taken = lies_within (side_columns on port) key taken
-keyed_at sink (op.Semi anti on rest) own port width key taken = lies_within (side_columns on port) key taken
-keyed_at sink (op.TopN partition order bound ranked) own port width key taken = lies_within partition key taken
-keyed_at sink (op.Materialize columns) own port width key taken = absurd (cc)
-keyed_at sink op.Sink own port width key taken = tt
-keyed_at sink (op.LocalGroup keys aggs) own port width key taken = tt
-keyed_at sink (op.MultiJoin on) own port width key taken = lies_within (chain_columns on port) key taken
-keyed_at sink (op.SetOp except all) own port width key taken = absurd (cc)
+keyed_at : (sink : TableDef) (o : Op) (own : Update) (port : ℕ) (key : List ℕ) → takes sink o port own key ≡ true → IsKeyedBy (last_rows key) (exchange_of (by_columns (asked o port)))
+keyed_at sink (op.Scan source) own port key taken = tt
+keyed_at sink (op.Filter condition) own port key taken = tt
+keyed_at sink (op.Project items) own port key taken = tt
+keyed_at sink op.Union own port key taken = tt
+keyed_at sink (op.Normalize columns) own port key taken = absurd (cc)
+keyed_at sink (op.Group keys aggs) own port key taken = absurd (cc)
+keyed_at sink (op.BatchGroup keys aggs) own port key taken = absurd (cc)
+keyed_at sink (op.Join kind on rest) own port key taken = lies_within (side_columns on port) key taken
+keyed_at sink (op.Semi anti on rest) own port key taken = lies_within (side_columns on port) key taken
+keyed_at sink (op.TopN partition order bound ranked) own port key taken = lies_within partition key taken
+keyed_at sink (op.Materialize columns) own port key taken = absurd (cc)
+keyed_at sink op.Sink own port key taken = tt
+keyed_at sink (op.LocalGroup keys aggs) own port key taken = tt
+keyed_at sink (op.MultiJoin on) own port key taken = lies_within (chain_columns on port) key taken
+keyed_at sink (op.SetOp except all columns) own port key taken = absurd (cc)
 
 pub edges_are_keyed : EdgesAreKeyed
 edges_are_keyed sink o own port input is_asked =
     subst (λ exchange. IsKeyedBy (meaning_by input.edge.update) (exchange_of exchange)) (sym is_asked.exchanged)
-    (of_asked (λ update. IsKeyedBy (meaning_by update) (exchange_of (by_columns (asked (length input.columns) o port)))) sink o own port input is_asked tt tt
-    (λ key is told taken. keyed_at sink o own port (length input.columns) key taken))
+    (of_asked (λ update. IsKeyedBy (meaning_by update) (exchange_of (by_columns (asked o port)))) sink o own port input is_asked tt tt
+    (λ key is told taken. keyed_at sink o own port key taken))

@@ -52,7 +52,7 @@ use Rattle.sound_plans.proofs.laws.Routes.{left_within, one_route, right_within}
 -- ---- two inputs that are asked for by the columns of pairs
 
 module _ (many : ℕ) (some : 0 < many) (sink : TableDef) (o : Op) (on : List Pair) (left right own : Output) (left_asked : IsAsked sink o own.edge.update 0 left)
-    (right_asked : IsAsked sink o own.edge.update 1 right) (asks_left : asked (length left.columns) o 0 ≡ Some (left_pairs on)) (asks_right : asked (length right.columns) o 1 ≡ Some (right_pairs on)) where
+    (right_asked : IsAsked sink o own.edge.update 1 right) (asks_left : asked o 0 ≡ Some (left_pairs on)) (asks_right : asked o 1 ≡ Some (right_pairs on)) where
   abbrev from : ℕ → Edge
   from = edges_of many (left ∷ (right ∷ []))
 

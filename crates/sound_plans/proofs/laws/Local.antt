@@ -28,7 +28,7 @@ use Rattle.mode_infer.specs.UpdateKeys.{input_width, update_key_of, update_keys}
 use Rattle.mode_infer.specs.Updates.{is_input, is_taken, port_of, takes}
 use Rattle.plan_inferred.specs.Local.{AreOrdered, IsLocal}
 use Rattle.plan_inferred.specs.Same.{same_exchange, same_keys, same_kinds, same_sets, same_truth, same_update}
-use Rattle.plan_inferred.specs.Rules.{by_columns, exchange_by, has_old_rows, says_exchange, says_keys, says_kinds, says_update, width_at, consumer}
+use Rattle.plan_inferred.specs.Rules.{by_columns, exchange_by, has_old_rows, says_exchange, says_keys, says_kinds, says_update, consumer}
 use Rattle.plan_shape.specs.Shaped.{MeetsShape}
 use Rattle.plan_rules.specs.Columns.{columns_at, columns_by, node_columns}
 use Rattle.plan_check.specs.Sound.{inferred_of, meets}
@@ -327,19 +327,17 @@ module _ (laws : Laws) (plan : Plan) (ruled : IsRuled plan) where
       ∙ ap (λ port. takes plan.sink node.op port (told_by v node.op) key) (port_is input node.inputs p h (λ q j. s.port_once plan shape laws.shaped v node p q input e h j))
 
   pub exchanged : (v : ℕ) (node : Node) (p input : ℕ) → numbered plan.nodes v ≡ Some node → slice_get node.inputs p ≡ Some input
-      → (output_at plan input).edge.exchange ≡ by_columns (asked (length (output_at plan input).columns) node.op p)
+      → (output_at plan input).edge.exchange ≡ by_columns (asked node.op p)
   exchanged v node p input e h =
       let a = s.among plan.nodes v node e in
       let there = (s.input_there plan shape laws.shaped v node p input e h).1 in
       let edge = edge_there input there.0 there.1 in
       let its : item plan.edges input ≡ Some edge.0 = alike plan.edges input ∙ edge.1 in
       let is : consumer input plan.nodes ≡ Some node = consumer_is input plan.nodes a.place node (s.consumes plan shape laws.shaped v node p input e h a) in
-      let width = width_at (inferred_of plan) input in
-      let has : same_exchange (by_columns (asked width node.op (port_of input node.inputs))) edge.0.exchange ≡ true =
-      sym (λ k. says_exchange (exchange_by width input (is k)) (its k)) ∙ met rule.Exchanged input there.0 there.1 in
-      ap (λ (x : PlanEdge). x.exchange) (ap edge_or edge.1) ∙ sym (exchange_same (by_columns (asked width node.op (port_of input node.inputs))) edge.0.exchange has)
-      ∙ ap (λ port. by_columns (asked width node.op port)) (port_is input node.inputs p h (λ q j. s.port_once plan shape laws.shaped v node p q input e h j))
-      ∙ ap (λ w. by_columns (asked w node.op p)) (ap length (inferred_same input there.0 there.1))
+      let has : same_exchange (by_columns (asked node.op (port_of input node.inputs))) edge.0.exchange ≡ true =
+      sym (λ k. says_exchange (exchange_by input (is k)) (its k)) ∙ met rule.Exchanged input there.0 there.1 in
+      ap (λ (x : PlanEdge). x.exchange) (ap edge_or edge.1) ∙ sym (exchange_same (by_columns (asked node.op (port_of input node.inputs))) edge.0.exchange has)
+      ∙ ap (λ port. by_columns (asked node.op port)) (port_is input node.inputs p h (λ q j. s.port_once plan shape laws.shaped v node p q input e h j))
 
   no_consumer : (v : ℕ) (later : List Node) → ((n : ℕ) (node : Node) → slice_get later n ≡ Some node → is_input v node.inputs ≡ false) → consumer v later ≡ None
   no_consumer v [] h = refl
@@ -350,7 +348,7 @@ module _ (laws : Laws) (plan : Plan) (ruled : IsRuled plan) where
   forwards_alone v node e none =
       let edge = edge_there v node e in
       let its : item plan.edges v ≡ Some edge.0 = alike plan.edges v ∙ edge.1 in
-      let has : same_exchange Forward edge.0.exchange ≡ true = sym (λ k. says_exchange (exchange_by (width_at (inferred_of plan) v) v (none k)) (its k)) ∙ met rule.Exchanged v node e in
+      let has : same_exchange Forward edge.0.exchange ≡ true = sym (λ k. says_exchange (exchange_by v (none k)) (its k)) ∙ met rule.Exchanged v node e in
       ap (λ (x : PlanEdge). x.exchange) (ap edge_or edge.1) ∙ sym (exchange_same Forward edge.0.exchange has)
 
   -- such is the last

@@ -23,7 +23,7 @@ use Rattle.sound_plans.proofs.laws.Updates.{meaning_full, kinds_full, told_untak
 
 -- an input is exchanged as its consumer asks for it, and told in full or by the new rows of its update key
 module _ (sink : TableDef) (o : Op) (own : Update) (port : ℕ) (input : Output) (asks : IsAsked sink o own port input) where
-  pub comes_by : (columns : Option (List ℕ)) → asked (length input.columns) o port ≡ columns → input.edge.exchange ≡ by_columns columns
+  pub comes_by : (columns : Option (List ℕ)) → asked o port ≡ columns → input.edge.exchange ≡ by_columns columns
   comes_by columns e = asks.exchanged ∙ ap by_columns e
 
   pub comes_full : taken_by sink o port own input.update_key ≡ false → input.edge.update ≡ in_full input.sent

@@ -23,6 +23,8 @@ use Rattle.emission_rules.proofs.laws.GroupFacts.{group_stands as groups_stand}
 use Rattle.emission_rules.proofs.laws.Theorems.{groups_take}
 use Rattle.emission_rules.specs.Joining.{joins, matched}
 use Rattle.emission_rules.proofs.laws.Nodes.{joins_stand, joins_take}
+use Rattle.emission_rules.specs.SetOps.{SetOperation}
+use Rattle.emission_rules.proofs.laws.SetFacts.{set_operations_stand, set_operations_take}
 use Rattle.emission_rules.specs.Ranking.{topn_rule}
 use Rattle.emission_rules.specs.TopFits.{topn_task}
 use Rattle.emission_rules.proofs.laws.TopFacts.{topn_stands, topn_takes}
@@ -30,6 +32,7 @@ use Rattle.phys_plan.specs.declared.node.Node.{Node}
 use Rattle.phys_plan.specs.declared.node.Op.{Op}
 use Rattle.phys_plan.specs.declared.node.Op.TheVariants as op
 use Rattle.phys_plan.specs.declared.plan.Plan.{Plan}
+use Rattle.column_sets.specs.Places.{first_columns}
 use Rattle.stream_model.specs.Network.{task, ScanFacts}
 use Rattle.stream_model.proofs.laws.Theorems.{scans_stand}
 use Rattle.plan_rules.specs.Plans.{inputs_in, scan_of, table_of}
@@ -50,6 +53,7 @@ use Rattle.sound_plans.proofs.laws.Materializes.{materializes_fit}
 use Rattle.sound_plans.proofs.laws.Groups.{as_group, groups_fit}
 use Rattle.sound_plans.proofs.laws.Joins.{joins_fit, semis_fit}
 use Rattle.sound_plans.proofs.laws.TopN.{topns_fit}
+use Rattle.sound_plans.proofs.laws.SetOps.{set_operations_fit}
 use Rattle.sound_plans.proofs.laws.Sinks.{sinks_fit}
 use Rattle.sound_plans.proofs.laws.Scans.{scans_fit}
 use Rattle.sound_plans.proofs.laws.Inputs.{facts_of_ports, takes_by_ports, takes_of_ports}
@@ -142,6 +146,17 @@ module _ (many : ℕ) (some : 0 < many) (sources : List TableDef) (sink : TableD
       let f = semis_fit many some sources sink anti on rest left right own agrees in
       let j = joining_of (matched anti) on (option_map expr_view rest) (around_by sink (left ∷ (right ∷ [])) own) in
       ((joins_stand many j (edges_of many (left ∷ (right ∷ []))) (edge_of many own) f.0, joins_take many j (edges_of many (left ∷ (right ∷ []))) (edge_of many own) f.0), f.1)
+
+  set_works : (except all : Bool) (columns : ℕ) (left right own : Output) → Agrees sources sink (op.SetOp except all columns) (left ∷ (right ∷ [])) own → Works (op.SetOp except all columns) (left ∷ (right ∷ [])) own
+  set_works except all columns left right own agrees =
+      let f = set_operations_fit many some sources sink except all columns left right own agrees in
+      let operation : SetOperation = record { except = except; all = all } in (
+        (
+          set_operations_stand many operation (first_columns columns) left.columns right.columns (edges_of many (left ∷ (right ∷ []))) (edge_of many own) f.0,
+          set_operations_take many operation (first_columns columns) left.columns right.columns (edges_of many (left ∷ (right ∷ []))) (edge_of many own) f.0,
+        ),
+        f.1,
+      )
 
   rank_works : (partition : List ℕ) (order : List SortCol) (bound : ℕ) (ranked : Bool) (input own : Output) → Agrees sources sink (op.TopN partition order bound ranked) (input ∷ []) own → Works (op.TopN partition order bound ranked) (input ∷ []) own
   rank_works partition order bound ranked input own agrees =
@@ -406,7 +421,7 @@ module _ (laws : Laws) (plan : Plan) (ruled : IsRuled plan) where
   by_op v node e proper (op.BatchGroup keys aggs) is r = one v node e (op.BatchGroup keys aggs) is (λ n. refl) refl refl refl refl refl proper (bundles_work plan.parallelism some plan.sources plan.sink keys aggs)
   by_op v node e proper (op.LocalGroup keys aggs) is r = absurd (cc)
   by_op v node e proper (op.MultiJoin on) is r = absurd (cc)
-  by_op v node e proper (op.SetOp except all) is r = absurd (cc)
+  by_op v node e proper (op.SetOp except all columns) is r = two v node e (op.SetOp except all columns) is (λ n. refl) refl refl refl refl refl proper (set_works plan.parallelism some plan.sources plan.sink except all columns)
 
   -- by the numbers below a bound
   up_to : (bound v : ℕ) (node : Node) → v < bound → numbered plan.nodes v ≡ Some node → NodeStands v node

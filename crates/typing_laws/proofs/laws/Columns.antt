@@ -5,9 +5,10 @@ use Rattle.std.specs.List.{AllByRecursion}
 use Rattle.ct_value.specs.declared.ty.ColTy.{ColTy}
 use Rattle.ct_expr.specs.Types.{both_of}
 use Rattle.rel_algebra.specs.Rel.{Rel, Rels, Scan, One, Two, Many, no_rels, rel_and}
+use Rattle.rel_algebra.specs.declared.sets.SetKind.TheVariants.{Union}
 use Rattle.rel_algebra.specs.Types.{common_columns, unary_columns, binary_columns, columns_of, common_from}
 use Rattle.typing_laws.specs.Exist.{Exist}
-use Rattle.typing_laws.proofs.laws.Exists.{FineList, list_then, list_both, common_lists}
+use Rattle.typing_laws.proofs.laws.Exists.{FineList, list_then, list_both, set_lists}
 use Rattle.typing_laws.proofs.laws.Operators.{unary_types, binary_types}
 
 tables_fine : (tables : List (List ColTy)) (n : ℕ) → AllByRecursion Exist tables → FineList (slice_get tables n)
@@ -26,7 +27,7 @@ module _ (tables : List (List ColTy)) (exist : AllByRecursion Exist tables) wher
 
     fine_from : (o : Option (List ColTy)) (inputs : Rels) → FineList o → FineList (common_from tables o inputs)
     fine_from o no_rels h = h
-    fine_from o (rel_and input inputs) h = fine_from (both_of common_columns o (columns_of tables input)) inputs (list_both common_columns common_lists o (columns_of tables input) h (fine_tree input))
+    fine_from o (rel_and input inputs) h = fine_from (both_of common_columns o (columns_of tables input)) inputs (list_both common_columns (set_lists Union) o (columns_of tables input) h (fine_tree input))
 
   at_some : (o : Option (List ColTy)) (cols : List ColTy) → FineList o → o ≡ Some cols → Exist cols
   at_some None cols h e = absurd (cc (e))

@@ -20,7 +20,9 @@ use Rattle.rel_algebra.specs.Aggregates.{sum_type, avg_type, column_if, call_typ
 use Rattle.rel_algebra.specs.Groups.{group_columns}
 use Rattle.rel_algebra.specs.Joins.{nullable_if}
 use Rattle.rel_algebra.specs.Ranks.{rank_columns, rank_column}
-use Rattle.rel_algebra.specs.Types.{columns_if, item_columns, common_column, common_columns}
+use Rattle.rel_algebra.specs.declared.sets.SetKind.{SetKind}
+use Rattle.rel_algebra.specs.Sets.{set_nullable, set_column, set_columns}
+use Rattle.rel_algebra.specs.Types.{columns_if, item_columns}
 use Rattle.typing_laws.specs.Exist.{Exist}
 
 -- ---- types
@@ -289,11 +291,11 @@ common_one : (nullable : Bool) (o : Option Ty) → FineTy o → Fine (option_map
 common_one nullable None h = tt
 common_one nullable (Some ty) h = h
 
-pub common_lists : (xs ys : List ColTy) → Exist xs → Exist ys → FineList (common_columns xs ys)
-common_lists [] [] h k = tt
-common_lists [] (y ∷ ys) h k = tt
-common_lists (x ∷ xs) [] h k = tt
-common_lists (x ∷ xs) (y ∷ ys) h k = beside (common_column x y) (common_columns xs ys) (common_one (x.nullable || y.nullable) (common_ty x.ty y.ty) (common_fine x.ty y.ty h.0 k.0)) (common_lists xs ys h.1 k.1)
+pub set_lists : (kind : SetKind) (xs ys : List ColTy) → Exist xs → Exist ys → FineList (set_columns kind xs ys)
+set_lists kind [] [] h k = tt
+set_lists kind [] (y ∷ ys) h k = tt
+set_lists kind (x ∷ xs) [] h k = tt
+set_lists kind (x ∷ xs) (y ∷ ys) h k = beside (set_column kind x y) (set_columns kind xs ys) (common_one (set_nullable kind x y) (common_ty x.ty y.ty) (common_fine x.ty y.ty h.0 k.0)) (set_lists kind xs ys h.1 k.1)
 
 fine_column_if : (test : Bool) (c : ColTy) → is_type c.ty ≡ true → Fine (column_if test c)
 fine_column_if true c h = h
@@ -339,7 +341,7 @@ behind_key : (key : List ColTy) (o : Option (List ColTy)) → Exist key → Fine
 behind_key key None h k = tt
 behind_key key (Some results) h k = exist-append key results h k
 
-list_where : (test : Bool) (o : Option (List ColTy)) → FineList o → FineList (cond test o None)
+pub list_where : (test : Bool) (o : Option (List ColTy)) → FineList o → FineList (cond test o None)
 list_where true o h = h
 list_where false o h = tt
 

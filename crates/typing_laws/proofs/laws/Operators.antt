@@ -1,5 +1,5 @@
 -- What is known of each operator of the algebra: its columns have types that exist, and the rows that it makes have its columns.
-use Rattle.std.proofs.Common.{◌≡◌, ℕ, ◌<◌, ◌^◌, Bool, true, false, cond, List, map, Some, None, refl, subst, arith}
+use Rattle.std.proofs.Common.{◌≡◌, ℕ, ◌<◌, ◌^◌, ◌==◌, true, List, length, map, Some, subst, arith}
 use Rattle.std.specs.Prelude.{nat_le, option_map}
 use Rattle.std.specs.List.{list_all}
 use Rattle.std.proofs.lemmas.Bool.{leb-true}
@@ -11,18 +11,16 @@ use Rattle.rel_algebra.specs.Sums.{Each}
 use Rattle.rel_algebra.specs.Clauses.{Fits}
 use Rattle.rel_algebra.specs.Joins.{nullable_if, matching, join_columns, keeps_left, keeps_right}
 use Rattle.rel_algebra.specs.Ranks.{rank_columns}
-use Rattle.rel_algebra.specs.Rel.{Unary, filter_by, project_on, group_by, rank_in, Binary, join_on, semi_on}
+use Rattle.rel_algebra.specs.Sets.{set_form, set_kind, set_rows, set_columns}
+use Rattle.rel_algebra.specs.Rel.{Unary, filter_by, project_on, group_by, rank_in, Binary, join_on, semi_on, set_by}
 use Rattle.rel_algebra.specs.Batch.{unary_answer, binary_answer}
 use Rattle.rel_algebra.specs.Types.{is_condition, match_fits, rank_fits as rank_is_typed, largest_bound, is_column, unary_columns, binary_columns}
 use Rattle.rel_algebra.proofs.laws.ClauseTypes.{filter_fits, project_fits, join_fits, semi_fits, group_fits, rank_fits}
 use Rattle.rel_algebra.proofs.laws.Fits.{second}
 use Rattle.typing_laws.specs.Exist.{Exist}
-use Rattle.typing_laws.proofs.laws.Exists.{FineList, exist-append, exist_nullable, list_if, items_fine, group_fine, rank_fine}
+use Rattle.typing_laws.proofs.laws.CommonColumns.{if_some, if_all, set_rows_fit}
+use Rattle.typing_laws.proofs.laws.Exists.{FineList, exist-append, exist_nullable, list_if, list_where, items_fine, group_fine, rank_fine, set_lists}
 use Rattle.typing_laws.proofs.laws.Items.{items_mean}
-
-pub if_some : {A : Type 0} (test : Bool) (a b : A) → cond test (Some a) None ≡ Some b → (test ≡ true) × (a ≡ b)
-if_some true a b e = (refl, cc)
-if_some false a b e = absurd (cc)
 
 few : (bound : ℕ) → nat_le bound largest_bound ≡ true → bound < 2 ^ 63
 few bound e = let h = leb-true bound largest_bound e in omega arith
@@ -74,4 +72,11 @@ binary_types (semi_on anti pairs rest) = record {
   fits = λ l r columns left right made t h k e.
       let i = (if_some (match_fits l r pairs rest) l columns t).1 in
       semi_fits anti columns (matching pairs (option_map eval rest)) left right made (subst (λ c. Each (Fits c) left) i h) e;
+}
+binary_types (set_by except all columns) = record {
+  exist = λ l r h k. list_where (length l == columns) (set_columns (set_kind except) l r) (set_lists (set_kind except) l r h k);
+  fits = λ l r made left right rows t h k e.
+      let i = (if_all (length l == columns) (set_columns (set_kind except) l r) made t).1 in
+      let j : set_rows (set_form except all) left right ≡ rows = cc in
+      subst (λ (c : Rows). Each (Fits made) c) j (set_rows_fit except all l r made left right i h k);
 }

@@ -6,14 +6,14 @@ use Rattle.ct_expr.specs.declared.evaluate.EvalFault.{EvalFault}
 use Rattle.ct_change.specs.Changelog.{Rows}
 use Rattle.rel_algebra.specs.Sums.{together}
 use Rattle.rel_algebra.specs.declared.rel.Rel.{Rel as Tree}
-use Rattle.rel_algebra.specs.Rel.{project_on, group_by, rank_in, join_on, semi_on, Rel, Union, Project, Group, Join, Semi, Rank, rels}
+use Rattle.rel_algebra.specs.Rel.{project_on, group_by, rank_in, join_on, semi_on, set_by, Rel, Union, Project, Group, Join, Semi, SetOp, Rank, rels}
 use Rattle.rel_algebra.specs.View.{rel_view, rels_view}
 use Rattle.batch_answer.specs.Tallies.{Unfit}
 use Rattle.batch_answer.specs.Parts.{IsFew, IsPart, IsAnswered, IsLost}
 use Rattle.batch_answer.specs.Tables.{tables_of}
 use Rattle.batch_answer.proofs.Inputs.{from, from_more, from_end, inputs-start, input-typed, input-lost, sum-lost, inputs-turn, inputs-end}
 use Rattle.batch_answer.proofs.Makings.{node-lost, left-node-lost, right-node-lost}
-use Rattle.batch_answer.proofs.Views.{project-view, group-view, rank-view, join-view, semi-view}
+use Rattle.batch_answer.proofs.Views.{project-view, group-view, rank-view, join-view, semi-view, set-view}
 use Rattle.batch_answer.proofs.walk.+part_of.Goals as goal
 
 pub part_of-returns-in_err-part-in-Project-clause-out : goal.part_of-returns-in_err-part-in-Project-clause-out
@@ -205,3 +205,41 @@ union_part-returns-clause-value t c =
     λ typed. subst (λ (rows : Rows). IsPart tables (Union whole) c.whole_part.result.columns rows) (sym c.whole_part.ensures.rows)
     (inputs-end tables whole (from inputs i) c.loop-input.columns c.loop-input.rows c.whole_part.result.columns (from_end inputs i c.loop-input-test.false) (c.loop-input.invariant typed) typed
     (subst (λ (rows : Rows). IsFew rows) c.whole_part.ensures.rows c.whole_part.ensures.few) c.whole_part.ensures.columns)
+
+pub part_of-returns-in_err-left-in-SetOp-clause-out : goal.part_of-returns-in_err-left-in-SetOp-clause-out
+part_of-returns-in_err-left-in-SetOp-clause-out t c =
+    let tables = tables_of c.args.types.now c.args.tables.now in
+    let left : Tree = c.deref-in-SetOp.result.now in
+    let right : Tree = c.in-SetOp.right.value in
+    let node : Rel = SetOp (rel_view left) (rel_view right) c.in-SetOp.except c.in-SetOp.all c.in-SetOp.columns in
+    let view : rel_view c.args.rel.now ≡ node = set-view c.args.rel.now c.in-SetOp.left left c.deref-in-SetOp.ensures c.in-SetOp.right right refl c.in-SetOp.except c.in-SetOp.all c.in-SetOp.columns c.in-SetOp.is in
+    let lost : IsErrOf c.from_residual-in_err-left-in-SetOp.result EvalFault.Out → IsLost tables (rel_view left) = search rules in
+    λ e. subst (λ (rel : Rel). IsLost tables rel) (sym view) (left-node-lost (set_by c.in-SetOp.except c.in-SetOp.all c.in-SetOp.columns) tables (rel_view left) (rel_view right) (lost e))
+
+pub part_of-returns-in_err-right-in-SetOp-clause-out : goal.part_of-returns-in_err-right-in-SetOp-clause-out
+part_of-returns-in_err-right-in-SetOp-clause-out t c =
+    let tables = tables_of c.args.types.now c.args.tables.now in
+    let left : Tree = c.deref-in-SetOp.result.now in
+    let right : Tree = c.deref-in-SetOp-2.result.now in
+    let node : Rel = SetOp (rel_view left) (rel_view right) c.in-SetOp.except c.in-SetOp.all c.in-SetOp.columns in
+    let view : rel_view c.args.rel.now ≡ node = set-view c.args.rel.now c.in-SetOp.left left c.deref-in-SetOp.ensures c.in-SetOp.right right c.deref-in-SetOp-2.ensures c.in-SetOp.except c.in-SetOp.all c.in-SetOp.columns c.in-SetOp.is in
+    let lost : IsErrOf c.from_residual-in_err-right-in-SetOp.result EvalFault.Out → IsLost tables (rel_view right) = search rules in
+    λ e. subst (λ (rel : Rel). IsLost tables rel) (sym view) (right-node-lost (set_by c.in-SetOp.except c.in-SetOp.all c.in-SetOp.columns) tables (rel_view left) (rel_view right) (lost e))
+
+pub part_of-returns-in_ok-right-in-SetOp-clause-value : goal.part_of-returns-in_ok-right-in-SetOp-clause-value
+part_of-returns-in_ok-right-in-SetOp-clause-value t c =
+    let tables = tables_of c.args.types.now c.args.tables.now in
+    let left : Tree = c.deref-in-SetOp.result.now in
+    let right : Tree = c.deref-in-SetOp-2.result.now in
+    let node : Rel = SetOp (rel_view left) (rel_view right) c.in-SetOp.except c.in-SetOp.all c.in-SetOp.columns in
+    let view : rel_view c.args.rel.now ≡ node = set-view c.args.rel.now c.in-SetOp.left left c.deref-in-SetOp.ensures c.in-SetOp.right right c.deref-in-SetOp-2.ensures c.in-SetOp.except c.in-SetOp.all c.in-SetOp.columns c.in-SetOp.is in
+    IfOk-weaker c.set_part.result _ _ (λ part makes. subst (λ (rel : Rel). IsAnswered tables rel part.columns part.rows) (sym view) (makes tables (rel_view left) (rel_view right) c.in_ok-left-in-SetOp.ensures.value c.in_ok-right-in-SetOp.ensures.value)) c.set_part.ensures.value
+
+pub part_of-returns-in_ok-right-in-SetOp-clause-out : goal.part_of-returns-in_ok-right-in-SetOp-clause-out
+part_of-returns-in_ok-right-in-SetOp-clause-out t c =
+    let tables = tables_of c.args.types.now c.args.tables.now in
+    let left : Tree = c.deref-in-SetOp.result.now in
+    let right : Tree = c.deref-in-SetOp-2.result.now in
+    let node : Rel = SetOp (rel_view left) (rel_view right) c.in-SetOp.except c.in-SetOp.all c.in-SetOp.columns in
+    let view : rel_view c.args.rel.now ≡ node = set-view c.args.rel.now c.in-SetOp.left left c.deref-in-SetOp.ensures c.in-SetOp.right right c.deref-in-SetOp-2.ensures c.in-SetOp.except c.in-SetOp.all c.in-SetOp.columns c.in-SetOp.is in
+    λ e. subst (λ (rel : Rel). IsLost tables rel) (sym view) (c.set_part.ensures.out e tables (rel_view left) (rel_view right) c.in_ok-left-in-SetOp.ensures.value c.in_ok-right-in-SetOp.ensures.value)

@@ -6,7 +6,7 @@ use Rattle.bind_clauses.proofs.selects.united.Given as goal
 abbrev pub invariant-columns : goal.invariant-columns
 invariant-columns l = record {
   equal : length l.first ≡ length l.second;
-  same : q.united l.first l.second ≡ behind l.scope (q.united (drop l.place l.first) (drop l.place l.second));
+  same : q.united_by l.kind l.first l.second ≡ behind l.scope (q.united_by l.kind (drop l.place l.first) (drop l.place l.second));
 }
 
 abbrev pub decreases-columns : goal.decreases-columns

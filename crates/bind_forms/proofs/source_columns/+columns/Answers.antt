@@ -2,7 +2,7 @@ use Rattle.std.proofs.Common.{rules, ◌≡◌, ◌+◌, true, false, sym, ◌�
 use Rattle.sql_syntax.specs.View.{source_view}
 use Rattle.query_answer.specs.SourceColumns.{source_has}
 use Rattle.bind_forms.specs.Meant.{meant_by}
-use Rattle.bind_forms.proofs.Owns.{by_selects, joins_more, joins_yes}
+use Rattle.bind_forms.proofs.Owns.{by_first, joins_more, joins_yes}
 use Rattle.bind_forms.proofs.source_columns.+columns.Goals as goal
 
 pub joins_have-returns-then-source_has : goal.joins_have-returns-then-source_has
@@ -24,4 +24,4 @@ joins_have-loop-join-preserved u c =
     c.loop-join.invariant ∙ joins_more S M name c.as_slice-join-items.result.now c.loop-join.join-index x (omega arith) c.join-item.is h
 
 pub query_has-returns : goal.query_has-returns
-query_has-returns u c = c.selects_have.ensures ∙ sym (by_selects c.args.sources.now c.args.name.now c.args.query.now)
+query_has-returns u c = c.select_has.ensures ∙ sym (by_first c.args.sources.now c.args.name.now c.args.query.now)

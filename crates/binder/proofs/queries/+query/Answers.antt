@@ -1,105 +1,163 @@
-use Rattle.std.proofs.Common.{rules, ◌≡◌, ◌==◌, ◌+◌, ◌≤◌, ◌++◌, ◌∷◌, [], length, drop, true, false, Some, None, Ok, Err, ap, sym, subst, ◌∙◌, arith}
+use Rattle.std.proofs.Common.{rules, ◌≡◌, ◌==◌, ◌+◌, ◌++◌, length, drop, true, false, Some, None, Ok, Err, ap, sym, subst, ◌∙◌, arith}
 use Rattle.std.specs.Prelude.{cond, IfOk}
 use Rattle.std.proofs.lemmas.List.{map-append}
 use Rattle.ct_value.specs.declared.codes.ScriptCode.TheVariants.{Unsupported}
-use Rattle.sql_syntax.specs.declared.tree.Args.TheViews.{out-Query, out-Select}
+use Rattle.sql_syntax.specs.declared.tree.Args.TheViews.{out-Query, out-Select, out-SelectTail, out-Term, out-TermTail}
 use Rattle.sql_syntax.specs.declared.tree.Query.{Query}
 use Rattle.sql_syntax.specs.Tree as t
+use Rattle.query_answer.specs.Forms.{is_plain, is_sole}
 use Rattle.query_answer.specs.Joins.{kind_of}
-use Rattle.rel_algebra.specs.View.{rel_view, rels_view}
-use Rattle.sql_syntax.specs.View.{query_view, select_view, selects_view, sorts_view, source_view, view}
+use Rattle.sql_syntax.specs.View.{query_view, select_view, sorts_view, source_view, term_tails_view, term_view, view}
 use Rattle.sql_syntax.proofs.laws.Views.{source_sub}
-use Rattle.query_answer.specs.Ranks.{ranked_select}
+use Rattle.query_answer.specs.Ranks.{ranked_query}
 use Rattle.binding.specs.Checked.{Checked, ◌>>=◌}
-use Rattle.binding.specs.Queries.{Framed, Relation, gathered_bound, is_plain, joined, parts_bound, query_bound, renamed, select_bound, source_bound}
-use Rattle.bind_clauses.specs.Views.{relation_view}
-use Rattle.binder.specs.Steps.{all_bound, common_scope, from_list, joined_framed, left_bound, only_framed, only_select, selects_framed, spent_behind, spent_here, union_of_rest, unless_ordered, whole_union}
-use Rattle.binder.proofs.BySelects.{by_query, Ordered}
+use Rattle.binding.specs.Queries.{Framed, Part, Relation, begun, beside_bound, by_word, closed, gathered_bound, joined, operated, parts_bound, query_bound, renamed, select_bound, source_bound, term_bound}
+use Rattle.bind_clauses.specs.Views.{relation_view, run_view}
+use Rattle.binder.specs.Steps.{exists_simple, from_list, joined_framed, left_bound, only_framed, only_part, spent_behind, spent_here, unless_ordered}
+use Rattle.binder.proofs.Exists.{by_exists}
 use Rattle.binder.proofs.Joins.{join_refused, join_turn, source_refused}
 use Rattle.bind_nested.specs.PartViews.{outside_view, part_view, parts_view}
-use Rattle.binder.proofs.Unions.{rest_end, rest_failed, rest_refused, rest_turn, two_or_more}
+use Rattle.binder.proofs.Members.{in_query}
+use Rattle.binder.proofs.Terms.{Ordered, by_query, by_term, intersect_refused, intersect_turn, select_refused, selects_left, term_refused, word_refused, word_turn}
 use Rattle.bind_forms.specs.Views.{ranked_view}
 use Rattle.bind_nested.specs.RankViews.{framed_view}
 use Rattle.binder.specs.Views.{from_where_view}
-use Rattle.binder.proofs.OnlySources.{alone, not_alone, ordered, plain_query, ranked, read_joined, read_only, under}
+use Rattle.binder.proofs.OnlySources.{ranked, read_joined, read_only, under, unranked}
 use Rattle.binder.proofs.Lefts.{left_failed, left_from, left_turn}
 use Rattle.binder.proofs.Wheres.{behind, parts_turn}
 use Rattle.binder.proofs.queries.+query.Goals as goal
 
-pub bind_query-returns-in_err-relation-clause-refused : goal.bind_query-returns-in_err-relation-clause-refused
-bind_query-returns-in_err-relation-clause-refused u c = λ code e.
+pub bind_query-returns-in_err-first-clause-refused : goal.bind_query-returns-in_err-first-clause-refused
+bind_query-returns-in_err-first-clause-refused u c = λ code e.
+    let F = c.args.free in
+    let S = c.args.sources.now in
     let x = out-Query c.args.query.now in
-    let h : all_bound c.args.free c.args.sources.now (t.selects (selects_view x.selects)) ≡ Err code = search rules in
-    by_query c.args.free c.args.sources.now c.args.query.now ∙ ap (λ r. r >>= unless_ordered (t.sort_list (sorts_view x.order)) x.limit) h
+    let ts = t.term_tails (term_tails_view x.rest) in
+    let ends = unless_ordered (t.sort_list (sorts_view x.order)) x.limit in
+    let h : term_bound F S (term_view x.first) ≡ Err code = search rules in
+    by_query F S c.args.query.now ∙ ap (λ r. r >>= λ y. beside_bound F S ts (begun y) >>= ends) h
+
+pub bind_query-returns-in_err-run-clause-refused : goal.bind_query-returns-in_err-run-clause-refused
+bind_query-returns-in_err-run-clause-refused u c = λ code e.
+    let F = c.args.free in
+    let S = c.args.sources.now in
+    let x = out-Query c.args.query.now in
+    let ts = t.term_tails (term_tails_view x.rest) in
+    let ends = unless_ordered (t.sort_list (sorts_view x.order)) x.limit in
+    let a = relation_view c.in_ok-first.first in
+    let h : term_bound F S (term_view x.first) ≡ Ok a = search rules in
+    let begins : run_view c.begun.result ≡ begun a = search rules in
+    let k : beside_bound F S ts (run_view c.begun.result) ≡ Err code = search rules in
+    by_query F S c.args.query.now ∙ ap (λ r. r >>= λ y. beside_bound F S ts (begun y) >>= ends) h ∙ ap (λ r. r >>= ends) (ap (beside_bound F S ts) (sym begins) ∙ k)
 
 pub bind_query-returns-in_err-refuse_ordered-clause-refused : goal.bind_query-returns-in_err-refuse_ordered-clause-refused
 bind_query-returns-in_err-refuse_ordered-clause-refused u c = λ code e.
+    let F = c.args.free in
+    let S = c.args.sources.now in
     let x = out-Query c.args.query.now in
-    let a = relation_view c.in_ok-relation.relation in
-    let h : all_bound c.args.free c.args.sources.now (t.selects (selects_view x.selects)) ≡ Ok a = search rules in
+    let ts = t.term_tails (term_tails_view x.rest) in
+    let ends = unless_ordered (t.sort_list (sorts_view x.order)) x.limit in
+    let a = relation_view c.in_ok-first.first in
+    let h : term_bound F S (term_view x.first) ≡ Ok a = search rules in
+    let begins : run_view c.begun.result ≡ begun a = search rules in
+    let run = run_view c.in_ok-run.run' in
+    let k : beside_bound F S ts (run_view c.begun.result) ≡ Ok run = search rules in
     let ordered : Ordered (t.sort_list (sorts_view x.order)) x.limit code = search rules in
-    by_query c.args.free c.args.sources.now c.args.query.now ∙ ap (λ r. r >>= unless_ordered (t.sort_list (sorts_view x.order)) x.limit) h ∙ ap (λ b. cond b (Ok a) (Err Unsupported)) ordered.0 ∙ ap Err (sym ordered.1)
+    by_query F S c.args.query.now ∙ ap (λ r. r >>= λ y. beside_bound F S ts (begun y) >>= ends) h ∙ ap (λ r. r >>= ends) (ap (beside_bound F S ts) (sym begins) ∙ k)
+    ∙ ap (λ b. cond b (Ok (closed run)) (Err Unsupported)) ordered.0 ∙ ap Err (sym ordered.1)
 
 pub bind_query-returns-clause-ok : goal.bind_query-returns-clause-ok
 bind_query-returns-clause-ok u c =
+    let F = c.args.free in
+    let S = c.args.sources.now in
     let x = out-Query c.args.query.now in
-    let a = relation_view c.in_ok-relation.relation in
-    let h : all_bound c.args.free c.args.sources.now (t.selects (selects_view x.selects)) ≡ Ok a = search rules in
+    let ts = t.term_tails (term_tails_view x.rest) in
+    let ends = unless_ordered (t.sort_list (sorts_view x.order)) x.limit in
+    let a = relation_view c.in_ok-first.first in
+    let h : term_bound F S (term_view x.first) ≡ Ok a = search rules in
+    let begins : run_view c.begun.result ≡ begun a = search rules in
+    let run = run_view c.in_ok-run.run' in
+    let k : beside_bound F S ts (run_view c.begun.result) ≡ Ok run = search rules in
     let plain : is_plain (t.sort_list (sorts_view x.order)) x.limit ≡ true = search rules in
-    by_query c.args.free c.args.sources.now c.args.query.now ∙ ap (λ r. r >>= unless_ordered (t.sort_list (sorts_view x.order)) x.limit) h ∙ ap (λ b. cond b (Ok a) (Err Unsupported)) plain
+    let all : relation_view c.in_ok-closed.field-0 ≡ closed run = search rules in
+    by_query F S c.args.query.now ∙ ap (λ r. r >>= λ y. beside_bound F S ts (begun y) >>= ends) h ∙ ap (λ r. r >>= ends) (ap (beside_bound F S ts) (sym begins) ∙ k)
+    ∙ ap (λ b. cond b (Ok (closed run)) (Err Unsupported)) plain ∙ ap Ok (sym all)
 
-pub bind_selects-returns-in-len2-up-clause-refused : goal.bind_selects-returns-in-len2-up-clause-refused
-bind_selects-returns-in-len2-up-clause-refused u c = λ code e.
-    let several : 2 ≤ length c.args.selects.now = omega (arith, ap length c.as_slice.ensures, c.in-len2-up.len_at_least) in
-    two_or_more c.args.free c.args.sources.now c.args.selects.now several ∙ c.bind_union.ensures.refused code e
+pub bind_beside-returns-in_err-term-clause-refused : goal.bind_beside-returns-in_err-term-clause-refused
+bind_beside-returns-in_err-term-clause-refused u c = λ code e.
+    let xs = c.as_slice-tail-items.result.now in
+    let x = c.tail-item.result in
+    let k : term_bound c.args.free c.args.sources.now (term_view (out-TermTail x).term) ≡ Err code = search rules in
+    term_refused c.args.free c.args.sources.now _ xs c.loop-tail.tail-index (run_view c.loop-tail.run) c.loop-tail.invariant x code (omega arith) c.tail-item.is k
 
-pub bind_selects-returns-in-len2-up-clause-ok : goal.bind_selects-returns-in-len2-up-clause-ok
-bind_selects-returns-in-len2-up-clause-ok u c =
-    let several : 2 ≤ length c.args.selects.now = omega (arith, ap length c.as_slice.ensures, c.in-len2-up.len_at_least) in
-    subst (λ (v : Checked Relation). IfOk c.bind_union.result (λ x. v ≡ Ok (relation_view x))) (sym (two_or_more c.args.free c.args.sources.now c.args.selects.now several)) c.bind_union.ensures.ok
+pub bind_beside-returns-in_err-run-clause-refused : goal.bind_beside-returns-in_err-run-clause-refused
+bind_beside-returns-in_err-run-clause-refused u c = λ code e.
+    let xs = c.as_slice-tail-items.result.now in
+    let x = c.tail-item.result in
+    let y = relation_view c.in_ok-term.term in
+    let k : term_bound c.args.free c.args.sources.now (term_view (out-TermTail x).term) ≡ Ok y = search rules in
+    let h : by_word (out-TermTail x).word (run_view c.loop-tail.run) y ≡ Err code = search rules in
+    word_refused c.args.free c.args.sources.now _ xs c.loop-tail.tail-index (run_view c.loop-tail.run) c.loop-tail.invariant x y code (omega arith) c.tail-item.is k h
 
-pub bind_union-returns-in_err-relation-clause-refused : goal.bind_union-returns-in_err-relation-clause-refused
-bind_union-returns-in_err-relation-clause-refused u c = λ code e.
-    let xs = c.as_slice-select-items.result.now in
-    let x = c.select-item.result in
-    let k : select_bound c.args.free c.args.sources.now (select_view x) ≡ Err code = search rules in
-    rest_failed c.args.free c.args.sources.now (rels_view c.loop-select.inputs) _ xs c.loop-select.select-index c.loop-select.scope x code c.loop-select.invariant (omega arith) c.select-item.is k
+pub bind_beside-loop-tail-preserved : goal.bind_beside-loop-tail-preserved
+bind_beside-loop-tail-preserved u c =
+    let xs = c.as_slice-tail-items.result.now in
+    let x = c.tail-item.result in
+    let y = relation_view c.in_ok-term.term in
+    let k : term_bound c.args.free c.args.sources.now (term_view (out-TermTail x).term) ≡ Ok y = search rules in
+    let h : by_word (out-TermTail x).word (run_view c.loop-tail.run) y ≡ Ok (run_view c.in_ok-run.run') = search rules in
+    word_turn c.args.free c.args.sources.now _ xs c.loop-tail.tail-index (run_view c.loop-tail.run) c.loop-tail.invariant x y (run_view c.in_ok-run.run') (omega arith) c.tail-item.is k h
 
-pub bind_union-returns-in_err-common_scope-clause-refused : goal.bind_union-returns-in_err-common_scope-clause-refused
-bind_union-returns-in_err-common_scope-clause-refused u c = λ code e.
-    let xs = c.as_slice-select-items.result.now in
-    let x = c.select-item.result in
-    let a = relation_view c.in_ok-relation.relation in
-    let k : select_bound c.args.free c.args.sources.now (select_view x) ≡ Ok a = search rules in
-    let h : common_scope c.loop-select.scope a.scope ≡ Err code = search rules in
-    rest_refused c.args.free c.args.sources.now (rels_view c.loop-select.inputs) _ xs c.loop-select.select-index c.loop-select.scope x a code c.loop-select.invariant (omega arith) c.select-item.is k h
+pub bind_term-returns-in_err-first-clause-refused : goal.bind_term-returns-in_err-first-clause-refused
+bind_term-returns-in_err-first-clause-refused u c = λ code e.
+    let F = c.args.free in
+    let S = c.args.sources.now in
+    let x = c.args.term.now in
+    let h : select_bound F S (select_view (out-Term x).first) ≡ Err code = search rules in
+    by_term F S x ∙ ap (λ r. r >>= λ a. selects_left F S a (out-Term x).rest) h
 
-pub bind_union-loop-select-preserved : goal.bind_union-loop-select-preserved
-bind_union-loop-select-preserved u c =
-    let xs = c.as_slice-select-items.result.now in
-    let x = c.select-item.result in
-    let a = relation_view c.in_ok-relation.relation in
-    let inputs = c.loop-select.inputs in
-    let k : select_bound c.args.free c.args.sources.now (select_view x) ≡ Ok a = search rules in
-    let both = c.in_ok-common_scope.field-0 in
-    let h : common_scope c.loop-select.scope a.scope ≡ Ok both = search rules in
-    let pushed : c.push.new.self ≡ inputs ++ c.into_inner.result ∷ [] = search rules in
-    let p : rels_view c.push.new.self ≡ rels_view inputs ++ a.rel ∷ [] = ap rels_view pushed ∙ map-append rel_view inputs (c.into_inner.result ∷ []) ∙ ap (λ y. rels_view inputs ++ rel_view y ∷ []) c.into_inner.ensures in
-    rest_turn c.args.free c.args.sources.now (rels_view inputs) _ xs c.loop-select.select-index c.loop-select.scope x a both (rels_view c.push.new.self) c.loop-select.invariant (omega arith) c.select-item.is k h p
+pub bind_term-returns-clause-refused : goal.bind_term-returns-clause-refused
+bind_term-returns-clause-refused u c = λ code e.
+    let F = c.args.free in
+    let S = c.args.sources.now in
+    let x = c.args.term.now in
+    let a = relation_view c.in_ok-first.first in
+    let h : select_bound F S (select_view (out-Term x).first) ≡ Ok a = search rules in
+    by_term F S x ∙ ap (λ r. r >>= λ a. selects_left F S a (out-Term x).rest) h ∙ c.bind_intersected.ensures.refused code e
 
-pub bind_union-returns-clause-ok : goal.bind_union-returns-clause-ok
-bind_union-returns-clause-ok u c =
-    let xs = c.as_slice-select-items.result.now in
-    let inputs = rels_view c.loop-select.inputs in
-    let same : union_of_rest c.args.free c.args.sources.now [] None (t.selects (selects_view c.args.selects.now)) ≡ whole_union inputs c.loop-select.scope = rest_end c.args.free c.args.sources.now inputs _ xs c.loop-select.select-index c.loop-select.scope c.loop-select.invariant (omega arith) in
-    subst (λ (v : Checked Relation). IfOk c.union_of_all.result (λ x. v ≡ Ok (relation_view x))) (sym same) c.union_of_all.ensures.ok
+pub bind_term-returns-clause-ok : goal.bind_term-returns-clause-ok
+bind_term-returns-clause-ok u c =
+    let F = c.args.free in
+    let S = c.args.sources.now in
+    let x = c.args.term.now in
+    let a = relation_view c.in_ok-first.first in
+    let h : select_bound F S (select_view (out-Term x).first) ≡ Ok a = search rules in
+    subst (λ (v : Checked Relation). IfOk c.bind_intersected.result (λ y. v ≡ Ok (relation_view y))) (sym (by_term F S x ∙ ap (λ r. r >>= λ a. selects_left F S a (out-Term x).rest) h)) c.bind_intersected.ensures.ok
 
-pub bind_union-returns-clause-refused : goal.bind_union-returns-clause-refused
-bind_union-returns-clause-refused u c = λ code e.
-    let xs = c.as_slice-select-items.result.now in
-    let inputs = rels_view c.loop-select.inputs in
-    let same : union_of_rest c.args.free c.args.sources.now [] None (t.selects (selects_view c.args.selects.now)) ≡ whole_union inputs c.loop-select.scope = rest_end c.args.free c.args.sources.now inputs _ xs c.loop-select.select-index c.loop-select.scope c.loop-select.invariant (omega arith) in
-    same ∙ c.union_of_all.ensures.refused code e
+pub bind_intersected-returns-in_err-select-clause-refused : goal.bind_intersected-returns-in_err-select-clause-refused
+bind_intersected-returns-in_err-select-clause-refused u c = λ code e.
+    let xs = c.as_slice-tail-items.result.now in
+    let x = c.tail-item.result in
+    let k : select_bound c.args.free c.args.sources.now (select_view (out-SelectTail x).select) ≡ Err code = search rules in
+    select_refused c.args.free c.args.sources.now _ xs c.loop-tail.tail-index (relation_view c.loop-tail.all) c.loop-tail.invariant x code (omega arith) c.tail-item.is k
+
+pub bind_intersected-returns-in_err-all-clause-refused : goal.bind_intersected-returns-in_err-all-clause-refused
+bind_intersected-returns-in_err-all-clause-refused u c = λ code e.
+    let xs = c.as_slice-tail-items.result.now in
+    let x = c.tail-item.result in
+    let y = relation_view c.in_ok-select.select in
+    let k : select_bound c.args.free c.args.sources.now (select_view (out-SelectTail x).select) ≡ Ok y = search rules in
+    let h : operated false (out-SelectTail x).all (relation_view c.loop-tail.all) y ≡ Err code = search rules in
+    intersect_refused c.args.free c.args.sources.now _ xs c.loop-tail.tail-index (relation_view c.loop-tail.all) c.loop-tail.invariant x y code (omega arith) c.tail-item.is k h
+
+pub bind_intersected-loop-tail-preserved : goal.bind_intersected-loop-tail-preserved
+bind_intersected-loop-tail-preserved u c =
+    let xs = c.as_slice-tail-items.result.now in
+    let x = c.tail-item.result in
+    let y = relation_view c.in_ok-select.select in
+    let k : select_bound c.args.free c.args.sources.now (select_view (out-SelectTail x).select) ≡ Ok y = search rules in
+    let h : operated false (out-SelectTail x).all (relation_view c.loop-tail.all) y ≡ Ok (relation_view c.in_ok-all.all) = search rules in
+    intersect_turn c.args.free c.args.sources.now _ xs c.loop-tail.tail-index (relation_view c.loop-tail.all) c.loop-tail.invariant x y (relation_view c.in_ok-all.all) (omega arith) c.tail-item.is k h
 
 pub joined_all-returns-in_err-source-clause-refused : goal.joined_all-returns-in_err-source-clause-refused
 joined_all-returns-in_err-source-clause-refused u c = λ code e.
@@ -219,107 +277,98 @@ bind_alone-returns-in-Sub-clause-refused u c = λ code e.
     let same : c.deref.result.now ≡ c.in-Sub.query.value = search rules in
     ap (only_framed F S O) is ∙ ap (λ q. only_framed F S O (t.FromQuery (query_view q) c.in-Sub.alias)) (sym same) ∙ c.bind_alone_query.ensures.refused code e
 
-pub bind_alone_query-returns-then-is_plain-clause-ok : goal.bind_alone_query-returns-then-is_plain-clause-ok
-bind_alone_query-returns-then-is_plain-clause-ok u c =
+pub bind_alone_query-returns-in_err-relation-in-None-clause-refused : goal.bind_alone_query-returns-in_err-relation-in-None-clause-refused
+bind_alone_query-returns-in_err-relation-in-None-clause-refused u c = λ code e.
     let F = c.args.free in
     let S = c.args.sources.now in
     let O = select_view c.args.outer.now in
-    let x = c.args.query.now in
+    let q = query_view c.args.query.now in
     let alias = c.args.alias.now in
-    let plain : is_plain (t.sort_list (sorts_view (out-Query x).order)) (out-Query x).limit ≡ true = search rules in
-    let h : IfOk c.bind_alone_selects.result (λ y. selects_framed F S O (t.selects (selects_view (out-Query x).selects)) alias ≡ Ok (framed_view y)) = search rules in
-    subst (λ (v : Checked Framed). IfOk c.bind_alone_selects.result (λ y. v ≡ Ok (framed_view y))) (sym (plain_query F S O x alias plain)) h
+    let none : ranked_query q ≡ None = search rules in
+    let h : query_bound F S q ≡ Err code = search rules in
+    unranked F S O q alias none ∙ ap (under F S O alias) h
 
-pub bind_alone_query-returns-then-is_plain-clause-refused : goal.bind_alone_query-returns-then-is_plain-clause-refused
-bind_alone_query-returns-then-is_plain-clause-refused u c = λ code e.
+pub bind_alone_query-returns-in_ok-under_alias-in-None-clause-ok : goal.bind_alone_query-returns-in_ok-under_alias-in-None-clause-ok
+bind_alone_query-returns-in_ok-under_alias-in-None-clause-ok u c =
     let F = c.args.free in
     let S = c.args.sources.now in
     let O = select_view c.args.outer.now in
-    let x = c.args.query.now in
+    let q = query_view c.args.query.now in
     let alias = c.args.alias.now in
-    let plain : is_plain (t.sort_list (sorts_view (out-Query x).order)) (out-Query x).limit ≡ true = search rules in
-    let h : selects_framed F S O (t.selects (selects_view (out-Query x).selects)) alias ≡ Err code = search rules in
-    plain_query F S O x alias plain ∙ h
-
-pub bind_alone_query-returns-in_err-relation-clause-refused : goal.bind_alone_query-returns-in_err-relation-clause-refused
-bind_alone_query-returns-in_err-relation-clause-refused u c = λ code e.
-    let F = c.args.free in
-    let S = c.args.sources.now in
-    let O = select_view c.args.outer.now in
-    let x = c.args.query.now in
-    let alias = c.args.alias.now in
-    let no : is_plain (t.sort_list (sorts_view (out-Query x).order)) (out-Query x).limit ≡ false = search rules in
-    let h : query_bound F S (query_view x) ≡ Err code = search rules in
-    ordered F S O x alias no ∙ ap (under F S O alias) h
-
-pub bind_alone_query-returns-clause-ok : goal.bind_alone_query-returns-clause-ok
-bind_alone_query-returns-clause-ok u c =
-    let F = c.args.free in
-    let S = c.args.sources.now in
-    let O = select_view c.args.outer.now in
-    let x = c.args.query.now in
-    let alias = c.args.alias.now in
-    let no : is_plain (t.sort_list (sorts_view (out-Query x).order)) (out-Query x).limit ≡ false = search rules in
-    let a = relation_view c.in_ok-relation.relation in
-    let h : query_bound F S (query_view x) ≡ Ok a = search rules in
-    let k : framed_view c.in_ok-under_alias.field-0 ≡ record { relation = renamed alias a; spent = None } = search rules in
-    ordered F S O x alias no ∙ ap (under F S O alias) h ∙ ap Ok (sym k)
-
-pub bind_alone_selects-returns-in_err-relation-in-None-clause-refused : goal.bind_alone_selects-returns-in_err-relation-in-None-clause-refused
-bind_alone_selects-returns-in_err-relation-in-None-clause-refused u c = λ code e.
-    let F = c.args.free in
-    let S = c.args.sources.now in
-    let O = select_view c.args.outer.now in
-    let xs = t.selects (selects_view c.args.selects.now) in
-    let alias = c.args.alias.now in
-    let none : only_select xs ≡ None = search rules in
-    let h : all_bound F S xs ≡ Err code = search rules in
-    not_alone F S O xs alias none ∙ ap (under F S O alias) h
-
-pub bind_alone_selects-returns-in_ok-under_alias-in-None-clause-ok : goal.bind_alone_selects-returns-in_ok-under_alias-in-None-clause-ok
-bind_alone_selects-returns-in_ok-under_alias-in-None-clause-ok u c =
-    let F = c.args.free in
-    let S = c.args.sources.now in
-    let O = select_view c.args.outer.now in
-    let xs = t.selects (selects_view c.args.selects.now) in
-    let alias = c.args.alias.now in
-    let none : only_select xs ≡ None = search rules in
+    let none : ranked_query q ≡ None = search rules in
     let a = relation_view c.in_ok-relation-in-None.relation in
-    let h : all_bound F S xs ≡ Ok a = search rules in
+    let h : query_bound F S q ≡ Ok a = search rules in
     let k : framed_view c.in_ok-under_alias-in-None.field-0 ≡ record { relation = renamed alias a; spent = None } = search rules in
-    not_alone F S O xs alias none ∙ ap (under F S O alias) h ∙ ap Ok (sym k)
+    unranked F S O q alias none ∙ ap (under F S O alias) h ∙ ap Ok (sym k)
 
-pub bind_alone_selects-returns-in-Some-clause-ok : goal.bind_alone_selects-returns-in-Some-clause-ok
-bind_alone_selects-returns-in-Some-clause-ok u c =
+pub bind_alone_query-returns-in_err-gathered-in-Some-clause-refused : goal.bind_alone_query-returns-in_err-gathered-in-Some-clause-refused
+bind_alone_query-returns-in_err-gathered-in-Some-clause-refused u c = λ code e.
     let F = c.args.free in
     let S = c.args.sources.now in
     let O = select_view c.args.outer.now in
-    let xs = t.selects (selects_view c.args.selects.now) in
-    let alias = c.args.alias.now in
-    let x = select_view c.in-Some.select.now in
-    let one : only_select xs ≡ Some x = search rules in
-    subst (λ (v : Checked Framed). IfOk c.bind_alone_select.result (λ y. v ≡ Ok (framed_view y))) (sym (alone F S O xs x alias one)) c.bind_alone_select.ensures.ok
-
-pub bind_alone_selects-returns-in-Some-clause-refused : goal.bind_alone_selects-returns-in-Some-clause-refused
-bind_alone_selects-returns-in-Some-clause-refused u c = λ code e.
-    let F = c.args.free in
-    let S = c.args.sources.now in
-    let O = select_view c.args.outer.now in
-    let xs = t.selects (selects_view c.args.selects.now) in
-    let alias = c.args.alias.now in
-    let x = select_view c.in-Some.select.now in
-    let one : only_select xs ≡ Some x = search rules in
-    alone F S O xs x alias one ∙ c.bind_alone_select.ensures.refused code e
-
-pub bind_alone_select-returns-in_ok-gathered-in-Some-clause-refused : goal.bind_alone_select-returns-in_ok-gathered-in-Some-clause-refused
-bind_alone_select-returns-in_ok-gathered-in-Some-clause-refused u c = λ code e.
-    let F = c.args.free in
-    let S = c.args.sources.now in
-    let O = select_view c.args.outer.now in
-    let x = select_view c.args.select.now in
+    let x = c.args.query.now in
+    let y = select_view (out-Term (out-Query x).first).first in
     let alias = c.args.alias.now in
     let q = ranked_view c.in-Some.list in
-    let r : ranked_select x ≡ Some q = search rules in
-    let g : gathered_bound F S None x ≡ Ok (from_where_view c.in_ok-gathered-in-Some.gathered) = search rules in
+    let r : ranked_query (query_view x) ≡ Some q = search rules in
+    let g : gathered_bound F S None y ≡ Err code = search rules in
+    ranked F S O x alias q r ∙ ap (λ g. g >>= from_list F S O alias q) g
+
+pub bind_alone_query-returns-in_ok-gathered-in-Some-clause-ok : goal.bind_alone_query-returns-in_ok-gathered-in-Some-clause-ok
+bind_alone_query-returns-in_ok-gathered-in-Some-clause-ok u c =
+    let F = c.args.free in
+    let S = c.args.sources.now in
+    let O = select_view c.args.outer.now in
+    let x = c.args.query.now in
+    let y = select_view (out-Term (out-Query x).first).first in
+    let alias = c.args.alias.now in
+    let q = ranked_view c.in-Some.list in
+    let r : ranked_query (query_view x) ≡ Some q = search rules in
+    let g : gathered_bound F S None y ≡ Ok (from_where_view c.in_ok-gathered-in-Some.gathered) = search rules in
+    subst (λ (v : Checked Framed). IfOk c.sole.result (λ z. v ≡ Ok (framed_view z))) (sym (ranked F S O x alias q r ∙ ap (λ g. g >>= from_list F S O alias q) g)) c.sole.ensures.ok
+
+pub bind_alone_query-returns-in_ok-gathered-in-Some-clause-refused : goal.bind_alone_query-returns-in_ok-gathered-in-Some-clause-refused
+bind_alone_query-returns-in_ok-gathered-in-Some-clause-refused u c = λ code e.
+    let F = c.args.free in
+    let S = c.args.sources.now in
+    let O = select_view c.args.outer.now in
+    let x = c.args.query.now in
+    let y = select_view (out-Term (out-Query x).first).first in
+    let alias = c.args.alias.now in
+    let q = ranked_view c.in-Some.list in
+    let r : ranked_query (query_view x) ≡ Some q = search rules in
+    let g : gathered_bound F S None y ≡ Ok (from_where_view c.in_ok-gathered-in-Some.gathered) = search rules in
     let h : from_list F S O alias q (from_where_view c.in_ok-gathered-in-Some.gathered) ≡ Err code = search rules in
     ranked F S O x alias q r ∙ ap (λ g. g >>= from_list F S O alias q) g ∙ h
+
+pub bind_exists-returns-clause-ok : goal.bind_exists-returns-clause-ok
+bind_exists-returns-clause-ok u c =
+    let x = c.args.query.now in
+    let y = select_view (out-Term (out-Query x).first).first in
+    let F = c.args.free in
+    let S = c.args.sources.now in
+    let A = c.args.anti in
+    let O = c.args.outside.now in
+    let here : c.is_sole-sole.result ≡ is_sole (query_view x) = search rules in
+    subst (λ (v : Checked Part). IfOk c.bind_simple.result (λ p. v ≡ Ok (part_view p))) (ap (λ b. exists_simple F S A O b y) here ∙ sym (by_exists F S A O x)) c.bind_simple.ensures.ok
+
+pub bind_exists-returns-clause-refused : goal.bind_exists-returns-clause-refused
+bind_exists-returns-clause-refused u c = λ code e.
+    let x = c.args.query.now in
+    let y = select_view (out-Term (out-Query x).first).first in
+    let F = c.args.free in
+    let S = c.args.sources.now in
+    let A = c.args.anti in
+    let O = c.args.outside.now in
+    let here : c.is_sole-sole.result ≡ is_sole (query_view x) = search rules in
+    by_exists F S A O x ∙ ap (λ b. exists_simple F S A O b y) (sym here) ∙ c.bind_simple.ensures.refused code e
+
+pub bind_parts-returns-in-InQuery-clause-refused : goal.bind_parts-returns-in-InQuery-clause-refused
+bind_parts-returns-in-InQuery-clause-refused u c = λ code e.
+    let F = c.args.free in
+    let S = c.args.sources.now in
+    let A = outside_view c.args.outside in
+    let O = c.args.own.now in
+    let x = c.args.tree.now in
+    let h : only_part F S A O (view x) ≡ Err code = search rules in
+    in_query F S A O x c.in-InQuery.is ∙ h

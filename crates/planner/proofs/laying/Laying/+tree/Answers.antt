@@ -1,9 +1,9 @@
 use Rattle.std.proofs.Common.{rules, IfErr, ◌≡◌, [], ◌∙◌, ap, map, sym, option_map}
 use Rattle.ct_expr.specs.View.{expr_view, exprs_view}
-use Rattle.rel_algebra.specs.Rel.{filter_by, project_on, group_by, rank_in, join_on, semi_on, rels}
+use Rattle.rel_algebra.specs.Rel.{filter_by, project_on, group_by, rank_in, join_on, semi_on, set_by, rels}
 use Rattle.rel_algebra.specs.Rel as r
 use Rattle.rel_algebra.specs.View.{rel_view, rels_view}
-use Rattle.rel_algebra.proofs.laws.Views.{view_filter, view_group, view_join, view_project, view_rank, view_scan, view_semi, view_union}
+use Rattle.rel_algebra.proofs.laws.Views.{view_filter, view_group, view_join, view_project, view_rank, view_scan, view_semi, view_set_op, view_union}
 use Rattle.planner.specs.Laying.{Fails}
 use Rattle.planner.specs.Ways.{asked_view}
 use Rattle.planner.proofs.laws.Laid.{union_lays}
@@ -65,6 +65,16 @@ lay_node-returns-in_ok-second-in-Semi-clause-laid t c =
     (ap rel_view c.in-Semi.is ∙ view_semi c.in-Semi.left c.in-Semi.right c.in-Semi.anti c.in-Semi.on c.in-Semi.rest
     ∙ (λ i. r.Semi left (sym own i) c.in-Semi.anti c.in-Semi.on (option_map expr_view c.in-Semi.rest)))
     (if_ok _ _ _ (λ root p. two_tops _ _ _ _ _ _ how left (rel_view c.deref-in-Semi.result.now) root c.in_ok-second-in-Semi.ensures.laid p) c.push_semi.ensures.pushed)
+
+pub lay_node-returns-in_ok-second-in-SetOp-clause-laid : goal.lay_node-returns-in_ok-second-in-SetOp-clause-laid
+lay_node-returns-in_ok-second-in-SetOp-clause-laid t c =
+    let left = rel_view c.in-SetOp.left.value in
+    let own = ap rel_view c.deref-in-SetOp.ensures in
+    let how = set_by c.in-SetOp.except c.in-SetOp.all c.in-SetOp.columns in
+    seen_tops _ _ _ _ _ _ _
+    (ap rel_view c.in-SetOp.is ∙ view_set_op c.in-SetOp.left c.in-SetOp.right c.in-SetOp.except c.in-SetOp.all c.in-SetOp.columns
+    ∙ (λ i. r.SetOp left (sym own i) c.in-SetOp.except c.in-SetOp.all c.in-SetOp.columns))
+    (if_ok _ _ _ (λ root p. two_tops _ _ _ _ _ _ how left (rel_view c.deref-in-SetOp.result.now) root c.in_ok-second-in-SetOp.ensures.laid p) c.push_set_op.ensures.pushed)
 
 -- ---- several trees
 

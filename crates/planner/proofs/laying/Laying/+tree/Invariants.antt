@@ -15,6 +15,9 @@ decreases-lay_all l = 4 * l.levels + 1
 abbrev pub decreases-lay_right : goal.decreases-lay_right
 decreases-lay_right l = 4 * l.levels + 1
 
+abbrev pub decreases-lay_whole : goal.decreases-lay_whole
+decreases-lay_whole l = 4 * l.levels + 1
+
 abbrev pub decreases-lay_union : goal.decreases-lay_union
 decreases-lay_union l = 4 * l.levels + 2
 

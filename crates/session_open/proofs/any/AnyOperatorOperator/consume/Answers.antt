@@ -95,3 +95,12 @@ returns-in-Sink-clause-range g c = rw c.in-Sink.is c.consume-in-Sink.ensures.ran
 
 pub returns-in-Sink-clause-cost : goal.returns-in-Sink-clause-cost
 returns-in-Sink-clause-cost g c = rw c.in-Sink.is c.consume-in-Sink.ensures.cost
+
+pub returns-in-SetOp-clause-ok : goal.returns-in-SetOp-clause-ok
+returns-in-SetOp-clause-ok g c = rw c.in-SetOp.is c.consume-in-SetOp.ensures.ok
+
+pub returns-in-SetOp-clause-range : goal.returns-in-SetOp-clause-range
+returns-in-SetOp-clause-range g c = rw c.in-SetOp.is c.consume-in-SetOp.ensures.range
+
+pub returns-in-SetOp-clause-cost : goal.returns-in-SetOp-clause-cost
+returns-in-SetOp-clause-cost g c = rw c.in-SetOp.is c.consume-in-SetOp.ensures.cost

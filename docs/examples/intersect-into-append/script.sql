@@ -1,0 +1,4 @@
+CREATE TABLE a (k INT);
+CREATE TABLE b (k INT);
+CREATE TABLE out_t (k INT) WITH ('changelog' = 'append');
+INSERT INTO out_t SELECT k FROM a INTERSECT SELECT k FROM b;
