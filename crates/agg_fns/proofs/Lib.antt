@@ -1,16 +1,11 @@
 pub mod Added
-pub mod Averages
+pub mod Cells
 pub mod Counts
-pub mod Different
 pub mod Ends
-pub mod ExtremeItems
 pub mod Locals
 pub mod Merged
 pub mod Merges
-pub mod Products
 pub mod Replaced
-pub mod Sizes
 pub mod Stands
-pub mod Weights
 pub mod Worked
 pub mod laws

@@ -1,9 +1,4 @@
 pub mod Counts
-pub mod Extremes
 pub mod Merging
 pub mod Partial
-pub mod Seen
 pub mod Standing
-pub mod Sums
-pub mod Taken
-pub mod Wide

@@ -1,19 +1,15 @@
-//! The three ways to take an aggregate: accumulators that follow values as they come and go, accumulators of two phases, whose partials
-//! of values come and gone are merged, and results over rows with their counts.
+//! Accumulators of aggregates: those that follow values as they come and go, and those of two phases, whose partials of values come and
+//! gone are merged.
 //!
 //! Promised: an `Acc` that stands for a bag of values stands for that bag with a value more after `add`, with one less after `remove`
 //! and with one in the place of another after `replace`, and its `result` is the value of its call on that bag (`specs/Standing`); a
-//! sum is out of range exactly where it leaves its limit. `agg_result` answers the definition's value, or none exactly where that is
-//! out of range; its sums are exact, being made in 256 bits, which no sum of fewer than 2^64 values with counts below 2^64 leaves. A
-//! `LocalAcc` tells what values come and gone amount to (`specs/Partial`), and an `Acc` that a partial is merged into stands for its
-//! values with those come and without those gone (`specs/Merging`). It stands on the definition of aggregates of `rel_algebra`.
+//! sum is out of range exactly where it leaves its limit. A `LocalAcc` tells what values come and gone amount to (`specs/Partial`), and
+//! an `Acc` that a partial is merged into stands for its values with those come and without those gone (`specs/Merging`). It stands on
+//! the definition of aggregates of `rel_algebra`.
 #![tactic(auto)]
 
 mod acc;
-mod aggregate;
 mod distinct;
-mod distinct_values;
-mod extremes;
 mod kept;
 mod local_acc;
 mod merge;
@@ -21,13 +17,9 @@ mod net;
 mod net_numbers;
 mod number;
 mod numbers;
-mod results;
-mod totals;
 mod value_bag;
-mod wide;
 
 pub use acc::{Acc, AccFault};
-pub use aggregate::agg_result;
 pub use distinct::Distinct;
 pub use local_acc::LocalAcc;
 pub use net_numbers::NetNumbers;

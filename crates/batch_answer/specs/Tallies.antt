@@ -2,7 +2,7 @@
 use Rattle.std.specs.Prelude.{ℕ, zero, suc, ◌<◌, ◌≤◌, ◌^◌, List, Option, Some, None}
 use Rattle.std.specs.BTreeMap.{BTreeMap, IsOrdered, get}
 use Rattle.std.specs.Option.{unwrap_or}
-pub use Rattle.agg_fns.specs.Taken.{AreCounted}
+pub use Rattle.agg_results.specs.Taken.{AreCounted}
 use Rattle.ct_value.specs.Bag.{copies, none, bag_of_counts}
 use Rattle.ct_value.specs.Order.{row_cmp}
 use Rattle.ct_value.specs.declared.row.Row.{Row}

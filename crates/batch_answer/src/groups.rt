@@ -9,7 +9,7 @@ ghost use Rattle.batch_answer.specs.Tallies.{AreCounted, Unfit};
 use crate::index::put_under;
 use crate::matches::{beside, candidates};
 use crate::{Index, Tally};
-use agg_fns::agg_result;
+use agg_results::agg_result;
 use ct_expr::EvalFault;
 use ct_value::{ColTys, Memory, Row, Values};
 use rel_algebra::Aggs;

@@ -26,7 +26,6 @@ pub struct When {
 
 /// An expression over the columns of a row, which are counted from 0. A number is unscaled.
 #[cycle(expr)]
-#[derive(Drop)]
 pub enum Expr {
     Column {
         col: u32,
@@ -77,4 +76,52 @@ pub enum Expr {
         value: Box<Expr>,
         pattern: Box<Expr>,
     },
+}
+
+// By hand, so that whoever owns an expression doesn't prove again how each kind of it is dropped.
+impl Drop for Expr {
+    #[cycle(drops)]
+    fn drop(self) {
+        match self {
+            Expr::Column { col: _col, ty: _ty } => {}
+            Expr::Literal { value, ty: _ty } => drop(value),
+            Expr::Neg(value) | Expr::Not(value) | Expr::IsNull(value) | Expr::CharLength(value) => {
+                drop(value)
+            }
+            Expr::Arith {
+                op: _op,
+                left,
+                right,
+            } => {
+                drop(left);
+                drop(right);
+            }
+            Expr::Compare {
+                op: _op,
+                left,
+                right,
+            } => {
+                drop(left);
+                drop(right);
+            }
+            Expr::And(list) | Expr::Or(list) | Expr::Coalesce(list) => drop(list),
+            Expr::InList { value, items } => {
+                drop(value);
+                drop(items);
+            }
+            Expr::Case { whens, otherwise } => {
+                drop(whens);
+                drop(otherwise);
+            }
+            Expr::NullIf { left, right } | Expr::Concat { left, right } => {
+                drop(left);
+                drop(right);
+            }
+            Expr::Cast { value, ty: _ty } => drop(value),
+            Expr::Like { value, pattern } => {
+                drop(value);
+                drop(pattern);
+            }
+        }
+    }
 }

@@ -2,6 +2,7 @@
 use ct_io::{Calls, Files, LoadFault, MemShelf, MemSink, Shelf, Sink, SureShelf, SureSink};
 use ct_value::{Bytes, Memory, Text};
 use std::alloc::Global;
+use std::test::Fail;
 
 fn calls(alloc: Global, numbers: &[u64]) -> Result<Calls, Memory> {
     let mut calls = Calls::new(alloc);
@@ -25,51 +26,25 @@ fn files(alloc: Global) -> Result<Files, Memory> {
     Ok(files)
 }
 
-fn has_calls(listed: &Calls) -> bool {
-    listed.len() == 2 && listed.get(1).copied() == Some(2) && listed.get(2).is_none()
+fn lists_calls(alloc: Global) -> Result<bool, Memory> {
+    let copy = calls(alloc, &[7, 2])?.dup()?;
+    Ok(matches!(copy.as_slice(), [7, 2]) && copy.len() == 2 && copy.get(2).is_none())
 }
 
-fn copies_calls(listed: &Calls) -> bool {
-    match listed.dup() {
-        Ok(copy) => has_calls(&copy),
-        Err(_) => false,
-    }
-}
-
-fn lists_calls(alloc: Global) -> bool {
-    match calls(alloc, &[7, 2]) {
-        Ok(listed) => copies_calls(&listed),
-        Err(_) => false,
-    }
-}
-
-fn holds_by_name(files: &Files, name: &Text, wanted: &[u8]) -> bool {
-    match files.get(name) {
-        Some(bytes) => bytes.is(wanted),
-        None => false,
-    }
-}
-
-// Whether a name is held with these bytes.
-fn holds(alloc: Global, files: &Files, name: &str, wanted: &[u8]) -> bool {
-    match Text::from_str(alloc, name) {
-        Ok(name) => holds_by_name(files, &name, wanted),
-        Err(_) => false,
-    }
-}
-
-fn holds_one_file(alloc: Global) -> bool {
-    match files(alloc) {
-        Ok(files) => holds(alloc, &files, "f", b"abc") && !holds(alloc, &files, "g", b"abc"),
-        Err(_) => false,
-    }
+// Whether this name alone is held.
+fn holds_one_file(alloc: Global) -> Result<bool, Memory> {
+    let files = files(alloc)?;
+    let held = files.get(&Text::from_str(alloc, "f")?);
+    let other = files.get(&Text::from_str(alloc, "g")?);
+    Ok(matches!(held, Some(bytes) if bytes.is(b"abc")) && other.is_none())
 }
 
 #[test]
-fn calls_and_files_are_held(rt: HostRuntime) {
+fn calls_and_files_are_held(rt: HostRuntime) -> Result<(), Fail> {
     assert!(rt; Calls::new(rt.alloc()).is_empty());
-    assert!(rt; lists_calls(rt.alloc()));
-    assert!(rt; holds_one_file(rt.alloc()));
+    assert!(rt; lists_calls(rt.alloc())?);
+    assert!(rt; holds_one_file(rt.alloc())?);
+    Ok(())
 }
 
 // A name, a limit, and what a load of them gives.
@@ -118,14 +93,9 @@ const LOADS: [Load; 5] = [
     ("f", 4, Ok("abc")),
 ];
 
-fn fails_at_second_load(alloc: Global) -> bool {
-    let Ok(fails) = calls(alloc, &[2]) else {
-        return false;
-    };
-    match files(alloc) {
-        Ok(files) => gives_all(alloc, &mut MemShelf::new(files, fails), &LOADS),
-        Err(_) => false,
-    }
+fn fails_at_second_load(alloc: Global) -> Result<bool, Memory> {
+    let mut shelf = MemShelf::new(files(alloc)?, calls(alloc, &[2])?);
+    Ok(gives_all(alloc, &mut shelf, &LOADS))
 }
 
 const SURE_LOADS: [Load; 4] = [
@@ -135,17 +105,16 @@ const SURE_LOADS: [Load; 4] = [
     ("f", 0, Err(LoadFault::TooLong)),
 ];
 
-fn holds_every_name(alloc: Global) -> bool {
-    match files(alloc) {
-        Ok(files) => gives_all(alloc, &mut SureShelf::new(files), &SURE_LOADS),
-        Err(_) => false,
-    }
+fn holds_every_name(alloc: Global) -> Result<bool, Memory> {
+    let mut shelf = SureShelf::new(files(alloc)?);
+    Ok(gives_all(alloc, &mut shelf, &SURE_LOADS))
 }
 
 #[test]
-fn shelves_fail_at_listed_calls_or_hold_every_name(rt: HostRuntime) {
-    assert!(rt; fails_at_second_load(rt.alloc()));
-    assert!(rt; holds_every_name(rt.alloc()));
+fn shelves_fail_at_listed_calls_or_hold_every_name(rt: HostRuntime) -> Result<(), Fail> {
+    assert!(rt; fails_at_second_load(rt.alloc())?);
+    assert!(rt; holds_every_name(rt.alloc())?);
+    Ok(())
 }
 
 // How many bytes of a piece a sink takes, and `None` where it fails or the piece is empty.
@@ -174,14 +143,9 @@ fn takes<K: Sink>(sink: &mut K, pieces: &[(&str, Option<usize>)]) -> bool {
     true
 }
 
-fn fails_at_third_piece(alloc: Global) -> bool {
-    let Ok(fails) = calls(alloc, &[3]) else {
-        return false;
-    };
-    match MemSink::new(alloc, fails) {
-        Ok(mut sink) => takes(&mut sink, &PIECES) && sink.written() == b"abcef".as_slice(),
-        Err(_) => false,
-    }
+fn fails_at_third_piece(alloc: Global) -> Result<bool, Memory> {
+    let mut sink = MemSink::new(alloc, calls(alloc, &[3])?)?;
+    Ok(takes(&mut sink, &PIECES) && sink.written() == b"abcef".as_slice())
 }
 
 // Whether a sink takes a piece of this length whole, or not at all.
@@ -202,30 +166,23 @@ fn takes_all_long<K: Sink>(alloc: Global, sink: &mut K, lengths: &[(usize, bool)
 // Lengths of pieces, and whether a sink with room for 1,048,576 bytes takes them.
 const LENGTHS: [(usize, bool); 4] = [(1048573, true), (4, false), (3, true), (1, false)];
 
-fn fails_past_its_room(alloc: Global) -> bool {
-    match MemSink::new(alloc, Calls::new(alloc)) {
-        Ok(mut sink) => {
-            takes_all_long(alloc, &mut sink, &LENGTHS) && sink.written().len() == 1048576
-        }
-        Err(_) => false,
-    }
+fn fails_past_its_room(alloc: Global) -> Result<bool, Memory> {
+    let mut sink = MemSink::new(alloc, Calls::new(alloc))?;
+    Ok(takes_all_long(alloc, &mut sink, &LENGTHS) && sink.written().len() == 1048576)
 }
 
 // The second piece finds no room and is not held; the third does.
 const SURE_LENGTHS: [(usize, bool); 3] = [(1048573, true), (4, true), (2, true)];
 
-fn takes_past_its_room(alloc: Global) -> bool {
-    match SureSink::new(alloc) {
-        Ok(mut sink) => {
-            takes_all_long(alloc, &mut sink, &SURE_LENGTHS) && sink.written().len() == 1048575
-        }
-        Err(_) => false,
-    }
+fn takes_past_its_room(alloc: Global) -> Result<bool, Memory> {
+    let mut sink = SureSink::new(alloc)?;
+    Ok(takes_all_long(alloc, &mut sink, &SURE_LENGTHS) && sink.written().len() == 1048575)
 }
 
 #[test]
-fn sinks_fail_at_listed_calls_or_past_their_room(rt: HostRuntime) {
-    assert!(rt; fails_at_third_piece(rt.alloc()));
-    assert!(rt; fails_past_its_room(rt.alloc()));
-    assert!(rt; takes_past_its_room(rt.alloc()));
+fn sinks_fail_at_listed_calls_or_past_their_room(rt: HostRuntime) -> Result<(), Fail> {
+    assert!(rt; fails_at_third_piece(rt.alloc())?);
+    assert!(rt; fails_past_its_room(rt.alloc())?);
+    assert!(rt; takes_past_its_room(rt.alloc())?);
+    Ok(())
 }

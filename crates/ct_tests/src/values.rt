@@ -8,6 +8,7 @@ use ct_value::{
 use std::alloc::Global;
 use std::cmp::Ordering;
 use std::collections::HashMap;
+use std::test::Fail;
 
 // A value as the tables of these tests write it.
 #[derive(Clone, Copy)]
@@ -70,127 +71,57 @@ fn bytes_are_a_text_where_they_are_utf8(rt: HostRuntime) {
 // Words in the order of their bytes.
 const WORDS: [&str; 6] = ["", "Z", "a", "aa", "b", "\u{e9}"];
 
-fn is_order(alloc: Global, text: &Text, other: &str, wanted: Ordering) -> bool {
-    match Text::from_str(alloc, other) {
-        Ok(other) => text.cmp(&other) == wanted,
-        Err(_) => false,
-    }
-}
-
-// Whether the text at this place comes behind those before it and before those behind it.
-fn is_text_at(alloc: Global, place: usize, text: &Text) -> bool {
-    for (i, other) in WORDS.iter().enumerate() {
-        if !is_order(alloc, text, other, place.cmp(&i)) {
-            return false;
-        }
-    }
-    true
-}
-
-fn is_word_at(alloc: Global, place: usize, word: &str) -> bool {
-    match Text::from_str(alloc, word) {
-        Ok(text) => is_text_at(alloc, place, &text),
-        Err(_) => false,
-    }
-}
-
-fn copies_text(text: &Text) -> bool {
-    match text.dup() {
-        Ok(copy) => copy.as_slice() == b"a\xc3\xa9".as_slice(),
-        Err(_) => false,
-    }
-}
-
-fn hands_out_text(alloc: Global) -> bool {
-    match Text::from_str(alloc, "a\u{e9}") {
-        Ok(text) => copies_text(&text) && text.as_str() == "a\u{e9}",
-        Err(_) => false,
-    }
+fn text_order(alloc: Global, word: &str, other: &str) -> Result<Ordering, Memory> {
+    let text = Text::from_str(alloc, word)?;
+    Ok(text.cmp(&Text::from_str(alloc, other)?))
 }
 
 #[test]
-fn texts_are_ordered_and_copied(rt: HostRuntime) {
-    for (i, text) in WORDS.iter().enumerate() {
-        assert!(rt; is_word_at(rt.alloc(), i, text));
-    }
-    assert!(rt; hands_out_text(rt.alloc()));
-}
-
-fn extend(bytes: &mut Bytes) -> Result<(), Memory> {
-    bytes.extend(b"ab")?;
-    bytes.push(255)
-}
-
-// Whether these are the bytes that `extend` puts behind none.
-fn are_extended(bytes: &Bytes) -> bool {
-    bytes.is(b"ab\xff") && bytes.len() == 3 && bytes.get(2) == Some(255) && bytes.get(3).is_none()
-}
-
-// Whether a copy stays as it is when the bytes are cleared.
-fn keeps_copy(bytes: &mut Bytes) -> bool {
-    match bytes.dup() {
-        Ok(copy) => {
-            bytes.clear();
-            bytes.is_empty() && are_extended(&copy)
+fn texts_are_ordered(rt: HostRuntime) -> Result<(), Fail> {
+    for pair in WORDS.windows(2) {
+        if let [word, next] = pair {
+            assert!(rt; text_order(rt.alloc(), word, next)?.is_lt());
+            assert!(rt; text_order(rt.alloc(), next, word)?.is_gt());
+            assert!(rt; text_order(rt.alloc(), next, next)?.is_eq());
         }
-        Err(_) => false,
     }
+    Ok(())
 }
 
-fn lists_bytes(alloc: Global) -> bool {
+#[test]
+fn texts_are_copied(rt: HostRuntime) -> Result<(), Fail> {
+    let text = Text::from_str(rt.alloc(), "a\u{e9}")?;
+    let copy = text.dup()?;
+    assert!(rt; copy.as_slice() == b"a\xc3\xa9".as_slice());
+    assert!(rt; copy.as_str() == text.as_str());
+    Ok(())
+}
+
+// A copy stays as it is when the bytes are cleared.
+fn lists_bytes(alloc: Global) -> Result<bool, Memory> {
     let mut bytes = Bytes::new(alloc);
-    extend(&mut bytes).is_ok() && keeps_copy(&mut bytes)
-}
-
-fn copies_bytes(alloc: Global) -> bool {
-    match Bytes::from_slice(alloc, b"ab") {
-        Ok(copy) => copy.as_slice() == b"ab".as_slice(),
-        Err(_) => false,
-    }
-}
-
-fn takes_bytes(alloc: Global) -> bool {
-    match b"ab".to_vec(alloc) {
-        Ok(bytes) => Bytes::from_vec(bytes).is(b"ab"),
-        Err(_) => false,
-    }
+    bytes.extend(b"ab")?;
+    bytes.push(255)?;
+    let copy = bytes.dup()?;
+    bytes.clear();
+    Ok(bytes.is_empty() && copy.is(b"ab\xff") && copy.len() == 3 && copy.get(2) == Some(255))
 }
 
 #[test]
-fn bytes_are_listed_and_copied(rt: HostRuntime) {
-    assert!(rt; Bytes::new(rt.alloc()).is_empty());
-    assert!(rt; lists_bytes(rt.alloc()));
-    assert!(rt; copies_bytes(rt.alloc()));
-    assert!(rt; takes_bytes(rt.alloc()));
+fn bytes_are_listed_and_copied(rt: HostRuntime) -> Result<(), Fail> {
+    assert!(rt; lists_bytes(rt.alloc())?);
+    assert!(rt; Bytes::from_slice(rt.alloc(), b"ab")?.is(b"ab"));
+    assert!(rt; Bytes::from_vec(b"ab".to_vec(rt.alloc())?).is(b"ab"));
+    Ok(())
 }
 
-fn cols(alloc: Global) -> Result<Cols, Memory> {
+fn lists_cols(alloc: Global) -> Result<bool, Memory> {
     let mut cols = Cols::new(alloc);
     for col in &[4, 0, 4] {
         cols.push(*col)?;
     }
-    Ok(cols)
-}
-
-fn has_cols(cols: &Cols) -> bool {
-    matches!(cols.as_slice(), [4, 0, 4])
-        && cols.len() == 3
-        && cols.get(1).copied() == Some(0)
-        && cols.get(3).is_none()
-}
-
-fn copies_cols(cols: &Cols) -> bool {
-    match cols.dup() {
-        Ok(copy) => has_cols(&copy),
-        Err(_) => false,
-    }
-}
-
-fn lists_cols(alloc: Global) -> bool {
-    match cols(alloc) {
-        Ok(cols) => copies_cols(&cols),
-        Err(_) => false,
-    }
+    let copy = cols.dup()?;
+    Ok(matches!(copy.as_slice(), [4, 0, 4]) && copy.len() == 3 && copy.get(3).is_none())
 }
 
 const TYPES: [ColTy; 5] = [
@@ -216,126 +147,49 @@ const TYPES: [ColTy; 5] = [
     },
 ];
 
-fn types(alloc: Global) -> Result<ColTys, Memory> {
+fn lists_types(alloc: Global) -> Result<bool, Memory> {
     let mut types = ColTys::new(alloc);
     for ty in &TYPES {
         types.push(*ty)?;
     }
-    Ok(types)
-}
-
-fn has_types(types: &ColTys) -> bool {
-    types.as_slice() == TYPES.as_slice()
-        && types.len() == 5
-        && types.get(4).copied() == Some(TYPES[4])
-        && types.get(5).is_none()
-}
-
-fn copies_types(types: &ColTys) -> bool {
-    match types.dup() {
-        Ok(copy) => has_types(&copy),
-        Err(_) => false,
-    }
-}
-
-fn lists_types(alloc: Global) -> bool {
-    match types(alloc) {
-        Ok(types) => copies_types(&types),
-        Err(_) => false,
-    }
+    let copy = types.dup()?;
+    Ok(copy.as_slice() == TYPES.as_slice() && copy.get(5).is_none())
 }
 
 #[test]
-fn columns_and_their_types_are_listed(rt: HostRuntime) {
+fn columns_and_their_types_are_listed(rt: HostRuntime) -> Result<(), Fail> {
     assert!(rt; Cols::new(rt.alloc()).is_empty());
-    assert!(rt; lists_cols(rt.alloc()));
-    assert!(rt; ColTys::new(rt.alloc()).is_empty());
-    assert!(rt; lists_types(rt.alloc()));
+    assert!(rt; lists_cols(rt.alloc())?);
+    assert!(rt; lists_types(rt.alloc())?);
+    Ok(())
 }
 
-// Whether these are an absent value and the text `a`.
-fn has_values(values: &Values) -> bool {
-    values.len() == 2
-        && !values.is_empty()
-        && matches!(values.get(0), Some(Value::Null))
-        && matches!(values.get(1), Some(Value::Text(text)) if text.is(b"a"))
-        && values.get(2).is_none()
-}
-
-fn copies_values(values: &Values) -> bool {
-    match values.dup() {
-        Ok(copy) => has_values(&copy),
-        Err(_) => false,
-    }
-}
-
-fn lists_values(alloc: Global) -> bool {
-    match values(alloc, &[Cell::Null, Cell::Text("a")]) {
-        Ok(values) => copies_values(&values),
-        Err(_) => false,
-    }
-}
-
-fn is_three_and_null(row: &Row) -> bool {
-    row.get(0) == Some(&Value::Num(3))
-        && row.get(2).is_none()
-        && matches!(row.as_slice(), [Value::Num(3), Value::Null])
-}
-
-fn hands_out_values(alloc: Global) -> bool {
-    match row(alloc, &[Cell::Num(3), Cell::Null]) {
-        Ok(row) => is_three_and_null(&row),
-        Err(_) => false,
-    }
+fn lists_values(alloc: Global) -> Result<bool, Memory> {
+    let copy = values(alloc, &[Cell::Null, Cell::Text("a")])?.dup()?;
+    Ok(match copy.as_slice() {
+        [Value::Null, Value::Text(text)] => text.is(b"a"),
+        _ => false,
+    })
 }
 
 #[test]
-fn values_are_listed(rt: HostRuntime) {
-    assert!(rt; lists_values(rt.alloc()));
-    assert!(rt; hands_out_values(rt.alloc()));
-}
-
-// Whether a row is the row of these values.
-fn is_row(alloc: Global, found: &Row, wanted: &[Cell]) -> bool {
-    match row(alloc, wanted) {
-        Ok(other) => *found == other && found.len() == other.len(),
-        Err(_) => false,
-    }
+fn values_are_listed(rt: HostRuntime) -> Result<(), Fail> {
+    assert!(rt; lists_values(rt.alloc())?);
+    let row = row(rt.alloc(), &[Cell::Num(3), Cell::Null])?;
+    assert!(rt; row.get(0) == Some(&Value::Num(3)));
+    assert!(rt; row.get(2).is_none());
+    Ok(())
 }
 
 const WHOLE: [Cell; 3] = [Cell::Text("a"), Cell::Num(-7), Cell::Bool(true)];
 
 const PREFIXES: [(u32, &[Cell]); 4] = [(0, &[]), (1, &[Cell::Text("a")]), (3, &WHOLE), (4, &WHOLE)];
 
-fn is_cut(alloc: Global, whole: &Row, count: u32, wanted: &[Cell]) -> bool {
-    match whole.prefix(count) {
-        Ok(prefix) => is_row(alloc, &prefix, wanted),
-        Err(_) => false,
-    }
-}
-
-fn is_cut_off(alloc: Global, whole: &Row, count: u32, wanted: &[Cell]) -> bool {
-    match whole.dup() {
-        Ok(copy) => is_row(alloc, &copy.into_prefix(count), wanted),
-        Err(_) => false,
-    }
-}
-
-// Whether each prefix is the wanted one, both of a row that stays and of one that goes.
-fn is_cut_everywhere(alloc: Global, whole: &Row) -> bool {
-    for (count, wanted) in &PREFIXES {
-        if !is_cut(alloc, whole, *count, wanted) || !is_cut_off(alloc, whole, *count, wanted) {
-            return false;
-        }
-    }
-    true
-}
-
-fn is_widened(alloc: Global, row: Row) -> bool {
-    match row.with(Value::Bool(true)) {
-        Ok(whole) => !whole.is_empty() && is_row(alloc, &whole, &WHOLE),
-        Err(_) => false,
-    }
+// Whether the prefix is this, both of a row that stays and of one that goes.
+fn is_cut(alloc: Global, count: u32, wanted: &[Cell]) -> Result<bool, Memory> {
+    let whole = row(alloc, &WHOLE)?;
+    let prefix = whole.prefix(count)?;
+    Ok(prefix == row(alloc, wanted)? && whole.into_prefix(count) == prefix)
 }
 
 // The values of two columns, in this order.
@@ -349,34 +203,27 @@ fn two_of(alloc: Global, row: &Row, first: u32, second: u32) -> Result<Row, Memo
     row.project(&cols)
 }
 
-fn is_projected(alloc: Global, whole: &Row) -> bool {
+fn is_projected(alloc: Global) -> Result<bool, Memory> {
+    let whole = row(alloc, &WHOLE)?;
     if whole.len() != 3 {
-        return false;
+        return Ok(false);
     }
-    match two_of(alloc, whole, 2, 0) {
-        Ok(two) => is_row(alloc, &two, &[Cell::Bool(true), Cell::Text("a")]),
-        Err(_) => false,
-    }
+    Ok(two_of(alloc, &whole, 2, 0)? == row(alloc, &[Cell::Bool(true), Cell::Text("a")])?)
 }
 
-fn whole_is_cut_and_projected(alloc: Global) -> bool {
-    match row(alloc, &WHOLE) {
-        Ok(whole) => is_cut_everywhere(alloc, &whole) && is_projected(alloc, &whole),
-        Err(_) => false,
-    }
-}
-
-fn two_are_widened(alloc: Global) -> bool {
-    match row(alloc, &[Cell::Text("a"), Cell::Num(-7)]) {
-        Ok(two) => is_widened(alloc, two),
-        Err(_) => false,
-    }
+fn is_widened(alloc: Global) -> Result<bool, Memory> {
+    let two = row(alloc, &[Cell::Text("a"), Cell::Num(-7)])?;
+    Ok(two.with(Value::Bool(true))? == row(alloc, &WHOLE)?)
 }
 
 #[test]
-fn rows_are_cut_projected_and_widened(rt: HostRuntime) {
-    assert!(rt; whole_is_cut_and_projected(rt.alloc()));
-    assert!(rt; two_are_widened(rt.alloc()));
+fn rows_are_cut_projected_and_widened(rt: HostRuntime) -> Result<(), Fail> {
+    for (count, wanted) in &PREFIXES {
+        assert!(rt; is_cut(rt.alloc(), *count, wanted)?);
+    }
+    assert!(rt; is_projected(rt.alloc())?);
+    assert!(rt; is_widened(rt.alloc())?);
+    Ok(())
 }
 
 // Rows in their order.
@@ -398,35 +245,21 @@ const ASCENDING: [&[Cell]; 15] = [
     &[Cell::Text("9")],
 ];
 
-fn is_row_order(alloc: Global, row_of_cells: &Row, others: &[Cell], wanted: Ordering) -> bool {
-    match row(alloc, others) {
-        Ok(other) => row_of_cells.compare(&other) == wanted,
-        Err(_) => false,
-    }
-}
-
-// Whether the row at this place comes behind those before it and before those behind it.
-fn is_row_at(alloc: Global, place: usize, row: &Row) -> bool {
-    for (i, others) in ASCENDING.iter().enumerate() {
-        if !is_row_order(alloc, row, others, place.cmp(&i)) {
-            return false;
-        }
-    }
-    true
-}
-
-fn are_cells_at(alloc: Global, place: usize, cells: &[Cell]) -> bool {
-    match row(alloc, cells) {
-        Ok(row) => is_row_at(alloc, place, &row),
-        Err(_) => false,
-    }
+fn row_order(alloc: Global, cells: &[Cell], others: &[Cell]) -> Result<Ordering, Memory> {
+    let row_of_cells = row(alloc, cells)?;
+    Ok(row_of_cells.compare(&row(alloc, others)?))
 }
 
 #[test]
-fn rows_are_ordered_value_by_value(rt: HostRuntime) {
-    for (i, cells) in ASCENDING.iter().enumerate() {
-        assert!(rt; are_cells_at(rt.alloc(), i, cells));
+fn rows_are_ordered_value_by_value(rt: HostRuntime) -> Result<(), Fail> {
+    for pair in ASCENDING.windows(2) {
+        if let [cells, next] = pair {
+            assert!(rt; row_order(rt.alloc(), cells, next)?.is_lt());
+            assert!(rt; row_order(rt.alloc(), next, cells)?.is_gt());
+            assert!(rt; row_order(rt.alloc(), next, next)?.is_eq());
+        }
     }
+    Ok(())
 }
 
 fn places(alloc: Global) -> Result<HashMap<Row, usize>, Memory> {

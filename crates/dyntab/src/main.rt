@@ -30,7 +30,7 @@ fn main(rt: HostRuntime) -> ExitCode {
         }
     };
     // What is gathered is written at the end; where that fails, a job that ended well hasn't.
-    if out.finish().is_err() && matches!(ending, Ending::Done) {
+    if out.finish().is_err() && matches!(&ending, Ending::Done) {
         let _ = err.put(b"write fault\n");
         ending = Ending::WriteFault;
     }

@@ -8,7 +8,7 @@ use job_text::row_text;
 use std::alloc::{AllocError, Global};
 
 /// How a run ends.
-#[derive(Debug, Drop)]
+#[derive(Debug)]
 pub enum Ending {
     /// It ended well.
     Done,
@@ -46,6 +46,42 @@ pub enum Ending {
     WriteFault,
     /// Want of memory.
     Memory,
+}
+
+// By hand, so that whoever has an ending doesn't prove again how each kind of it is dropped.
+impl Drop for Ending {
+    fn drop(self) {
+        match self {
+            Ending::Range {
+                node: _node,
+                subtask: _subtask,
+                row,
+                tys,
+            } => {
+                drop(row);
+                drop(tys);
+            }
+            Ending::Script {
+                code: _code,
+                statement: _statement,
+            } => {}
+            Ending::Change {
+                code: _code,
+                line: _line,
+                table: _table,
+            } => {}
+            Ending::Order {
+                code: _code,
+                line: _line,
+            } => {}
+            Ending::Limit(_name) => {}
+            Ending::Done
+            | Ending::Usage
+            | Ending::ReadFault
+            | Ending::WriteFault
+            | Ending::Memory => {}
+        }
+    }
 }
 
 /// What is limited.

@@ -14,7 +14,7 @@ use Rattle.binding.specs.Inserts.{Inserted, insert_bound}
 use Rattle.ct_catalog.specs.Columns.{column_types}
 use Rattle.judge.specs.Judgement.{Judged, then}
 use Rattle.phys_plan.specs.declared.plan.Plan.{Plan}
-use Rattle.planner.specs.Faults.{lacks_table}
+use Rattle.plan_laying.specs.Faults.{lacks_table}
 use Rattle.plan_rules.specs.Seen.{plan_as_seen}
 use Rattle.plan_rules.specs.Pieces.{Top, bare, plan_of_tree}
 use Rattle.plan_inferred.specs.declared.inferred.Inferred.{Inferred}
@@ -28,7 +28,8 @@ use Rattle.job_plan.specs.Seen.{InferredAsSeen, PlansInferAsSeen, RefusedAsSeen,
 use Rattle.planner.specs.declared.fault.PlannerFault.{PlannerFault}
 use Rattle.planner.specs.declared.fault.PlannerFault.TheVariants as fault
 use Rattle.planner.specs.Planned.{IsLaidPlan, Made, Refused, Planned, PlannedPlansAreRuled, Says, ToppedPlansAreLaidOut, made, made_by, sink_top}
-use Rattle.planner.specs.Tops.{top_by, topped_plan}
+use Rattle.plan_laying.specs.Topped.{topped_plan}
+use Rattle.planner.specs.Tops.{top_by}
 use Rattle.planner.proofs.laws.Topped.{topped_seen}
 use Rattle.job_plan.specs.Inserts.{InsertsHaveLaidPlans}
 use Rattle.job_judgement.specs.Judged.{IsBound, IsJudged}

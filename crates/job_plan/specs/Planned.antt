@@ -8,7 +8,7 @@ use Rattle.judge.specs.Judgement.{Judged, refused, then}
 use Rattle.phys_plan.specs.declared.plan.Plan.{Plan}
 use Rattle.plan_rules.specs.Pieces.{bare, plan_of_tree}
 use Rattle.planner.specs.Planned.{Made, Refused, Planned, made, sink_top}
-use Rattle.planner.specs.Tops.{topped_plan}
+use Rattle.plan_laying.specs.Topped.{topped_plan}
 use Rattle.job_judgement.specs.Judgement.{Accepted}
 
 -- it groups by keys

@@ -18,7 +18,8 @@ use job_ending::Halt;
 use job_judgement::Accepted;
 use phys_plan::Plan;
 use plan_check::CheckedPlan;
-use planner::{LayingFault, PlannerFault, plan, plan_of};
+use plan_laying::{LayingFault, plan_of};
+use planner::{PlannerFault, plan};
 use std::alloc::Global;
 
 /// The plan of an accepted script, or none where that waits for what isn't built: for groups in mini-batches that aggregate in two phases (Flink

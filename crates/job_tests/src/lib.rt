@@ -1,18 +1,9 @@
 //! Tests of the upper floors: worked runs of the top call, with orders, files of tables, faults, limits and many lines; runs by made
-//! orders; sessions that are driven event by event; made scripts, whose plans are checked again; and which INSERTs are bound. What the
-//! calls answer is in their contracts.
+//! orders; made scripts, whose plans are checked again; and which INSERTs are bound. What the calls answer is in their contracts.
 #![tactic(auto)]
 
 #[cfg(test)]
 mod by_order;
-#[cfg(test)]
-mod changes;
-#[cfg(test)]
-mod channels;
-#[cfg(test)]
-mod counts;
-#[cfg(test)]
-mod events;
 #[cfg(test)]
 mod feeds;
 #[cfg(test)]
@@ -28,18 +19,12 @@ mod materialized;
 #[cfg(test)]
 mod mini_batches;
 #[cfg(test)]
-mod orders;
-#[cfg(test)]
 mod plans;
-#[cfg(test)]
-mod rows;
 #[cfg(test)]
 mod runs;
 #[cfg(test)]
 mod scripts;
 #[cfg(test)]
 mod sent;
-#[cfg(test)]
-mod tables;
 #[cfg(test)]
 mod told;

@@ -1,14 +1,16 @@
-ghost use Rattle.std.specs.Prelude.{◌≡◌, ◌<◌, [], ◌∷◌, false, length, IfOk};
+ghost use Rattle.std.specs.Prelude.{◌≡◌, [], ◌∷◌, length, IfOk};
 
 use crate::row_operators::sent;
 use crate::rows::row;
+use crate::shown::shown;
 use ct_change::{Change, Changes, Declared, Kind, Update};
 use ct_expr::{ArithOp, Expr, Exprs};
-use ct_value::{Cols, Memory, Row, Text, Ty, Value, Values};
+use ct_value::{Cols, Memory, Text, Ty, Value};
 use op_row::ProjectOp;
 use op_rules::OpFault;
 use op_sink::SinkWriter;
 use std::alloc::Global;
+use std::test::Fail;
 
 fn word(alloc: Global, text: &str) -> Result<Value, Memory> {
     Ok(Value::Text(Text::from_str(alloc, text)?))
@@ -78,34 +80,11 @@ fn printed(alloc: Global) -> Result<Changes, OpFault> {
     sent(&mut sink, deletion(alloc)?)
 }
 
-// The text among so many columns, with NULL in the others.
-fn alone(alloc: Global, text: &str, place: usize, columns: usize) -> Result<Row, Memory> {
-    let mut values = Values::new(alloc);
-    for column in 0..columns {
-        let value = if column == place {
-            word(alloc, text)?
-        } else {
-            Value::Null
-        };
-        values.push(value)?;
-    }
-    Ok(Row::from_values(values))
-}
-
-// Whether the one change is that this row went.
-fn is_gone(told: Result<Changes, OpFault>, row: Result<Row, Memory>) -> bool {
-    match (told, row) {
-        (Ok(told), Ok(row)) => match told.get(0) {
-            None => false,
-            Some(change) => told.len() == 1 && change.kind == Kind::D && change.row == row,
-        },
-        _ => false,
-    }
-}
-
 #[test]
-fn a_row_that_went_is_told_by_its_key(rt: HostRuntime) {
-    let alloc = rt.alloc();
-    assert!(rt; is_gone(projected(alloc), alone(alloc, "b", 2, 4)));
-    assert!(rt; is_gone(printed(alloc), alone(alloc, "b", 1, 3)));
+fn a_row_that_went_is_told_by_its_key(rt: HostRuntime) -> Result<(), Fail> {
+    let told = projected(rt.alloc())?;
+    assert_eq!(rt; shown(rt.alloc(), &told)?.as_str(), "-D N N b N\n");
+    let told = printed(rt.alloc())?;
+    assert_eq!(rt; shown(rt.alloc(), &told)?.as_str(), "-D N b N\n");
+    Ok(())
 }

@@ -3,8 +3,9 @@ ghost use Rattle.ct_field.specs.Typed.{row_fits};
 ghost use Rattle.op_tests.specs.GroupFed.{IsFed, IsOfRows};
 ghost use Rattle.op_tests.specs.GroupTables.{columns};
 
-use crate::group_rows::{Step, change_of};
+use crate::group_rows::change_of;
 use crate::standing::{LAST, stands};
+use crate::steps::Step;
 use ct_change::{Bag, Change, Changes, Steps};
 use ct_value::Memory;
 use op_rules::{OpFault, Operator};

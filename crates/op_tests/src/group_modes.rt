@@ -1,46 +1,16 @@
-ghost use Rattle.std.specs.Prelude.{◌≡◌, ◌<◌, [], ◌∷◌, true, false, IfOk};
-ghost use Rattle.op_rules.specs.History.{arrival};
-ghost use Rattle.op_rules.specs.Rules.{MayArrive};
+ghost use Rattle.std.specs.Prelude.{◌≡◌, [], ◌∷◌, true, IfOk};
 ghost use Rattle.ct_field.specs.Typed.{row_fits};
 ghost use Rattle.op_tests.specs.GroupTables.{columns};
 
-use crate::group_rows::{Step, all, change_of, row_columns};
-use ct_change::{Append, Change, Changes, Kind, Retract, Steps, UpsertBy};
+use crate::group_rows::{all, change_of, row_columns};
+use crate::row_operators::sent;
+use crate::steps::Step;
+use ct_change::{Append, Change, Changes, Kind, Retract, UpsertBy};
 use ct_value::{Cols, Memory};
 use op_group::Group;
-use op_rules::{OpFault, Operator};
+use op_rules::OpFault;
 use rel_algebra::Aggs;
 use std::alloc::Global;
-use std::marker::Brand;
-use std::sync::ledger::{Blank, Ledger};
-
-// What an operator that took nothing emits for a change at its first port.
-fn one<O: Operator, L: Ledger>(
-    operator: &mut O,
-    change: Change,
-    blank: Blank,
-) -> Result<Changes, OpFault>
-    requires whole { O.broken operator.old ≡ false }
-    requires stands { O.stands_for operator.old [] }
-    requires may { MayArrive (O.rule operator.old) [] (arrival 0 0 change) }
-    requires name { blank.name ≡ L.name }
-    requires parts { blank.parts ≡ L.parts }
-    requires some { 0 < L.parts }
-{
-    let mut steps = Steps::<L>::new(blank);
-    operator.opening(0)?;
-    let told = operator.consume(0, change, &mut steps)?;
-    Ok(told)
-}
-
-// The same with steps that nobody reads.
-fn sent<O: Operator>(operator: &mut O, change: Change) -> Result<Changes, OpFault>
-    requires whole { O.broken operator.old ≡ false }
-    requires stands { O.stands_for operator.old [] }
-    requires may { MayArrive (O.rule operator.old) [] (arrival 0 0 change) }
-{
-    one::<O, Brand>(operator, change, Blank::new(1))
-}
 
 // A row that comes.
 fn insertion(alloc: Global) -> Result<Change, Memory>
@@ -48,11 +18,9 @@ fn insertion(alloc: Global) -> Result<Change, Memory>
     ensures fits { IfOk result (λ change. row_fits columns change.row ≡ true) }
 {
     let step = Step {
+        right: false,
         kind: Kind::I,
-        id: 1,
-        n: Some(5),
-        keep: None,
-        price: None,
+        cells: [Some(1), Some(5), None, None],
     };
     let change = change_of(alloc, step)?;
     Ok(change)

@@ -2,52 +2,24 @@ ghost use Rattle.std.specs.Prelude.{◌≡◌, ◌∷◌, [], true, false, IfOk}
 ghost use Rattle.ct_field.specs.Typed.{col_fits, value_fits, row_fits};
 ghost use Rattle.op_tests.specs.GroupTables.{columns, on, count_calls, all_calls};
 
-use ct_change::{Change, Kind};
+use crate::cells::{id_value, number};
+use crate::steps::Step;
+use ct_change::Change;
 use ct_field::in_range;
 use ct_value::{ColTy, ColTys, Memory, Row, Ty, Value, Values};
 use rel_algebra::{Agg, AggCall, Aggs};
 use std::alloc::Global;
 
-/// A change of a row with an id, a number, whether it is to be kept, and a price in hundredths.
-#[derive(Clone, Copy, Debug)]
-pub struct Step {
-    pub kind: Kind,
-    pub id: i64,
-    pub n: Option<i64>,
-    pub keep: Option<bool>,
-    pub price: Option<i32>,
-}
-
-fn id_value(id: i64) -> Value
-    ensures { col_fits (record { ty = Ty.BigInt; nullable = false }) result ≡ true }
-{
-    let id = i128::from(id);
-    if in_range(Ty::BigInt, id) {
-        Value::Num(id)
-    } else {
-        Value::Num(0)
-    }
-}
-
-fn number(n: Option<i64>) -> Value
-    ensures { value_fits Ty.BigInt result ≡ true }
-{
-    match n {
-        Some(n) if in_range(Ty::BigInt, i128::from(n)) => Value::Num(i128::from(n)),
-        _ => Value::Null,
-    }
-}
-
-fn truth(keep: Option<bool>) -> Value
+fn truth(keep: Option<i64>) -> Value
     ensures { value_fits Ty.Bool result ≡ true }
 {
     match keep {
-        Some(keep) => Value::Bool(keep),
+        Some(keep) => Value::Bool(keep != 0),
         None => Value::Null,
     }
 }
 
-fn money(price: Option<i32>) -> Value
+fn money(price: Option<i64>) -> Value
     ensures { value_fits (Ty.Decimal 10 2) result ≡ true }
 {
     match price {
@@ -58,17 +30,17 @@ fn money(price: Option<i32>) -> Value
     }
 }
 
-/// The change of a step.
+/// The change of a row with an id, a number, whether it is to be kept, 1 or 0, and a price in hundredths.
 #[tactic(auto, using(crate::proofs::GroupFitting::four_fit))]
 pub fn change_of(alloc: Global, step: Step) -> Result<Change, Memory>
     ensures kind { IfOk result (λ change. change.kind ≡ step.kind) }
     ensures fits { IfOk result (λ change. row_fits columns change.row ≡ true) }
 {
     let mut values = Values::with_capacity(alloc, 4)?;
-    values.push(id_value(step.id))?;
-    values.push(number(step.n))?;
-    values.push(truth(step.keep))?;
-    values.push(money(step.price))?;
+    values.push(id_value(step.cells[0]))?;
+    values.push(number(step.cells[1]))?;
+    values.push(truth(step.cells[2]))?;
+    values.push(money(step.cells[3]))?;
     Ok(Change::new(step.kind, Row::from_values(values)))
 }
 

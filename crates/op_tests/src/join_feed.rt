@@ -1,7 +1,7 @@
 use ct_change::Bag;
 
 /// How the changes of a side are read: as rows that stay, as rows that come and go, or as the last row of each first column.
-#[derive(Clone, Copy, Debug)]
+#[derive(Clone, Copy)]
 pub enum Reads {
     Append,
     Retract,

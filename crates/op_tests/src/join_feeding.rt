@@ -6,8 +6,9 @@ ghost use Rattle.op_tests.specs.JoinFed.{mode_of, Keeps, IsFed, IsOfRows};
 ghost use Rattle.op_tests.specs.JoinTables.{columns};
 
 use crate::join_feed::{Feed, Reads};
-use crate::join_rows::{Step, change_of};
+use crate::join_rows::change_of;
 use crate::standing::{LAST, stands};
+use crate::steps::Step;
 use ct_change::{Bag, Change, Changes, Kind, Steps};
 use ct_value::Memory;
 use op_rules::{OpFault, Operator};

@@ -2,58 +2,23 @@ ghost use Rattle.std.specs.Prelude.{◌≡◌, ◌∷◌, [], true, IfOk};
 ghost use Rattle.ct_field.specs.Typed.{value_fits, row_fits};
 ghost use Rattle.op_tests.specs.JoinTables.{columns};
 
-use ct_change::{Change, Kind};
+use crate::cells::number;
+use crate::steps::Step;
+use ct_change::Change;
 use ct_expr::{ArithOp, Expr};
-use ct_field::in_range;
 use ct_value::{ColTy, ColTys, CompareOp, Memory, Row, Ty, Value, Values};
 use rel_algebra::{Pair, Pairs};
 use std::alloc::Global;
 
-/// A change at the left, or at the right, of a row of two numbers.
-#[derive(Clone, Copy, Debug)]
-pub struct Step {
-    pub right: bool,
-    pub kind: Kind,
-    pub first: Option<i64>,
-    pub second: Option<i64>,
-}
-
-pub fn left(kind: Kind, first: Option<i64>, second: Option<i64>) -> Step {
-    Step {
-        right: false,
-        kind,
-        first,
-        second,
-    }
-}
-
-pub fn right(kind: Kind, first: Option<i64>, second: Option<i64>) -> Step {
-    Step {
-        right: true,
-        kind,
-        first,
-        second,
-    }
-}
-
-fn number(n: Option<i64>) -> Value
-    ensures { value_fits Ty.BigInt result ≡ true }
-{
-    match n {
-        Some(n) if in_range(Ty::BigInt, i128::from(n)) => Value::Num(i128::from(n)),
-        _ => Value::Null,
-    }
-}
-
-/// The change of a step.
+/// The change of a row of two numbers.
 #[tactic(auto, using(crate::proofs::JoinFitting::two_fit))]
 pub fn change_of(alloc: Global, step: Step) -> Result<Change, Memory>
     ensures kind { IfOk result (λ change. change.kind ≡ step.kind) }
     ensures fits { IfOk result (λ change. row_fits columns change.row ≡ true) }
 {
     let mut values = Values::with_capacity(alloc, 2)?;
-    values.push(number(step.first))?;
-    values.push(number(step.second))?;
+    values.push(number(step.cells[0]))?;
+    values.push(number(step.cells[1]))?;
     Ok(Change::new(step.kind, Row::from_values(values)))
 }
 

@@ -4,9 +4,10 @@ ghost use Rattle.op_tests.specs.declared.join_feed.Reads.TheVariants as reads;
 
 use crate::join_feed::Reads;
 use crate::join_feeding::told;
-use crate::join_rows::{Step, left, pairs, right, row_columns, sum_above_zero};
-use crate::join_shown::{out, shown};
-use ct_change::{Append, Changes, Kind, Retract, UpsertBy};
+use crate::join_rows::{pairs, row_columns, sum_above_zero};
+use crate::shown::{out, shown};
+use crate::steps::steps_of;
+use ct_change::{Append, Changes, Retract, UpsertBy};
 use ct_expr::Expr;
 use ct_value::{Cols, Memory};
 use op_join::Join;
@@ -37,17 +38,31 @@ fn join(alloc: Global, kind: JoinKind, rest: Option<Expr>) -> Result<Join<Retrac
     Ok(made)
 }
 
-/// What a join of a kind tells of these changes.
-pub(crate) fn joined(alloc: Global, kind: JoinKind, changes: &[Step]) -> Result<Changes, OpFault> {
+/// What a join of a kind tells of a history.
+pub(crate) fn joined(alloc: Global, kind: JoinKind, history: &str) -> Result<Changes, OpFault> {
     let mut join = join(alloc, kind, None)?;
-    told(alloc, &mut join, Reads::Retract, Reads::Retract, changes)
+    let changes = steps_of(alloc, history)?;
+    told(
+        alloc,
+        &mut join,
+        Reads::Retract,
+        Reads::Retract,
+        changes.as_slice(),
+    )
 }
 
 // The same where the sum of the outermost columns has to be above 0 too.
-fn joined_above_zero(alloc: Global, kind: JoinKind, changes: &[Step]) -> Result<Changes, OpFault> {
+fn joined_above_zero(alloc: Global, kind: JoinKind, history: &str) -> Result<Changes, OpFault> {
     let rest = sum_above_zero(alloc)?;
     let mut join = join(alloc, kind, Some(rest))?;
-    told(alloc, &mut join, Reads::Retract, Reads::Retract, changes)
+    let changes = steps_of(alloc, history)?;
+    told(
+        alloc,
+        &mut join,
+        Reads::Retract,
+        Reads::Retract,
+        changes.as_slice(),
+    )
 }
 
 fn semi_join(alloc: Global, anti: bool) -> Result<SemiJoin<Retract, Retract>, Memory>
@@ -72,9 +87,16 @@ fn semi_join(alloc: Global, anti: bool) -> Result<SemiJoin<Retract, Retract>, Me
 }
 
 /// What a semi join or an anti join tells of them.
-pub(crate) fn matched(alloc: Global, anti: bool, changes: &[Step]) -> Result<Changes, OpFault> {
+pub(crate) fn matched(alloc: Global, anti: bool, history: &str) -> Result<Changes, OpFault> {
     let mut join = semi_join(alloc, anti)?;
-    told(alloc, &mut join, Reads::Retract, Reads::Retract, changes)
+    let changes = steps_of(alloc, history)?;
+    told(
+        alloc,
+        &mut join,
+        Reads::Retract,
+        Reads::Retract,
+        changes.as_slice(),
+    )
 }
 
 fn by_first(alloc: Global) -> Result<UpsertBy, Memory>
@@ -108,9 +130,16 @@ fn keyed(alloc: Global, kind: JoinKind) -> Result<Join<UpsertBy, Retract>, Memor
     Ok(made)
 }
 
-fn joined_by_keys(alloc: Global, kind: JoinKind, changes: &[Step]) -> Result<Changes, OpFault> {
+fn joined_by_keys(alloc: Global, kind: JoinKind, history: &str) -> Result<Changes, OpFault> {
     let mut join = keyed(alloc, kind)?;
-    told(alloc, &mut join, Reads::LastRows, Reads::Retract, changes)
+    let changes = steps_of(alloc, history)?;
+    told(
+        alloc,
+        &mut join,
+        Reads::LastRows,
+        Reads::Retract,
+        changes.as_slice(),
+    )
 }
 
 // Rows that stay on the left, and on the right rows with a key.
@@ -136,28 +165,37 @@ fn semi_join_by_keys(alloc: Global) -> Result<SemiJoin<Append, UpsertBy>, Memory
     Ok(made)
 }
 
-fn matched_by_keys(alloc: Global, changes: &[Step]) -> Result<Changes, OpFault> {
+fn matched_by_keys(alloc: Global, history: &str) -> Result<Changes, OpFault> {
     let mut join = semi_join_by_keys(alloc)?;
-    told(alloc, &mut join, Reads::Append, Reads::LastRows, changes)
+    let changes = steps_of(alloc, history)?;
+    told(
+        alloc,
+        &mut join,
+        Reads::Append,
+        Reads::LastRows,
+        changes.as_slice(),
+    )
 }
 
-// A pair is told for each two copies that match, with the kind of the change; NULL meets nothing.
-#[test]
-fn an_inner_join_hands_kinds_on(rt: HostRuntime) -> Result<(), Fail> {
-    let changes = [
-        right(Kind::I, Some(5), Some(50)),
-        left(Kind::I, Some(1), Some(5)),
-        left(Kind::I, Some(1), Some(5)),
-        right(Kind::I, Some(5), Some(51)),
-        left(Kind::UB, Some(1), Some(5)),
-        left(Kind::UA, Some(1), Some(6)),
-        right(Kind::D, Some(5), Some(50)),
-        left(Kind::I, Some(2), None),
-        right(Kind::I, None, Some(52)),
-        right(Kind::UB, Some(5), Some(51)),
-        right(Kind::UA, Some(6), Some(51)),
-    ];
-    let want = "\
+// A kind of join, changes, and what is told of them.
+const JOINS: [(JoinKind, &str, &str); 4] = [
+    // A pair is told for each two copies that match, with the kind of the change; NULL meets nothing.
+    (
+        JoinKind::Inner,
+        "\
+> +I 5 50
++I 1 5
++I 1 5
+> +I 5 51
+-U 1 5
++U 1 6
+> -D 5 50
++I 2 N
+> +I N 52
+> -U 5 51
+> +U 6 51
+",
+        "\
 +I 1 5 5 50
 +I 1 5 5 50
 +I 1 5 5 51
@@ -167,30 +205,26 @@ fn an_inner_join_hands_kinds_on(rt: HostRuntime) -> Result<(), Fail> {
 -D 1 5 5 50
 -U 1 5 5 51
 +U 1 6 6 51
-";
-    let told = joined(rt.alloc(), JoinKind::Inner, &changes)?;
-    assert_eq!(rt; shown(rt.alloc(), &told)?.as_str(), want);
-    Ok(())
-}
-
-// The first match takes the padded row away, and the last that goes brings it back.
-#[test]
-fn a_left_join_pads_rows_without_a_match(rt: HostRuntime) -> Result<(), Fail> {
-    let changes = [
-        left(Kind::I, Some(1), Some(5)),
-        left(Kind::I, Some(2), None),
-        right(Kind::I, None, Some(9)),
-        right(Kind::I, Some(5), Some(50)),
-        right(Kind::I, Some(5), Some(51)),
-        left(Kind::I, Some(3), Some(5)),
-        right(Kind::D, Some(5), Some(50)),
-        right(Kind::UB, Some(5), Some(51)),
-        right(Kind::UA, Some(6), Some(51)),
-        left(Kind::D, Some(2), None),
-        left(Kind::UB, Some(1), Some(5)),
-        left(Kind::UA, Some(1), Some(6)),
-    ];
-    let want = "\
+",
+    ),
+    // The first match takes the padded row away, and the last that goes brings it back.
+    (
+        JoinKind::Left,
+        "\
++I 1 5
++I 2 N
+> +I N 9
+> +I 5 50
+> +I 5 51
++I 3 5
+> -D 5 50
+> -U 5 51
+> +U 6 51
+-D 2 N
+-U 1 5
++U 1 6
+",
+        "\
 +I 1 5 N N
 +I 2 N N N
 -D 1 5 N N
@@ -207,27 +241,23 @@ fn a_left_join_pads_rows_without_a_match(rt: HostRuntime) -> Result<(), Fail> {
 -D 2 N N N
 -D 1 5 N N
 +I 1 6 6 51
-";
-    let told = joined(rt.alloc(), JoinKind::Left, &changes)?;
-    assert_eq!(rt; shown(rt.alloc(), &told)?.as_str(), want);
-    Ok(())
-}
-
-// A second copy of a match tells no padded row.
-#[test]
-fn a_right_join_pads_rows_of_the_right(rt: HostRuntime) -> Result<(), Fail> {
-    let changes = [
-        right(Kind::I, Some(5), Some(50)),
-        right(Kind::I, None, Some(9)),
-        left(Kind::I, Some(2), None),
-        left(Kind::I, Some(1), Some(5)),
-        left(Kind::I, Some(1), Some(5)),
-        left(Kind::D, Some(1), Some(5)),
-        left(Kind::D, Some(1), Some(5)),
-        right(Kind::D, Some(5), Some(50)),
-        right(Kind::D, None, Some(9)),
-    ];
-    let want = "\
+",
+    ),
+    // A second copy of a match tells no padded row.
+    (
+        JoinKind::Right,
+        "\
+> +I 5 50
+> +I N 9
++I 2 N
++I 1 5
++I 1 5
+-D 1 5
+-D 1 5
+> -D 5 50
+> -D N 9
+",
+        "\
 +I N N 5 50
 +I N N N 9
 -D N N 5 50
@@ -238,25 +268,21 @@ fn a_right_join_pads_rows_of_the_right(rt: HostRuntime) -> Result<(), Fail> {
 +I N N 5 50
 -D N N 5 50
 -D N N N 9
-";
-    let told = joined(rt.alloc(), JoinKind::Right, &changes)?;
-    assert_eq!(rt; shown(rt.alloc(), &told)?.as_str(), want);
-    Ok(())
-}
-
-#[test]
-fn a_full_join_pads_both_sides(rt: HostRuntime) -> Result<(), Fail> {
-    let changes = [
-        left(Kind::I, Some(1), Some(5)),
-        right(Kind::I, Some(6), Some(60)),
-        left(Kind::I, Some(2), None),
-        right(Kind::I, None, Some(9)),
-        right(Kind::I, Some(5), Some(50)),
-        left(Kind::D, Some(1), Some(5)),
-        left(Kind::I, Some(3), Some(6)),
-        right(Kind::D, Some(6), Some(60)),
-    ];
-    let want = "\
+",
+    ),
+    (
+        JoinKind::Full,
+        "\
++I 1 5
+> +I 6 60
++I 2 N
+> +I N 9
+> +I 5 50
+-D 1 5
++I 3 6
+> -D 6 60
+",
+        "\
 +I 1 5 N N
 +I N N 6 60
 +I 2 N N N
@@ -269,28 +295,37 @@ fn a_full_join_pads_both_sides(rt: HostRuntime) -> Result<(), Fail> {
 +I 3 6 6 60
 -D 3 6 6 60
 +I 3 6 N N
-";
-    let told = joined(rt.alloc(), JoinKind::Full, &changes)?;
-    assert_eq!(rt; shown(rt.alloc(), &told)?.as_str(), want);
+",
+    ),
+];
+
+#[test]
+fn joins_follow_both_sides(rt: HostRuntime) -> Result<(), Fail> {
+    for (kind, history, want) in &JOINS {
+        let told = joined(rt.alloc(), *kind, history)?;
+        assert_eq!(rt; shown(rt.alloc(), &told)?.as_str(), *want);
+    }
     Ok(())
 }
 
-// A row is told once, however many matches it has, and goes with the last of them.
-#[test]
-fn a_semi_join_keeps_rows_that_have_a_match(rt: HostRuntime) -> Result<(), Fail> {
-    let changes = [
-        left(Kind::I, Some(1), Some(5)),
-        right(Kind::I, Some(5), Some(50)),
-        right(Kind::I, Some(5), Some(51)),
-        left(Kind::I, Some(2), Some(5)),
-        left(Kind::I, Some(2), None),
-        right(Kind::D, Some(5), Some(50)),
-        right(Kind::UB, Some(5), Some(51)),
-        right(Kind::UA, Some(5), Some(52)),
-        left(Kind::UB, Some(1), Some(5)),
-        left(Kind::UA, Some(1), Some(6)),
-    ];
-    let want = "\
+// Whether it is an anti join, changes, and what is told of them.
+const MATCHES: [(bool, &str, &str); 2] = [
+    // A row is told once, however many matches it has, and goes with the last of them.
+    (
+        false,
+        "\
++I 1 5
+> +I 5 50
+> +I 5 51
++I 2 5
++I 2 N
+> -D 5 50
+> -U 5 51
+> +U 5 52
+-U 1 5
++U 1 6
+",
+        "\
 +I 1 5
 +I 2 5
 -D 1 5
@@ -298,29 +333,25 @@ fn a_semi_join_keeps_rows_that_have_a_match(rt: HostRuntime) -> Result<(), Fail>
 +I 1 5
 +I 2 5
 -U 1 5
-";
-    let told = matched(rt.alloc(), false, &changes)?;
-    assert_eq!(rt; shown(rt.alloc(), &told)?.as_str(), want);
-    Ok(())
-}
-
-// Each copy of a row without a match stands; two copies of a match are two.
-#[test]
-fn an_anti_join_keeps_rows_that_have_none(rt: HostRuntime) -> Result<(), Fail> {
-    let changes = [
-        left(Kind::I, Some(2), None),
-        left(Kind::I, Some(1), Some(5)),
-        left(Kind::I, Some(1), Some(5)),
-        right(Kind::I, None, Some(9)),
-        right(Kind::I, Some(5), Some(50)),
-        right(Kind::I, Some(5), Some(50)),
-        right(Kind::D, Some(5), Some(50)),
-        right(Kind::D, Some(5), Some(50)),
-        left(Kind::D, Some(2), None),
-        left(Kind::UB, Some(1), Some(5)),
-        left(Kind::UA, Some(1), Some(7)),
-    ];
-    let want = "\
+",
+    ),
+    // Each copy of a row without a match stands; two copies of a match are two.
+    (
+        true,
+        "\
++I 2 N
++I 1 5
++I 1 5
+> +I N 9
+> +I 5 50
+> +I 5 50
+> -D 5 50
+> -D 5 50
+-D 2 N
+-U 1 5
++U 1 7
+",
+        "\
 +I 2 N
 +I 1 5
 +I 1 5
@@ -331,55 +362,72 @@ fn an_anti_join_keeps_rows_that_have_none(rt: HostRuntime) -> Result<(), Fail> {
 -D 2 N
 -U 1 5
 +U 1 7
-";
-    let told = matched(rt.alloc(), true, &changes)?;
-    assert_eq!(rt; shown(rt.alloc(), &told)?.as_str(), want);
+",
+    ),
+];
+
+#[test]
+fn rows_stand_by_their_matches(rt: HostRuntime) -> Result<(), Fail> {
+    for (anti, history, want) in &MATCHES {
+        let told = matched(rt.alloc(), *anti, history)?;
+        assert_eq!(rt; shown(rt.alloc(), &told)?.as_str(), *want);
+    }
     Ok(())
 }
 
+const LAST_ROWS: &str = "\
+> +I 5 50
+> +I 6 60
++I 1 5
++U 1 6
++U 1 7
+-D 1 N
+-D 1 N
+";
+
 // The old row of the key goes with the matches that it had, also where the new one has another join key.
-#[test]
-fn a_side_of_last_rows_lets_the_old_row_go(rt: HostRuntime) -> Result<(), Fail> {
-    let changes = [
-        right(Kind::I, Some(5), Some(50)),
-        right(Kind::I, Some(6), Some(60)),
-        left(Kind::I, Some(1), Some(5)),
-        left(Kind::UA, Some(1), Some(6)),
-        left(Kind::UA, Some(1), Some(7)),
-        left(Kind::D, Some(1), None),
-        left(Kind::D, Some(1), None),
-    ];
-    let outer = "\
+const OVER_LAST_ROWS: [(JoinKind, &str); 2] = [
+    (
+        JoinKind::Left,
+        "\
 +I 1 5 5 50
 -D 1 5 5 50
 +I 1 6 6 60
 -D 1 6 6 60
 +I 1 7 N N
 -D 1 7 N N
-";
-    let inner = "\
+",
+    ),
+    (
+        JoinKind::Inner,
+        "\
 +I 1 5 5 50
 -U 1 5 5 50
 +U 1 6 6 60
 -U 1 6 6 60
-";
-    let told = joined_by_keys(rt.alloc(), JoinKind::Left, &changes)?;
-    assert_eq!(rt; shown(rt.alloc(), &told)?.as_str(), outer);
-    let told = joined_by_keys(rt.alloc(), JoinKind::Inner, &changes)?;
-    assert_eq!(rt; shown(rt.alloc(), &told)?.as_str(), inner);
+",
+    ),
+];
+
+#[test]
+fn a_side_of_last_rows_lets_the_old_row_go(rt: HostRuntime) -> Result<(), Fail> {
+    for (kind, want) in &OVER_LAST_ROWS {
+        let told = joined_by_keys(rt.alloc(), *kind, LAST_ROWS)?;
+        assert_eq!(rt; shown(rt.alloc(), &told)?.as_str(), *want);
+    }
     Ok(())
 }
 
 #[test]
 fn a_semi_join_follows_last_rows(rt: HostRuntime) -> Result<(), Fail> {
-    let changes = [
-        left(Kind::I, Some(1), Some(5)),
-        left(Kind::I, Some(2), Some(5)),
-        right(Kind::I, Some(5), Some(50)),
-        right(Kind::UA, Some(5), Some(51)),
-        right(Kind::D, Some(5), None),
-        left(Kind::I, Some(3), Some(5)),
-    ];
+    let changes = "\
++I 1 5
++I 2 5
+> +I 5 50
+> +U 5 51
+> -D 5 N
++I 3 5
+";
     let want = "\
 +I 1 5
 +I 2 5
@@ -390,7 +438,7 @@ fn a_semi_join_follows_last_rows(rt: HostRuntime) -> Result<(), Fail> {
 -D 1 5
 -D 2 5
 ";
-    let told = matched_by_keys(rt.alloc(), &changes)?;
+    let told = matched_by_keys(rt.alloc(), changes)?;
     assert_eq!(rt; shown(rt.alloc(), &told)?.as_str(), want);
     Ok(())
 }
@@ -398,15 +446,15 @@ fn a_semi_join_follows_last_rows(rt: HostRuntime) -> Result<(), Fail> {
 // Rows whose keys agree match where the rest is TRUE, and not where it is FALSE or NULL.
 #[test]
 fn the_rest_has_to_be_true(rt: HostRuntime) -> Result<(), Fail> {
-    let changes = [
-        right(Kind::I, Some(5), Some(50)),
-        right(Kind::I, Some(5), Some(-70)),
-        right(Kind::I, Some(5), None),
-        left(Kind::I, Some(60), Some(5)),
-        left(Kind::I, Some(-60), Some(5)),
-        left(Kind::I, None, Some(5)),
-        right(Kind::I, Some(5), Some(61)),
-    ];
+    let changes = "\
+> +I 5 50
+> +I 5 -70
+> +I 5 N
++I 60 5
++I -60 5
++I N 5
+> +I 5 61
+";
     let want = "\
 +I 60 5 5 50
 +I -60 5 N N
@@ -415,7 +463,7 @@ fn the_rest_has_to_be_true(rt: HostRuntime) -> Result<(), Fail> {
 +I -60 5 5 61
 +I 60 5 5 61
 ";
-    let told = joined_above_zero(rt.alloc(), JoinKind::Left, &changes)?;
+    let told = joined_above_zero(rt.alloc(), JoinKind::Left, changes)?;
     assert_eq!(rt; shown(rt.alloc(), &told)?.as_str(), want);
     Ok(())
 }
@@ -423,24 +471,24 @@ fn the_rest_has_to_be_true(rt: HostRuntime) -> Result<(), Fail> {
 // The first pair in the order of rows that is out of range is named, the left row first; pairs whose keys differ are not evaluated.
 #[test]
 fn a_pair_out_of_range_is_named(rt: HostRuntime) -> Result<(), Fail> {
-    let from_left = [
-        right(Kind::I, Some(6), Some(2)),
-        right(Kind::I, Some(6), Some(1)),
-        right(Kind::I, Some(6), Some(-1)),
-        left(Kind::I, Some(i64::MAX), Some(5)),
-        left(Kind::I, Some(i64::MAX), Some(6)),
-    ];
-    let told = joined_above_zero(rt.alloc(), JoinKind::Inner, &from_left);
+    let from_left = "\
+> +I 6 2
+> +I 6 1
+> +I 6 -1
++I 9223372036854775807 5
++I 9223372036854775807 6
+";
+    let told = joined_above_zero(rt.alloc(), JoinKind::Inner, from_left);
     assert_eq!(rt;
         out(rt.alloc(), &told)?.as_str(),
         " 9223372036854775807 6 6 1\n"
     );
-    let from_right = [
-        left(Kind::I, Some(i64::MAX), Some(6)),
-        left(Kind::I, Some(3), Some(6)),
-        right(Kind::I, Some(6), Some(7)),
-    ];
-    let told = joined_above_zero(rt.alloc(), JoinKind::Full, &from_right);
+    let from_right = "\
++I 9223372036854775807 6
++I 3 6
+> +I 6 7
+";
+    let told = joined_above_zero(rt.alloc(), JoinKind::Full, from_right);
     assert_eq!(rt;
         out(rt.alloc(), &told)?.as_str(),
         " 9223372036854775807 6 6 7\n"

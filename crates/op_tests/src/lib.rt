@@ -6,6 +6,8 @@
 #[cfg(test)]
 mod bundles;
 #[cfg(test)]
+mod cells;
+#[cfg(test)]
 mod gone_rows;
 #[cfg(test)]
 mod group_feeding;
@@ -20,8 +22,6 @@ mod join_feed;
 mod join_feeding;
 #[cfg(test)]
 mod join_rows;
-#[cfg(test)]
-mod join_shown;
 #[cfg(test)]
 mod joins;
 #[cfg(test)]
@@ -39,9 +39,13 @@ mod rows;
 #[cfg(test)]
 mod set_operations;
 #[cfg(test)]
+mod shown;
+#[cfg(test)]
 mod standing;
 #[cfg(test)]
 mod state;
+#[cfg(test)]
+mod steps;
 #[cfg(test)]
 mod top_feeding;
 #[cfg(test)]

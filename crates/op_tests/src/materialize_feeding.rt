@@ -11,7 +11,7 @@ use std::alloc::Global;
 use std::sync::ledger::{Blank, Ledger};
 
 /// A change of a row of two texts, the first of which is the key.
-#[derive(Clone, Copy, Debug)]
+#[derive(Clone, Copy)]
 pub struct Pair<'a> {
     pub kind: Kind,
     pub key: &'a str,

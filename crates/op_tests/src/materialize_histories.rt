@@ -1,8 +1,9 @@
 ghost use Rattle.std.specs.Prelude.{◌≡◌, ◌∷◌, [], IfOk};
 
 use crate::materialize_feeding::{Pair, told};
+use crate::shown::shown;
 use ct_change::{Changes, Kind};
-use ct_value::{Cols, Memory, Value};
+use ct_value::{Cols, Memory};
 use op_rules::OpFault;
 use op_sink::Materialize;
 use std::alloc::Global;
@@ -21,37 +22,6 @@ fn first_column(alloc: Global) -> Result<Cols, Memory>
 fn tells(alloc: Global, changes: &[Pair<'_>]) -> Result<Changes, OpFault> {
     let mut materialize = Materialize::new(alloc, first_column(alloc)?)?;
     told::<Materialize, Brand>(alloc, &mut materialize, changes, Blank::new(1))
-}
-
-fn sign(kind: Kind) -> &'static str {
-    match kind {
-        Kind::I => "+I",
-        Kind::UB => "-U",
-        Kind::UA => "+U",
-        Kind::D => "-D",
-    }
-}
-
-// The changes with the texts of their rows, NULL as `-`.
-fn shown(alloc: Global, told: &Changes) -> Result<String, Memory> {
-    let mut text = String::new(alloc);
-    for change in told.as_slice() {
-        text.push_str(sign(change.kind))?;
-        for value in change.row.as_slice() {
-            text.push_str(" ")?;
-            put_value(&mut text, value)?;
-        }
-        text.push_str("\n")?;
-    }
-    Ok(text)
-}
-
-fn put_value(text: &mut String, value: &Value) -> Result<(), Memory> {
-    match value {
-        Value::Text(word) => text.push_str(word.as_str())?,
-        _ => text.push_str("-")?,
-    }
-    Ok(())
 }
 
 fn pair<'a>(kind: Kind, key: &'a str, value: &'a str) -> Pair<'a> {
@@ -79,7 +49,7 @@ fn the_last_of_the_rows_that_stand_is_shown(rt: HostRuntime) -> Result<(), Fail>
 +I 8 Rome
 +U 7 Bern
 +U 7 Oslo
--D 7 -
+-D 7 N
 ";
     let told = tells(rt.alloc(), &changes)?;
     assert_eq!(rt; shown(rt.alloc(), &told)?.as_str(), want);

@@ -4,10 +4,12 @@ ghost use Rattle.ct_change.specs.Changelog.{retract, apply, MayCome};
 ghost use Rattle.op_tests.specs.GroupFed.{IsFed, IsOfRows};
 ghost use Rattle.op_tests.specs.GroupPieces.{IsGathered};
 
-use crate::group_histories::{group, shown};
-use crate::group_rows::{Step, change_of};
+use crate::group_histories::group;
+use crate::group_rows::change_of;
+use crate::shown::shown;
 use crate::standing::stands;
-use ct_change::{Bag, Change, Changes, Kind, Retract, Steps};
+use crate::steps::{Step, steps_of};
+use ct_change::{Bag, Change, Changes, Retract, Steps};
 use ct_value::Memory;
 use op_group::Group;
 use op_rules::{OpFault, PieceOperator};
@@ -122,35 +124,33 @@ fn told<O: PieceOperator, L: Ledger>(
     Ok(told)
 }
 
-fn tells(alloc: Global, first: &[Step], second: &[Step]) -> Result<Changes, OpFault> {
+fn tells(alloc: Global, first: &str, second: &str) -> Result<Changes, OpFault> {
+    let first = steps_of(alloc, first)?;
+    let second = steps_of(alloc, second)?;
     let mut group = group(alloc, 1)?;
-    told::<Group<Retract, Retract>, Brand>(alloc, &mut group, first, second, Blank::new(1))
-}
-
-fn number(kind: Kind, id: i64, n: i64) -> Step {
-    Step {
-        kind,
-        id,
-        n: Some(n),
-        keep: None,
-        price: None,
-    }
+    told::<Group<Retract, Retract>, Brand>(
+        alloc,
+        &mut group,
+        first.as_slice(),
+        second.as_slice(),
+        Blank::new(1),
+    )
 }
 
 // Two groups come, the second's change between those of the first. Then one goes, one comes and goes, and one has a row less.
 #[test]
 fn a_piece_is_told_group_by_group(rt: HostRuntime) -> Result<(), Fail> {
-    let first = [
-        number(Kind::I, 2, 5),
-        number(Kind::I, 1, 7),
-        number(Kind::I, 2, -2),
-    ];
-    let second = [
-        number(Kind::D, 1, 7),
-        number(Kind::I, 3, 1),
-        number(Kind::D, 2, 5),
-        number(Kind::D, 3, 1),
-    ];
+    let first = "\
++I 2 5
++I 1 7
++I 2 -2
+";
+    let second = "\
+-D 1 7
++I 3 1
+-D 2 5
+-D 3 1
+";
     let want = "\
 +I 2 2 2 2 3 1 -2 5 N N
 +I 1 1 1 1 7 7 7 7 N N
@@ -158,7 +158,7 @@ fn a_piece_is_told_group_by_group(rt: HostRuntime) -> Result<(), Fail> {
 -U 2 2 2 2 3 1 -2 5 N N
 +U 2 1 1 1 -2 -2 -2 -2 N N
 ";
-    let told = tells(rt.alloc(), &first, &second)?;
+    let told = tells(rt.alloc(), first, second)?;
     assert_eq!(rt; shown(rt.alloc(), &told)?.as_str(), want);
     Ok(())
 }

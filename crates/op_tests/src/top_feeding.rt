@@ -5,8 +5,9 @@ ghost use Rattle.op_tests.specs.TopFed.{IsFed, IsOfRows, Keeps};
 ghost use Rattle.op_tests.specs.TopTables.{columns, mode_of};
 
 use crate::standing::{LAST, stands};
+use crate::steps::Step;
 use crate::top_reads::Reads;
-use crate::tops::{Step, change_of};
+use crate::tops::change_of;
 use ct_change::{Bag, Change, Changes, Kind, Steps};
 use ct_value::Memory;
 use op_rules::{OpFault, Operator};

@@ -1,5 +1,5 @@
 /// How the changes are read: as rows that come and go, or as the last row of each id.
-#[derive(Clone, Copy, Debug)]
+#[derive(Clone, Copy)]
 pub enum Reads {
     Retract,
     LastRows,

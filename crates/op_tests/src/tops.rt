@@ -4,53 +4,25 @@ ghost use Rattle.ct_change.specs.Changelog.{retract, upsert};
 ghost use Rattle.op_tests.specs.TopFed.{IsOfRows};
 ghost use Rattle.op_tests.specs.TopTables.{columns, order_of};
 
-use ct_change::{Change, Kind, Retract, UpsertBy};
-use ct_field::in_range;
-use ct_value::{ColTy, ColTys, Cols, Memory, Row, Ty, Value, Values};
+use crate::cells::{id_value, number};
+use crate::steps::Step;
+use ct_change::{Change, Retract, UpsertBy};
+use ct_value::{ColTy, ColTys, Cols, Memory, Row, Ty, Values};
 use op_rules::Operator;
 use op_topn::TopN;
 use rel_algebra::{SortCol, Sorts};
 use std::alloc::Global;
 
-/// A change of a row with an id, a group and a number.
-#[derive(Clone, Copy, Debug)]
-pub struct Step {
-    pub kind: Kind,
-    pub id: i64,
-    pub g: i64,
-    pub v: Option<i64>,
-}
-
-fn id_value(id: i64) -> Value
-    ensures { col_fits (record { ty = Ty.BigInt; nullable = false }) result ≡ true }
-{
-    let id = i128::from(id);
-    if in_range(Ty::BigInt, id) {
-        Value::Num(id)
-    } else {
-        Value::Num(0)
-    }
-}
-
-fn number(n: Option<i64>) -> Value
-    ensures { value_fits Ty.BigInt result ≡ true }
-{
-    match n {
-        Some(n) if in_range(Ty::BigInt, i128::from(n)) => Value::Num(i128::from(n)),
-        _ => Value::Null,
-    }
-}
-
-/// The change of a step.
+/// The change of a row with an id, a group and a number.
 #[tactic(auto, using(crate::proofs::TopFitting::three_fit))]
 pub fn change_of(alloc: Global, step: Step) -> Result<Change, Memory>
     ensures kind { IfOk result (λ change. change.kind ≡ step.kind) }
     ensures fits { IfOk result (λ change. row_fits columns change.row ≡ true) }
 {
     let mut values = Values::with_capacity(alloc, 3)?;
-    values.push(id_value(step.id))?;
-    values.push(number(Some(step.g)))?;
-    values.push(number(step.v))?;
+    values.push(id_value(step.cells[0]))?;
+    values.push(number(step.cells[1]))?;
+    values.push(number(step.cells[2]))?;
     Ok(Change::new(step.kind, Row::from_values(values)))
 }
 

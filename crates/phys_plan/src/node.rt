@@ -9,7 +9,6 @@ pub type Keys = List<Cols>;
 pub type PairLists = List<Pairs>;
 
 /// What a node does. Columns are counted from 0, and those of two inputs stand side by side, the left's first.
-#[derive(Drop)]
 pub enum Op {
     /// Sends the changes of a table, counted from 0.
     Scan {
@@ -79,6 +78,53 @@ pub enum Op {
         all: bool,
         columns: u32,
     },
+}
+
+// By hand, so that whoever owns an operator doesn't prove again how each kind of it is dropped.
+impl Drop for Op {
+    fn drop(self) {
+        match self {
+            Op::Scan { source: _source } => {}
+            Op::Filter { cond } => drop(cond),
+            Op::Project { items } => drop(items),
+            Op::Union | Op::Sink => {}
+            Op::Normalize { key } | Op::Materialize { key } => drop(key),
+            Op::Group { keys: _keys, aggs }
+            | Op::BatchGroup { keys: _keys, aggs }
+            | Op::LocalGroup { keys: _keys, aggs } => drop(aggs),
+            Op::Join {
+                kind: _kind,
+                on,
+                rest,
+            } => {
+                drop(on);
+                drop(rest);
+            }
+            Op::Semi {
+                anti: _anti,
+                on,
+                rest,
+            } => {
+                drop(on);
+                drop(rest);
+            }
+            Op::TopN {
+                partition,
+                order,
+                bound: _bound,
+                ranked: _ranked,
+            } => {
+                drop(partition);
+                drop(order);
+            }
+            Op::MultiJoin { on } => drop(on),
+            Op::SetOp {
+                except: _except,
+                all: _all,
+                columns: _columns,
+            } => {}
+        }
+    }
 }
 
 /// The keys of a node's output: those of each answer, those of what one subtask sends at every moment, and the sets that

@@ -22,7 +22,8 @@ use Rattle.laid_plans.specs.Shapes.{HasTreeShape, IsLaidOut, LaidPlansHaveShape}
 use Rattle.laid_plans.proofs.laws.Nodes.{node_read}
 use Rattle.planner.specs.Planned.{IsLaidPlan, Planned, PlannedPlansAreRuled, made_by, sink_top}
 use Rattle.planner.specs.Refusals.{below_sink, has_materializer, is_forced, refusal, sink_way, way_into}
-use Rattle.planner.specs.Tops.{top_by, top_of, topped_plan}
+use Rattle.plan_laying.specs.Topped.{topped_plan}
+use Rattle.planner.specs.Tops.{top_by, top_of}
 use Rattle.planner.proofs.Refused as plain
 use Rattle.planner.proofs.Shown as behind
 use Rattle.planner.proofs.laws.Topped.{laid_with}

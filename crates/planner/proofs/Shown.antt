@@ -46,10 +46,11 @@ use Rattle.laid_plans.proofs.laws.Placed.{lays_out_with}
 use Rattle.laid_plans.proofs.laws.Same.{item_there}
 use Rattle.planner.specs.Planned.{IsLaidPlan}
 use Rattle.planner.specs.Refusals.{below_sink, has_materializer, is_forced, is_large_with, refusal, sink_way, way_into}
-use Rattle.planner.specs.Tops.{all_but_last, topped_plan}
+use Rattle.plan_laying.specs.Topped.{all_but_last, topped_plan}
 use Rattle.planner.proofs.Refused.{below_is, both_true, fits, meets_sink_key, not_large}
 use Rattle.planner.proofs.laws.Ahead.{IsAlike, at_last, columns_ahead, in_front, keys_ahead, read_many, ruled_with}
-use Rattle.planner.proofs.laws.Topped.{edges_ahead, has_last, laid_with}
+use Rattle.plan_laying.proofs.laws.LastEdges.{has_last}
+use Rattle.planner.proofs.laws.Topped.{edges_ahead, laid_with}
 
 -- ---- ways
 

@@ -13,7 +13,8 @@ use Rattle.plan_rules.specs.Pieces.{Top, bare}
 use Rattle.plan_shape.specs.Tables.{are_tables}
 use Rattle.plan_check.specs.Sound.{inferred_of}
 use Rattle.planner.specs.Refusals.{refusal, sink_way}
-use Rattle.planner.specs.Tops.{top_by, topped_plan}
+use Rattle.plan_laying.specs.Topped.{topped_plan}
+use Rattle.planner.specs.Tops.{top_by}
 use Rattle.laid_plans.specs.Inferred.{with_inferred}
 use Rattle.sound_plans.specs.Sound.{IsRuled}
 use Rattle.laid_plans.specs.Shapes.{IsLaidOut, IsLaidWith, types_of}

@@ -1,17 +1,8 @@
 -- What stands between a tree and its sink: nothing, or a materializer by the sink's key.
-use Rattle.std.specs.Prelude.{ℕ, ◌+◌, List, [], ◌∷◌, ◌++◌, cond, length, Option, None, Some}
-use Rattle.ct_change.specs.Changelog.{retract, kinds_of}
-use Rattle.ct_change.specs.declared.update.Update.TheVariants.{Absent, Both}
-use Rattle.phys_plan.specs.declared.edge.Edge.{Edge}
-use Rattle.phys_plan.specs.declared.edge.Exchange.TheVariants.{Forward, Hash}
-use Rattle.phys_plan.specs.declared.node.Node.{Node}
-use Rattle.phys_plan.specs.declared.node.Op.TheVariants as op
-use Rattle.phys_plan.specs.declared.plan.Plan.{Plan}
+use Rattle.std.specs.Prelude.{ℕ, List, cond, Option, None, Some}
 use Rattle.plan_inferred.specs.declared.ways.Way.{Way}
-use Rattle.plan_rules.specs.Pieces.{Top, bare, shown, node_of, edge_of}
+use Rattle.plan_rules.specs.Pieces.{Top, bare, shown}
 use Rattle.planner.specs.Refusals.{has_materializer}
-
--- ---- which it is
 
 -- the key of the materializer before a sink with this key, which takes what comes in this way
 abbrev pub shown_key : Way → Option (List ℕ) → Option (List ℕ)
@@ -23,45 +14,3 @@ top_of (Some key) = shown key
 
 abbrev pub top_by : Way → Option (List ℕ) → Top
 top_by way key = top_of (shown_key way key)
-
--- ---- a plan with it
-
-abbrev pub all_but_last : {A : Type 0} → List A → List A
-all_but_last [] = []
-all_but_last (x ∷ []) = []
-all_but_last (x ∷ (y ∷ xs)) = x ∷ all_but_last (y ∷ xs)
-
-abbrev pub hashed_by : List ℕ → Edge → Edge
-hashed_by key edge = edge_of (Hash key) edge.kinds edge.update
-
--- edges of which the last goes by these columns
-abbrev pub hash_last : List ℕ → List Edge → List Edge
-hash_last key [] = []
-hash_last key (edge ∷ []) = hashed_by key edge ∷ []
-hash_last key (edge ∷ (next ∷ edges)) = edge ∷ hash_last key (next ∷ edges)
-
--- a tree's nodes, a materializer over the last of them, and the sink over that; and the edges that leave them
-abbrev pub shown_nodes : List ℕ → List Node → List Node
-shown_nodes key tree = tree ++ (node_of (op.Materialize key) (length tree ∷ []) ∷ (node_of op.Sink ((length tree + 1) ∷ []) ∷ []))
-
-abbrev pub shown_edges : List Edge → List Edge
-shown_edges tree = tree ++ (edge_of Forward (kinds_of retract) Both ∷ (edge_of Forward (kinds_of retract) Absent ∷ []))
-
--- the nodes of a plan, of which the last is the sink, with that before it; and its edges: the tree's rows go to a materializer by its key
-abbrev pub topped_nodes : Top → List Node → List Node
-topped_nodes bare nodes = nodes
-topped_nodes (shown key) nodes = shown_nodes key (all_but_last nodes)
-
-abbrev pub topped_edges : Top → List Edge → List Edge
-topped_edges bare edges = edges
-topped_edges (shown key) edges = shown_edges (hash_last key (all_but_last edges))
-
-abbrev pub topped_plan : Top → Plan → Plan
-topped_plan top laid = record {
-  sources = laid.sources;
-  sink = laid.sink;
-  nodes = topped_nodes top laid.nodes;
-  edges = topped_edges top laid.edges;
-  parallelism = laid.parallelism;
-  mini_batch = laid.mini_batch;
-}

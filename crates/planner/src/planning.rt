@@ -8,9 +8,10 @@ ghost use Rattle.plan_check.specs.Sound.{IsSound, inferred_of};
 ghost use Rattle.plan_rules.specs.Erased.{erased};
 ghost use Rattle.planner.specs.Refusals as r;
 ghost use Rattle.planner.specs.Planned.{IsLaidPlan, Planned, Says, made};
-ghost use Rattle.planner.specs.Tops.{shown_key, top_of, topped_plan};
+ghost use Rattle.plan_laying.specs.Topped.{topped_plan};
+ghost use Rattle.planner.specs.Tops.{shown_key, top_of};
 
-use crate::materializer::{shown_key, with_materializer};
+use crate::sinks::shown_key;
 use crate::sizes::is_plainly_large;
 use crate::{PlannerFault, refusal, sink_way};
 use ct_catalog::Materialize;
@@ -19,6 +20,7 @@ use mode_infer::set_modes;
 use phys_plan::Plan;
 use plan_check::{CheckedPlan, PlanFault, check_plan, infer_plan};
 use plan_inferred::Inferred;
+use plan_laying::with_materializer;
 use std::alloc::Global;
 use upsert_keys::set_keys;
 

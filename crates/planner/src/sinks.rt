@@ -2,6 +2,7 @@
 ghost use Rattle.std.specs.Prelude.{◌≡◌, map, option_copied, IfOk};
 ghost use Rattle.std.specs.List.{list_any};
 ghost use Rattle.planner.specs.Refusals as r;
+ghost use Rattle.planner.specs.Tops.{shown_key};
 
 use ct_catalog::Materialize;
 use ct_change::Declared;
@@ -99,6 +100,19 @@ pub fn has_materializer(way: Way) -> bool
     match way {
         Way::Forced | Way::Materialized => true,
         Way::NewRows | Way::Direct | Way::Refused => false,
+    }
+}
+
+/// The key of the materializer before a sink with this key that takes what comes in this way, and `None` where there is none.
+pub(crate) fn shown_key(way: Way, key: &Option<Cols>) -> Result<Option<Cols>, Memory>
+    ensures { IfOk result (λ shown. shown ≡ shown_key way key.now) }
+{
+    if !has_materializer(way) {
+        return Ok(None);
+    }
+    match key {
+        None => Ok(None),
+        Some(key) => Ok(Some(key.dup()?)),
     }
 }
 

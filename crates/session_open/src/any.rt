@@ -14,7 +14,6 @@ use op_topn::TopN;
 use std::sync::ledger::Ledger;
 
 /// An operator of any of the kinds that a plan has.
-#[derive(Drop)]
 pub enum AnyOperator {
     Filter(FilterOp),
     Project(ProjectOp),
@@ -27,6 +26,25 @@ pub enum AnyOperator {
     TopN(TopN<AnyMode, AnyMode>),
     Materialize(Materialize),
     Sink(SinkWriter),
+}
+
+// By hand, so that whoever owns a session doesn't prove again how each kind of operator is dropped.
+impl Drop for AnyOperator {
+    fn drop(self) {
+        match self {
+            AnyOperator::Filter(operator) => drop(operator),
+            AnyOperator::Project(operator) => drop(operator),
+            AnyOperator::Union(operator) => drop(operator),
+            AnyOperator::Normalize(operator) => drop(operator),
+            AnyOperator::Group(operator) => drop(operator),
+            AnyOperator::Join(operator) => drop(operator),
+            AnyOperator::Semi(operator) => drop(operator),
+            AnyOperator::SetOp(operator) => drop(operator),
+            AnyOperator::TopN(operator) => drop(operator),
+            AnyOperator::Materialize(operator) => drop(operator),
+            AnyOperator::Sink(operator) => drop(operator),
+        }
+    }
 }
 
 impl Operator for AnyOperator {

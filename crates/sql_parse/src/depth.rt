@@ -80,5 +80,5 @@ pub fn query(alloc: Global, depth: usize, tokens: &[Token]) -> Read<'_, Query>
             ensures { Gives query_view result ((readers below).query tokens.now) }
         { query(alloc, below, tokens) },
     };
-    crate::query(alloc, &within, tokens)
+    sql_queries::query(alloc, &within, tokens)
 }

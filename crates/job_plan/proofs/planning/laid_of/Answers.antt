@@ -1,11 +1,11 @@
 use Rattle.std.proofs.Common.{◌≡◌, true, ap, subst, sym, ◌∙◌}
 use Rattle.rel_algebra.specs.View.{rel_view}
-use Rattle.planner.specs.Faults.{Says, lacks_table}
+use Rattle.plan_laying.specs.Faults.{Says, lacks_table}
 use Rattle.job_judgement.specs.Views.{accepted_view}
 use Rattle.job_plan.proofs.Made.{have_tables}
 use Rattle.job_plan.proofs.planning.laid_of.Goals as goal
 use Rattle.job_judgement.proofs.laws.Theorems.{accepted_is_bound}
-use Rattle.planner.proofs.laws.TypedTrees.{typed_trees_have_tables}
+use Rattle.plan_laying.proofs.laws.TypedTrees.{typed_trees_have_tables}
 use Rattle.query_laws.proofs.laws.Theorems.{bound_inserts_are_well_typed_columns}
 
 pub unreachable-requires : goal.unreachable-requires

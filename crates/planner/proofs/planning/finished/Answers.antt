@@ -1,7 +1,8 @@
 use Rattle.std.proofs.Common.{◌≡◌, ℕ, List, Option, IfOk, subst, sym}
 use Rattle.phys_plan.specs.declared.plan.Plan.{Plan}
 use Rattle.laid_plans.specs.Inferred.{with_inferred}
-use Rattle.planner.specs.Tops.{top_of, topped_plan}
+use Rattle.plan_laying.specs.Topped.{topped_plan}
+use Rattle.planner.specs.Tops.{top_of}
 use Rattle.planner.proofs.planning.finished.Goals as goal
 
 pub returns-in-None : goal.returns-in-None

@@ -4,7 +4,8 @@ use Rattle.plan_check.specs.Sound.{IsSound}
 use Rattle.plan_rules.specs.Erased.{erased}
 use Rattle.laid_plans.specs.Inferred.{with_inferred}
 use Rattle.planner.specs.Planned.{Planned, Says, made, made_by, sink_top}
-use Rattle.planner.specs.Tops.{top_of, topped_plan}
+use Rattle.plan_laying.specs.Topped.{topped_plan}
+use Rattle.planner.specs.Tops.{top_of}
 use Rattle.planner.proofs.Made.{laid_so, made_is_sound}
 use Rattle.planner.proofs.planning.plan.Goals as goal
 use Rattle.laid_plans.proofs.laws.Theorems.{inferred_plans_are_sound}

@@ -7,7 +7,7 @@ use Rattle.plan_check.specs.Sound.{inferred_of}
 use Rattle.plan_inferred.specs.declared.ways.Way.TheVariants.{Direct}
 use Rattle.planner.specs.Planned.{Refused, made}
 use Rattle.planner.specs.Refusals.{changes_rows, ranks_rows, sink_way}
-use Rattle.planner.proofs.Answered.{if_ok}
+use Rattle.plan_laying.proofs.laws.Answered.{if_ok}
 use Rattle.planner.proofs.laws.Large.{plainly_large}
 use Rattle.planner.proofs.sizes.is_plainly_large.Goals as goal
 

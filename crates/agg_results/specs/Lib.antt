@@ -1,0 +1,5 @@
+pub mod Extremes
+pub mod Seen
+pub mod Sums
+pub mod Taken
+pub mod Wide

@@ -1,0 +1,6 @@
+pub mod Answered
+pub mod Laid
+pub mod LastEdges
+pub mod Several
+pub mod TypedTrees
+pub mod Ways

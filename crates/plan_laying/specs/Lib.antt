@@ -1,0 +1,4 @@
+pub mod Faults
+pub mod Laying
+pub mod Topped
+pub mod Ways

@@ -1,0 +1,57 @@
+//! The plan of a tree.
+ghost use Rattle.std.specs.Prelude.{◌≡◌, false, IfOk, IfErr, OnOk};
+ghost use Rattle.rel_algebra.specs.View.{rel_view};
+ghost use Rattle.plan_rules.specs.Pieces.{bare, plan_of_tree};
+ghost use Rattle.plan_rules.specs.Seen.{plan_as_seen};
+ghost use Rattle.plan_laying.specs.Faults.{Says, lacks_table};
+
+use crate::laying::Laying;
+use crate::laying_fault::LayingFault;
+use ct_catalog::{Sources, TableDef};
+use phys_plan::{Edges, Exchange, Nodes, Plan};
+use rel_algebra::Rel;
+use std::alloc::Global;
+
+// The most levels to which inputs behind a first one may nest: each takes stack, and a script nests them no deeper than its parentheses.
+const MOST_LEVELS: u32 = 1_000;
+
+/// The plan that is laid of a tree over these tables, each node in so many subtasks, wherever the parts of its expressions lie; its last node is the sink.
+/// Where `mini_batch` isn't 0, groups by keys keep bundles of so many changes (Flink documentation, "Performance Tuning", "MiniBatch Aggregation").
+/// `NoTable` comes where a part of the tree scans a table that isn't there. Otherwise there is a plan, or memory was wanting, as where other inputs than
+/// first ones nest more than 1,000 levels.
+pub fn plan_of(
+    alloc: Global,
+    rel: &Rel,
+    sources: Sources,
+    sink: TableDef,
+    parallelism: u32,
+    mini_batch: u32,
+) -> Result<Plan, LayingFault>
+    ensures plan { IfOk result (λ plan. plan_as_seen plan ≡ plan_of_tree sources sink parallelism mini_batch bare (rel_view rel.now)) }
+    ensures tables { OnOk result (lacks_table sources (rel_view rel.now) ≡ false) }
+    ensures fault { IfErr result (λ fault. Says sources (rel_view rel.now) fault) }
+{
+    let mut laying = Laying {
+        alloc,
+        sources,
+        mini_batch,
+        nodes: Nodes::new(alloc),
+        edges: Edges::new(alloc),
+    };
+    let root = laying.lay(rel, Exchange::Forward, MOST_LEVELS)?;
+    laying.push_sink(root)?;
+    let Laying {
+        sources,
+        nodes,
+        edges,
+        ..
+    } = laying;
+    Ok(Plan {
+        sources,
+        sink,
+        nodes,
+        edges,
+        parallelism,
+        mini_batch,
+    })
+}

@@ -1,0 +1,149 @@
+//! The nodes of a tree, laid behind those that are laid.
+ghost use Rattle.std.specs.Prelude.{IfOk, IfErr};
+ghost use Rattle.rel_algebra.specs.Rel.{rels};
+ghost use Rattle.rel_algebra.specs.Rel as r;
+ghost use Rattle.rel_algebra.specs.View.{rel_view, rels_view};
+ghost use Rattle.emission_rules.specs.GroupFits.{first_columns};
+ghost use Rattle.emission_rules.specs.JoinFits.{right_pairs};
+ghost use Rattle.phys_plan.specs.declared.edge.Exchange.TheVariants.{Hash as ByHash};
+ghost use Rattle.plan_laying.specs.Laying.{Lays, LaysAll, Fails, FailsAll, Tops};
+
+use crate::laying::Laying;
+use crate::laying_fault::LayingFault;
+use crate::parts::{first_columns, right_columns};
+use crate::way::way_down;
+use ct_value::Numbers;
+use phys_plan::{Exchange, Op};
+use rel_algebra::{Pairs, Rel};
+
+impl Laying {
+    /// Lays the nodes of a tree whose consumer asks for this exchange, and answers the number of its root. The way up its first inputs is a loop, so that
+    /// a long chain takes no stack. Its other inputs may nest so many levels; more are want of memory.
+    #[cycle(tree)]
+    pub(crate) fn lay(
+        &mut self,
+        rel: &Rel,
+        exchange: Exchange,
+        levels: u32,
+    ) -> Result<u32, LayingFault>
+        ensures laid { IfOk result (λ root. Lays self.old self.new exchange (rel_view rel.now) root) }
+        ensures fails { IfErr result (λ fault. Fails self.old (rel_view rel.now) fault) }
+    {
+        if levels == 0 {
+            return Err(LayingFault::Memory);
+        }
+        let mut way = way_down(self.alloc, rel, exchange)?;
+        let mut root = 0;
+        'up: while let Some(top) = way.pop() {
+            root = self.lay_node(top.rel, root, top.exchange, levels - 1)?;
+        }
+        Ok(root)
+    }
+
+    // Lays the nodes of a tree behind those of its first input, if it has one, whose root is `below`.
+    #[cycle(tree)]
+    #[tactic(auto, unfolding(rel_algebra::specs::View::rel_view), using(crate::proofs::laws::Ways::two_fails))]
+    fn lay_node(
+        &mut self,
+        rel: &Rel,
+        below: u32,
+        exchange: Exchange,
+        levels: u32,
+    ) -> Result<u32, LayingFault>
+        ensures laid { IfOk result (λ root. Tops self.old self.new below exchange (rel_view rel.now) root) }
+        ensures fails { IfErr result (λ fault. Fails self.old (rel_view rel.now) fault) }
+    {
+        match rel {
+            Rel::Scan { source } => self.lay_scan(*source, exchange),
+            Rel::Union { inputs } => self.lay_union(inputs.as_slice(), exchange, levels),
+            Rel::Filter { cond, .. } => self.push_filter(below, cond, exchange),
+            Rel::Project { items, .. } => self.push_project(below, items, exchange),
+            Rel::Group { keys, aggs, .. } => self.push_group(below, *keys, aggs, exchange),
+            Rel::Join {
+                right,
+                kind,
+                on,
+                rest,
+                ..
+            } => {
+                let second = self.lay_right(right, on, levels)?;
+                self.push_join(below, second, *kind, on, rest, exchange)
+            }
+            Rel::Semi {
+                right,
+                anti,
+                on,
+                rest,
+                ..
+            } => {
+                let second = self.lay_right(right, on, levels)?;
+                self.push_semi(below, second, *anti, on, rest, exchange)
+            }
+            Rel::SetOp {
+                right,
+                except,
+                all,
+                columns,
+                ..
+            } => {
+                let second = self.lay_whole(right, *columns, levels)?;
+                self.push_set_op(below, second, *except, *all, *columns, exchange)
+            }
+            Rel::Rank {
+                partition,
+                order,
+                bound,
+                ranked,
+                ..
+            } => self.push_rank(below, partition, order, *bound, *ranked, exchange),
+        }
+    }
+
+    // The right side of a join, hashed by its columns of the pairs.
+    #[cycle(tree)]
+    fn lay_right(&mut self, right: &Rel, on: &Pairs, levels: u32) -> Result<u32, LayingFault>
+        ensures laid { IfOk result (λ root. Lays self.old self.new (ByHash (right_pairs on.now)) (rel_view right.now) root) }
+        ensures fails { IfErr result (λ fault. Fails self.old (rel_view right.now) fault) }
+    {
+        let columns = right_columns(self.alloc, on)?;
+        self.lay(right, Exchange::Hash(columns), levels)
+    }
+
+    // The right side of a set operation, hashed by all its columns.
+    #[cycle(tree)]
+    fn lay_whole(&mut self, right: &Rel, columns: u32, levels: u32) -> Result<u32, LayingFault>
+        ensures laid { IfOk result (λ root. Lays self.old self.new (ByHash (first_columns columns)) (rel_view right.now) root) }
+        ensures fails { IfErr result (λ fault. Fails self.old (rel_view right.now) fault) }
+    {
+        let columns = first_columns(self.alloc, columns)?;
+        self.lay(right, Exchange::Hash(columns), levels)
+    }
+
+    #[cycle(tree)]
+    fn lay_union(
+        &mut self,
+        inputs: &[Rel],
+        exchange: Exchange,
+        levels: u32,
+    ) -> Result<u32, LayingFault>
+        ensures laid { IfOk result (λ root. Lays self.old self.new exchange (r.Union (rels (rels_view inputs.now))) root) }
+        ensures fails { IfErr result (λ fault. Fails self.old (r.Union (rels (rels_view inputs.now))) fault) }
+    {
+        let roots = self.lay_all(inputs, levels)?;
+        self.push_whole(Op::Union, roots, exchange)
+    }
+
+    // Several trees, one behind the other, with the numbers of their roots.
+    #[cycle(tree)]
+    fn lay_all(&mut self, inputs: &[Rel], levels: u32) -> Result<Numbers, LayingFault>
+        ensures laid { IfOk result (λ roots. LaysAll self.old self.new (rels (rels_view inputs.now)) roots) }
+        ensures fails { IfErr result (λ fault. FailsAll self.old (rels (rels_view inputs.now)) fault) }
+    {
+        let mut roots = Numbers::new(self.alloc);
+        for input in inputs {
+            let root = self.lay(input, Exchange::Forward, levels)?;
+            roots.push(root)?;
+        }
+        Ok(roots)
+    }
+}

@@ -1,5 +1,0 @@
-use Rattle.planner.proofs.laws.Ways.{step_down}
-use Rattle.planner.proofs.way.way_down.Goals as goal
-
-pub down-preserved : goal.down-preserved
-down-preserved c = step_down _ _ _ _ _ c.in-Some.top c.down.invariant c.in-Some.is c.in_ok-next.ensures c.in_ok-push.ensures.ok
