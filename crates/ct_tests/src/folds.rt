@@ -6,7 +6,7 @@ ghost use Rattle.ct_catalog.specs.Columns.{table_mode};
 use crate::tables::{row, words};
 use ct_catalog::TableDef;
 use ct_change::{Bag, Change, Changes, Declared, Kind};
-use ct_value::{ChangeCode, Memory, Row, Value, Values};
+use ct_value::Memory;
 use source_lines::{SourceChecks, SourceFault, SourceFold};
 use std::alloc::Global;
 use std::test::Fail;
@@ -40,13 +40,6 @@ fn changes(alloc: Global, last: Kind, number: i128) -> Result<Changes, Memory> {
     Ok(changes)
 }
 
-fn is_refused(taken: Result<(), SourceFault>, code: ChangeCode) -> bool {
-    match taken {
-        Ok(()) => false,
-        Err(fault) => fault == SourceFault::Refused(code),
-    }
-}
-
 // Whether the changes, of which the last has this kind and number, are taken and leave so many rows of `a` with 1.
 fn leaves(
     alloc: Global,
@@ -63,47 +56,6 @@ fn leaves(
     Ok(bag.count(&row(alloc, "a", 1)?) == left && bag.count(&row(alloc, "b", 2)?) == 1)
 }
 
-// Whether the last of the changes is refused by this code.
-fn refuses(
-    alloc: Global,
-    mode: Declared,
-    has_key: bool,
-    last: Kind,
-    number: i128,
-    code: ChangeCode,
-) -> Result<bool, Memory> {
-    let table = words(alloc, mode, has_key)?;
-    let changes = changes(alloc, last, number)?;
-    Ok(is_refused(checked(alloc, &table, changes.as_slice()), code))
-}
-
-// A word alone, as a delete by key tells it.
-fn word_alone(alloc: Global, word: Value) -> Result<Row, Memory> {
-    let mut values = Values::new(alloc);
-    values.push(word)?;
-    values.push(Value::Null)?;
-    Ok(Row::from_values(values))
-}
-
-// Takes a delete by this key.
-fn deleted(alloc: Global, word: Value) -> Result<(), SourceFault> {
-    let table = words(alloc, Declared::Upsert, true)?;
-    let mut changes = Changes::new(alloc);
-    changes.push(Change::new(Kind::D, word_alone(alloc, word)?))?;
-    checked(alloc, &table, changes.as_slice())
-}
-
-#[test]
-fn deletes_have_a_key(rt: HostRuntime) {
-    assert!(rt;
-        is_refused(
-            deleted(rt.alloc(), Value::Null),
-            ChangeCode::NullNotAllowed(1)
-        )
-    );
-    assert!(rt; matches!(deleted(rt.alloc(), Value::Num(1)), Ok(())));
-}
-
 #[test]
 fn changes_leave_rows(rt: HostRuntime) {
     for (mode, has_key, last, number, left) in [
@@ -115,24 +67,5 @@ fn changes_leave_rows(rt: HostRuntime) {
     ] {
         let left = leaves(rt.alloc(), mode, has_key, last, number, left);
         assert!(rt; matches!(left, Ok(true)));
-    }
-}
-
-#[test]
-fn changes_are_refused(rt: HostRuntime) {
-    for (mode, has_key, last, number, code) in [
-        (
-            Declared::Append,
-            false,
-            Kind::D,
-            1,
-            ChangeCode::KindNotDeclared,
-        ),
-        (Declared::Retract, false, Kind::D, 3, ChangeCode::RowAbsent),
-        (Declared::Retract, true, Kind::UB, 3, ChangeCode::RowAbsent),
-        (Declared::Append, true, Kind::I, 3, ChangeCode::KeyPresent),
-    ] {
-        let refused = refuses(rt.alloc(), mode, has_key, last, number, code);
-        assert!(rt; matches!(refused, Ok(true)));
     }
 }

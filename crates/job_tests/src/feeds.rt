@@ -1,6 +1,6 @@
 // Runs over one change file for each table.
 use crate::files::{held, hold, texts};
-use crate::scripts::{LEFT_JOIN, NAMED_BY_PATH, SELECT_APPEND};
+use crate::scripts::LEFT_JOIN;
 use crate::told::{Left, is_told, told};
 use ct_io::{Calls, Files, MemShelf, SureShelf};
 use ct_value::{Bytes, Memory, Text};
@@ -20,10 +20,7 @@ const B: (&str, &str) = ("d/b.csv", "+I,5,x\n-D,5,x\n");
 
 const BY_ORDER: &[&str] = &["--feeds", "d/", "--order", "o"];
 
-const USAGE: Left = ("", "usage\n", 1);
-
-// Each order of the tables, and each way to be refused.
-const RUNS: [Fed; 17] = [
+const RUNS: [Fed; 2] = [
     (
         LEFT_JOIN,
         &[A, B, ("o", "take 1 1\ndrain\ntake 2 1\ndrain\n")],
@@ -36,103 +33,9 @@ const RUNS: [Fed; 17] = [
     ),
     (
         LEFT_JOIN,
-        &[A, B, ("o", "take 2 1\ndrain\ntake 1 1\n")],
-        BY_ORDER,
-        ("=,0,1\n+I,1,x\n-D,1,x\n+I,1,\\N\n=,1,2\n", "", 0),
-    ),
-    (
-        LEFT_JOIN,
-        &[A, B],
-        &["--feeds", "d/"],
-        (
-            "+I,1,\\N\n-D,1,\\N\n+I,1,x\n-D,1,x\n+I,1,\\N\n=,1,2\n",
-            "",
-            0,
-        ),
-    ),
-    (
-        LEFT_JOIN,
-        &[A, B],
-        &["--feeds", "d/", "--do", "batch"],
-        ("1,\\N\n", "", 0),
-    ),
-    (
-        LEFT_JOIN,
-        &[A, B, ("o", "take 3 1\n")],
-        BY_ORDER,
-        ("", "order O2 NoSuchPlace line 1\n", 4),
-    ),
-    (
-        LEFT_JOIN,
-        &[A, B, ("o", "\ntake 0 1\n")],
-        BY_ORDER,
-        ("", "order O2 NoSuchPlace line 2\n", 4),
-    ),
-    (
-        LEFT_JOIN,
-        &[A, B, ("o", "take 1 2\n")],
-        BY_ORDER,
-        ("", "order O4 NoMoreChanges line 1\n", 4),
-    ),
-    (
-        LEFT_JOIN,
-        &[A, B, ("o", "take 1\n")],
-        BY_ORDER,
-        ("", "order O1 BadLine line 1\n", 4),
-    ),
-    (
-        LEFT_JOIN,
-        &[("d/a.csv", "+I,1,5\n+I,1,6\n"), B],
-        &["--feeds", "d/"],
-        ("", "change C8 KeyPresent line 2 table 1\n", 3),
-    ),
-    (
-        LEFT_JOIN,
         &[A, ("d/b.csv", "\n+I,x,y\n")],
         &["--feeds", "d/"],
         ("", "change C5 BadField line 1 column 1 table 2\n", 3),
-    ),
-    (
-        LEFT_JOIN,
-        &[A, ("d/b.csv", "+I,5,x\nb,-D,5,x\n")],
-        &["--feeds", "d/", "--do", "batch"],
-        ("", "change C1 FieldCount line 2 table 2\n", 3),
-    ),
-    (
-        NAMED_BY_PATH,
-        &[("d/eu/t.csv", "+I,a\n")],
-        &["--feeds", "d/"],
-        ("+I,a\n=,1\n", "", 0),
-    ),
-    (
-        LEFT_JOIN,
-        &[("c", "a,+I,1,5\n"), ("o", "take 1 1\n")],
-        &["--changes", "c", "--order", "o"],
-        ("", "order O1 BadLine line 1\n", 4),
-    ),
-    (
-        LEFT_JOIN,
-        &[A, B],
-        &["--feeds", "d/", "--changes", "c"],
-        USAGE,
-    ),
-    (
-        LEFT_JOIN,
-        &[A, B],
-        &["--feeds", "d/", "--do", "batch", "--first", "1"],
-        USAGE,
-    ),
-    (
-        SELECT_APPEND,
-        &[("o", "")],
-        &["--changes", "c", "--do", "batch", "--order", "o"],
-        USAGE,
-    ),
-    (
-        SELECT_APPEND,
-        &[("o", "")],
-        &["--do", "explain", "--order", "o"],
-        USAGE,
     ),
 ];
 

@@ -60,18 +60,3 @@ pub fn calls(alloc: Global, numbers: &[u64]) -> Result<Calls, Memory> {
     }
     Ok(calls)
 }
-
-/// A script behind settings: so many subtasks, and others.
-pub fn script_with(
-    alloc: Global,
-    subtasks: u32,
-    settings: &str,
-    script: &str,
-) -> Result<Bytes, Memory> {
-    let set = format!(in alloc; "SET 'table.exec.resource.default-parallelism' = '{subtasks}';")?;
-    let mut text = Bytes::new(alloc);
-    text.extend(set.as_bytes())?;
-    text.extend(settings.as_bytes())?;
-    text.extend(script.as_bytes())?;
-    Ok(text)
-}

@@ -1,5 +1,5 @@
-//! Tests of the upper floors: worked runs of the top call, with orders, files of tables, faults, limits and many lines; runs by made
-//! orders; made scripts, whose plans are checked again; and which INSERTs are bound. What the calls answer is in their contracts.
+//! Tests of the upper floors: worked runs of the top call, in each mode, by orders, over files of tables, with faults and limits; and
+//! made scripts, whose plans are checked again. What the calls answer is in their contracts; more runs stand in `tests/runs`.
 #![tactic(auto)]
 
 #[cfg(test)]
@@ -9,15 +9,9 @@ mod feeds;
 #[cfg(test)]
 mod files;
 #[cfg(test)]
-mod inserts;
-#[cfg(test)]
 mod judging;
 #[cfg(test)]
 mod made;
-#[cfg(test)]
-mod materialized;
-#[cfg(test)]
-mod mini_batches;
 #[cfg(test)]
 mod plans;
 #[cfg(test)]

@@ -1,6 +1,5 @@
 // What a run writes.
-use crate::files::{held, hold, script_with, texts};
-use ct_io::{Files, Shelf, SureShelf, SureSink};
+use ct_io::{Shelf, SureSink};
 use ct_value::{Memory, Text, TextFault};
 use job::{run_job, status};
 use std::alloc::Global;
@@ -38,40 +37,4 @@ pub(crate) fn is_told(told: &Result<Told, Memory>, left: &Left) -> bool {
         }
         Err(_) => false,
     }
-}
-
-/// So many subtasks, other settings, and a script.
-pub(crate) type Setup = (u32, &'static str, &'static str);
-
-/// The words of a run by an order.
-pub(crate) const BY_ORDER: [&str; 6] = ["--script", "s", "--changes", "c", "--order", "o"];
-
-/// A script behind its settings, a change file and an order.
-pub(crate) fn files_with(
-    alloc: Global,
-    setup: &Setup,
-    changes: &str,
-    order: &str,
-) -> Result<Files, Memory> {
-    let mut files = held(alloc, &[("c", changes), ("o", order)])?;
-    hold(
-        alloc,
-        &mut files,
-        "s",
-        script_with(alloc, setup.0, setup.1, setup.2)?,
-    )?;
-    Ok(files)
-}
-
-/// What these words leave over a script, a change file and an order.
-pub(crate) fn left_by(
-    alloc: Global,
-    words: &[&str],
-    setup: &Setup,
-    changes: &str,
-    order: &str,
-) -> Result<Told, Memory> {
-    let words = texts(alloc, words)?;
-    let files = files_with(alloc, setup, changes, order)?;
-    told(alloc, words.as_slice(), &mut SureShelf::new(files))
 }

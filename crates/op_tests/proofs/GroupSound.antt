@@ -1,6 +1,6 @@
 -- The tests' groups are sound, and their first change may come.
-use Rattle.std.proofs.Common.{◌≡◌, ℕ, ◌<◌, ◌≤◌, ◌++◌, true, false, cond, List, [], ◌∷◌, take, length, Some, None, refl, sym, ap, subst, ◌∙◌, arith}
-use Rattle.std.proofs.lemmas.Bool.{le-leb, false≢true}
+use Rattle.std.proofs.Common.{◌≡◌, ℕ, ◌≤◌, ◌++◌, true, false, List, [], ◌∷◌, take, length, refl, sym, ap, subst, ◌∙◌, arith}
+use Rattle.std.proofs.lemmas.Bool.{false≢true}
 use Rattle.ct_value.specs.Rows.{project}
 use Rattle.ct_value.specs.Bag.{none}
 use Rattle.ct_value.specs.declared.row.Row.{Row}
@@ -18,7 +18,6 @@ use Rattle.op_rules.specs.Values.{types_fit}
 use Rattle.op_rules.proofs.laws.Values.{types_of_row}
 use Rattle.emission_rules.specs.Grouping.{group_rule, IsSound}
 use Rattle.emission_rules.proofs.laws.Columns.{project-first}
-use Rattle.op_tests.specs.GroupFed.{IsOfRows}
 use Rattle.op_tests.specs.GroupTables.{columns, all_calls, grouped}
 
 abbrev count : ColTy
@@ -41,9 +40,6 @@ at keys calls aggs tys input output e f s =
     subst (λ a. IsSound (record { keys = keys; aggs = a; columns = tys; input = input; output = output })) (sym e)
     (subst (λ t. IsSound (record { keys = keys; aggs = calls; columns = t; input = input; output = output })) (sym f) s)
 
-pub all_sound : (keys : ℕ) (aggs : List Agg) (tys : List ColTy) → keys ≤ 4 → aggs ≡ all_calls → tys ≡ columns → IsSound (record { keys = keys; aggs = aggs; columns = tys; input = retract; output = retract })
-all_sound keys aggs tys le e f = at keys all_calls aggs tys retract retract e f record { made = take keys columns ++ all_made; typed = ap (λ b. cond b (Some (take keys columns ++ all_made)) None) (le-leb keys 4 le); keeps = tt; tells = tt }
-
 pub append_sound : (aggs : List Agg) (tys : List ColTy) → aggs ≡ all_calls → tys ≡ columns → IsSound (record { keys = 1; aggs = aggs; columns = tys; input = append; output = retract })
 append_sound aggs tys e f = at 1 all_calls aggs tys append retract e f record { made = take 1 columns ++ all_made; typed = refl; keeps = tt; tells = tt }
 
@@ -63,9 +59,6 @@ keyed_sound aggs tys key other e f k o =
       keeps = by_first;
       tells = λ a b l m. (by_first a b l m, λ same. project-first 1 a l ∙ same ∙ sym (project-first 1 b m));
     }))
-
-pub of_rows : (rule : Rule) (keys : ℕ) (aggs : List Agg) (tys : List ColTy) → rule ≡ group_rule (record { keys = keys; aggs = aggs; columns = tys; input = retract; output = retract }) → tys ≡ columns → IsOfRows rule
-of_rows rule keys aggs tys is e = record { grouping = record { keys = keys; aggs = aggs; columns = tys; input = retract; output = retract }; is = is; input = refl; columns_are = e }
 
 -- ---- a first change
 

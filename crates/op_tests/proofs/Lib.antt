@@ -1,12 +1,4 @@
 pub mod Comings
-pub mod GroupArrivals
 pub mod GroupFitting
-pub mod GroupPieces
 pub mod GroupSound
-pub mod JoinArrivals
-pub mod JoinFitting
-pub mod MaterializeArrivals
 pub mod RowArrivals
-pub mod TopArrivals
-pub mod TopFitting
-pub mod TopSound

@@ -4,7 +4,6 @@ ghost use Rattle.op_tests.specs.GroupTables.{columns};
 
 use crate::group_rows::{all, change_of, row_columns};
 use crate::row_operators::sent;
-use crate::steps::Step;
 use ct_change::{Append, Change, Changes, Kind, Retract, UpsertBy};
 use ct_value::{Cols, Memory};
 use op_group::Group;
@@ -17,12 +16,7 @@ fn insertion(alloc: Global) -> Result<Change, Memory>
     ensures kind { IfOk result (λ change. change.kind ≡ Kind.I) }
     ensures fits { IfOk result (λ change. row_fits columns change.row ≡ true) }
 {
-    let step = Step {
-        right: false,
-        kind: Kind::I,
-        cells: [Some(1), Some(5), None, None],
-    };
-    let change = change_of(alloc, step)?;
+    let change = change_of(alloc, Kind::I, [Some(1), Some(5), None, None])?;
     Ok(change)
 }
 

@@ -3,8 +3,7 @@ ghost use Rattle.ct_field.specs.Typed.{col_fits, value_fits, row_fits};
 ghost use Rattle.op_tests.specs.GroupTables.{columns, on, count_calls, all_calls};
 
 use crate::cells::{id_value, number};
-use crate::steps::Step;
-use ct_change::Change;
+use ct_change::{Change, Kind};
 use ct_field::in_range;
 use ct_value::{ColTy, ColTys, Memory, Row, Ty, Value, Values};
 use rel_algebra::{Agg, AggCall, Aggs};
@@ -32,16 +31,16 @@ fn money(price: Option<i64>) -> Value
 
 /// The change of a row with an id, a number, whether it is to be kept, 1 or 0, and a price in hundredths.
 #[tactic(auto, using(crate::proofs::GroupFitting::four_fit))]
-pub fn change_of(alloc: Global, step: Step) -> Result<Change, Memory>
-    ensures kind { IfOk result (λ change. change.kind ≡ step.kind) }
+pub fn change_of(alloc: Global, kind: Kind, cells: [Option<i64>; 4]) -> Result<Change, Memory>
+    ensures kind { IfOk result (λ change. change.kind ≡ kind) }
     ensures fits { IfOk result (λ change. row_fits columns change.row ≡ true) }
 {
     let mut values = Values::with_capacity(alloc, 4)?;
-    values.push(id_value(step.cells[0]))?;
-    values.push(number(step.cells[1]))?;
-    values.push(truth(step.cells[2]))?;
-    values.push(money(step.cells[3]))?;
-    Ok(Change::new(step.kind, Row::from_values(values)))
+    values.push(id_value(cells[0]))?;
+    values.push(number(cells[1]))?;
+    values.push(truth(cells[2]))?;
+    values.push(money(cells[3]))?;
+    Ok(Change::new(kind, Row::from_values(values)))
 }
 
 /// The types of the rows' columns.

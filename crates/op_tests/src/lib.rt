@@ -1,6 +1,6 @@
-//! Tests of what is kept and of the operators: that memory suffices where there is enough of it, histories whose answers were worked
-//! out by hand, and many changes. What the calls answer is in their contracts, and that the definitions say what they should is shown
-//! by `value_examples` and `run_examples`.
+//! Tests of what is kept, of bundles and modes, and of the operators of rows and groups: each call once, with memory enough. What the
+//! calls answer is in their contracts, that the definitions say what they should is shown by `value_examples` and `run_examples`, and
+//! the program is run over histories of all operators (`tests/runs`).
 #![tactic(auto)]
 
 #[cfg(test)]
@@ -8,48 +8,14 @@ mod bundles;
 #[cfg(test)]
 mod cells;
 #[cfg(test)]
-mod gone_rows;
-#[cfg(test)]
-mod group_feeding;
-#[cfg(test)]
-mod group_histories;
-#[cfg(test)]
 mod group_modes;
 #[cfg(test)]
 mod group_rows;
-mod join_feed;
-#[cfg(test)]
-mod join_feeding;
-#[cfg(test)]
-mod join_rows;
-#[cfg(test)]
-mod joins;
-#[cfg(test)]
-mod materialize_feeding;
-#[cfg(test)]
-mod materialize_histories;
 #[cfg(test)]
 mod modes;
-#[cfg(test)]
-mod pieces;
 #[cfg(test)]
 mod row_operators;
 #[cfg(test)]
 mod rows;
 #[cfg(test)]
-mod set_operations;
-#[cfg(test)]
-mod shown;
-#[cfg(test)]
-mod standing;
-#[cfg(test)]
 mod state;
-#[cfg(test)]
-mod steps;
-#[cfg(test)]
-mod top_feeding;
-#[cfg(test)]
-mod top_histories;
-mod top_reads;
-#[cfg(test)]
-mod tops;

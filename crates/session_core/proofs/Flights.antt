@@ -12,13 +12,13 @@ use Rattle.stream_model.specs.declared.events.StepFault.TheVariants.{Limit}
 use Rattle.stream_model.specs.Tables.{Table, scanned_at}
 use Rattle.stream_model.specs.Network.{Network, IsWired}
 use Rattle.stream_model.specs.Machine.{State, put, hand_on, send, print, is_number, is_scan_of, scan_count, scanned, take_within}
-use Rattle.session_core.specs.declared.channels.Channels.{Channels}
-use Rattle.session_core.specs.declared.exchange.Route.{Route}
-use Rattle.session_core.specs.declared.exchange.Route.TheVariants.{Forward, Hash}
-use Rattle.session_core.specs.Lanes as lanes
-use Rattle.session_core.specs.Lanes.{flight_in}
-use Rattle.session_core.specs.Routes.{IsWide, RoutesFor}
-use Rattle.session_core.specs.Sending.{Carry, sent_by, scanned_by}
+use Rattle.session_channels.specs.declared.channels.Channels.{Channels}
+use Rattle.session_channels.specs.declared.exchange.Route.{Route}
+use Rattle.session_channels.specs.declared.exchange.Route.TheVariants.{Forward, Hash}
+use Rattle.session_channels.specs.Lanes as lanes
+use Rattle.session_channels.specs.Lanes.{flight_in}
+use Rattle.session_channels.specs.Routes.{IsWide, RoutesFor}
+use Rattle.session_channels.specs.Sending.{Carry, sent_by, scanned_by}
 use Rattle.session_core.specs.LaidOut.{scans_below}
 use Rattle.session_core.specs.Kept.{AllFit}
 

@@ -1,14 +1,9 @@
 pub mod Counts
 pub mod Flights
-pub mod Lanes
 pub mod Pending
-pub mod Pieces
 pub mod QuietStates
-pub mod Routings
 pub mod Running
 pub mod Runs
-pub mod Sends
 pub mod Slots
 pub mod Steps
-pub mod Subtasks
 pub mod Wires

@@ -13,8 +13,9 @@ use Rattle.op_rules.specs.Faults.{IfRange}
 use Rattle.ct_value.specs.declared.row.Row.{Row}
 use Rattle.stream_model.specs.Network.{Network, task}
 use Rattle.stream_model.specs.Machine.{put}
-use Rattle.session_core.specs.declared.subtask.Subtask.{Subtask}
-use Rattle.session_core.specs.Runs.{RunsAs, HasRunning, HasRun, AllRun, AllHaveRun, bundle_after, is_full, pieces_after}
+use Rattle.session_subtasks.specs.declared.subtask.Subtask.{Subtask}
+use Rattle.session_subtasks.specs.Subtasks.{RunsAs, HasRun, is_full}
+use Rattle.session_core.specs.Runs.{HasRunning, AllRun, AllHaveRun, bundle_after, pieces_after}
 
 -- at the place, or the test is false
 pub at_or_off : (m v k j : ℕ) → ((m ≡ v) × (k ≡ j)) ⊎ (((m == v) && (k == j)) ≡ false)
@@ -33,6 +34,10 @@ put_here f v j x =
     let r : eqb j j ≡ true = eq-eqb j j refl in
     rw (q, r) refl
 
+pub nothing_in : {A : Type 0} (xs : List A) → length xs ≡ 0 → xs ≡ []
+nothing_in [] none = refl
+nothing_in (x ∷ xs) none = absurd (omega (arith, none))
+
 -- pieces with one more
 pub joined-push : (pieces : List (List Arrival)) (piece : List Arrival) → joined (pieces ++ piece ∷ []) ≡ joined pieces ++ piece
 joined-push [] piece = append-nil piece
@@ -47,18 +52,6 @@ same_digits w a b c d lb ld e =
 module _ {O : Type 0} (rule_is : O → Rule) (is_broken : O → Bool) (stands : O → List Arrival → Type 0) (takes_pieces : O → Bool) where
   abbrev Running : Network → ℕ → Option (Subtask O) → List Arrival → List Arrival → Type 0
   Running = HasRunning rule_is is_broken stands takes_pieces
-
-  -- an operator that took more by the same rule
-  pub runs_on : (g : Network) (v : ℕ) (old new : O) (before after : List Arrival) → RunsAs rule_is is_broken stands takes_pieces g v old before → rule_is new ≡ rule_is old → is_broken new ≡ false
-      → ((size : ℕ) → g.bundle v ≡ Some size → takes_pieces new ≡ true) → stands new after → RunsAs rule_is is_broken stands takes_pieces g v new after
-  runs_on g v old new before after runs same whole pieces now = record {
-    emits = ap (λ (r : Rule). r.emits) same ∙ runs.emits;
-    opens = ap (λ (r : Rule). r.opening) same ∙ runs.opens;
-    takes = subst (λ (r : Rule). TakesAll r (task g v)) (sym same) runs.takes;
-    whole = whole;
-    stands_for = now;
-    pieces = pieces;
-  }
 
   -- the subtask that is there
   pub found : (g : Network) (width : ℕ) (items : List (Option (Subtask O))) (pieces : ℕ → ℕ → List (List Arrival)) (bundle : ℕ → ℕ → List Arrival) (v j p : ℕ) (slot : Option (Subtask O))
@@ -119,33 +112,3 @@ module _ {O : Type 0} (rule_is : O → Rule) (is_broken : O → Bool) (stands : 
   all_consumed g width items pieces bundle v j p a new sent all lj is there run =
       all_have_run (is_full g v (bundle_after bundle v j a v j)) g width items pieces bundle (bundle_after bundle v j a) v j p new sent all lj is there (λ m k off. rw off refl)
       (subst (λ (l : List Arrival). HasRun rule_is is_broken stands takes_pieces (is_full g v l) g v new (joined (pieces v j)) l sent) (sym (put_here bundle v j (bundle v j ++ a ∷ []))) run)
-
--- what holds of an answer, where another fact of it gives it
-pub if_ok : {A E : Type 0} (P Q : A → Type 0) (r : Result A E) → IfOk r P → ((x : A) → P x → Q x) → IfOk r Q
-if_ok P Q (Ok x) h f = f x h
-if_ok P Q (Err e) h f = tt
-
-pub if_range : {A : Type 0} (P Q : Row → Type 0) (r : Result A OpFault) → IfRange r P → ((x : Row) → P x → Q x) → IfRange r Q
-if_range P Q (Ok x) h f = tt
-if_range P Q (Err (Range row)) h f = f row h
-if_range P Q (Err Memory) h f = tt
-
-pub if_ok_on : {A E : Type 0} (C : Type 0) (P Q : A → Type 0) (r : Result A E) → OnOk r C → IfOk r P → ((x : A) → C → P x → Q x) → IfOk r Q
-if_ok_on C P Q (Ok x) c h f = f x c h
-if_ok_on C P Q (Err e) c h f = tt
-
-pub on_ok : {A E : Type 0} (P Q : Type 0) (r : Result A E) → OnOk r P → (P → Q) → OnOk r Q
-on_ok P Q (Ok x) h f = f h
-on_ok P Q (Err e) h f = tt
-
-pub if_err : {A E : Type 0} (P Q : E → Type 0) (r : Result A E) → IfErr r P → ((x : E) → P x → Q x) → IfErr r Q
-if_err P Q (Ok x) h f = tt
-if_err P Q (Err e) h f = f e h
-
-pub if_err_on : {A E : Type 0} (C : Type 0) (P Q : E → Type 0) (r : Result A E) → OnErr r C → IfErr r P → ((x : E) → C → P x → Q x) → IfErr r Q
-if_err_on C P Q (Ok x) c h f = tt
-if_err_on C P Q (Err e) c h f = f e c h
-
-pub range_of : (P Q : Row → Type 0) (fault : OpFault) → IfRange (let r : Result (List Change) OpFault = Err fault in r) P → ((x : Row) → P x → Q x) → IfRange (let r : Result (Option (List Change)) OpFault = Err fault in r) Q
-range_of P Q (Range row) h f = f row h
-range_of P Q Memory h f = tt

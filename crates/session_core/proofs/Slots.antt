@@ -5,8 +5,9 @@ use Rattle.ct_change.specs.declared.change.Change.{Change}
 use Rattle.op_rules.specs.History.{Arrival, arrival, joined}
 use Rattle.op_rules.specs.Rules.{Rule}
 use Rattle.stream_model.specs.Network.{Network}
-use Rattle.session_core.specs.declared.subtask.Subtask.{Subtask}
-use Rattle.session_core.specs.Runs.{AllHaveRun, HasFlushedIn, HasRunning, HasTakenIn, IsOutFlushingIn, IsOutOf, IsOutTakingIn, MayConsumeAt, MayFlushAt, MayFlushIn, MayTakeIn, bundle_after, holds_some, is_full}
+use Rattle.session_subtasks.specs.declared.subtask.Subtask.{Subtask}
+use Rattle.session_subtasks.specs.Subtasks.{IsOutOf, holds_some, is_full}
+use Rattle.session_core.specs.Runs.{AllHaveRun, HasFlushedIn, HasRunning, HasTakenIn, IsOutFlushingIn, IsOutTakingIn, MayConsumeAt, MayFlushAt, MayFlushIn, MayTakeIn, bundle_after}
 use Rattle.session_core.proofs.Running.{all_consumed, all_have_run, all_run_after, put_here}
 
 module _ {O : Type 0} (rule_is : O → Rule) (is_broken : O → Bool) (stands : O → List Arrival → Type 0) (takes_pieces : O → Bool) (width : ℕ) (items : List (Option (Subtask O))) where

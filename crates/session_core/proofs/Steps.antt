@@ -17,7 +17,8 @@ use Rattle.stream_model.specs.Drain.{StopsBy}
 use Rattle.session_core.specs.declared.traffic.Traffic.{Traffic}
 use Rattle.session_core.specs.Kept.{Carries, AllFit, fetched}
 use Rattle.session_core.specs.LaidOut.{HasBundle}
-use Rattle.session_core.specs.Runs.{MayTake, IsOutAt, holds_some, is_full}
+use Rattle.session_subtasks.specs.Subtasks.{MayTake, holds_some, is_full}
+use Rattle.session_core.specs.Runs.{IsOutAt}
 use Rattle.session_core.specs.Sources.{ChecksIn, AllCheck, taken_after}
 use Rattle.session_core.specs.Stands.{StaysOpen, next_if}
 use Rattle.session_core.proofs.Running.{at_or_off}

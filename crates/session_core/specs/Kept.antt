@@ -8,7 +8,7 @@ use Rattle.stream_model.specs.Network.{Network, IsNode}
 use Rattle.stream_model.specs.Machine.{State, put, is_channel, hand_on, scanned, take_within}
 use Rattle.stream_model.specs.Runs.{counts}
 use Rattle.stream_model.specs.declared.events.PrintItem.{PrintItem}
-use Rattle.session_core.specs.Sending.{Carry}
+use Rattle.session_channels.specs.Sending.{Carry}
 use Rattle.session_core.specs.declared.wiring.Feed.{Feed}
 use Rattle.session_core.specs.declared.wiring.Wiring.{Wiring}
 use Rattle.session_core.specs.declared.traffic.Traffic.{Traffic}

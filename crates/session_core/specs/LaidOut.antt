@@ -9,8 +9,8 @@ use Rattle.stream_model.specs.Network.{Network, IsWired}
 use Rattle.stream_model.specs.Machine.{is_place, is_scan_of}
 use Rattle.stream_model.specs.Drain as drain
 use Rattle.stream_model.specs.Drain.{delivers, flushes, stages}
-use Rattle.session_core.specs.Routes.{SpreadsBy}
-use Rattle.session_core.specs.Sending.{AllRoute}
+use Rattle.session_channels.specs.Routes.{SpreadsBy}
+use Rattle.session_channels.specs.Sending.{AllRoute}
 use Rattle.session_core.specs.declared.wiring.Feed.{Feed}
 use Rattle.session_core.specs.declared.wiring.Lane.{Lane}
 use Rattle.session_core.specs.declared.wiring.Stage.{Stage}

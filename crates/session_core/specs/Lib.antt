@@ -1,9 +1,6 @@
 pub mod Faults
 pub mod Kept
 pub mod LaidOut
-pub mod Lanes
-pub mod Routes
 pub mod Runs
-pub mod Sending
 pub mod Sources
 pub mod Stands

@@ -1,32 +1,18 @@
 -- What the subtasks of a job stand for: one for each subtask of each node, kept as one list.
-use Rattle.std.specs.Prelude.{◌≡◌, ℕ, ◌+◌, ◌*◌, ◌<◌, ◌^◌, nat_le, Bool, true, false, List, [], ◌∷◌, ◌++◌, length, map, get_or, Option, Some, None, Ok, Err}
+use Rattle.std.specs.Prelude.{◌≡◌, ℕ, ◌+◌, ◌*◌, ◌<◌, ◌^◌, Bool, true, false, List, [], ◌∷◌, ◌++◌, get_or, Option, Some, None, Ok, Err}
 use Rattle.ct_value.specs.declared.row.Row.{Row}
 use Rattle.ct_change.specs.declared.change.Change.{Change}
 use Rattle.op_rules.specs.History.{Arrival, arrival, joined}
 use Rattle.op_rules.specs.Rules.{Rule, Answer}
-use Rattle.op_rules.specs.Ports.{TakesAll}
 use Rattle.op_rules.specs.Tasks.{IsReady}
 use Rattle.stream_model.specs.declared.events.StepFault.{StepFault}
 use Rattle.stream_model.specs.declared.events.StepFault.TheVariants.{Change as Refused, Order, Range, Limit, Memory}
 use Rattle.stream_model.specs.Network.{Network, task}
-use Rattle.stream_model.specs.Machine.{put, size_of}
-use Rattle.session_core.specs.declared.subtask.Subtask.{Subtask}
+use Rattle.stream_model.specs.Machine.{put}
+use Rattle.session_subtasks.specs.declared.subtask.Subtask.{Subtask}
+use Rattle.session_subtasks.specs.Subtasks.{StandsAs, HasRun, IsOutOf, ForTaken, ForFlushed, MaySomeTake, MaySomeFlush, MayTake, holds_some, is_full}
 use Rattle.session_core.specs.declared.wiring.Wiring.{Wiring}
 use Rattle.session_core.specs.LaidOut.{IsLaidOut}
-
--- a subtask of a node may rely on what it consumed, with this arrival
-pub record MayTake (g : Network) (v j : ℕ) (before : List Arrival) (a : Arrival) : Type 0 where
-  pub ready : IsReady (task g v) j (before ++ a ∷ [])
-  pub few : length before + 1 < 2 ^ 32
-
--- whether a node's bundle is full with these arrivals; where it keeps none, one is enough
-abbrev pub is_full : Network → ℕ → List Arrival → Bool
-is_full g v bundle = nat_le (size_of (g.bundle v)) (length bundle)
-
--- whether a bundle holds something
-abbrev pub holds_some : List Arrival → Bool
-holds_some [] = false
-holds_some (a ∷ others) = true
 
 -- the bundles with an arrival behind one of them
 abbrev pub bundle_after : (ℕ → ℕ → List Arrival) → ℕ → ℕ → Arrival → ℕ → ℕ → List Arrival
@@ -44,10 +30,6 @@ IsEmptyAt width bundle v = (j : ℕ) → j < width → bundle v j ≡ []
 abbrev pub AreEmpty : Network → ℕ → (ℕ → ℕ → List Arrival) → Type 0
 AreEmpty g width bundle = (v : ℕ) → v < g.count + 1 → IsEmptyAt width bundle v
 
--- a bundle is due, and its rule is out of range at this row
-abbrev pub IsOutOf : Bool → Answer → Row → Type 0
-IsOutOf due answer row = (due ≡ true) × (answer ≡ Err row)
-
 -- a bundle is due, and its node is out of range at this subtask, at this row; or memory was wanting
 abbrev pub IsOutAt : Network → ℕ → ℕ → Bool → Answer → StepFault → Type 0
 IsOutAt g v j due answer (Refused code) = ⊥
@@ -57,29 +39,10 @@ IsOutAt g v j due answer Limit = ⊥
 IsOutAt g v j due answer Memory = Unit {0}
 
 module _ {O : Type 0} (rule_is : O → Rule) (is_broken : O → Bool) (stands : O → List Arrival → Type 0) (takes_pieces : O → Bool) where
-  -- an operator runs as a node of the network, takes what its edges carry, is whole and stands for this history; where the node keeps
-  -- bundles, it takes pieces
-  pub record RunsAs (g : Network) (v : ℕ) (op : O) (history : List Arrival) : Type 0 where
-    pub emits : (rule_is op).emits ≡ g.emits v
-    pub opens : (rule_is op).opening ≡ g.opening v
-    pub takes : TakesAll (rule_is op) (task g v)
-    pub whole : is_broken op ≡ false
-    pub stands_for : stands op history
-    pub pieces : (size : ℕ) → g.bundle v ≡ Some size → takes_pieces op ≡ true
-
-  -- a subtask of a node with ports stands for what it folded, and holds the changes of its bundle in order; none where the node keeps
-  -- no bundles
-  pub record StandsAs (g : Network) (v : ℕ) (subtask : Subtask O) (history bundle : List Arrival) : Type 0 where
-    pub node : 0 < g.ports v
-    pub runs : RunsAs g v subtask.operator history
-    pub held : map (λ a. a.change) bundle ≡ subtask.held
-    pub alone : g.bundle v ≡ None → bundle ≡ []
-    pub few : length (history ++ bundle) < 2 ^ 32
-
   -- there is such a subtask, or the node has no ports
   abbrev pub HasRunning : Network → ℕ → Option (Subtask O) → List Arrival → List Arrival → Type 0
   HasRunning g v None history bundle = (g.ports v ≡ 0) × (bundle ≡ [])
-  HasRunning g v (Some subtask) history bundle = StandsAs g v subtask history bundle
+  HasRunning g v (Some subtask) history bundle = StandsAs rule_is is_broken stands takes_pieces g v subtask history bundle
 
   -- each subtask of each node stands for the pieces that it folded, and for its bundle
   pub record AllRun (g : Network) (width : ℕ) (items : List (Option (Subtask O))) (pieces : ℕ → ℕ → List (List Arrival)) (bundle : ℕ → ℕ → List Arrival) : Type 0 where
@@ -91,67 +54,34 @@ module _ {O : Type 0} (rule_is : O → Rule) (is_broken : O → Bool) (stands : 
 
   -- ---- one subtask
 
-  -- a bundle stays, as it isn't due; or it is folded as one piece, and this is emitted for it
-  abbrev pub HasRun : Bool → Network → ℕ → Subtask O → List Arrival → List Arrival → Option (List Change) → Type 0
-  HasRun due g v new history bundle None = (due ≡ false) × StandsAs g v new history bundle
-  HasRun due g v new history bundle (Some sent) = (due ≡ true) × (g.emits v history bundle ≡ Ok sent) × StandsAs g v new (history ++ bundle) []
-
-  -- a subtask of some node may take a change, where its node's bundles have this size
-  pub record MayConsume (subtask : Subtask O) (size : Option ℕ) (port : ℕ) (change : Change) (g : Network) (v j : ℕ) (history bundle : List Arrival) (from : ℕ) : Type 0 where
-    pub stands_as : StandsAs g v subtask history bundle
-    pub size_is : size ≡ g.bundle v
-    pub may : MayTake g v j (history ++ bundle) (arrival port from change)
-
-  -- a subtask of some node that keeps bundles may fold what it holds
-  pub record MayFlush (subtask : Subtask O) (g : Network) (v j : ℕ) (history bundle : List Arrival) : Type 0 where
-    pub stands_as : StandsAs g v subtask history bundle
-    pub size : ℕ
-    pub bundled : g.bundle v ≡ Some size
-    pub ready : IsReady (task g v) j (history ++ bundle)
-
-  -- there is such a node
-  abbrev pub MaySomeTake : Subtask O → Option ℕ → ℕ → Change → Type 0
-  MaySomeTake subtask size port change = (g : Network) × (v : ℕ) × (j : ℕ) × (history : List Arrival) × (bundle : List Arrival) × (from : ℕ) × MayConsume subtask size port change g v j history bundle from
-
-  abbrev pub MaySomeFlush : Subtask O → Type 0
-  MaySomeFlush subtask = (g : Network) × (v : ℕ) × (j : ℕ) × (history : List Arrival) × (bundle : List Arrival) × MayFlush subtask g v j history bundle
-
-  -- so it is wherever it may take the change
-  abbrev pub ForTaken : Subtask O → Option ℕ → ℕ → Change → (Network → ℕ → List Arrival → List Arrival → Type 0) → Type 0
-  ForTaken subtask size port change P = (g : Network) (v j : ℕ) (history bundle : List Arrival) (from : ℕ) → MayConsume subtask size port change g v j history bundle from → P g v history (bundle ++ arrival port from change ∷ [])
-
-  -- so it is wherever it may fold
-  abbrev pub ForFlushed : Subtask O → (Network → ℕ → List Arrival → List Arrival → Type 0) → Type 0
-  ForFlushed subtask P = (g : Network) (v j : ℕ) (history bundle : List Arrival) → MayFlush subtask g v j history bundle → P g v history bundle
-
   -- ---- the subtask in a slot
 
   abbrev pub MayTakeIn : Option (Subtask O) → Option ℕ → ℕ → Change → Type 0
   MayTakeIn None size port change = ⊥
-  MayTakeIn (Some subtask) size port change = MaySomeTake subtask size port change
+  MayTakeIn (Some subtask) size port change = MaySomeTake rule_is is_broken stands takes_pieces subtask size port change
 
   abbrev pub MayFlushIn : Option (Subtask O) → Type 0
   MayFlushIn None = Unit {0}
-  MayFlushIn (Some subtask) = MaySomeFlush subtask
+  MayFlushIn (Some subtask) = MaySomeFlush rule_is is_broken stands takes_pieces subtask
 
   -- the change joins its bundle, which is folded where it is full then
   abbrev pub HasTakenIn : Option (Subtask O) → Option (Subtask O) → Option ℕ → ℕ → Change → Option (List Change) → Type 0
   HasTakenIn None new size port change sent = ⊥
-  HasTakenIn (Some subtask) new size port change sent = (after : Subtask O) × (new ≡ Some after) × ForTaken subtask size port change (λ g v history bundle. HasRun (is_full g v bundle) g v after history bundle sent)
+  HasTakenIn (Some subtask) new size port change sent = (after : Subtask O) × (new ≡ Some after) × ForTaken rule_is is_broken stands takes_pieces subtask size port change (λ g v history bundle. HasRun rule_is is_broken stands takes_pieces (is_full g v bundle) g v after history bundle sent)
 
   -- a bundle that holds something is folded; where there is no subtask, nothing happens
   abbrev pub HasFlushedIn : Option (Subtask O) → Option (Subtask O) → Option (List Change) → Type 0
   HasFlushedIn None new sent = (new ≡ None) × (sent ≡ None)
-  HasFlushedIn (Some subtask) new sent = (after : Subtask O) × (new ≡ Some after) × ForFlushed subtask (λ g v history bundle. HasRun (holds_some bundle) g v after history bundle sent)
+  HasFlushedIn (Some subtask) new sent = (after : Subtask O) × (new ≡ Some after) × ForFlushed rule_is is_broken stands takes_pieces subtask (λ g v history bundle. HasRun rule_is is_broken stands takes_pieces (holds_some bundle) g v after history bundle sent)
 
   -- its rule is out of range at this row
   abbrev pub IsOutTakingIn : Option (Subtask O) → Option ℕ → ℕ → Change → Row → Type 0
   IsOutTakingIn None size port change row = ⊥
-  IsOutTakingIn (Some subtask) size port change row = ForTaken subtask size port change (λ g v history bundle. IsOutOf (is_full g v bundle) (g.emits v history bundle) row)
+  IsOutTakingIn (Some subtask) size port change row = ForTaken rule_is is_broken stands takes_pieces subtask size port change (λ g v history bundle. IsOutOf (is_full g v bundle) (g.emits v history bundle) row)
 
   abbrev pub IsOutFlushingIn : Option (Subtask O) → Row → Type 0
   IsOutFlushingIn None row = ⊥
-  IsOutFlushingIn (Some subtask) row = ForFlushed subtask (λ g v history bundle. IsOutOf (holds_some bundle) (g.emits v history bundle) row)
+  IsOutFlushingIn (Some subtask) row = ForFlushed rule_is is_broken stands takes_pieces subtask (λ g v history bundle. IsOutOf (holds_some bundle) (g.emits v history bundle) row)
 
   -- ---- one of many
 

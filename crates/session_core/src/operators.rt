@@ -3,12 +3,14 @@ ghost use Rattle.op_rules.specs.Faults.{IfRange};
 ghost use Rattle.op_rules.specs.Rules.{Answer};
 ghost use Rattle.stream_model.specs.Network.{Network};
 ghost use Rattle.session_core.specs.LaidOut.{IsLaidOut};
-ghost use Rattle.session_core.specs.Runs.{AreEmpty, ForAllRun, HasConsumed, HasFlushed, HasFlushedIn, HasTakenIn, IsEmptyAt, IsOutAt, IsOutConsuming, IsOutFlushing, IsOutFlushingIn, IsOutOf, IsOutTakingIn, MayFlushIn, MayTakeIn, MaySomeConsume, MaySomeFlushAt, StopsConsuming, StopsFlushing};
+ghost use Rattle.session_subtasks.specs.Subtasks.{IsOutOf};
+ghost use Rattle.session_core.specs.Runs.{AreEmpty, ForAllRun, HasConsumed, HasFlushed, HasFlushedIn, HasTakenIn, IsEmptyAt, IsOutAt, IsOutConsuming, IsOutFlushing, IsOutFlushingIn, IsOutTakingIn, MayFlushIn, MayTakeIn, MaySomeConsume, MaySomeFlushAt, StopsConsuming, StopsFlushing};
 
-use crate::{Feed, Subtask, Wiring};
+use crate::{Feed, Wiring};
 use ct_change::{Change, Changes, Steps};
 use ct_value::{Memory, Row};
 use op_rules::{OpFault, PieceOperator};
+use session_subtasks::Subtask;
 use std::sync::ledger::Ledger;
 use stream_model::StepFault;
 

@@ -10,9 +10,10 @@ ghost use Rattle.session_core.specs.LaidOut.{IsThere};
 ghost use Rattle.session_core.specs.Kept.{Carries, CarriesSome, Fetches, ForCarried, ForEach, ForSome, HasHandedOn, HasScanned, MayHandOn, MayScan};
 
 use crate::printing::print_all;
-use crate::{Channels, Feed, Lane, Wiring, scan_all, send_all};
+use crate::{Feed, Lane, Wiring};
 use ct_change::{Change, Changes};
 use ct_value::{Memory, OrderCode};
+use session_channels::{Channels, scan_all, send_all};
 use stream_model::{Counts, PrintItem, PrintList, StepFault};
 
 /// What is in flight, what was printed and not yet handed out, and how many changes were taken, in all and of each table.

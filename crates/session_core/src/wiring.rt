@@ -1,5 +1,5 @@
-use crate::{KeyRoute, Route};
 use ct_value::{ColTys, Cols};
+use session_channels::{KeyRoute, Route};
 use std::alloc::Global;
 
 /// A port of a node.

@@ -24,9 +24,9 @@ use Rattle.phys_plan.specs.declared.plan.Plan.{Plan}
 use Rattle.plan_rules.specs.Plans.{Doing, bundle_in, columns_from, exchange_in, exchange_of, network_edge, network_meaning, network_of, route_by, spread_of, table_of}
 use Rattle.phys_plan.specs.Reading.{numbered}
 use Rattle.ct_catalog.specs.Columns.{column_types, table_mode}
-use Rattle.session_core.specs.declared.exchange.Route.{Route}
-use Rattle.session_core.specs.declared.exchange.Route.TheVariants as r
-use Rattle.session_core.specs.Routes.{RoutesFor}
+use Rattle.session_channels.specs.declared.exchange.Route.{Route}
+use Rattle.session_channels.specs.declared.exchange.Route.TheVariants as r
+use Rattle.session_channels.specs.Routes.{RoutesFor}
 use Rattle.session_open.specs.Opening.{IsKeyRoute, IsRouteIn, IsRouteOf}
 use Rattle.plan_rules.specs.Columns.{AreColumns}
 use Rattle.plan_rules.proofs.laws.ChangeFits.{fits_width}

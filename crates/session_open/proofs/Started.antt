@@ -12,19 +12,19 @@ use Rattle.op_rules.specs.Tasks.{total}
 use Rattle.stream_model.specs.Network.{Network, IsWired}
 use Rattle.ct_value.specs.declared.ty.ColTy.{ColTy}
 use Rattle.phys_plan.specs.declared.plan.Plan.{Plan}
-use Rattle.session_core.specs.Lanes.{flight_in}
+use Rattle.session_channels.specs.Lanes.{flight_in}
 use Rattle.session_core.specs.declared.wiring.Wiring.{Wiring}
 use Rattle.session_core.specs.Runs.{HasRunning}
-use Rattle.session_core.specs.declared.subtask.Subtask.{Subtask}
+use Rattle.session_subtasks.specs.declared.subtask.Subtask.{Subtask}
 use Rattle.session_open.specs.declared.fault.OpenFault.{OpenFault}
 use Rattle.session_open.specs.declared.fault.OpenFault.TheVariants.{Limit, Memory}
 use Rattle.stream_model.specs.Machine.{opened}
 use Rattle.stream_model.specs.Runs.{counts_below}
-use Rattle.session_core.specs.declared.channels.Channels.{Channels}
-use Rattle.session_core.specs.declared.exchange.Route.{Route}
-use Rattle.session_core.specs.declared.exchange.Route.TheVariants.{Forward, Hash}
-use Rattle.session_core.specs.Routes.{IsWide, RoutesFor}
-use Rattle.session_core.specs.Sending.{Carry, sent_by}
+use Rattle.session_channels.specs.declared.channels.Channels.{Channels}
+use Rattle.session_channels.specs.declared.exchange.Route.{Route}
+use Rattle.session_channels.specs.declared.exchange.Route.TheVariants.{Forward, Hash}
+use Rattle.session_channels.specs.Routes.{IsWide, RoutesFor}
+use Rattle.session_channels.specs.Sending.{Carry, sent_by}
 use Rattle.session_core.specs.Kept.{AllFit}
 use Rattle.session_open.specs.Opening.{HaveOpened, IsStarted, IsOpenedAs, IsTooMany, MayStart, Opens, flight_until, opens_with}
 

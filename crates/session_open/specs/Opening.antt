@@ -18,16 +18,16 @@ use Rattle.plan_rules.specs.Columns.{AreColumns}
 use Rattle.plan_rules.specs.Plans.{Doing, network_of, spread_of}
 use Rattle.phys_plan.specs.Reading.{numbered}
 use Rattle.ct_catalog.specs.Columns.{column_types}
-use Rattle.session_core.specs.declared.channels.Channels.{Channels}
-use Rattle.session_core.specs.declared.exchange.KeyRoute.{KeyRoute}
-use Rattle.session_core.specs.declared.exchange.Route.{Route}
-use Rattle.session_core.specs.declared.exchange.Route.TheVariants as r
-use Rattle.session_core.specs.Sending.{Carry}
-use Rattle.session_core.specs.declared.subtask.Subtask.{Subtask}
+use Rattle.session_channels.specs.declared.channels.Channels.{Channels}
+use Rattle.session_channels.specs.declared.exchange.KeyRoute.{KeyRoute}
+use Rattle.session_channels.specs.declared.exchange.Route.{Route}
+use Rattle.session_channels.specs.declared.exchange.Route.TheVariants as r
+use Rattle.session_channels.specs.Sending.{Carry}
+use Rattle.session_subtasks.specs.declared.subtask.Subtask.{Subtask}
 use Rattle.session_core.specs.declared.wiring.Wiring.{Wiring}
 use Rattle.session_core.specs.Kept.{AllFit}
 use Rattle.session_core.specs.LaidOut.{IsLaidOut}
-use Rattle.session_core.specs.Runs.{RunsAs}
+use Rattle.session_subtasks.specs.Subtasks.{RunsAs}
 use Rattle.session_open.specs.declared.fault.OpenFault.{OpenFault}
 use Rattle.session_open.specs.declared.fault.OpenFault.TheVariants.{Limit, Memory}
 

@@ -3,7 +3,7 @@ use Rattle.std.specs.Prelude.{◌≡◌, ℕ, ◌+◌, List, ◌++◌, map, leng
 use Rattle.std.specs.List.{All}
 use Rattle.stream_model.specs.Network.{Network}
 use Rattle.stream_model.specs.Drain.{Stage, bundles_at, channels_into}
-use Rattle.session_core.specs.Sending.{AllRoute}
+use Rattle.session_channels.specs.Sending.{AllRoute}
 use Rattle.session_core.specs.declared.wiring.Stage as wiring
 use Rattle.session_core.specs.LaidOut.{IsStageThere, feed_of, stage_of}
 use Rattle.session_open.specs.declared.wires.Wires.{Wires}

@@ -8,7 +8,7 @@ use ct_change::Changes;
 use ct_value::{ColTys, List, Memory};
 use op_rules::PieceOperator;
 use phys_plan::Plan;
-use session_core::Subtask;
+use session_subtasks::Subtask;
 use std::alloc::Global;
 
 /// An operator that can be made for a node of a plan. Nodes are counted from 1; the lists have, by a node's number, the types of

@@ -12,7 +12,8 @@ use crate::wiring::wiring_of;
 use crate::{OpenFault, PlanOperator, PlanSource};
 use ct_value::{ColTys, List};
 use phys_plan::Plan;
-use session_core::{Channels, Session, Traffic};
+use session_channels::Channels;
+use session_core::{Session, Traffic};
 use std::alloc::Global;
 use stream_model::PrintList;
 

@@ -9,7 +9,9 @@ use crate::{OpenFault, PlanOperator};
 use ct_change::Changes;
 use ct_value::{ColTys, List, Memory};
 use phys_plan::Plan;
-use session_core::{Channels, Operators, Subtask, Wiring, send_all};
+use session_channels::{Channels, send_all};
+use session_core::{Operators, Wiring};
+use session_subtasks::Subtask;
 use std::alloc::Global;
 
 /// The subtasks of a plan, of each node, of which each sent what it opens with: they stand for nothing consumed, and hold nothing.

@@ -2,13 +2,13 @@ ghost use Rattle.std.specs.Prelude.{◌≡◌, ◌+◌, ◌<◌, [], ℕ, List a
 ghost use Rattle.ct_value.specs.declared.ty.ColTy.{ColTy};
 ghost use Rattle.plan_rules.specs.Plans.{Doing, network_edge};
 ghost use Rattle.phys_plan.specs.Reading.{numbered};
-ghost use Rattle.session_core.specs.Sending.{AllRoute};
+ghost use Rattle.session_channels.specs.Sending.{AllRoute};
 ghost use Rattle.session_open.specs.Opening.{IsExchange, IsRouteIn, IsRouteOf, MayOpen};
 ghost use Rattle.plan_rules.specs.Columns.{AreColumns};
 
 use ct_value::{ColTys, List, Memory};
 use phys_plan::{Edge, Exchange, Plan};
-use session_core::{KeyRoute, Route};
+use session_channels::{KeyRoute, Route};
 use std::alloc::Global;
 
 /// The route of each edge of a plan, by the edge's number.

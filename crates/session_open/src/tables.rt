@@ -13,7 +13,8 @@ ghost use Rattle.session_open.specs.Opening.{AreRoutable, IsKeyRoute};
 use ct_catalog::TableDef;
 use ct_value::{Cols, Memory};
 use phys_plan::{Op, Plan};
-use session_core::{KeyRoute, TableWiring};
+use session_channels::KeyRoute;
+use session_core::TableWiring;
 use std::alloc::Global;
 
 /// How the changes of each table of a plan are spread, and its scans.

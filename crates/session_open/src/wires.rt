@@ -1,4 +1,5 @@
-use session_core::{Feed, Route};
+use session_channels::Route;
+use session_core::Feed;
 
 /// How nodes are joined: into how many subtasks each is split, how many nodes there are, and by edge the port that it feeds
 /// and its route,

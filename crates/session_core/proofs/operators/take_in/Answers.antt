@@ -1,7 +1,7 @@
 use Rattle.std.proofs.Common.{Option, Some, refl, sym, subst}
-use Rattle.session_core.specs.declared.subtask.Subtask.{Subtask}
+use Rattle.session_subtasks.specs.declared.subtask.Subtask.{Subtask}
 use Rattle.session_core.specs.Runs.{HasTakenIn, IsOutTakingIn, MayTakeIn}
-use Rattle.session_core.proofs.Running.{if_ok, if_range}
+use Rattle.session_subtasks.proofs.laws.Outcomes.{if_ok, if_range}
 use Rattle.session_core.proofs.operators.take_in.Goals as goal
 
 pub take-requires : goal.take-requires

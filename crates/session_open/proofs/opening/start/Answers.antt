@@ -1,8 +1,8 @@
 use Rattle.std.proofs.Common.{◌≡◌, ℕ, ◌+◌, ◌*◌, ◌<◌, ◌≤◌, List, length, sym, ap, subst, ◌∙◌, arith, Some, slice_get}
 use Rattle.std.proofs.lemmas.Option.{slice_get-get_or}
 use Rattle.ct_change.specs.declared.change.Change.{Change}
-use Rattle.session_core.specs.Routes.{RoutesFor}
-use Rattle.session_core.specs.Sending.{Carry, sent_by}
+use Rattle.session_channels.specs.Routes.{RoutesFor}
+use Rattle.session_channels.specs.Sending.{Carry, sent_by}
 use Rattle.session_open.specs.Opening.{flight_until}
 use Rattle.session_open.proofs.Started.{all_wide, started, total_here}
 use Rattle.session_open.proofs.opening.start.Goals as goal

@@ -1,4 +1,5 @@
-use Rattle.session_core.proofs.Running.{found, if_ok, if_range}
+use Rattle.session_subtasks.proofs.laws.Outcomes.{if_ok, if_range}
+use Rattle.session_core.proofs.Running.{found}
 use Rattle.session_core.proofs.Slots.{consumed_in, may_take_in, out_taking_in}
 use Rattle.session_core.proofs.operators.Operators.consume.Goals as goal
 

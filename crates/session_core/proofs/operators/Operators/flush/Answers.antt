@@ -1,4 +1,5 @@
-use Rattle.session_core.proofs.Running.{found, if_ok, if_range}
+use Rattle.session_subtasks.proofs.laws.Outcomes.{if_ok, if_range}
+use Rattle.session_core.proofs.Running.{found}
 use Rattle.session_core.proofs.Slots.{flushed_in, may_flush_in, out_flushing_in}
 use Rattle.session_core.proofs.operators.Operators.flush.Goals as goal
 

@@ -1,6 +1,6 @@
 use Rattle.std.proofs.Common.{◌≡◌, ℕ, [], sym, subst, arith, inl, inr}
 use Rattle.std.proofs.lemmas.Bool.{cases_eq}
-use Rattle.session_core.proofs.Subtasks.{nothing_in}
+use Rattle.session_core.proofs.Running.{nothing_in}
 use Rattle.session_core.proofs.operators.Operators.node_is_empty.Goals as goal
 
 pub loop-subtask-preserved : goal.loop-subtask-preserved

@@ -5,9 +5,10 @@ use Rattle.stream_model.specs.declared.events.Event.TheVariants.{Move}
 use Rattle.stream_model.specs.Machine.{joins, move}
 use Rattle.stream_model.specs.Runs.{happens}
 use Rattle.session_core.specs.LaidOut.{port_of}
-use Rattle.session_core.specs.Runs.{AllHaveRun, is_full}
+use Rattle.session_subtasks.specs.Subtasks.{is_full}
+use Rattle.session_core.specs.Runs.{AllHaveRun}
 use Rattle.session_core.specs.Stands.{next_if}
-use Rattle.session_core.proofs.Running.{if_err, on_ok}
+use Rattle.session_subtasks.proofs.laws.Outcomes.{if_err, on_ok}
 use Rattle.session_core.proofs.Steps.{channel_there, fed_there, joins_carries, may_take, move_next, open_after, outside_put, stops_out, stops_same}
 use Rattle.session_core.proofs.session.Session.advance.Goals as goal
 

@@ -2,7 +2,7 @@ use Rattle.std.proofs.Common.{ap, subst, ◌∙◌}
 use Rattle.stream_model.specs.declared.events.Event.{Event}
 use Rattle.stream_model.specs.Machine.{step}
 use Rattle.stream_model.specs.Runs.{happens, IsTyped}
-use Rattle.session_core.proofs.Running.{on_ok}
+use Rattle.session_subtasks.proofs.laws.Outcomes.{on_ok}
 use Rattle.session_core.proofs.session.Session.apply.Goals as goal
 
 pub returns-in-Move-clause-ok : goal.returns-in-Move-clause-ok

@@ -3,9 +3,10 @@ use Rattle.std.proofs.lemmas.Result.{err_from_is_err_and}
 use Rattle.stream_model.specs.declared.events.Event.TheVariants.{Flush}
 use Rattle.stream_model.specs.Machine.{flush}
 use Rattle.stream_model.specs.Runs.{happens}
-use Rattle.session_core.specs.Runs.{AllHaveRun, holds_some}
+use Rattle.session_subtasks.specs.Subtasks.{holds_some}
+use Rattle.session_core.specs.Runs.{AllHaveRun}
 use Rattle.session_core.specs.Stands.{next_if}
-use Rattle.session_core.proofs.Running.{if_err, on_ok}
+use Rattle.session_subtasks.proofs.laws.Outcomes.{if_err, on_ok}
 use Rattle.session_core.proofs.Steps.{flush_next, open_after, place_there, stops_out, stops_same}
 use Rattle.session_core.proofs.session.Session.flush.Goals as goal
 

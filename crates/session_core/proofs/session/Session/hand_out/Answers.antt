@@ -3,7 +3,7 @@ use Rattle.ct_change.specs.declared.change.Change.{Change}
 use Rattle.stream_model.specs.Machine.{folded, hand_on}
 use Rattle.session_core.specs.Stands.{Pends, next_if}
 use Rattle.session_core.proofs.Pending.{handed_is, handed_keeps, handed_may, stays}
-use Rattle.session_core.proofs.Running.{if_err, on_ok}
+use Rattle.session_subtasks.proofs.laws.Outcomes.{if_err, on_ok}
 use Rattle.session_core.proofs.Steps.{stops_same}
 use Rattle.session_core.proofs.session.Session.hand_out.Goals as goal
 

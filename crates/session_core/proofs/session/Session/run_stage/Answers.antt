@@ -5,7 +5,7 @@ use Rattle.session_core.specs.declared.wiring.Stage.{Stage}
 use Rattle.session_core.specs.LaidOut.{IsStageThere, stage_of}
 use Rattle.session_core.specs.Stands.{KeepsAlong}
 use Rattle.stream_model.specs.Drain.{StopsAlong, stage_items}
-use Rattle.session_core.proofs.Running.{if_err_on, on_ok}
+use Rattle.session_subtasks.proofs.laws.Outcomes.{if_err_on, on_ok}
 use Rattle.session_core.proofs.session.Session.run_stage.Goals as goal
 
 pub deliver-requires : goal.deliver-requires

@@ -1,5 +1,5 @@
 use Rattle.std.proofs.Common.{sym, ◌∙◌, arith}
-use Rattle.session_core.specs.Lanes.{flight_in}
+use Rattle.session_channels.specs.Lanes.{flight_in}
 use Rattle.session_core.specs.LaidOut.{port_of}
 use Rattle.session_core.proofs.Flights.{carry_front}
 use Rattle.session_core.proofs.Wires.{channel_there, fed_there, move_unfed, move_off, move_empty}

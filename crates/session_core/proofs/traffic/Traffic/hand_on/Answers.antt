@@ -4,7 +4,7 @@ use Rattle.ct_change.specs.declared.change.Change.{Change}
 use Rattle.stream_model.specs.declared.events.PrintItem.{PrintItem}
 use Rattle.stream_model.specs.declared.events.PrintItem.TheVariants.{Change as Printed}
 use Rattle.stream_model.specs.Machine.{print, send}
-use Rattle.session_core.specs.Routes.{IsWide, RoutesFor}
+use Rattle.session_channels.specs.Routes.{IsWide, RoutesFor}
 use Rattle.session_core.proofs.Wires.{get_at}
 use Rattle.session_core.proofs.Flights.{all_at, rec_map, handed_print, handed_send, send_fits, wide_for}
 use Rattle.session_core.proofs.traffic.Traffic.hand_on.Goals as goal

@@ -5,8 +5,8 @@ use Rattle.ct_value.specs.Rows.{project}
 use Rattle.route.specs.Routing.{route_of, types_at}
 use Rattle.stream_model.specs.Tables.{scanned_at}
 use Rattle.stream_model.specs.Machine.{scan_count, scanned}
-use Rattle.session_core.specs.declared.exchange.Route.TheVariants.{Forward}
-use Rattle.session_core.specs.Sending.{AllRoute, Carry, MayScan, scanned_by}
+use Rattle.session_channels.specs.declared.exchange.Route.TheVariants.{Forward}
+use Rattle.session_channels.specs.Sending.{AllRoute, Carry, MayScan, scanned_by}
 use Rattle.session_core.specs.LaidOut.{scans_below}
 use Rattle.session_core.proofs.Counts.{count_at, counts_many, one_taken, shares_on}
 use Rattle.session_core.proofs.Wires.{is_table}

@@ -1,6 +1,0 @@
-use Rattle.std.proofs.Common.{◌≡◌, length}
-use Rattle.session_core.specs.Lanes.{AreIdle}
-use Rattle.session_core.proofs.channels.Channels.new.Given as goal
-
-abbrev pub invariant-loop-made : goal.invariant-loop-made
-invariant-loop-made l = (length l.lanes.items ≡ l.made) × AreIdle l.lanes.items
