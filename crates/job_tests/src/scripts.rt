@@ -12,6 +12,11 @@ pub const COUNT_APPEND: &str =
     CREATE TABLE out_t (word STRING, n BIGINT) WITH ('changelog' = 'retract');\
     INSERT INTO out_t SELECT word, COUNT(*) FROM t GROUP BY word;";
 
+/// Counts all rows of a table.
+pub const COUNT_ALL: &str = "CREATE TABLE t (word STRING NOT NULL);\
+    CREATE TABLE out_t (n BIGINT) WITH ('changelog' = 'retract');\
+    INSERT INTO out_t SELECT COUNT(*) FROM t;";
+
 /// Counts the rows of each word of a retract table.
 pub const COUNT_RETRACT: &str =
     "CREATE TABLE t (word STRING NOT NULL) WITH ('changelog' = 'retract');\

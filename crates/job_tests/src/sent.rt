@@ -39,8 +39,8 @@ fn streams_within(alloc: Global, plan: &Plan, changes: &str, sent_limit: u32) ->
     }
 }
 
-// The plan of a script.
-fn plan_of(alloc: Global, script: &str) -> Result<CheckedPlan, Halt>
+/// The plan of a script.
+pub(crate) fn plan_of(alloc: Global, script: &str) -> Result<CheckedPlan, Halt>
     ensures { IfOk result (λ checked. IsRuled (plan_in checked)) }
 {
     let text = bytes_of(alloc, script)?;
