@@ -1,11 +1,7 @@
 pub mod Added
-pub mod Cells
 pub mod Counts
 pub mod Ends
 pub mod Locals
-pub mod Merged
-pub mod Merges
 pub mod Replaced
 pub mod Stands
-pub mod Worked
 pub mod laws

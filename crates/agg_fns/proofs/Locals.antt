@@ -8,7 +8,7 @@ use Rattle.ct_value.specs.declared.value.Value.{Value}
 use Rattle.ct_field.specs.Typed.{is_null}
 use Rattle.rel_algebra.specs.declared.agg.AggCall.{AggCall}
 use Rattle.rel_algebra.specs.Aggregates.{Values, size, known, sum_of}
-use Rattle.agg_fns.specs.Merging.{StandsForBoth}
+use Rattle.agg_fns.specs.ComeAndGone.{StandsForBoth}
 use Rattle.agg_fns.specs.Partial.{net, net_known, net_sum}
 use Rattle.agg_fns.specs.declared.local_acc.LocalAcc.TheVariants.{RowCount, ValueCount, Total, Average}
 use Rattle.agg_fns.specs.declared.net_numbers.NetNumbers.{NetNumbers}

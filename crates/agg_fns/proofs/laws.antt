@@ -1,2 +1,2 @@
-pub mod Partials
-pub mod PartialSums
+pub mod PartialResults
+pub mod Readings

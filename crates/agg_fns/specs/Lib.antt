@@ -1,4 +1,6 @@
+pub mod ComeAndGone
 pub mod Counts
-pub mod Merging
 pub mod Partial
+pub mod PartialResults
+pub mod Reading
 pub mod Standing

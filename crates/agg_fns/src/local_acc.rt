@@ -2,7 +2,7 @@ ghost use Rattle.std.specs.Prelude.{◌≡◌, ◌+◌, ◌<◌, ◌^◌, true, 
 ghost use Rattle.ct_value.specs.Bag as bag;
 ghost use Rattle.rel_algebra.specs.declared.agg.AggCall.{AggCall};
 ghost use Rattle.rel_algebra.specs.Aggregates.{Values, size};
-ghost use Rattle.agg_fns.specs.Merging.{StandsForBoth};
+ghost use Rattle.agg_fns.specs.ComeAndGone.{StandsForBoth};
 ghost use Rattle.agg_fns.specs.Partial.{has_partial, is_signed, partial_of, partial_fits};
 ghost use Rattle.agg_fns.specs.declared.acc.AccFault.TheVariants.{Out};
 

@@ -1,10 +1,8 @@
-//! Numbers that may be below 0: what has come less what has gone, and what they make of what is kept.
-ghost use Rattle.std.specs.Prelude.{◌≡◌, ℕ, pos, neg_ℤ, ◌+ℤ◌, ◌-ℤ◌, ◌<ℤ◌, ◌≤ℤ◌, ◌<◌, ◌^◌, cond, IfOk, [], ◌∷◌};
-ghost use Rattle.ct_field.specs.Typed.{cell, is_null};
-ghost use Rattle.ct_value.specs.Order.{number_of};
+//! Numbers that may be below 0: what has come less what has gone.
+ghost use Rattle.std.specs.Prelude.{◌≡◌, pos, neg_ℤ, ◌+ℤ◌, ◌-ℤ◌, ◌<ℤ◌, ◌≤ℤ◌, ◌^◌, cond, IfOk, [], ◌∷◌};
+ghost use Rattle.ct_field.specs.Typed.{is_null};
 ghost use Rattle.ct_value.specs.declared.value.Value.TheVariants.{Num};
 
-use crate::number::number_of;
 use ct_value::{Memory, Row, Value, Values};
 use std::alloc::Global;
 
@@ -27,25 +25,6 @@ pub(crate) fn count_without(count: i64, value: &Value) -> i64
     match value {
         Value::Null => count,
         _ => count - 1,
-    }
-}
-
-// A count with as many more as a partial has in its first column, or less where that is below 0.
-pub(crate) fn merged_count(count: u64, partial: &Row) -> u64
-    requires { (n : ℕ) × (pos n ≡ pos count +ℤ number_of (cell 0 partial.now)) × (n < 2 ^ 64) }
-    ensures { pos result ≡ pos count +ℤ number_of (cell 0 partial.now) }
-{
-    let more = number_at(partial, 0);
-    (count as i128 + more) as u64
-}
-
-// The number in a column of a partial, and 0 where there is none.
-pub(crate) fn number_at(partial: &Row, column: usize) -> i128
-    ensures { result ≡ number_of (cell column partial.now) }
-{
-    match partial.get(column) {
-        Some(value) => number_of(value),
-        None => 0,
     }
 }
 

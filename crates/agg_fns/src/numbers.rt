@@ -2,16 +2,15 @@ ghost use Rattle.std.specs.Prelude.{◌≡◌, ℕ, ℤ, pos, ◌+◌, ◌-◌, 
 ghost use Rattle.ct_value.specs.Order.{number_of};
 ghost use Rattle.ct_value.specs.declared.value.Value.TheVariants.{Null};
 ghost use Rattle.ct_field.specs.Numbers.{in_range, has_38_digits};
-ghost use Rattle.ct_field.specs.Typed.{cell, is_null};
+ghost use Rattle.ct_field.specs.Typed.{is_null};
 ghost use Rattle.rel_algebra.specs.Aggregates.{sum_type, in_type, average};
 ghost use Rattle.agg_fns.specs.declared.acc.AccFault.TheVariants.{Out};
 
 use crate::acc::AccFault;
-use crate::net::{merged_count, number_at};
 use crate::number::{
     average_value, known_count, number_of, sum_replaced, sum_value, sum_with, sum_without,
 };
-use ct_value::{Row, Ty, Value};
+use ct_value::{Ty, Value};
 
 /// How many values of a type that aren't NULL, and their sum.
 #[derive(Clone, Copy, Debug, PartialEq, Eq)]
@@ -82,23 +81,6 @@ impl Numbers {
         self.sum = sum;
         self.count -= known_count(old);
         self.count += known_count(fresh);
-        Ok(())
-    }
-
-    // Takes as many values more, with such a sum, as a partial says, or less where that is below 0, where the sum stays within the limit
-    // of sums of type `limit`.
-    pub(crate) fn merge(&mut self, limit: Ty, partial: &Row) -> Result<(), AccFault>
-        requires { (n : ℕ) × (pos n ≡ pos self.old.count +ℤ number_of (cell 0 partial.now)) × (n < 2 ^ 64) }
-        ensures kept { OnOk result ((self.new.ty ≡ self.old.ty) × (pos self.new.count ≡ pos self.old.count +ℤ number_of (cell 0 partial.now)) × (self.new.sum ≡ number_of (cell 1 partial.now) +ℤ self.old.sum)) }
-        ensures fits { OnOk result (in_range (sum_type limit) (number_of (cell 1 partial.now) +ℤ self.old.sum) ≡ true) }
-        ensures out { OnErr result (in_range (sum_type limit) (number_of (cell 1 partial.now) +ℤ self.old.sum) ≡ false) }
-        ensures same { OnErr result (self.new ≡ self.old) }
-    {
-        let Some(sum) = sum_with(limit, self.sum, number_at(partial, 1)) else {
-            return Err(AccFault::Out);
-        };
-        self.sum = sum;
-        self.count = merged_count(self.count, partial);
         Ok(())
     }
 

@@ -1,5 +1,5 @@
-//! Tests of the upper floors: worked runs of the top call, in each mode, by orders, over files of tables, with faults and limits; and
-//! made scripts, whose plans are checked again. What the calls answer is in their contracts; more runs stand in `tests/runs`.
+//! Tests of the upper floors: worked runs of the top call, in each mode and by orders, with faults and limits, and a session's drain in
+//! one call. What the calls answer is in their contracts; more runs stand in `tests/runs`.
 #![tactic(auto)]
 
 #[cfg(test)]
@@ -7,15 +7,9 @@ mod by_order;
 #[cfg(test)]
 mod drained;
 #[cfg(test)]
-mod feeds;
-#[cfg(test)]
 mod files;
 #[cfg(test)]
 mod judging;
-#[cfg(test)]
-mod made;
-#[cfg(test)]
-mod plans;
 #[cfg(test)]
 mod runs;
 #[cfg(test)]

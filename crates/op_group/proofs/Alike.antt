@@ -22,7 +22,8 @@ use Rattle.rel_algebra.proofs.laws.Results.{any-first_seen, distinct-first_seen}
 use Rattle.op_rules.specs.Rules.{Answer, appended}
 use Rattle.emission_rules.specs.Grouping.{Grouping, KeepsGroups, members, results, is_shown, row_of, sums_fit, fits_along, groups_of, answers, group_emits}
 use Rattle.emission_rules.proofs.laws.Members.{at, copies-members, counted-members, other_members, other_members_from, wide_after, wide_from}
-use Rattle.op_group.specs.Bundles.{of_group, by_group, folded, told_along, MayFollow}
+use Rattle.mini_batch.specs.Groups.{of_group, by_group}
+use Rattle.op_group.specs.Bundles.{folded, told_along, MayFollow}
 use Rattle.op_group.specs.Folding.{AreOf, HaveKeys}
 
 -- ---- the first row that passes a test

@@ -4,7 +4,6 @@ pub mod Folds
 pub mod Folded
 pub mod Alike
 pub mod Arrived
-pub mod Bundled
 pub mod Members
 pub mod OnTheWay
 pub mod Openings

@@ -9,7 +9,8 @@ use Rattle.emission_rules.specs.Grouping.{Grouping, groups_of, answers, group_em
 use Rattle.op_group.specs.declared.kept.Kept.{Kept}
 use Rattle.op_group.specs.declared.groups.GroupBy.{GroupBy}
 use Rattle.op_group.specs.Groups.{grouping, IsGrouped}
-use Rattle.op_group.specs.Bundles.{by_group, folded, told_along, MayFoldAll, MayFollow, MayTakeAll}
+use Rattle.mini_batch.specs.Groups.{by_group}
+use Rattle.op_group.specs.Bundles.{folded, told_along, MayFoldAll, MayFollow, MayTakeAll}
 use Rattle.op_group.proofs.Alike.{told_by_group, may_by_group, folded_by_group}
 
 module _ (by : GroupBy) (input output : Mode) (rows : Rows) (groups : BTreeMap Row Kept) (held : ℕ) (changes : List Change) (m : MayTakeAll by (grouping by input output) rows groups held changes) (entries : Entries) (is : entries ≡ by_group by.keys changes) (size : held_in entries ≡ length changes) where

@@ -1,5 +1,5 @@
 -- The changes of a bundle, by the groups of their rows.
-use Rattle.std.specs.Prelude.{◌≡◌, ◌≤◌, ◌<◌, ◌+◌, ◌^◌, ℕ, List, [], ◌∷◌, length, map, filter, Ok}
+use Rattle.std.specs.Prelude.{◌≡◌, ◌≤◌, ◌<◌, ◌+◌, ◌^◌, ℕ, List, [], ◌∷◌, length, Ok}
 use Rattle.std.specs.List.{AllByRecursion}
 use Rattle.std.specs.BTreeMap.{BTreeMap}
 use Rattle.ct_value.specs.declared.row.Row.{Row}
@@ -7,20 +7,11 @@ use Rattle.ct_change.specs.declared.change.Change.{Change}
 use Rattle.ct_change.specs.Changelog.{Mode, Rows, fold_from, IsValidFrom}
 use Rattle.mini_batch.specs.Held.{Entries, held_in}
 use Rattle.op_rules.specs.Rules.{Answer, appended}
-use Rattle.rel_algebra.specs.GroupedCounts.{in_group}
-use Rattle.emission_rules.specs.Grouping.{Grouping, groups_of, group_emits}
+use Rattle.emission_rules.specs.Grouping.{Grouping, group_emits}
 use Rattle.op_group.specs.declared.kept.Kept.{Kept}
 use Rattle.op_group.specs.declared.groups.GroupBy.{GroupBy}
 use Rattle.op_group.specs.Groups.{grouping, IsGrouped, IsSet}
 use Rattle.op_group.specs.Folding.{AreOf, HaveKeys}
-
--- those of these changes whose rows are of one group
-abbrev pub of_group : ℕ → Row → List Change → List Change
-of_group keys key changes = filter (λ change. in_group keys key change.row) changes
-
--- each group's changes, in first-seen order
-abbrev pub by_group : ℕ → List Change → Entries
-by_group keys changes = map (λ key. (key, of_group keys key changes)) (groups_of keys changes)
 
 -- the rows after the changes of these groups, one group after the other
 abbrev pub folded : Mode → Rows → Entries → Rows

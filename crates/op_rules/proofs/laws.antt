@@ -3,3 +3,4 @@ pub mod LastRows
 pub mod Ready
 pub mod Totals
 pub mod Values
+pub mod Worths

@@ -6,7 +6,7 @@ use Rattle.ct_value.specs.declared.row.Row.{Row}
 use Rattle.ct_change.specs.declared.kind.KindSet.{KindSet}
 use Rattle.ct_change.specs.declared.change.Change.{Change}
 use Rattle.ct_change.specs.Changelog.{Mode, append, retract, upsert, Rows, Means}
-use Rattle.op_rules.specs.Partials.{Partials, sum_of, worth_of}
+use Rattle.op_rules.specs.Partials.{Partials, StandFor}
 
 -- how a list of changes is read: as a bag, as the last row of each key, or as partial results
 pub data Meaning : Type 0 where
@@ -29,7 +29,7 @@ IsPartial (partials p) = Unit {0}
 abbrev pub ReadsAs : Meaning → List Change → Rows → Type 0
 ReadsAs bag changes rows = Means retract changes rows
 ReadsAs (last_rows key) changes rows = Means (upsert key) changes rows
-ReadsAs (partials p) changes rows = (group : Row) → sum_of p group changes ≡ worth_of p group rows
+ReadsAs (partials p) changes rows = StandFor p changes rows
 
 -- which subtask of the consumer a row goes to: the one of the same number, or that of its values in these columns
 pub data Exchange : Type 0 where

@@ -1,4 +1,1 @@
 pub mod Comings
-pub mod GroupFitting
-pub mod GroupSound
-pub mod RowArrivals

@@ -15,7 +15,7 @@ use Rattle.op_rules.specs.Partials.{Worth, nothing, plus, Partials, sum_of, wort
 use Rattle.op_rules.specs.Edges.{Meaning, bag, last_rows, partials, IsPartial, ReadsAs, Exchange, forward, hash, goes_by, belongs_by, IsUnique, IsApart, AreApartBy, IsKeyedBy}
 use Rattle.op_rules.specs.Tasks.{total}
 use Rattle.stream_model.proofs.Sums.{total-zero, total-sum, total-same, total_one, total_part, total_some, total_only, all-take, all-filter, filter_passes, all-weaker, cond_sum}
-use Rattle.stream_model.proofs.Bags.{same-true, agree, either, weigh-rows, about_addition, about_removal, restricted, sum_rows, copies-restricted, copies-sum, plus_nothing, plus_comm, plus_assoc, total_worth, worth-none, worth-total, worth-near}
+use Rattle.op_rules.proofs.laws.Worths.{same-true, agree, either, weigh-rows, about_addition, about_removal, restricted, sum_rows, copies-restricted, copies-sum, plus_nothing, plus_comm, plus_assoc, total_worth, worth-none, worth-total, worth-near}
 
 -- what came to a port is what came from each subtask
 pub weigh-at : (f : Change → ℕ) (p n : ℕ) (c : List Arrival) → AllByRecursion (λ x. x.from < n) c → weigh f (at_port p c) ≡ total n (λ i. weigh f (from_port p i c))
@@ -292,15 +292,24 @@ module _ (many : ℕ) (e : Exchange) (route : Row → ℕ) (p j : ℕ) (j_in : j
       (λ i l il ll. subst (λ xs. AllByRecursion (λ a. AllByRecursion (λ b. project k a.row ≡ project k b.row → i ≡ l) (from_port p l c)) xs) (sym (came i il))
       (all-filter _ _ (G i) (all-weaker _ _ (λ x q. subst (AllByRecursion _) (sym (came l ll)) (all-filter _ _ (G l) q)) (G i) (ok i l il ll))))
       ∙ total-same many _ _ (λ i l. ap (last_shown k r 0) (came i l) ∙ (shown-filter k r (λ b. goes_by e route i j b) (λ b q. goes_with e k h i b r q) 0 (G i) ∙ ap (λ n. cond (goes_by e route i j r) n 0) (sym (means i l r)))))
-  means_came (partials o) h ok b means = λ r.
-      sum_of-at o r p many c within
-      ∙ (total_worth-same many _ _ (λ i l.
-      ap (sum_of o r) (came i l)
-      ∙ (of_partial o e h i r (G i)
-      ∙ (ap (λ a. cond (route (project o.own r) == j) a nothing) (means i l r)
-      ∙ sym (worth_cond o route (b i) j r))))
-      ∙ sym (worth-total o r many (λ i. restricted (λ s. route (project o.group s) == j) (b i))))
+  means_came (partials o) h ok b means = record {
+    holds = λ r some.
+        let from = total_some many (λ i. cond (belongs_by (partials o) e route i j r) (copies (b i) r) 0) (let n = copies_came (partials o) b r in omega arith) in
+        (means from.0 from.1).holds r (passed (belongs_by (partials o) e route from.0 j r) (copies (b from.0) r) from.2);
+    worth = λ r.
+        sum_of-at o r p many c within
+        ∙ (total_worth-same many _ _ (λ i l.
+        ap (sum_of o r) (came i l)
+        ∙ (of_partial o e h i r (G i)
+        ∙ (ap (λ a. cond (route (project o.own r) == j) a nothing) ((means i l).worth r)
+        ∙ sym (worth_cond o route (b i) j r))))
+        ∙ sym (worth-total o r many (λ i. restricted (λ s. route (project o.group s) == j) (b i))));
+  }
     where
+      passed : (t : Bool) (n : ℕ) → 0 < cond t n 0 → 0 < n
+      passed true n l = l
+      passed false n l = absurd (omega (arith, l))
+
       of_partial : (o : Partials) (e : Exchange) → IsKeyedBy (partials o) e → (i : ℕ) (r : Row) (l : List Change) → sum_of o r (filter (λ x. goes_by e route i j x.row) l) ≡ cond (route (project o.own r) == j) (sum_of o r l) nothing
       of_partial o forward h i r l = absurd h
       of_partial o (hash s) h i r l =

@@ -1,4 +1,3 @@
-pub mod Bags
 pub mod Counts
 pub mod Drain
 pub mod Exchange

@@ -14,7 +14,7 @@ use Rattle.op_rules.specs.Edges.{Meaning, bag, last_rows, partials, IsPartial, R
 use Rattle.op_rules.specs.Tasks.{total, emitted_by, IsFine, IsReady, IsSettled, IsSplitBy, ComeFixedBy, ComeApartBy, Emitted, Facts}
 use Rattle.stream_model.specs.Network.{Network, task, IsNode, IsWired, IsAnswered, IsAnswer, of_scan, of_node}
 use Rattle.stream_model.proofs.Sums.{reach, take-filter, total-same, total_le, total_some, total_only, total_at, total_cond, all-take, all-append_left, all-filter, filter_passes, all-weaker, take_end, take_both, cond_below}
-use Rattle.stream_model.proofs.Bags.{restricted, sum_rows, copies-restricted, copies-sum}
+use Rattle.op_rules.proofs.laws.Worths.{restricted, sum_rows, copies-restricted, copies-sum}
 use Rattle.stream_model.proofs.Exchange.{sel_keep, all-at, le_of, all_one, means_mentioned, means_same, IsApart-front, IsUnique-below, came_bag, copies_came, means_came}
 
 -- how what was consumed hangs together with what was sent

@@ -24,7 +24,7 @@ use Rattle.stream_model.specs.Scans.{IsKeyBy, IsKeyOf, CarriesTable, ScansStand}
 use Rattle.op_rules.proofs.laws.LastRows.{added, last_unique}
 use Rattle.stream_model.proofs.laws.KeysTold.{asked-added}
 use Rattle.stream_model.proofs.Sums.{reach, take-filter, total-same, total_one, all-filter, all-weaker, filter_passes, cond_sum, cond_below}
-use Rattle.stream_model.proofs.Bags.{same-true, agree, agree_from, weigh-rows, about_addition, about_removal, restricted, copies-restricted}
+use Rattle.op_rules.proofs.laws.Worths.{same-true, agree, agree_from, weigh-rows, about_addition, about_removal, restricted, copies-restricted}
 use Rattle.stream_model.proofs.Exchange.{shown-filter, means_same, IsUnique-below}
 
 -- ---- a change that isn't refused may come

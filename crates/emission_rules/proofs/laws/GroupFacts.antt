@@ -51,12 +51,12 @@ module _ (many : ℕ) (g : Grouping) (from to : Edge) (fits : GroupFits many g f
   abbrev Here : ℕ → Row → Type 0
   Here j key = from.route key ≡ j
 
-  names : (mode : Mode) → TellsGroups g mode → Names g.keys mode
+  pub names : (mode : Mode) → TellsGroups g mode → Names g.keys mode
   names append tells = tt
   names retract tells = tt
   names (upsert columns) tells = tells
 
-  key_of : (row : Row) → g.keys ≤ length row → project (first_columns g.keys) row ≡ take g.keys row
+  pub key_of : (row : Row) → g.keys ≤ length row → project (first_columns g.keys) row ≡ take g.keys row
   key_of row wide = project-first g.keys row wide
 
   -- ---- what was taken
@@ -146,7 +146,7 @@ module _ (many : ℕ) (g : Grouping) (from to : Edge) (fits : GroupFits many g f
 
   -- ---- keys
 
-  long : (row : Row) → length (take g.keys row) ≡ g.keys → g.keys ≤ length row
+  pub long : (row : Row) → length (take g.keys row) ≡ g.keys → g.keys ≤ length row
   long row e = go g.keys row e
     where
       go : (n : ℕ) (xs : Row) → length (take n xs) ≡ n → n ≤ length xs
@@ -155,7 +155,7 @@ module _ (many : ℕ) (g : Grouping) (from to : Edge) (fits : GroupFits many g f
       go (suc n) (x ∷ xs) q = let rest = go n xs (omega arith) in omega arith
 
   -- rows that are shown, one for each group, have each key in which the group's columns lie
-  unique_shown : (shown : Shown) → AreNamed g.keys shown → (rows : Rows) → ((row : Row) → copies rows row ≡ shown_in g.keys shown row) → (key : List ℕ) → LiesIn (first_columns g.keys) key → IsUnique key (copies rows)
+  pub unique_shown : (shown : Shown) → AreNamed g.keys shown → (rows : Rows) → ((row : Row) → copies rows row ≡ shown_in g.keys shown row) → (key : List ℕ) → LiesIn (first_columns g.keys) key → IsUnique key (copies rows)
   unique_shown shown named rows are key lies a b same x y =
       let one = is_shown_row g.keys shown a (let e = are a in omega arith) in
       let other = is_shown_row g.keys shown b (let e = are b in omega arith) in
@@ -163,7 +163,7 @@ module _ (many : ℕ) (g : Grouping) (from to : Edge) (fits : GroupFits many g f
       let both : Some a ≡ Some b = sym one ∙ (ap shown group ∙ other) in
       (cc, let e = are a in let f = one_of-le g.keys (shown (take g.keys a)) a in omega arith)
 
-  named_by : (rows : Rows) → AreNamed g.keys (shown_by g rows)
+  pub named_by : (rows : Rows) → AreNamed g.keys (shown_by g rows)
   named_by rows key row e =
       elim (length key == g.keys) as (λ b. (length key == g.keys) ≡ b → cond b (group_row g rows key) None ≡ Some row → (take g.keys row ≡ key) × (g.keys ≤ length row)) [
         | true ↦ λ n q. row_of_group g key _ row (eqb-true (length key) g.keys n) q
@@ -208,7 +208,7 @@ module _ (many : ℕ) (g : Grouping) (from to : Edge) (fits : GroupFits many g f
   abbrev place : Row → ℕ
   place row = from.route (project (first_columns g.keys) row)
 
-  same_place : (a b : Row) → take g.keys a ≡ take g.keys b → place a ≡ place b
+  pub same_place : (a b : Row) → take g.keys a ≡ take g.keys b → place a ≡ place b
   same_place a b e = ap from.route (project-taken g.keys g.keys a (omega arith) ∙ (ap (project (first_columns g.keys)) e ∙ sym (project-taken g.keys g.keys b (omega arith))))
 
   module _ (whole : Rows) (parts answers : ℕ → Rows) (split : (j : ℕ) → j < many → (row : Row) → copies (parts j) row ≡ cond (place row == j) (copies whole row) 0) where

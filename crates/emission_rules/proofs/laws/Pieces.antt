@@ -106,11 +106,11 @@ all_emission P output (Some old) (Some fresh) comes goes turns =
       | false ↦ λ e. let each = turns old fresh refl refl e in all_update P output old fresh each.0 each.1
     ] refl
 
-in_range : (b : Bool) (changes sent : List Change) (key : Row) → (let r : Answer = cond b (Ok changes) (Err key) in r ≡ Ok sent) → (b ≡ true) × (sent ≡ changes)
+pub in_range : (b : Bool) (changes sent : List Change) (key : Row) → (let r : Answer = cond b (Ok changes) (Err key) in r ≡ Ok sent) → (b ≡ true) × (sent ≡ changes)
 in_range true changes sent key e = (refl, cc)
 in_range false changes sent key e = absurd (cc)
 
-all-any : (P : Row → Type 0) (groups : List Row) → AllByRecursion P groups → (key : Row) → list_any (same_row key) groups ≡ true → P key
+pub all-any : (P : Row → Type 0) (groups : List Row) → AllByRecursion P groups → (key : Row) → list_any (same_row key) groups ≡ true → P key
 all-any P [] all key e = absurd (cc)
 all-any P (other ∷ groups) all key e =
     elim (same_row key other) as (λ b. same_row key other ≡ b → (b || list_any (same_row key) groups) ≡ true → P key) [
@@ -118,7 +118,7 @@ all-any P (other ∷ groups) all key e =
       | false ↦ λ t h. all-any P groups all.1 key h
     ] refl e
 
-only_inserts : (kinds : KindSet) (kind : Kind) → has_more_than_inserts kinds ≡ false → has kinds kind ≡ true → adds kind ≡ true
+pub only_inserts : (kinds : KindSet) (kind : Kind) → has_more_than_inserts kinds ≡ false → has kinds kind ≡ true → adds kind ≡ true
 only_inserts kinds I none some = refl
 only_inserts kinds UB none some = absurd (elim kinds.ub as (λ b. (b || (kinds.ua || kinds.d)) ≡ false → b ≡ true → ⊥) [ true ↦ λ n s. cc | false ↦ λ n s. cc ] none some)
 only_inserts kinds UA none some = refl
@@ -155,7 +155,7 @@ module _ (g : Grouping) (sound : IsSound g) (Here : Row → Type 0) (kinds : Kin
   }
 
   -- the key of an upsert changelog names the group
-  names : (mode : Mode) → TellsGroups g mode → Names g.keys mode
+  pub names : (mode : Mode) → TellsGroups g mode → Names g.keys mode
   names append tells = tt
   names retract tells = tt
   names (upsert columns) tells = tells

@@ -1,6 +1,6 @@
 use Rattle.std.proofs.Common.{subst, arith}
 use Rattle.std.proofs.lemmas.Int.{ints}
-use Rattle.agg_fns.specs.Merging.{StandsForBoth}
+use Rattle.agg_fns.specs.ComeAndGone.{StandsForBoth}
 use Rattle.agg_fns.proofs.Locals.{net_known_come, rows_above, values_above, total_above, average_above}
 use Rattle.agg_fns.proofs.local_acc.LocalAcc.add.Goals as goal
 

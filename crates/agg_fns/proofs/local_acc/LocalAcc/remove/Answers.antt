@@ -1,6 +1,6 @@
 use Rattle.std.proofs.Common.{subst, arith}
 use Rattle.std.proofs.lemmas.Int.{ints}
-use Rattle.agg_fns.specs.Merging.{StandsForBoth}
+use Rattle.agg_fns.specs.ComeAndGone.{StandsForBoth}
 use Rattle.agg_fns.proofs.Locals.{rows_below, values_below, total_below, average_below}
 use Rattle.agg_fns.proofs.local_acc.LocalAcc.remove.Goals as goal
 

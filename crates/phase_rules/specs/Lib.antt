@@ -1,0 +1,4 @@
+pub mod LocalFits
+pub mod LocalGrouping
+pub mod MergeFits
+pub mod Merging
