@@ -21,7 +21,7 @@ use Rattle.phys_plan.specs.declared.node.Node.{Node}
 use Rattle.phys_plan.specs.declared.node.Op.{Op}
 use Rattle.phys_plan.specs.declared.node.Op.TheVariants as op
 use Rattle.phys_plan.specs.declared.plan.Plan.{Plan}
-use Rattle.mode_infer.specs.Exchanges.{asked, side_columns}
+use Rattle.mode_infer.specs.Kinds.{asked, side_columns}
 use Rattle.mode_infer.specs.Updates.{is_input}
 use Rattle.column_sets.specs.Places.{first_columns}
 use Rattle.plan_inferred.specs.Rules.{by_columns, consumer}

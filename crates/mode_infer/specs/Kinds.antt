@@ -1,5 +1,6 @@
--- The kinds of each node's output, read from the inputs up.
-use Rattle.std.specs.Prelude.{ℕ, ◌==◌, Bool, true, false, cond, not, ◌&&◌, ◌||◌, List, [], ◌∷◌, fold, map, slice_get, Option, None, Some}
+-- What nodes send, and what operators ask of their inputs: the kinds of each node's output, read from the inputs up; by which columns an
+-- operator asks for its inputs, and whether it needs the old rows.
+use Rattle.std.specs.Prelude.{ℕ, zero, suc, ◌==◌, Bool, true, false, cond, not, ◌&&◌, ◌||◌, List, [], ◌∷◌, fold, map, slice_get, Option, None, Some}
 use Rattle.std.specs.List.{list_any}
 use Rattle.ct_change.specs.declared.kind.KindSet.{KindSet}
 use Rattle.ct_change.specs.Changelog as changelog
@@ -7,9 +8,12 @@ use Rattle.ct_catalog.specs.declared.table.TableDef.{TableDef}
 use Rattle.rel_algebra.specs.declared.agg.Agg.{Agg}
 use Rattle.rel_algebra.specs.declared.join.JoinKind.{JoinKind}
 use Rattle.rel_algebra.specs.declared.join.JoinKind.TheVariants.{Inner, Left, Right, Full}
+use Rattle.rel_algebra.specs.declared.join.Pair.{Pair}
 use Rattle.phys_plan.specs.declared.node.Op.{Op}
 use Rattle.phys_plan.specs.declared.node.Op.TheVariants as op
 use Rattle.phys_plan.specs.Reading.{Wire, read_up}
+use Rattle.phys_plan.specs.Columns.{left_columns, right_columns}
+use Rattle.column_sets.specs.Places.{first_columns}
 use Rattle.mode_infer.specs.declared.kinds.Flow.{Flow}
 use Rattle.ct_change.specs.Kinds.{has_more_than_inserts}
 
@@ -128,3 +132,59 @@ flows_after sources done ws = read_up (λ w. flow_of sources w.op) no_flow done 
 
 abbrev pub flows : List TableDef → List Wire → List Flow
 flows sources ws = flows_after sources [] ws
+
+-- ---- what operators ask of their inputs
+
+-- port 0 is the left input
+abbrev pub side_columns : List Pair → ℕ → List ℕ
+side_columns on zero = left_columns on
+side_columns on (suc port) = right_columns on
+
+abbrev pub lefts_in : Option (List Pair) → List ℕ
+lefts_in None = []
+lefts_in (Some on) = left_columns on
+
+abbrev pub rights_in : Option (List Pair) → List ℕ
+rights_in None = []
+rights_in (Some on) = right_columns on
+
+-- of several inputs the first has the left columns of the innermost join, and each other one the right columns of the join that brings it
+abbrev pub chain_columns : List (List Pair) → ℕ → List ℕ
+chain_columns on zero = lefts_in (slice_get on 0)
+chain_columns on (suc port) = rights_in (slice_get on port)
+
+-- the columns by which an operator asks for the rows of a port; none where it takes them as they come
+abbrev pub asked : Op → ℕ → Option (List ℕ)
+asked (op.Scan source) port = None
+asked (op.Filter cond) port = None
+asked (op.Project items) port = None
+asked op.Union port = None
+asked (op.Normalize key) port = Some key
+asked (op.Group keys aggs) port = Some (first_columns keys)
+asked (op.BatchGroup keys aggs) port = Some (first_columns keys)
+asked (op.Join kind on rest) port = Some (side_columns on port)
+asked (op.Semi anti on rest) port = Some (side_columns on port)
+asked (op.TopN partition order bound ranked) port = Some partition
+asked (op.Materialize key) port = Some key
+asked op.Sink port = None
+asked (op.LocalGroup keys aggs) port = None
+asked (op.MultiJoin on) port = Some (chain_columns on port)
+asked (op.SetOp except all columns) port = Some (first_columns columns)
+
+-- operators that judge each row by itself, or count rows, need the old rows of updates
+abbrev pub needs_old_rows : Op → Bool
+needs_old_rows (op.Scan source) = false
+needs_old_rows (op.Filter cond) = true
+needs_old_rows (op.Project items) = false
+needs_old_rows op.Union = true
+needs_old_rows (op.Normalize key) = false
+needs_old_rows (op.Group keys aggs) = true
+needs_old_rows (op.BatchGroup keys aggs) = true
+needs_old_rows (op.Join kind on rest) = false
+needs_old_rows (op.Semi anti on rest) = false
+needs_old_rows (op.TopN partition order bound ranked) = false
+needs_old_rows (op.Materialize key) = false
+needs_old_rows op.Sink = false
+needs_old_rows (op.LocalGroup keys aggs) = true
+needs_old_rows (op.MultiJoin on) = false
+needs_old_rows (op.SetOp except all columns) = true

@@ -14,8 +14,7 @@ use Rattle.column_sets.specs.Places.{image}
 use Rattle.phys_plan.specs.Reading.{Wire, at}
 use Rattle.phys_plan.specs.Columns.{plain_columns}
 use Rattle.mode_infer.specs.declared.kinds.Flow.{Flow}
-use Rattle.mode_infer.specs.Kinds.{no_flow}
-use Rattle.mode_infer.specs.Exchanges.{side_columns, chain_columns}
+use Rattle.mode_infer.specs.Kinds.{no_flow, side_columns, chain_columns}
 use Rattle.ct_change.specs.Kinds.{is_upsert}
 
 -- ---- who takes an edge

@@ -3,12 +3,12 @@ ghost use Rattle.std.specs.Prelude.{◌≡◌, option_copied, IfOk};
 ghost use Rattle.phys_plan.specs.Reading.{wires};
 ghost use Rattle.phys_plan.specs.Columns as c;
 ghost use Rattle.column_sets.specs.Places as p;
-ghost use Rattle.mode_infer.specs.Exchanges as x;
+ghost use Rattle.mode_infer.specs.Kinds as k;
 ghost use Rattle.mode_infer.specs.Updates as u;
 ghost use Rattle.ct_change.specs.Kinds.{is_upsert};
 ghost use Rattle.column_sets.specs.Sets as s;
 
-use crate::exchanges::{chain_columns, side_columns};
+use crate::operators::{chain_columns, side_columns};
 use column_sets::{image, is_within, same_set};
 use ct_catalog::TableDef;
 use ct_change::{Declared, Update};
@@ -102,14 +102,14 @@ pub fn takes(
 }
 
 fn side_takes(alloc: Global, on: &Pairs, port: usize, key: &Cols) -> Result<bool, Memory>
-    ensures { IfOk result (λ taken. taken ≡ s.is_within (x.side_columns on.now port) key.now) }
+    ensures { IfOk result (λ taken. taken ≡ s.is_within (k.side_columns on.now port) key.now) }
 {
     let cols = side_columns(alloc, on, port)?;
     Ok(is_within(&cols, key))
 }
 
 fn chain_takes(alloc: Global, on: &PairLists, port: usize, key: &Cols) -> Result<bool, Memory>
-    ensures { IfOk result (λ taken. taken ≡ s.is_within (x.chain_columns on.now port) key.now) }
+    ensures { IfOk result (λ taken. taken ≡ s.is_within (k.chain_columns on.now port) key.now) }
 {
     let cols = chain_columns(alloc, on.as_slice(), port)?;
     Ok(is_within(&cols, key))

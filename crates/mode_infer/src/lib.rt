@@ -6,14 +6,14 @@
 #![tactic(auto)]
 
 mod consumers;
-mod exchanges;
 mod kinds;
 mod modes;
+mod operators;
 mod row_keys;
 mod updates;
 
 pub use consumers::{is_input, port_of, takes};
-pub use exchanges::asked;
 pub use kinds::{Flow, flows};
 pub use modes::{EdgeMode, infer_modes, set_modes};
+pub use operators::{asked, needs_old_rows};
 pub use row_keys::update_keys;

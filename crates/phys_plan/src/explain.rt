@@ -3,7 +3,7 @@ ghost use Rattle.std.specs.Prelude.{◌≡◌, ◌+◌, ◌++◌, ◌<◌, ◌^�
 ghost use Rattle.phys_plan.specs.Explained as e;
 
 use crate::exchanges::{push_edge, push_inputs};
-use crate::operators::push_operator;
+use crate::node::push_operator;
 use crate::texts::push_number;
 use crate::{Node, Plan};
 use ct_value::{Bytes, Memory};

@@ -12,7 +12,6 @@ mod exchanges;
 mod explain;
 mod node;
 mod numbers;
-mod operators;
 mod plan;
 mod texts;
 

@@ -18,7 +18,7 @@ use Rattle.phys_plan.specs.Reading.{numbered, first_input}
 use Rattle.mode_infer.specs.declared.kinds.Flow.{Flow}
 use Rattle.mode_infer.specs.declared.modes.EdgeMode.{EdgeMode}
 use Rattle.ct_change.specs.Kinds.{has_more_than_inserts}
-use Rattle.mode_infer.specs.Exchanges.{asked}
+use Rattle.mode_infer.specs.Kinds.{asked, needs_old_rows}
 use Rattle.mode_infer.specs.Updates.{is_input, port_of}
 use Rattle.plan_inferred.specs.declared.ways.Way.{Way}
 use Rattle.plan_inferred.specs.declared.ways.Way.TheVariants.{Forced, NewRows, Direct, Materialized, Refused}
@@ -52,16 +52,6 @@ abbrev pub says_update : Option EdgeMode → Option Edge → Bool
 says_update mode None = true
 says_update None (Some edge) = false
 says_update (Some mode) (Some edge) = same_update mode.update edge.update
-
--- operators that judge each row by itself, or count rows
-abbrev pub needs_old_rows : Op → Bool
-needs_old_rows (op.Filter cond) = true
-needs_old_rows op.Union = true
-needs_old_rows (op.Group keys aggs) = true
-needs_old_rows (op.BatchGroup keys aggs) = true
-needs_old_rows (op.LocalGroup keys aggs) = true
-needs_old_rows (op.SetOp except all columns) = true
-needs_old_rows _ = false
 
 abbrev pub tells_old_rows : Update → Bool
 tells_old_rows Absent = true

@@ -8,8 +8,8 @@ ghost use Rattle.plan_inferred.specs.Same as s;
 use crate::Inferred;
 use ct_change::{KindSet, Update};
 use ct_value::Memory;
-use mode_infer::{EdgeMode, asked, is_input, port_of};
-use phys_plan::{Edge, Exchange, Node, Op, Plan, numbered};
+use mode_infer::{EdgeMode, asked, is_input, needs_old_rows, port_of};
+use phys_plan::{Edge, Exchange, Node, Plan, numbered};
 use std::alloc::Global;
 
 /// Whether the edge that leaves a node, by its number, from 1, carries the kinds that are inferred of it.
@@ -103,17 +103,6 @@ fn brings_old_rows(edge: Option<&Edge>) -> bool
     match edge {
         None => true,
         Some(edge) => !matches!(edge.update, Update::After(_)),
-    }
-}
-
-// Whether an operator judges each row by itself, or counts rows.
-fn needs_old_rows(op: &Op) -> bool
-    ensures { result ≡ r.needs_old_rows op.now }
-{
-    match op {
-        Op::Filter { .. } | Op::Union | Op::Group { .. } => true,
-        Op::BatchGroup { .. } | Op::LocalGroup { .. } | Op::SetOp { .. } => true,
-        _ => false,
     }
 }
 

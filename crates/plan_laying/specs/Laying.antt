@@ -7,7 +7,8 @@ use Rattle.phys_plan.specs.declared.edge.Exchange.{Exchange}
 use Rattle.ct_change.specs.declared.update.Update.{Update}
 use Rattle.ct_change.specs.declared.update.Update.TheVariants.{Both}
 use Rattle.phys_plan.specs.declared.node.Op.{Op}
-use Rattle.plan_rules.specs.Pieces.{unary_way, binary_way, Piece, node_of, edge_of, pieces_of, pieces_of_all, roots_of, nodes_in, edges_in}
+use Rattle.plan_rules.specs.Pieces.{Piece, node_of, edge_of, pieces_of, pieces_of_all, roots_of, nodes_in, edges_in}
+use Rattle.plan_rules.specs.Roles.{unary_way, binary_way}
 use Rattle.plan_rules.specs.Seen.{op_as_seen, node_as_seen}
 use Rattle.plan_laying.specs.declared.laying_fault.LayingFault.{LayingFault}
 use Rattle.plan_laying.specs.declared.laying_fault.LayingFault.TheVariants.{NoTable, Memory}

@@ -3,7 +3,7 @@ use Rattle.std.specs.Prelude.{List, [], ◌∷◌, Option, Some, None}
 use Rattle.rel_algebra.specs.Rel.{Rel, Scan, One, Two, Many}
 use Rattle.rel_algebra.specs.View.{rel_view}
 use Rattle.phys_plan.specs.declared.edge.Exchange.{Exchange}
-use Rattle.plan_rules.specs.Pieces.{unary_way, binary_way}
+use Rattle.plan_rules.specs.Roles.{unary_way, binary_way}
 use Rattle.plan_laying.specs.declared.way.Asked.{Asked as CodeAsked}
 
 -- a tree, and the exchange that its consumer asks for

@@ -7,7 +7,7 @@ ghost use Rattle.phys_plan.specs.declared.node.Op.TheVariants as op;
 ghost use Rattle.plan_laying.specs.Laying.{Pushed, Shows};
 
 use crate::laying_fault::LayingFault;
-use crate::parts::{all_kinds, no_keys, upsert_kinds};
+use crate::parts::{all_kinds, no_keys, two_numbers, upsert_kinds};
 use ct_catalog::Sources;
 use ct_change::Update;
 use ct_value::{Cols, Numbers};
@@ -75,6 +75,21 @@ impl Laying {
     {
         let mut inputs = Numbers::new(self.alloc);
         inputs.push(below)?;
+        self.push_whole(op, inputs, exchange)
+    }
+
+    // The same of one with two inputs.
+    pub(crate) fn push_both(
+        &mut self,
+        left: u32,
+        right: u32,
+        op: Op,
+        exchange: Exchange,
+    ) -> Result<u32, LayingFault>
+        ensures pushed { IfOk result (λ number. Pushed self.old self.new op (left ∷ (right ∷ [])) exchange (kinds_of retract) BothRows number) }
+        ensures full { IfErr result (λ fault. fault ≡ LayingFault.Memory) }
+    {
+        let inputs = two_numbers(self.alloc, left, right)?;
         self.push_whole(op, inputs, exchange)
     }
 

@@ -1,13 +1,13 @@
 //! The nodes of operators, laid behind their inputs.
 ghost use Rattle.std.specs.Prelude.{◌≡◌, [], ◌∷◌, option_map, IfOk, IfErr};
 ghost use Rattle.ct_expr.specs.View.{expr_view, exprs_view};
-ghost use Rattle.rel_algebra.specs.Rel.{filter_by, project_on, group_by, rank_in, join_on, semi_on, set_by};
-ghost use Rattle.plan_rules.specs.Pieces.{group_op, unary_way, binary_way};
+ghost use Rattle.rel_algebra.specs.Rel.{filter_by, project_on, group_by, rank_in, join_on, semi_on};
+ghost use Rattle.plan_rules.specs.Roles.{group_op, unary_way, binary_way};
 ghost use Rattle.plan_laying.specs.Laying.{PushedAs};
 
 use crate::laying::Laying;
 use crate::laying_fault::LayingFault;
-use crate::parts::{dup_rest, two_numbers};
+use crate::parts::dup_rest;
 use ct_expr::{Expr, Exprs, dup_exprs};
 use ct_value::Cols;
 use phys_plan::{Exchange, Op};
@@ -102,10 +102,9 @@ impl Laying {
         ensures pushed { IfOk result (λ number. PushedAs self.old self.new (binary_way (join_on kind on.now (option_map expr_view rest.now))).op (left ∷ (right ∷ [])) exchange number) }
         ensures full { IfErr result (λ fault. fault ≡ LayingFault.Memory) }
     {
-        let inputs = two_numbers(self.alloc, left, right)?;
         let on = on.dup()?;
         let rest = dup_rest(rest)?;
-        self.push_whole(Op::Join { kind, on, rest }, inputs, exchange)
+        self.push_both(left, right, Op::Join { kind, on, rest }, exchange)
     }
 
     // A semi join of two nodes, or with `anti` an anti join.
@@ -121,31 +120,8 @@ impl Laying {
         ensures pushed { IfOk result (λ number. PushedAs self.old self.new (binary_way (semi_on anti on.now (option_map expr_view rest.now))).op (left ∷ (right ∷ [])) exchange number) }
         ensures full { IfErr result (λ fault. fault ≡ LayingFault.Memory) }
     {
-        let inputs = two_numbers(self.alloc, left, right)?;
         let on = on.dup()?;
         let rest = dup_rest(rest)?;
-        self.push_whole(Op::Semi { anti, on, rest }, inputs, exchange)
-    }
-
-    // A set operation on two nodes.
-    pub(crate) fn push_set_op(
-        &mut self,
-        left: u32,
-        right: u32,
-        except: bool,
-        all: bool,
-        columns: u32,
-        exchange: Exchange,
-    ) -> Result<u32, LayingFault>
-        ensures pushed { IfOk result (λ number. PushedAs self.old self.new (binary_way (set_by except all columns)).op (left ∷ (right ∷ [])) exchange number) }
-        ensures full { IfErr result (λ fault. fault ≡ LayingFault.Memory) }
-    {
-        let inputs = two_numbers(self.alloc, left, right)?;
-        let op = Op::SetOp {
-            except,
-            all,
-            columns,
-        };
-        self.push_whole(op, inputs, exchange)
+        self.push_both(left, right, Op::Semi { anti, on, rest }, exchange)
     }
 }

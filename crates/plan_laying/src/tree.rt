@@ -1,20 +1,23 @@
-//! The nodes of a tree, laid behind those that are laid.
-ghost use Rattle.std.specs.Prelude.{IfOk, IfErr};
+//! The nodes of a tree, laid behind those that are laid, and by which columns its inputs are asked for.
+ghost use Rattle.std.specs.Prelude.{◌≡◌, Some, option_map, IfOk, IfErr};
 ghost use Rattle.rel_algebra.specs.Rel.{rels};
 ghost use Rattle.rel_algebra.specs.Rel as r;
 ghost use Rattle.rel_algebra.specs.View.{rel_view, rels_view};
 ghost use Rattle.emission_rules.specs.GroupFits.{first_columns};
 ghost use Rattle.emission_rules.specs.JoinFits.{right_pairs};
 ghost use Rattle.phys_plan.specs.declared.edge.Exchange.TheVariants.{Hash as ByHash};
+ghost use Rattle.phys_plan.specs.declared.node.Op.TheVariants as op;
 ghost use Rattle.plan_laying.specs.Laying.{Lays, LaysAll, Fails, FailsAll, Tops};
+ghost use Rattle.plan_laying.specs.Ways.{asked_for, asked_view, first_input};
 
 use crate::laying::Laying;
 use crate::laying_fault::LayingFault;
-use crate::parts::{first_columns, right_columns};
-use crate::way::way_down;
-use ct_value::Numbers;
+use crate::parts::{first_columns, left_columns, right_columns};
+use crate::way::{Asked, way_down};
+use ct_value::{Memory, Numbers};
 use phys_plan::{Exchange, Op};
 use rel_algebra::{Pairs, Rel};
+use std::alloc::Global;
 
 impl Laying {
     /// Lays the nodes of a tree whose consumer asks for this exchange, and answers the number of its root. The way up its first inputs is a loop, so that
@@ -87,7 +90,8 @@ impl Laying {
                 ..
             } => {
                 let second = self.lay_whole(right, *columns, levels)?;
-                self.push_set_op(below, second, *except, *all, *columns, exchange)
+                let op = set_operation(*except, *all, *columns);
+                self.push_both(below, second, op, exchange)
             }
             Rel::Rank {
                 partition,
@@ -146,4 +150,59 @@ impl Laying {
         }
         Ok(roots)
     }
+}
+
+fn set_operation(except: bool, all: bool, columns: u32) -> Op
+    ensures { result ≡ op.SetOp except all columns }
+{
+    Op::SetOp {
+        except,
+        all,
+        columns,
+    }
+}
+
+// ---- the way down
+
+/// The first input of a tree, as it is asked for.
+#[tactic(auto, unfolding(rel_algebra::specs::View::rel_view))]
+pub(crate) fn first_input<'a>(alloc: Global, rel: &'a Rel) -> Result<Option<Asked<'a>>, Memory>
+    ensures { IfOk result (λ input. option_map asked_view input ≡ first_input (rel_view rel.now)) }
+{
+    match rel {
+        Rel::Scan { .. } | Rel::Union { .. } => Ok(None),
+        Rel::Filter { input, .. } => Ok(input_for(input, Exchange::Forward)),
+        Rel::Project { input, .. } => Ok(input_for(input, Exchange::Forward)),
+        Rel::Group { input, keys, .. } => {
+            let columns = first_columns(alloc, *keys)?;
+            Ok(input_for(input, Exchange::Hash(columns)))
+        }
+        Rel::Join { left, on, .. } => {
+            let columns = left_columns(alloc, on)?;
+            Ok(input_for(left, Exchange::Hash(columns)))
+        }
+        Rel::Semi { left, on, .. } => {
+            let columns = left_columns(alloc, on)?;
+            Ok(input_for(left, Exchange::Hash(columns)))
+        }
+        Rel::SetOp { left, columns, .. } => {
+            let columns = first_columns(alloc, *columns)?;
+            Ok(input_for(left, Exchange::Hash(columns)))
+        }
+        Rel::Rank {
+            input,
+            partition,
+            ..
+        } => {
+            let columns = partition.dup()?;
+            Ok(input_for(input, Exchange::Hash(columns)))
+        }
+    }
+}
+
+/// A tree that is there, as it is asked for.
+pub(crate) fn input_for<'a>(rel: &'a Rel, exchange: Exchange) -> Option<Asked<'a>>
+    ensures { option_map asked_view result ≡ Some (asked_for exchange (rel_view rel.now)) }
+{
+    Some(Asked { rel, exchange })
 }

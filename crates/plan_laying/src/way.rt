@@ -1,9 +1,9 @@
 //! The way down the first inputs of a tree.
-ghost use Rattle.std.specs.Prelude.{◌≡◌, map, Some, option_map, IfOk};
+ghost use Rattle.std.specs.Prelude.{◌≡◌, map, IfOk};
 ghost use Rattle.rel_algebra.specs.View.{rel_view};
-ghost use Rattle.plan_laying.specs.Ways.{asked_for, asked_view, first_input, way_of};
+ghost use Rattle.plan_laying.specs.Ways.{asked_view, way_of};
 
-use crate::parts::{first_columns, left_columns};
+use crate::tree::{first_input, input_for};
 use ct_value::{List, Memory};
 use phys_plan::Exchange;
 use rel_algebra::Rel;
@@ -34,47 +34,4 @@ pub(crate) fn way_down<'a>(
         way.push(top)?;
     }
     Ok(way)
-}
-
-// The first input of a tree, as it is asked for.
-#[tactic(auto, unfolding(rel_algebra::specs::View::rel_view))]
-fn first_input<'a>(alloc: Global, rel: &'a Rel) -> Result<Option<Asked<'a>>, Memory>
-    ensures { IfOk result (λ input. option_map asked_view input ≡ first_input (rel_view rel.now)) }
-{
-    match rel {
-        Rel::Scan { .. } | Rel::Union { .. } => Ok(None),
-        Rel::Filter { input, .. } => Ok(input_for(input, Exchange::Forward)),
-        Rel::Project { input, .. } => Ok(input_for(input, Exchange::Forward)),
-        Rel::Group { input, keys, .. } => {
-            let columns = first_columns(alloc, *keys)?;
-            Ok(input_for(input, Exchange::Hash(columns)))
-        }
-        Rel::Join { left, on, .. } => {
-            let columns = left_columns(alloc, on)?;
-            Ok(input_for(left, Exchange::Hash(columns)))
-        }
-        Rel::Semi { left, on, .. } => {
-            let columns = left_columns(alloc, on)?;
-            Ok(input_for(left, Exchange::Hash(columns)))
-        }
-        Rel::SetOp { left, columns, .. } => {
-            let columns = first_columns(alloc, *columns)?;
-            Ok(input_for(left, Exchange::Hash(columns)))
-        }
-        Rel::Rank {
-            input,
-            partition,
-            ..
-        } => {
-            let columns = partition.dup()?;
-            Ok(input_for(input, Exchange::Hash(columns)))
-        }
-    }
-}
-
-// A tree that is there, as it is asked for.
-fn input_for<'a>(rel: &'a Rel, exchange: Exchange) -> Option<Asked<'a>>
-    ensures { option_map asked_view result ≡ Some (asked_for exchange (rel_view rel.now)) }
-{
-    Some(Asked { rel, exchange })
 }

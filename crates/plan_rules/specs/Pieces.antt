@@ -1,16 +1,12 @@
 -- The plan of a tree of the algebra as a function of it: its nodes one behind the other, each behind its inputs, and behind them the sink,
 -- which a materializer may stand before.
-use Rattle.std.specs.Prelude.{ℕ, ◌+◌, ◌==◌, ◌||◌, cond, List, [], ◌∷◌, ◌++◌, length, map, slice_get, Option, Some, None, option_map, unwrap_or}
+use Rattle.std.specs.Prelude.{ℕ, ◌+◌, List, [], ◌∷◌, ◌++◌, length, map, slice_get, Option, Some, None, unwrap_or}
 use Rattle.ct_change.specs.Changelog.{retract, upsert, kinds_of}
 use Rattle.ct_change.specs.declared.kind.Declared.{Declared}
 use Rattle.ct_change.specs.declared.kind.Declared.TheVariants.{Append, Retract, Upsert}
 use Rattle.ct_change.specs.declared.kind.KindSet.{KindSet}
 use Rattle.ct_catalog.specs.declared.table.TableDef.{TableDef}
-use Rattle.ct_expr.specs.Views.{expr_of}
-use Rattle.rel_algebra.specs.declared.agg.Agg.{Agg}
-use Rattle.rel_algebra.specs.Rel.{Unary, filter_by, project_on, group_by, rank_in, Binary, join_on, semi_on, set_by, Rel, Rels, Scan, One, Two, Many, no_rels, rel_and}
-use Rattle.emission_rules.specs.GroupFits.{first_columns}
-use Rattle.emission_rules.specs.JoinFits.{left_pairs, right_pairs}
+use Rattle.rel_algebra.specs.Rel.{Rel, Rels, Scan, One, Two, Many, no_rels, rel_and}
 use Rattle.phys_plan.specs.declared.edge.Edge.{Edge}
 use Rattle.phys_plan.specs.declared.edge.Exchange.{Exchange}
 use Rattle.phys_plan.specs.declared.edge.Exchange.TheVariants.{Forward, Hash}
@@ -21,40 +17,7 @@ use Rattle.phys_plan.specs.declared.node.Op.TheVariants as op
 use Rattle.phys_plan.specs.declared.node.Node.{Node}
 use Rattle.phys_plan.specs.declared.plan.Plan.{Plan}
 use Rattle.phys_plan.specs.Reading.{no_keys}
-
--- ---- by operator
-
--- an operator with one input, by how many changes a bundle holds, none where there are no bundles; and the exchange that it asks of its input
-pub record UnaryWay : Type 0 where
-  pub op : ℕ → Op
-  pub asks : Exchange
-
-abbrev pub way : (ℕ → Op) → Exchange → UnaryWay
-way operator asks = record { op = operator; asks = asks }
-
--- a group by keys keeps bundles where there are any, and a group of all rows never does
-abbrev pub group_op : ℕ → ℕ → List Agg → Op
-group_op mini_batch keys aggs = cond (mini_batch == 0 || keys == 0) (op.Group keys aggs) (op.BatchGroup keys aggs)
-
-abbrev pub unary_way : Unary → UnaryWay
-unary_way (filter_by condition) = way (λ mini_batch. op.Filter (expr_of condition)) Forward
-unary_way (project_on items) = way (λ mini_batch. op.Project (map expr_of items)) Forward
-unary_way (group_by keys aggs) = way (λ mini_batch. group_op mini_batch keys aggs) (Hash (first_columns keys))
-unary_way (rank_in partition order bound ranked) = way (λ mini_batch. op.TopN partition order bound ranked) (Hash partition)
-
--- one with two, and the exchanges that it asks of both
-pub record BinaryWay : Type 0 where
-  pub op : Op
-  pub left : Exchange
-  pub right : Exchange
-
-abbrev pub way_of_both : Op → Exchange → Exchange → BinaryWay
-way_of_both operator left right = record { op = operator; left = left; right = right }
-
-abbrev pub binary_way : Binary → BinaryWay
-binary_way (join_on kind pairs rest) = way_of_both (op.Join kind pairs (option_map expr_of rest)) (Hash (left_pairs pairs)) (Hash (right_pairs pairs))
-binary_way (semi_on anti pairs rest) = way_of_both (op.Semi anti pairs (option_map expr_of rest)) (Hash (left_pairs pairs)) (Hash (right_pairs pairs))
-binary_way (set_by except all columns) = way_of_both (op.SetOp except all columns) (Hash (first_columns columns)) (Hash (first_columns columns))
+use Rattle.plan_rules.specs.Roles.{unary_way, binary_way}
 
 -- ---- pieces
 

@@ -1,13 +1,18 @@
--- What operators are in the algebra. From an operator's role follow the number of its inputs, the tree of a node, its batch answer and the
--- types of the row at which it is out of range.
-use Rattle.std.specs.Prelude.{ℕ, ◌==◌, ◌&&◌, nat_le, Bool, false, List, [], ◌∷◌, ◌++◌, map, take, Option, Some, None, option_map}
+-- What operators are in the algebra, and which operators the algebra's are in a plan. From an operator's role follow the number of its
+-- inputs, the tree of a node, its batch answer and the types of the row at which it is out of range.
+use Rattle.std.specs.Prelude.{ℕ, ◌==◌, ◌&&◌, ◌||◌, nat_le, cond, Bool, false, List, [], ◌∷◌, ◌++◌, map, take, Option, Some, None, option_map}
 use Rattle.ct_value.specs.declared.ty.ColTy.{ColTy}
 use Rattle.ct_change.specs.Changelog.{Rows}
 use Rattle.ct_expr.specs.View.{expr_view}
+use Rattle.ct_expr.specs.Views.{expr_of}
+use Rattle.rel_algebra.specs.declared.agg.Agg.{Agg}
 use Rattle.rel_algebra.specs.Batch.{unary_answer, binary_answer}
 use Rattle.rel_algebra.specs.Rel.{Unary, filter_by, project_on, group_by, rank_in, Binary, join_on, semi_on, set_by, Rel, Scan, One, Two, Many, no_rels, rels}
-use Rattle.emission_rules.specs.GroupFits.{part}
+use Rattle.emission_rules.specs.GroupFits.{first_columns, part}
+use Rattle.emission_rules.specs.JoinFits.{left_pairs, right_pairs}
 use Rattle.emission_rules.specs.Union.{union_answer}
+use Rattle.phys_plan.specs.declared.edge.Exchange.{Exchange}
+use Rattle.phys_plan.specs.declared.edge.Exchange.TheVariants.{Forward, Hash}
 use Rattle.phys_plan.specs.declared.node.Op.{Op}
 use Rattle.phys_plan.specs.declared.node.Op.TheVariants as op
 use Rattle.plan_rules.specs.Around.{Around, second, union_of, grouping_of}
@@ -23,7 +28,7 @@ pub data Role : Type 0 where
   -- so far the algebra has no such operator; how many inputs it takes
   not_told : (ℕ → Bool) → Role
 
--- ---- the table
+-- ---- the role of each operator
 
 abbrev pub role : Op → Role
 role (op.Scan source) = reads_table source
@@ -41,6 +46,40 @@ role op.Sink = same_as
 role (op.LocalGroup keys aggs) = same_as
 role (op.MultiJoin on) = not_told (λ inputs. nat_le 3 inputs && nat_le inputs 8)
 role (op.SetOp except all columns) = two_of (set_by except all columns)
+
+-- ---- the operator of each step of the algebra
+
+-- an operator with one input, by how many changes a bundle holds, none where there are no bundles; and the exchange that it asks of its input
+pub record UnaryWay : Type 0 where
+  pub op : ℕ → Op
+  pub asks : Exchange
+
+abbrev pub way : (ℕ → Op) → Exchange → UnaryWay
+way operator asks = record { op = operator; asks = asks }
+
+-- a group by keys keeps bundles where there are any, and a group of all rows never does
+abbrev pub group_op : ℕ → ℕ → List Agg → Op
+group_op mini_batch keys aggs = cond (mini_batch == 0 || keys == 0) (op.Group keys aggs) (op.BatchGroup keys aggs)
+
+abbrev pub unary_way : Unary → UnaryWay
+unary_way (filter_by condition) = way (λ mini_batch. op.Filter (expr_of condition)) Forward
+unary_way (project_on items) = way (λ mini_batch. op.Project (map expr_of items)) Forward
+unary_way (group_by keys aggs) = way (λ mini_batch. group_op mini_batch keys aggs) (Hash (first_columns keys))
+unary_way (rank_in partition order bound ranked) = way (λ mini_batch. op.TopN partition order bound ranked) (Hash partition)
+
+-- one with two, and the exchanges that it asks of both
+pub record BinaryWay : Type 0 where
+  pub op : Op
+  pub left : Exchange
+  pub right : Exchange
+
+abbrev pub way_of_both : Op → Exchange → Exchange → BinaryWay
+way_of_both operator left right = record { op = operator; left = left; right = right }
+
+abbrev pub binary_way : Binary → BinaryWay
+binary_way (join_on kind pairs rest) = way_of_both (op.Join kind pairs (option_map expr_of rest)) (Hash (left_pairs pairs)) (Hash (right_pairs pairs))
+binary_way (semi_on anti pairs rest) = way_of_both (op.Semi anti pairs (option_map expr_of rest)) (Hash (left_pairs pairs)) (Hash (right_pairs pairs))
+binary_way (set_by except all columns) = way_of_both (op.SetOp except all columns) (Hash (first_columns columns)) (Hash (first_columns columns))
 
 -- ---- what follows from a role
 

@@ -5,6 +5,7 @@ ghost use Rattle.plan_rules.specs.Plans.{kinds_in};
 ghost use Rattle.phys_plan.specs.Reading.{numbered, first_input};
 ghost use Rattle.plan_shape.specs.Shape as s;
 
+use crate::node_columns::takes;
 use crate::tables::is_upsert;
 use ct_catalog::TableDef;
 use ct_change::KindSet;
@@ -32,19 +33,6 @@ fn first_input(inputs: &Numbers) -> u32
     match inputs.get(0) {
         None => 0,
         Some(input) => *input,
-    }
-}
-
-// Whether an operator has so many inputs.
-fn takes(op: &Op, inputs: usize) -> bool
-    ensures { result ≡ s.takes op.now inputs }
-{
-    match op {
-        Op::Scan { .. } => inputs == 0,
-        Op::Union => 2 <= inputs,
-        Op::Join { .. } | Op::Semi { .. } | Op::SetOp { .. } => inputs == 2,
-        Op::MultiJoin { .. } => 3 <= inputs && inputs <= 8,
-        _ => inputs == 1,
     }
 }
 

@@ -15,7 +15,6 @@ mod listed;
 mod node_columns;
 mod nodes;
 mod ranks;
-mod sets;
 mod tables;
 
 pub use input_columns::{NodeColumns, numbered_columns, only_input, same_columns};

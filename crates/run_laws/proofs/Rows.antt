@@ -217,7 +217,6 @@ module _ (plan : Plan) (ruled : IsRuled plan) (takes : SoundPortsTake) (suited :
         (λ change h. outs_sent (Fit around.columns) (after_key around.input) (map expr_view items) change h) (changes_of piece) (fit_all (project_rule (project_of (map expr_view items) around)) (taken (op.Project items) own refl) refl))
     op_outs op.Union own =
         outs_each (Fit around.columns) union_change (changes_of piece) (all_any (λ change. OutsAt (Fit around.columns) (union_change change)) (λ change row e. not_err (change ∷ []) row e) (changes_of piece))
-    op_outs (op.Normalize key) own = λ row e. not_err _ row e
     op_outs (op.Group keys aggs) own =
         let suits = subst (λ (p : Op). Suits p around) own (suited plan ruled v node there) in
         group_outs (grouping_of keys aggs around) (fit_keys (grouping_of keys aggs around) (taken (op.Group keys aggs) own refl) refl suits.keeps) (fold (grouping_of keys aggs around).input (at_port 0 before))
@@ -226,12 +225,10 @@ module _ (plan : Plan) (ruled : IsRuled plan) (takes : SoundPortsTake) (suited :
         group_outs (grouping_of keys aggs around) (fit_keys (grouping_of keys aggs around) (taken (op.BatchGroup keys aggs) own refl) refl suits.keeps) (fold (grouping_of keys aggs around).input (at_port 0 before))
     op_outs (op.Join kind on rest) own = let j = joining_of (joins kind) on (option_map expr_view rest) around in both_out j (both_fit j (taken (op.Join kind on rest) own refl) refl refl)
     op_outs (op.Semi anti on rest) own = let j = joining_of (matched anti) on (option_map expr_view rest) around in both_out j (both_fit j (taken (op.Semi anti on rest) own refl) refl refl)
-    op_outs (op.SetOp except all columns) own = λ row e. not_err _ row e
-    op_outs (op.TopN partition order bound ranked) own = λ row e. not_err _ row e
-    op_outs (op.Materialize key) own = λ row e. not_err _ row e
     op_outs op.Sink own =
         outs_each (Fit around.columns) (sink_change (sink_of around)) (changes_of piece) (all_any (λ change. OutsAt (Fit around.columns) (sink_change (sink_of around) change)) (λ change row e. not_err _ row e) (changes_of piece))
-    op_outs _ own = λ row e. not_err [] row e
+    -- all others calculate nothing
+    op_outs _ own = λ row e. not_err _ row e
 
   node_outs : (o : Option Node) → numbered plan.nodes v ≡ o → OutsAt (Fit (doing_in plan v o).range_types) ((doing_in plan v o).emits before piece)
   node_outs None there = λ row e. not_err [] row e

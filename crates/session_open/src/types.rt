@@ -27,10 +27,11 @@ pub(crate) fn range_types_of(
         Op::Sink => input_types(alloc, columns, &node.inputs),
         Op::Group { keys, .. } => first_types(alloc, columns, node, *keys),
         Op::BatchGroup { keys, .. } => first_types(alloc, columns, node, *keys),
-        Op::Join { .. } => joined_types(alloc, columns, &node.inputs),
-        Op::Semi { .. } => joined_types(alloc, columns, &node.inputs),
-        Op::SetOp { .. } => joined_types(alloc, columns, &node.inputs),
-        _ => Ok(ColTys::new(alloc)),
+        Op::Scan { .. } => Ok(ColTys::new(alloc)),
+        Op::LocalGroup { .. } => Ok(ColTys::new(alloc)),
+        Op::MultiJoin { .. } => Ok(ColTys::new(alloc)),
+        // All others have two inputs.
+        _ => joined_types(alloc, columns, &node.inputs),
     }
 }
 

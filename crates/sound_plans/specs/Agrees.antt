@@ -13,8 +13,7 @@ use Rattle.ct_catalog.specs.Columns.{column_types}
 use Rattle.plan_rules.specs.Columns.{columns_by}
 use Rattle.upsert_keys.specs.Keys.{keys_of, keyed_by, table_keys}
 use Rattle.phys_plan.specs.Reading.{no_keys}
-use Rattle.mode_infer.specs.Exchanges.{asked}
-use Rattle.mode_infer.specs.Kinds.{flow_of, kind_set, plain, scan_kinds}
+use Rattle.mode_infer.specs.Kinds.{flow_of, kind_set, plain, scan_kinds, asked}
 use Rattle.ct_change.specs.Kinds.{has_more_than_inserts}
 use Rattle.mode_infer.specs.Modes.{edge_kinds, printed}
 use Rattle.mode_infer.specs.UpdateKeys.{update_key_of}

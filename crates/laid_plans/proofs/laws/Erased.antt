@@ -17,8 +17,8 @@ use Rattle.plan_check.specs.Sound.{inferred_of}
 use Rattle.plan_rules.specs.Answers.{tables_with}
 use Rattle.plan_rules.specs.Erased.{erased, erased_at}
 use Rattle.laid_plans.proofs.laws.LaidTrees.{HasNode, ScanLaid, SourceLaid, IsLaid, AreLaid, TopLaid}
-use Rattle.plan_rules.specs.Pieces.{unary_way, binary_way, Top, bare, shown, asks_of}
-use Rattle.plan_rules.specs.Roles.{nothing, role, tree_of}
+use Rattle.plan_rules.specs.Pieces.{Top, bare, shown, asks_of}
+use Rattle.plan_rules.specs.Roles.{nothing, role, tree_of, unary_way, binary_way}
 use Rattle.plan_rules.proofs.laws.Answering.{tree_is}
 use Rattle.sound_plans.specs.Sound.{SoundPlansAnswer}
 use Rattle.laid_plans.specs.Erased.{InferredPlansAnswer, LaidPlansAreErased}

@@ -12,7 +12,7 @@ use Rattle.phys_plan.specs.declared.node.Node.{Node}
 use Rattle.phys_plan.specs.declared.node.Op.{Op}
 use Rattle.phys_plan.specs.declared.node.Op.TheVariants as op
 use Rattle.phys_plan.specs.declared.plan.Plan.{Plan}
-use Rattle.mode_infer.specs.Exchanges.{asked}
+use Rattle.mode_infer.specs.Kinds.{asked}
 use Rattle.plan_inferred.specs.Rules.{by_columns}
 use Rattle.plan_rules.specs.Plans.{kinds_in}
 use Rattle.phys_plan.specs.Reading.{numbered, first_input}

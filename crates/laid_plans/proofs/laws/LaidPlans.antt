@@ -19,7 +19,7 @@ use Rattle.phys_plan.specs.declared.node.Op.{Op}
 use Rattle.phys_plan.specs.declared.node.Op.TheVariants as op
 use Rattle.phys_plan.specs.declared.plan.Plan.{Plan}
 use Rattle.phys_plan.specs.declared.plan.Rule.TheVariants as rule
-use Rattle.mode_infer.specs.Exchanges.{asked}
+use Rattle.mode_infer.specs.Kinds.{asked}
 use Rattle.plan_inferred.specs.Rules.{by_columns, consumer as consumer_of, exchange_by, says_exchange}
 use Rattle.plan_inferred.specs.Same.{same_exchange}
 use Rattle.plan_rules.specs.Pieces.{Top, bare, shown, asks_of}

@@ -15,7 +15,8 @@ use Rattle.phys_plan.specs.declared.node.Op.TheVariants as op
 use Rattle.phys_plan.specs.declared.node.Node.{Node}
 use Rattle.phys_plan.specs.declared.plan.Plan.{Plan}
 use Rattle.phys_plan.specs.Reading.{numbered, no_keys}
-use Rattle.plan_rules.specs.Pieces.{unary_way, binary_way, Top, bare, shown, asks_of}
+use Rattle.plan_rules.specs.Pieces.{Top, bare, shown, asks_of}
+use Rattle.plan_rules.specs.Roles.{unary_way, binary_way}
 use Rattle.plan_rules.specs.Seen.{op_as_seen}
 
 -- ---- operators

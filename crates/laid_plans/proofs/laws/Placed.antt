@@ -18,7 +18,8 @@ use Rattle.phys_plan.specs.declared.node.Op.{Op}
 use Rattle.phys_plan.specs.declared.node.Op.TheVariants as op
 use Rattle.phys_plan.specs.declared.plan.Plan.{Plan}
 use Rattle.phys_plan.specs.Reading.{numbered}
-use Rattle.plan_rules.specs.Pieces.{unary_way, binary_way, Piece, node_of, edge_of, piece, full_piece, topped_both, scan_pieces, source_pieces, pieces_of, pieces_of_all, roots_of, Top, bare, shown, asks_of, with_top, with_sink, nodes_in, edges_in}
+use Rattle.plan_rules.specs.Pieces.{Piece, node_of, edge_of, piece, full_piece, topped_both, scan_pieces, source_pieces, pieces_of, pieces_of_all, roots_of, Top, bare, shown, asks_of, with_top, with_sink, nodes_in, edges_in}
+use Rattle.plan_rules.specs.Roles.{unary_way, binary_way}
 use Rattle.plan_rules.specs.Seen.{op_as_seen, node_as_seen}
 use Rattle.laid_plans.specs.Shapes.{IsLaidWith, IsLaidOut}
 use Rattle.laid_plans.proofs.laws.LaidTrees.{IsUnary, IsBinary, HasNode, HasEdge, ScanLaid, SourceLaid, IsLaid, AreLaid, TopLaid, LaysOut}

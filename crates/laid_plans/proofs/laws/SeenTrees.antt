@@ -12,7 +12,8 @@ use Rattle.phys_plan.specs.declared.edge.Exchange.{Exchange}
 use Rattle.phys_plan.specs.declared.edge.Exchange.TheVariants.{Forward, Hash}
 use Rattle.phys_plan.specs.declared.node.Op.{Op}
 use Rattle.phys_plan.specs.declared.node.Op.TheVariants as op
-use Rattle.plan_rules.specs.Pieces.{unary_way, binary_way, Piece, node_of, piece, full_piece, scan_pieces, source_pieces, pieces_of, pieces_of_all, roots_of, Top, bare, shown, asks_of, with_top, with_sink, nodes_in, edges_in, plan_of_tree}
+use Rattle.plan_rules.specs.Pieces.{Piece, node_of, piece, full_piece, scan_pieces, source_pieces, pieces_of, pieces_of_all, roots_of, Top, bare, shown, asks_of, with_top, with_sink, nodes_in, edges_in, plan_of_tree}
+use Rattle.plan_rules.specs.Roles.{unary_way, binary_way}
 use Rattle.plan_rules.specs.Seen.{op_as_seen, node_as_seen, plan_as_seen}
 use Rattle.laid_plans.proofs.laws.Trees.{unary_is, binary_is}
 

@@ -22,15 +22,14 @@ use Rattle.phys_plan.specs.declared.node.Node.{Node}
 use Rattle.phys_plan.specs.declared.node.Op.{Op}
 use Rattle.phys_plan.specs.declared.node.Op.TheVariants as op
 use Rattle.phys_plan.specs.declared.plan.Plan.{Plan}
-use Rattle.mode_infer.specs.Exchanges.{asked}
+use Rattle.mode_infer.specs.Kinds.{asked}
 use Rattle.plan_inferred.specs.Rules.{by_columns}
 use Rattle.phys_plan.specs.Reading.{numbered}
 use Rattle.ct_catalog.specs.Columns.{column_types}
 use Rattle.plan_rules.specs.Columns.{columns_as, common_with}
 use Rattle.laid_plans.proofs.laws.LaidTrees.{IsUnary, IsBinary, HasNode, CarriesAll, ScanLaid, SourceLaid, IsLaid, AreLaid}
 use Rattle.plan_rules.specs.Behaviours.{has_rule}
-use Rattle.plan_rules.specs.Pieces.{unary_way, binary_way}
-use Rattle.plan_rules.specs.Roles.{Role, one_of, two_of, role, takes as takes_as}
+use Rattle.plan_rules.specs.Roles.{Role, one_of, two_of, role, takes as takes_as, unary_way, binary_way}
 use Rattle.plan_shape.specs.Shape.{is_keyed_by, is_read, is_upsert_by, normalizes_by, scans_by, suits_consumer, takes, op_in}
 use Rattle.plan_shape.specs.Tables.{is_declarable}
 use Rattle.ct_change.specs.Kinds.{is_upsert}

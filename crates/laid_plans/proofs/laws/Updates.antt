@@ -17,11 +17,11 @@ use Rattle.phys_plan.specs.declared.plan.Plan.{Plan}
 use Rattle.phys_plan.specs.Reading.{at, numbered as item, wires, numbered}
 use Rattle.mode_infer.specs.declared.kinds.Flow.{Flow}
 use Rattle.mode_infer.specs.declared.modes.EdgeMode.{EdgeMode}
-use Rattle.mode_infer.specs.Kinds.{flows, no_flow}
+use Rattle.mode_infer.specs.Kinds.{flows, needs_old_rows, no_flow}
 use Rattle.mode_infer.specs.Modes.{edge_modes, moded, modes_of, no_mode, updates, with_sink}
 use Rattle.mode_infer.specs.UpdateKeys.{update_keys}
 use Rattle.mode_infer.specs.Updates.{in_full, is_taken, port_of, scan_update, table_update, takes, told, update_of}
-use Rattle.plan_inferred.specs.Rules.{brings_old_rows, has_old_rows, needs_old_rows, tells_old_rows}
+use Rattle.plan_inferred.specs.Rules.{brings_old_rows, has_old_rows, tells_old_rows}
 use Rattle.plan_shape.specs.Shape.{is_read, is_sink, normalizes_by, suits_consumer}
 use Rattle.plan_shape.specs.Shaped.{MeetsShape, ShapedPlansHaveShape}
 use Rattle.ct_change.specs.Kinds.{is_upsert}
@@ -38,13 +38,13 @@ use Rattle.laid_plans.proofs.laws.Tables.{flows_many, updates_many}
 
 -- an operator that needs old rows takes no new rows alone
 takes_none : (sink : TableDef) (o : Op) (port : ℕ) (update : Update) (key : List ℕ) → needs_old_rows o ≡ true → takes sink o port update key ≡ false
-takes_none sink (op.Filter condition) port update key n = refl
-takes_none sink op.Union port update key n = refl
-takes_none sink (op.Group keys aggs) port update key n = refl
-takes_none sink (op.BatchGroup keys aggs) port update key n = refl
-takes_none sink (op.LocalGroup keys aggs) port update key n = refl
-takes_none sink (op.SetOp except all columns) port update key n = refl
-takes_none sink _ port update key n = absurd (cc)
+takes_none sink (op.Project items) port update key n = absurd (cc)
+takes_none sink (op.Join kind on rest) port update key n = absurd (cc)
+takes_none sink (op.Semi anti on rest) port update key n = absurd (cc)
+takes_none sink (op.TopN partition order bound ranked) port update key n = absurd (cc)
+takes_none sink op.Sink port update key n = absurd (cc)
+takes_none sink (op.MultiJoin on) port update key n = absurd (cc)
+takes_none sink _ port update key n = refl
 
 -- in full the old rows are told
 full_tells : (kinds : KindSet) → tells_old_rows (in_full kinds) ≡ true

@@ -18,7 +18,8 @@ use Rattle.phys_plan.specs.declared.node.Op.{Op}
 use Rattle.phys_plan.specs.declared.node.Op.TheVariants as op
 use Rattle.phys_plan.specs.declared.node.Node.{Node}
 use Rattle.phys_plan.specs.declared.plan.Plan.{Plan}
-use Rattle.plan_rules.specs.Pieces.{unary_way, binary_way, Piece, node_of, edge_of, piece, full_piece, scan_pieces, source_pieces, pieces_of, pieces_of_all, roots_of, bare, shown, with_sink, nodes_in, edges_in, plan_of_tree}
+use Rattle.plan_rules.specs.Pieces.{Piece, node_of, edge_of, piece, full_piece, scan_pieces, source_pieces, pieces_of, pieces_of_all, roots_of, bare, shown, with_sink, nodes_in, edges_in, plan_of_tree}
+use Rattle.plan_rules.specs.Roles.{unary_way, binary_way}
 use Rattle.plan_rules.specs.Seen.{op_as_seen, node_as_seen, plan_as_seen}
 use Rattle.plan_laying.specs.declared.laying_fault.LayingFault.{LayingFault}
 use Rattle.plan_laying.specs.declared.laying_fault.LayingFault.TheVariants.{NoTable, Memory}

@@ -7,7 +7,7 @@ use Rattle.ct_catalog.specs.declared.table.TableDef.{TableDef}
 use Rattle.rel_algebra.specs.Rel.{Unary, Binary, Rel, Rels, Scan, One, Two, Many}
 use Rattle.rel_algebra.specs.View.{rel_view}
 use Rattle.phys_plan.specs.declared.edge.Exchange.{Exchange}
-use Rattle.plan_rules.specs.Pieces.{unary_way, binary_way}
+use Rattle.plan_rules.specs.Roles.{unary_way, binary_way}
 use Rattle.plan_laying.specs.declared.laying_fault.LayingFault.{LayingFault}
 use Rattle.plan_laying.specs.declared.laying_fault.LayingFault.TheVariants.{NoTable, Memory}
 use Rattle.plan_laying.specs.declared.laying.Laying.{Laying}

@@ -15,7 +15,7 @@ use Rattle.ct_expr.specs.View.{expr_view}
 use Rattle.ct_expr.specs.Views.{expr_of}
 use Rattle.ct_expr.proofs.laws.Seen.{seen}
 use Rattle.rel_algebra.specs.declared.agg.Agg.{Agg}
-use Rattle.rel_algebra.specs.Rel.{Unary, filter_by, project_on, group_by, rank_in, Binary, join_on, semi_on, set_by, Rel, Rels, Scan, One, Two, Many, no_rels, rel_and, rels}
+use Rattle.rel_algebra.specs.Rel.{Unary, filter_by, project_on, group_by, rank_in, Binary, join_on, semi_on, Rel, Rels, Scan, One, Two, Many, no_rels, rel_and, rels}
 use Rattle.phys_plan.specs.Reading.{at, numbered, read_up, wire, wires}
 use Rattle.phys_plan.specs.declared.edge.Exchange.{Exchange}
 use Rattle.phys_plan.specs.declared.edge.Exchange.TheVariants.{Forward, Hash}
@@ -23,8 +23,8 @@ use Rattle.phys_plan.specs.declared.node.Op.{Op}
 use Rattle.phys_plan.specs.declared.node.Op.TheVariants as op
 use Rattle.phys_plan.proofs.laws.Reading.{read_append}
 use Rattle.plan_rules.specs.Answers.{TreesAreErased}
-use Rattle.plan_rules.specs.Pieces.{group_op, unary_way, binary_way, Piece, piece, scan_pieces, source_pieces, topped, topped_both, pieces_of, pieces_of_all, roots_of, nodes_in, Top, bare, shown, asks_of, with_top, with_sink}
-use Rattle.plan_rules.specs.Roles.{nothing, one_of, two_of, same_as, role, tree_of}
+use Rattle.plan_rules.specs.Pieces.{Piece, piece, scan_pieces, source_pieces, topped, topped_both, pieces_of, pieces_of_all, roots_of, nodes_in, Top, bare, shown, asks_of, with_top, with_sink}
+use Rattle.plan_rules.specs.Roles.{nothing, one_of, two_of, same_as, role, tree_of, group_op, unary_way, binary_way}
 use Rattle.plan_rules.proofs.laws.Numbers.{get_at, get_more}
 
 -- ---- expressions are seen
@@ -61,7 +61,8 @@ unary_told mini_batch (rank_in partition order bound ranked) = refl
 pub binary_told : (how : Binary) → role (binary_way how).op ≡ two_of how
 binary_told (join_on kind pairs rest) = ap (λ r. two_of (join_on kind pairs r)) (rest_seen rest)
 binary_told (semi_on anti pairs rest) = ap (λ r. two_of (semi_on anti pairs r)) (rest_seen rest)
-binary_told (set_by except all columns) = refl
+-- all others hold no expression
+binary_told _ = refl
 
 -- ---- the trees of pieces behind these trees
 

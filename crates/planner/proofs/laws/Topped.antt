@@ -8,7 +8,7 @@ use Rattle.ct_change.specs.declared.kind.Declared.{Declared}
 use Rattle.ct_change.specs.declared.kind.Declared.TheVariants.{Append, Retract, Upsert}
 use Rattle.ct_change.specs.declared.update.Update.TheVariants.{Absent, After, Both}
 use Rattle.ct_catalog.specs.declared.table.TableDef.{TableDef}
-use Rattle.rel_algebra.specs.Rel.{Unary, filter_by, project_on, group_by, rank_in, Binary, join_on, semi_on, set_by, Rel, Scan, One, Two, Many}
+use Rattle.rel_algebra.specs.Rel.{Unary, filter_by, project_on, group_by, rank_in, Binary, join_on, Rel, Scan, One, Two, Many}
 use Rattle.phys_plan.specs.declared.edge.Edge.{Edge}
 use Rattle.phys_plan.specs.declared.edge.Exchange.{Exchange}
 use Rattle.phys_plan.specs.declared.edge.Exchange.TheVariants.{Forward, Hash}
@@ -17,7 +17,8 @@ use Rattle.phys_plan.specs.declared.node.Op.{Op}
 use Rattle.phys_plan.specs.declared.node.Op.TheVariants as op
 use Rattle.phys_plan.specs.declared.plan.Plan.{Plan}
 use Rattle.phys_plan.specs.Reading.{numbered}
-use Rattle.plan_rules.specs.Pieces.{unary_way, binary_way, Piece, node_of, edge_of, piece, full_piece, scan_pieces, source_pieces, pieces_of, pieces_of_all, roots_of, nodes_in, edges_in, Top, bare, shown, with_top, with_sink}
+use Rattle.plan_rules.specs.Pieces.{Piece, node_of, edge_of, piece, full_piece, scan_pieces, source_pieces, pieces_of, pieces_of_all, roots_of, nodes_in, edges_in, Top, bare, shown, with_top, with_sink}
+use Rattle.plan_rules.specs.Roles.{unary_way, binary_way}
 use Rattle.plan_rules.specs.Seen.{node_as_seen, op_as_seen, plan_as_seen}
 use Rattle.plan_rules.proofs.laws.Erasing.{of_groups}
 use Rattle.sound_plans.proofs.laws.Agreed.{materializes}
@@ -54,8 +55,7 @@ unary_other mini_batch (rank_in partition order bound ranked) = refl
 
 binary_other : (how : Binary) → materializes (binary_way how).op ≡ false
 binary_other (join_on kind pairs rest) = refl
-binary_other (semi_on anti pairs rest) = refl
-binary_other (set_by except all columns) = refl
+binary_other _ = refl
 
 tree_ends : (sources : List TableDef) (mini_batch n : ℕ) (rel : Rel) → EndsAsAsked (λ x. pieces_of sources mini_batch n x rel)
 tree_ends sources mini_batch n (Scan source) = source_ends n source (slice_get sources source)

@@ -18,7 +18,8 @@ use Rattle.phys_plan.specs.declared.plan.Plan.{Plan}
 use Rattle.upsert_keys.specs.Keys.{keyed_from}
 use Rattle.phys_plan.specs.Reading.{numbered}
 use Rattle.laid_plans.proofs.laws.LaidTrees.{IsUnary, IsBinary, HasNode, ScanLaid, SourceLaid, IsLaid, AreLaid, TopLaid}
-use Rattle.plan_rules.specs.Pieces.{unary_way, binary_way, Top, bare, shown, asks_of}
+use Rattle.plan_rules.specs.Pieces.{Top, bare, shown, asks_of}
+use Rattle.plan_rules.specs.Roles.{unary_way, binary_way}
 use Rattle.plan_check.specs.Sound.{inferred_of}
 use Rattle.laid_plans.proofs.laws.Placed.{lays_out}
 use Rattle.laid_plans.proofs.laws.Trees.{unary_fits, binary_fits}

@@ -19,8 +19,7 @@ use Rattle.phys_plan.specs.declared.plan.Plan.{Plan}
 use Rattle.phys_plan.specs.declared.plan.Rule.TheVariants as rule
 use Rattle.phys_plan.specs.Reading.{at, numbered as item, wires, numbered, first_input}
 use Rattle.upsert_keys.specs.Keys.{keys_of, scan_keys, table_keys}
-use Rattle.mode_infer.specs.Exchanges.{asked}
-use Rattle.mode_infer.specs.Kinds.{flow_of, plain, scan_kinds}
+use Rattle.mode_infer.specs.Kinds.{flow_of, plain, scan_kinds, asked}
 use Rattle.ct_change.specs.Kinds.{has_more_than_inserts, is_upsert}
 use Rattle.mode_infer.specs.Modes.{edge_kinds, mode, no_mode, printed, with_sink}
 use Rattle.mode_infer.specs.UpdateKeys.{update_key_of}

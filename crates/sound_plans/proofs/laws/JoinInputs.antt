@@ -12,7 +12,7 @@ use Rattle.ct_change.specs.declared.update.Update.{Update}
 use Rattle.phys_plan.specs.declared.node.Op.{Op}
 use Rattle.phys_plan.specs.declared.node.Op.TheVariants as op
 use Rattle.column_sets.specs.Sets.{is_within}
-use Rattle.mode_infer.specs.Exchanges.{asked, chain_columns, side_columns}
+use Rattle.mode_infer.specs.Kinds.{asked, chain_columns, side_columns}
 use Rattle.mode_infer.specs.Modes.{edge_kinds}
 use Rattle.mode_infer.specs.Updates.{takes}
 use Rattle.plan_inferred.specs.Rules.{by_columns}
@@ -79,21 +79,14 @@ module _ (many : ℕ) (some : 0 < many) (sink : TableDef) (o : Op) (own : Update
 -- ---- each key in one channel
 
 keyed_at : (sink : TableDef) (o : Op) (own : Update) (port : ℕ) (key : List ℕ) → takes sink o port own key ≡ true → IsKeyedBy (last_rows key) (exchange_of (by_columns (asked o port)))
-keyed_at sink (op.Scan source) own port key taken = tt
-keyed_at sink (op.Filter condition) own port key taken = tt
 keyed_at sink (op.Project items) own port key taken = tt
-keyed_at sink op.Union own port key taken = tt
-keyed_at sink (op.Normalize columns) own port key taken = absurd (cc)
-keyed_at sink (op.Group keys aggs) own port key taken = absurd (cc)
-keyed_at sink (op.BatchGroup keys aggs) own port key taken = absurd (cc)
 keyed_at sink (op.Join kind on rest) own port key taken = lies_within (side_columns on port) key taken
 keyed_at sink (op.Semi anti on rest) own port key taken = lies_within (side_columns on port) key taken
 keyed_at sink (op.TopN partition order bound ranked) own port key taken = lies_within partition key taken
-keyed_at sink (op.Materialize columns) own port key taken = absurd (cc)
 keyed_at sink op.Sink own port key taken = tt
-keyed_at sink (op.LocalGroup keys aggs) own port key taken = tt
 keyed_at sink (op.MultiJoin on) own port key taken = lies_within (chain_columns on port) key taken
-keyed_at sink (op.SetOp except all columns) own port key taken = absurd (cc)
+-- all others take no new rows alone
+keyed_at sink _ own port key taken = absurd (cc)
 
 pub edges_are_keyed : EdgesAreKeyed
 edges_are_keyed sink o own port input is_asked =

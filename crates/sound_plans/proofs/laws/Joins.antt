@@ -28,7 +28,7 @@ use Rattle.column_sets.specs.Places.{shifted}
 use Rattle.column_sets.specs.Sets.{family, set_of}
 use Rattle.upsert_keys.specs.Joins.{join_fixing, join_keys, join_sets, semi_keys}
 use Rattle.upsert_keys.specs.Seen.{everywhere, families, seen_over}
-use Rattle.mode_infer.specs.Exchanges.{asked}
+use Rattle.mode_infer.specs.Kinds.{asked}
 use Rattle.mode_infer.specs.Modes.{edge_kinds}
 use Rattle.mode_infer.specs.Updates.{in_full, told}
 use Rattle.plan_rules.specs.Plans.{meaning_by}

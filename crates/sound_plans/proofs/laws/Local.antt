@@ -21,8 +21,7 @@ use Rattle.upsert_keys.specs.Keys.{keys, keys_of}
 use Rattle.upsert_keys.specs.Seen.{all_seen, exchange_in, seen_over}
 use Rattle.mode_infer.specs.declared.kinds.Flow.{Flow}
 use Rattle.mode_infer.specs.declared.modes.EdgeMode.{EdgeMode}
-use Rattle.mode_infer.specs.Exchanges.{asked}
-use Rattle.mode_infer.specs.Kinds.{flow_of, flows, no_flow, plain}
+use Rattle.mode_infer.specs.Kinds.{flow_of, flows, no_flow, plain, asked}
 use Rattle.mode_infer.specs.Modes.{edge_modes, mode, modes_of, updates, with_sink}
 use Rattle.mode_infer.specs.UpdateKeys.{input_width, update_key_of, update_keys}
 use Rattle.mode_infer.specs.Updates.{is_input, is_taken, port_of, takes}

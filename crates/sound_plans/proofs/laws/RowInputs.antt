@@ -12,7 +12,7 @@ use Rattle.ct_change.specs.declared.update.Update.{Update}
 use Rattle.phys_plan.specs.declared.node.Op.{Op}
 use Rattle.op_rules.specs.Edges.{Meaning, bag}
 use Rattle.route.specs.Routing.{key_hash, key_text, types_at}
-use Rattle.mode_infer.specs.Exchanges.{asked}
+use Rattle.mode_infer.specs.Kinds.{asked}
 use Rattle.mode_infer.specs.Modes.{edge_kinds}
 use Rattle.mode_infer.specs.Updates.{in_full, told}
 use Rattle.plan_inferred.specs.Rules.{by_columns}

@@ -4,9 +4,10 @@ use Rattle.rel_algebra.specs.Rel.{filter_by, project_on, group_by, rank_in, join
 use Rattle.rel_algebra.specs.Rel as r
 use Rattle.rel_algebra.specs.View.{rel_view, rels_view}
 use Rattle.rel_algebra.proofs.laws.Views.{view_filter, view_group, view_join, view_project, view_rank, view_scan, view_semi, view_set_op, view_union}
+use Rattle.plan_rules.specs.Seen.{op_as_seen}
 use Rattle.plan_laying.specs.Laying.{Fails}
 use Rattle.plan_laying.specs.Ways.{asked_view}
-use Rattle.plan_laying.proofs.laws.Laid.{union_lays}
+use Rattle.plan_laying.proofs.laws.Laid.{pushed_as, union_lays}
 use Rattle.plan_laying.proofs.laws.Several.{turn_lays, turn_fails}
 use Rattle.plan_laying.proofs.laws.Ways.{one_tops, scan_tops, seen_tops, step_up, two_tops, union_tops, up_ends, up_fails, viewed_behind}
 use Rattle.plan_laying.proofs.laws.Answered.{if_ok, if_err}
@@ -74,7 +75,8 @@ lay_node-returns-in_ok-second-in-SetOp-clause-laid t c =
     seen_tops _ _ _ _ _ _ _
     (ap rel_view c.in-SetOp.is ∙ view_set_op c.in-SetOp.left c.in-SetOp.right c.in-SetOp.except c.in-SetOp.all c.in-SetOp.columns
     ∙ (λ i. r.SetOp left (sym own i) c.in-SetOp.except c.in-SetOp.all c.in-SetOp.columns))
-    (if_ok _ _ _ (λ root p. two_tops _ _ _ _ _ _ how left (rel_view c.deref-in-SetOp.result.now) root c.in_ok-second-in-SetOp.ensures.laid p) c.push_set_op.ensures.pushed)
+    (if_ok _ _ _ (λ root p. two_tops _ _ _ _ _ _ how left (rel_view c.deref-in-SetOp.result.now) root c.in_ok-second-in-SetOp.ensures.laid p)
+    (pushed_as _ _ _ _ _ _ _ (ap op_as_seen c.set_operation-op.ensures) c.push_both.ensures.pushed))
 
 -- ---- several trees
 

@@ -1,7 +1,7 @@
 use Rattle.std.proofs.Common.{ap, ◌∙◌}
 use Rattle.plan_rules.specs.Seen.{op_as_seen}
 use Rattle.rel_algebra.specs.Rel.{group_by}
-use Rattle.plan_rules.specs.Pieces.{group_op}
+use Rattle.plan_rules.specs.Roles.{group_op}
 use Rattle.laid_plans.proofs.laws.Trees.{unary_is}
 use Rattle.plan_laying.proofs.laws.Laid.{pushed_as}
 use Rattle.plan_laying.proofs.laying.Laying.push_group.Goals as goal

@@ -1,10 +1,7 @@
-use Rattle.std.proofs.Common.{ap, subst, option_map, ◌∙◌, ℕ, List, IfOk}
-use Rattle.ct_change.specs.Changelog.{retract, kinds_of}
-use Rattle.ct_change.specs.declared.update.Update.TheVariants.{Both}
+use Rattle.std.proofs.Common.{ap, option_map, ◌∙◌}
 use Rattle.ct_expr.specs.Views.{expr_of}
 use Rattle.phys_plan.specs.declared.node.Op.TheVariants as op
 use Rattle.laid_plans.proofs.laws.Laid.{rest_as_seen}
-use Rattle.plan_laying.specs.Laying.{Pushed}
 use Rattle.plan_laying.proofs.laws.Laid.{pushed_as}
 use Rattle.plan_laying.proofs.laying.Laying.push_semi.Goals as goal
 
@@ -13,5 +10,4 @@ returns-clause-pushed c =
     let o = op.Semi c.args.anti c.in_ok-on.on c.in_ok-rest.rest in
     let pairs = c.in_ok-on.ensures in
     let rest = rest_as_seen c.in_ok-rest.rest ∙ ap (option_map expr_of) c.in_ok-rest.ensures in
-    pushed_as _ _ _ o _ _ _ (λ i. op.Semi c.args.anti (pairs i) (rest i))
-    (subst (λ (inputs : List ℕ). IfOk c.push_whole.result (λ number. Pushed c.args.self.now c.push_whole.new.self o inputs c.args.exchange (kinds_of retract) Both number)) c.in_ok-inputs.ensures c.push_whole.ensures.pushed)
+    pushed_as _ _ _ o _ _ _ (λ i. op.Semi c.args.anti (pairs i) (rest i)) c.push_both.ensures.pushed
