@@ -12,14 +12,14 @@ use Rattle.plan_check.specs.Types.{next_types, types_after}
 
 -- ---- one node behind the other
 
-pub after-more : (sources : List TableDef) (all : List Node) (done : List (Option (List ColTy))) (nodes : List Node) (i : ℕ) (node : Node) → i < length nodes → node ≡ get_or nodes i node
-    → types_after sources all done (drop i nodes) ≡ types_after sources all (done ++ next_types sources all done node ∷ []) (drop (i + 1) nodes)
-after-more sources all done nodes i node l h =
-    at_drop_more (types_after sources all done) nodes i node l
-    ∙ ap (λ (x : Node). types_after sources all (done ++ next_types sources all done x ∷ []) (drop (i + 1) nodes)) (sym h)
+pub after-more : (sources : List TableDef) (done : List (Option (List ColTy))) (nodes : List Node) (i : ℕ) (node : Node) → i < length nodes → node ≡ get_or nodes i node
+    → types_after sources done (drop i nodes) ≡ types_after sources (done ++ next_types sources done node ∷ []) (drop (i + 1) nodes)
+after-more sources done nodes i node l h =
+    at_drop_more (types_after sources done) nodes i node l
+    ∙ ap (λ (x : Node). types_after sources (done ++ next_types sources done x ∷ []) (drop (i + 1) nodes)) (sym h)
 
-pub after-end : (sources : List TableDef) (all : List Node) (done : List (Option (List ColTy))) (nodes : List Node) (i : ℕ) → length nodes ≤ i → types_after sources all done (drop i nodes) ≡ done
-after-end sources all done nodes i l = ap (types_after sources all done) (drop_all i nodes l)
+pub after-end : (sources : List TableDef) (done : List (Option (List ColTy))) (nodes : List Node) (i : ℕ) → length nodes ≤ i → types_after sources done (drop i nodes) ≡ done
+after-end sources done nodes i l = ap (types_after sources done) (drop_all i nodes l)
 
 -- ---- chains
 

@@ -1,6 +1,5 @@
 pub mod Chains
 pub mod Checked
 pub mod Faults
-pub mod Partials
 pub mod Sound
 pub mod Types

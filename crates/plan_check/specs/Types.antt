@@ -1,8 +1,9 @@
 -- The rule Types, said of one node of a plan: the columns that each node sends, for all operators, and what the sink takes.
-use Rattle.std.specs.Prelude.{ℕ, Bool, true, false, not, ◌&&◌, ◌||◌, List, [], ◌∷◌, ◌++◌, map, Option, Some, None, option_and_then}
+use Rattle.std.specs.Prelude.{ℕ, Bool, true, false, not, ◌&&◌, ◌||◌, List, [], ◌∷◌, ◌++◌, map, Option, Some, None, option_and_then, is_some}
 use Rattle.std.specs.List.{list_all}
 use Rattle.ct_value.specs.declared.ty.ColTy.{ColTy}
 use Rattle.ct_catalog.specs.declared.table.TableDef.{TableDef}
+use Rattle.rel_algebra.specs.declared.agg.Agg.{Agg}
 use Rattle.rel_algebra.specs.Groups.{group_columns}
 use Rattle.rel_algebra.specs.Types.{columns_if, is_column}
 use Rattle.rel_algebra.specs.GoesInto.{go_into}
@@ -14,7 +15,6 @@ use Rattle.phys_plan.specs.Reading.{numbered}
 use Rattle.ct_catalog.specs.Columns.{column_types}
 use Rattle.plan_rules.specs.Columns.{columns_by, numbered_columns, only}
 use Rattle.plan_check.specs.Chains.{chain_columns}
-use Rattle.plan_check.specs.Partials.{partial_columns}
 
 -- ---- columns of one operator
 
@@ -22,47 +22,33 @@ use Rattle.plan_check.specs.Partials.{partial_columns}
 abbrev pub keyed_columns : List ℕ → List ColTy → Option (List ColTy)
 keyed_columns key columns = columns_if (list_all (is_column columns) key) columns
 
--- the columns of a node, from those of its inputs; none where it isn't well-typed
+-- these columns, where groups of rows that have them have columns too
+abbrev pub grouped_columns : ℕ → List Agg → List ColTy → Option (List ColTy)
+grouped_columns keys aggs columns = columns_if (is_some (group_columns keys columns aggs)) columns
+
+-- the columns of a node, from those of its inputs; none where it isn't well-typed. A local group counts as sending the rows that its
+-- partial rows stand for
 abbrev pub types_by : List TableDef → Op → List (Option (List ColTy)) → Option (List ColTy)
 types_by sources (op.Normalize key) inputs = option_and_then (keyed_columns key) (only inputs)
 types_by sources (op.Materialize key) inputs = option_and_then (keyed_columns key) (only inputs)
-types_by sources (op.BatchGroup keys aggs) inputs = option_and_then (λ columns. group_columns keys columns aggs) (only inputs)
-types_by sources (op.LocalGroup keys aggs) inputs = option_and_then (λ columns. partial_columns keys columns aggs) (only inputs)
+types_by sources (op.LocalGroup keys aggs) inputs = option_and_then (grouped_columns keys aggs) (only inputs)
 types_by sources (op.MultiJoin on) inputs = chain_columns on inputs
 types_by sources operator inputs = columns_by sources operator inputs
 
 -- ---- columns of the nodes of a plan
 
--- the columns of the rows whose parts a local group sends, and of another node its own
-abbrev pub under_parts : List (Option (List ColTy)) → ℕ → Op → List ℕ → Option (List ColTy)
-under_parts done v (op.LocalGroup keys aggs) inputs = only (map (numbered_columns done) inputs)
-under_parts done v _ inputs = numbered_columns done v
-
-abbrev pub summed_in : List (Option (List ColTy)) → ℕ → Option Node → Option (List ColTy)
-summed_in done v None = numbered_columns done v
-summed_in done v (Some node) = under_parts done v node.op node.inputs
-
-abbrev pub summed_columns : List Node → List (Option (List ColTy)) → ℕ → Option (List ColTy)
-summed_columns nodes done v = summed_in done v (numbered nodes v)
-
--- the columns of its inputs, as an operator counts them: a group in bundles above a local group counts those of the rows that it
--- sums up
-abbrev pub input_columns : List Node → List (Option (List ColTy)) → Op → List ℕ → List (Option (List ColTy))
-input_columns nodes done (op.BatchGroup keys aggs) inputs = map (summed_columns nodes done) inputs
-input_columns nodes done _ inputs = map (numbered_columns done) inputs
-
 -- those of a node behind these
-abbrev pub next_types : List TableDef → List Node → List (Option (List ColTy)) → Node → Option (List ColTy)
-next_types sources nodes done node = types_by sources node.op (input_columns nodes done node.op node.inputs)
+abbrev pub next_types : List TableDef → List (Option (List ColTy)) → Node → Option (List ColTy)
+next_types sources done node = types_by sources node.op (map (numbered_columns done) node.inputs)
 
 -- those of some nodes, each after its inputs, behind those of the nodes before them
-abbrev pub types_after : List TableDef → List Node → List (Option (List ColTy)) → List Node → List (Option (List ColTy))
-types_after sources nodes done [] = done
-types_after sources nodes done (node ∷ more) = types_after sources nodes (done ++ next_types sources nodes done node ∷ []) more
+abbrev pub types_after : List TableDef → List (Option (List ColTy)) → List Node → List (Option (List ColTy))
+types_after sources done [] = done
+types_after sources done (node ∷ nodes) = types_after sources (done ++ next_types sources done node ∷ []) nodes
 
 -- those of all nodes, and of a node by its number, from 1
 abbrev pub all_types : List TableDef → List Node → List (Option (List ColTy))
-all_types sources nodes = types_after sources nodes [] nodes
+all_types sources nodes = types_after sources [] nodes
 
 abbrev pub types_at : List TableDef → List Node → ℕ → Option (List ColTy)
 types_at sources nodes v = numbered_columns (all_types sources nodes) v

@@ -9,7 +9,6 @@ mod chains;
 mod check;
 mod checked;
 mod edges;
-mod groups;
 mod known;
 mod nodes;
 mod operators;

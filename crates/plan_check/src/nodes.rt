@@ -23,7 +23,7 @@ fn all_types(alloc: Global, sources: &Sources, nodes: &Nodes) -> Result<NodeColu
 {
     let mut done = NodeColumns::with_capacity(alloc, nodes.len())?;
     for node in nodes.as_slice() {
-        let columns = next_types(sources, nodes, &done, node)?;
+        let columns = next_types(sources, &done, node)?;
         done.push(columns)?;
     }
     Ok(done)

@@ -4,28 +4,25 @@ ghost use Rattle.rel_algebra.specs.Types as r;
 ghost use Rattle.plan_check.specs.Types as t;
 
 use crate::chains::chain_columns;
-use crate::groups::{merged, partial, summed_input};
 use ct_catalog::Sources;
 use ct_value::{ColTys, Cols, Memory};
-use phys_plan::{Node, Nodes, Op};
+use phys_plan::{Node, Op};
 use plan_shape::{NodeColumns, are_columns, next_columns, only_input};
+use rel_algebra::Aggs;
+use rel_columns::group_columns;
 
 /// The columns of a node behind these.
 pub(crate) fn next_types(
     sources: &Sources,
-    nodes: &Nodes,
     done: &NodeColumns,
     node: &Node,
 ) -> Result<Option<ColTys>, Memory>
-    ensures { IfOk result (λ made. made ≡ t.next_types sources.now nodes.now done.now node.now) }
+    ensures { IfOk result (λ made. made ≡ t.next_types sources.now done.now node.now) }
 {
     match &node.op {
         Op::Normalize { key } => keyed(key, only_input(done, &node.inputs)),
         Op::Materialize { key } => keyed(key, only_input(done, &node.inputs)),
-        Op::BatchGroup { keys, aggs } => {
-            merged(*keys, aggs, summed_input(nodes, done, &node.inputs))
-        }
-        Op::LocalGroup { keys, aggs } => partial(*keys, aggs, only_input(done, &node.inputs)),
+        Op::LocalGroup { keys, aggs } => grouped(*keys, aggs, only_input(done, &node.inputs)),
         Op::MultiJoin { on } => chain_columns(on, done, &node.inputs),
         _ => next_columns(sources, done, node),
     }
@@ -38,6 +35,16 @@ fn keyed(key: &Cols, input: Option<&ColTys>) -> Result<Option<ColTys>, Memory>
     match input {
         None => Ok(None),
         Some(columns) => kept_if(are_columns(key.as_slice(), columns.len()), columns),
+    }
+}
+
+// The input's columns, where groups of rows that have them have columns.
+fn grouped(keys: u32, aggs: &Aggs, input: Option<&ColTys>) -> Result<Option<ColTys>, Memory>
+    ensures { IfOk result (λ made. made ≡ option_and_then (t.grouped_columns keys aggs.now) (option_copied input.entry)) }
+{
+    match input {
+        None => Ok(None),
+        Some(columns) => kept_if(group_columns(keys, columns, aggs)?.is_some(), columns),
     }
 }
 

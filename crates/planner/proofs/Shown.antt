@@ -48,7 +48,7 @@ use Rattle.planner.specs.Planned.{IsLaidPlan}
 use Rattle.planner.specs.Refusals.{below_sink, has_materializer, is_forced, is_large_with, refusal, sink_way, way_into}
 use Rattle.plan_laying.specs.Topped.{all_but_last, topped_plan}
 use Rattle.planner.proofs.Refused.{below_is, both_true, fits, meets_sink_key, not_large}
-use Rattle.planner.proofs.laws.Ahead.{IsAlike, at_last, columns_ahead, in_front, keys_ahead, read_many, ruled_with}
+use Rattle.planner.proofs.laws.Ahead.{IsAlike, at_last, columns_ahead, in_front, keys_ahead, read_many}
 use Rattle.plan_laying.proofs.laws.LastEdges.{has_last}
 use Rattle.planner.proofs.laws.Topped.{edges_ahead, laid_with}
 
@@ -167,17 +167,6 @@ module _ (laid : Plan) (rel : Rel) (is : IsLaidPlan laid rel) (setting : Materia
     there : (n : ℕ) (node : Node) → slice_get tree n ≡ Some node → numbered topped.nodes (suc n) ≡ Some node
     there n node e = in_front tree behind n (within tree n node e) ∙ e
 
-    ruled : AllByRecursion (λ node. has_rule node.op ≡ true) tree
-    ruled = of_each (λ (node : Node). has_rule node.op ≡ true) tree (λ n node e. has.rules (suc n) node (there n node e))
-
-    last_ruled : has_rule last_node.0.op ≡ true
-    last_ruled =
-        let sink = own.sink_node in
-        let place : suc (length tree) ≡ own.root + 1 = let c = tree_count in omega (arith, c) in
-        let is : Some last_node.0 ≡ Some sink.node =
-        sym (at_last tree last_node.0) ∙ sym (ap (λ (ns : List Node). numbered ns (suc (length tree))) last_node.1) ∙ ap (numbered laid.nodes) place ∙ sink.is_there in
-        ap (λ (n : Node). has_rule n.op) (the_same last_node.0 sink.node is) ∙ ap has_rule sink.is_op
-
     abbrev columns : ℕ → List ColTy
     columns = columns_in (sent_columns (all_types laid.sources (tree ++ last_node.0 ∷ [])))
 
@@ -196,7 +185,7 @@ module _ (laid : Plan) (rel : Rel) (is : IsLaidPlan laid rel) (setting : Materia
         let c = tree_count in
         let d = edge_count in
         record {
-          sent = columns_ahead laid.sources tree (last_node.0 ∷ []) behind (ruled_with tree last_node.0 ruled last_ruled) has.rules input (omega (arith, before, l));
+          sent = columns_ahead laid.sources tree (last_node.0 ∷ []) behind input (omega (arith, before, l));
           exchanged = ap (λ (es : List Edge). exchange_in (numbered es input)) last_edge.1
               ∙ ap exchange_in (edges_ahead key between (last_edge.0 ∷ []) told input positive (omega (arith, before, l, c, d)));
         }

@@ -21,8 +21,7 @@ use Rattle.plan_shape.specs.Shape.{is_sink, op_in, suits_consumer, suits_input, 
 use Rattle.plan_check.specs.Types.{is_typed_by, types_at, types_by}
 use Rattle.plan_rules.specs.Behaviours.{has_rule}
 use Rattle.plan_rules.specs.Roles.{Role, reads_table, one_of, two_of, all_of, same_as, not_told, role}
-use Rattle.sound_plans.proofs.laws.Columns.{RuledAt, types_made}
-use Rattle.sound_plans.proofs.laws.Lists.{of_each, the_same}
+use Rattle.sound_plans.proofs.laws.Columns.{types_made}
 
 -- ---- the first columns, made from the last and from the first
 
@@ -45,7 +44,6 @@ module _ (plan : Plan) where
   pub record IsFed (o : Op) (port input : ℕ) : Type 0 where
     pub node : Node
     pub is_node : numbered plan.nodes input ≡ Some node
-    pub ruled : has_rule node.op ≡ true
     pub suits : suits_consumer plan.sources node.op (Some o) ≡ true
     pub edge : Edge
     pub is_edge : numbered plan.edges input ≡ Some edge
@@ -76,15 +74,11 @@ module _ (plan : Plan) where
 
   -- ---- columns
 
-  -- what feeds a port has a rule
-  fed_ruled : (o : Op) (port input : ℕ) → IsFed o port input → RuledAt plan.nodes input
-  fed_ruled o port input f node e = ap (λ (n : Node). has_rule n.op) (sym (the_same f.node node (sym f.is_node ∙ e))) ∙ f.ruled
-
   -- the columns of a node whose operator and inputs are known
-  pub types_from : (v : ℕ) (o : Op) (inputs : List ℕ) → HasNode plan v (λ p. p ≡ o) inputs → ((port input : ℕ) → slice_get inputs port ≡ Some input → IsFed o port input) → AllByRecursion (λ input. input < v) inputs
+  pub types_from : (v : ℕ) (o : Op) (inputs : List ℕ) → HasNode plan v (λ p. p ≡ o) inputs → AllByRecursion (λ input. input < v) inputs
       → types_at plan.sources plan.nodes v ≡ types_by plan.sources o (map (types_at plan.sources plan.nodes) inputs)
-  types_from v o inputs has fed below =
-      types_made plan.sources plan.nodes v has.node has.is_there (subst (λ (ins : List ℕ). AllByRecursion (RuledAt plan.nodes) ins) (sym has.inputs_are) (of_each (RuledAt plan.nodes) inputs (λ p input e. fed_ruled o p input (fed p input e)))) (subst (λ (ins : List ℕ). AllByRecursion (λ input. input < v) ins) (sym has.inputs_are) below)
+  types_from v o inputs has below =
+      types_made plan.sources plan.nodes v has.node has.is_there (subst (λ (ins : List ℕ). AllByRecursion (λ input. input < v) ins) (sym has.inputs_are) below)
       ∙ (λ i. types_by plan.sources (has.is_op i) (map (types_at plan.sources plan.nodes) (has.inputs_are i)))
 
   -- ---- operators that ask nothing of the tables

@@ -111,7 +111,7 @@ sends plan columns has_key (shown key) suits below root told between high =
     let lower : below < root = omega (arith, next) in
     let feeds = one_port plan (op.Materialize key) below (feeds_port plan 0 (Hash key) below columns (op.Materialize key) 0 refl told) in
     let k : types_at plan.sources plan.nodes root ≡ Some columns =
-    types_from plan root (op.Materialize key) (below ∷ []) has feeds (lower, tt) ∙ ap (λ (c : Option (List ColTy)). types_by plan.sources (op.Materialize key) (c ∷ [])) told.columns_are
+    types_from plan root (op.Materialize key) (below ∷ []) has (lower, tt) ∙ ap (λ (c : Option (List ColTy)). types_by plan.sources (op.Materialize key) (c ∷ [])) told.columns_are
     ∙ ap (λ b. columns_if b columns) (has_key key suits) in
     record {
       part = next_part plan 0 below root (below ∷ []) (op.Materialize key) told.part next has (record {
@@ -127,7 +127,6 @@ sends plan columns has_key (shown key) suits below root told between high =
       fed = record {
         node = has.node;
         is_node = has.is_there;
-        ruled = ap has_rule has.is_op;
         suits = ap (λ (p : Op). suits_consumer plan.sources p (Some op.Sink)) has.is_op;
         edge = _;
         is_edge = between.2;
@@ -185,7 +184,7 @@ module _ (plan : Plan) (rel : Rel) (is : IsLaidWell plan rel) where
       let has = out.sink_node in
       let lower : root < v = omega arith in
       let k : types_at plan.sources plan.nodes v ≡ Some is.columns =
-      types_from plan v op.Sink (root ∷ []) has (one_port plan op.Sink root under.fed) (lower, tt) ∙ ap (λ (c : Option (List ColTy)). types_by plan.sources op.Sink (c ∷ [])) under.columns_are in
+      types_from plan v op.Sink (root ∷ []) has (lower, tt) ∙ ap (λ (c : Option (List ColTy)). types_by plan.sources op.Sink (c ∷ [])) under.columns_are in
       next_part plan 0 root v (root ∷ []) op.Sink under.part refl has (record {
         ruled = refl;
         suits = refl;

@@ -87,7 +87,6 @@ module _ (plan : Plan) where
     pub exchange : edge.exchange ≡ x
     pub node : Node
     pub is_node : numbered plan.nodes root ≡ Some node
-    pub ruled : has_rule node.op ≡ true
     pub feeds : (above : Option Op) → suits_consumer plan.sources node.op above ≡ true
 
   -- those of several trees, whose common columns these are; each may be an input of a union
@@ -103,7 +102,6 @@ module _ (plan : Plan) where
   feeds_port n x root columns o port asks t = record {
     node = t.node;
     is_node = t.is_node;
-    ruled = t.ruled;
     suits = t.feeds (Some o);
     edge = t.edge;
     is_edge = t.is_edge;
@@ -127,7 +125,7 @@ module _ (plan : Plan) where
       → Told n x root columns
   inner_node n last root x o roots columns is s next has carries high ports typed fed =
       let below : AllByRecursion (λ input. input < root) roots = of_each (λ input. input < root) roots (λ p input e. let c = (s.segment.contains p input e).1 in omega arith) in
-      let k : columns_at root ≡ Some columns = types_from plan root o roots has fed below ∙ typed in
+      let k : columns_at root ≡ Some columns = types_from plan root o roots has below ∙ typed in
       record {
         part = next_part plan n last root roots o s next has (record {
           ruled = is.ruled;
@@ -144,7 +142,6 @@ module _ (plan : Plan) where
         exchange = refl;
         node = has.node;
         is_node = has.is_there;
-        ruled = ap has_rule has.is_op ∙ is.ruled;
         feeds = λ above. ap (λ (p : Op). suits_consumer plan.sources p above) has.is_op ∙ is.feeds above;
       }
 
@@ -273,7 +270,7 @@ module _ (plan : Plan) where
   -- a scan of a table that is there
   scan_meets : (v source : ℕ) (table : TableDef) → slice_get plan.sources source ≡ Some table → HasNode plan v (λ p. p ≡ op.Scan source) [] → v < length plan.nodes → (columns_at v ≡ Some (column_types table)) × OpMeets plan v (op.Scan source) []
   scan_meets v source table e has high =
-      let k : columns_at v ≡ Some (column_types table) = types_from plan v (op.Scan source) [] has (λ port input f. absurd (cc)) tt ∙ ap (option_map column_types) e in (
+      let k : columns_at v ≡ Some (column_types table) = types_from plan v (op.Scan source) [] has tt ∙ ap (option_map column_types) e in (
         k,
         record {
           ruled = refl;
@@ -299,7 +296,6 @@ module _ (plan : Plan) where
         exchange = refl;
         node = has.node;
         is_node = has.is_there;
-        ruled = ap has_rule has.is_op;
         feeds = λ above. ap (λ (p : Op). suits_consumer plan.sources p above) has.is_op ∙ ap (λ t. is_read t above) e ∙ ap (λ b. not b || normalizes_by table.key above) plain;
       }
 
@@ -330,14 +326,13 @@ module _ (plan : Plan) where
       let fed : IsFed plan (op.Normalize key) 0 (n + 1) = record {
         node = scan.node;
         is_node = scan.is_there;
-        ruled = ap has_rule scan.is_op;
         suits = read;
         edge = _;
         is_edge = l.2;
         exchanged = refl;
       } in
       let k : columns_at root ≡ Some (column_types table) =
-      types_from plan root (op.Normalize key) ((n + 1) ∷ []) has (one_port (op.Normalize key) (n + 1) fed) (lower, tt) ∙ ap (λ (c : Option (List ColTy)). types_by plan.sources (op.Normalize key) (c ∷ [])) m.0 ∙ ap (λ b. columns_if b (column_types table)) there in
+      types_from plan root (op.Normalize key) ((n + 1) ∷ []) has (lower, tt) ∙ ap (λ (c : Option (List ColTy)). types_by plan.sources (op.Normalize key) (c ∷ [])) m.0 ∙ ap (λ b. columns_if b (column_types table)) there in
       record {
         part = next_part plan n (n + 1) root ((n + 1) ∷ []) (op.Normalize key) first (let h : root ≡ n + 1 + 1 = omega arith in h) has (record {
           ruled = refl;
@@ -354,7 +349,6 @@ module _ (plan : Plan) where
         exchange = refl;
         node = has.node;
         is_node = has.is_there;
-        ruled = ap has_rule has.is_op;
         feeds = λ above. ap (λ (p : Op). suits_consumer plan.sources p above) has.is_op;
       }
 

@@ -15,12 +15,8 @@ use Rattle.phys_plan.specs.Reading.{Wire, at, no_keys, numbered, read_up, wire, 
 use Rattle.phys_plan.proofs.laws.Reading.{read_append}
 use Rattle.upsert_keys.specs.Keys.{keys, keys_of}
 use Rattle.upsert_keys.specs.Seen.{all_seen, exchange_in, seen_over}
-use Rattle.plan_rules.specs.Behaviours.{has_rule}
-use Rattle.plan_rules.specs.Columns.{numbered_columns}
 use Rattle.plan_check.specs.Sound.{columns_or_none, sent_columns}
-use Rattle.plan_check.specs.Types.{all_types, input_columns, next_types, types_after, types_by}
-use Rattle.sound_plans.proofs.laws.Columns.{RuledAt, plain_inputs}
-use Rattle.sound_plans.proofs.laws.Lists.{of_each, the_same}
+use Rattle.plan_check.specs.Types.{all_types, next_types, types_after}
 
 -- ---- lists
 
@@ -36,19 +32,6 @@ behind (x ∷ xs) ys n = let one : suc (length xs) + n ≡ suc (length xs + n) =
 pub at_last : {A : Type 0} (xs : List A) (x : A) → numbered (xs ++ x ∷ []) (suc (length xs)) ≡ Some x
 at_last [] x = refl
 at_last (y ∷ xs) x = at_last xs x
-
--- ---- rules
-
--- each node has one
-abbrev pub HaveRules : List Node → Type 0
-HaveRules nodes = (v : ℕ) → RuledAt nodes v
-
-pub ruled_with : (nodes : List Node) (last : Node) → AllByRecursion (λ node. has_rule node.op ≡ true) nodes → has_rule last.op ≡ true → HaveRules (nodes ++ last ∷ [])
-ruled_with nodes last r own zero node e = absurd (cc)
-ruled_with [] last r own (suc zero) node e = ap (λ (n : Node). has_rule n.op) (sym (the_same last node e)) ∙ own
-ruled_with [] last r own (suc (suc n)) node e = absurd (cc)
-ruled_with (first ∷ nodes) last r own (suc zero) node e = ap (λ (n : Node). has_rule n.op) (sym (the_same first node e)) ∙ r.0
-ruled_with (first ∷ nodes) last r own (suc (suc n)) node e = ruled_with nodes last r.1 own (suc n) node e
 
 -- ---- what is read from the inputs up
 
@@ -85,55 +68,42 @@ module _ {B : Type 0} (f : Wire → List B → B) (d : B) where
 -- ---- columns
 
 module _ (sources : List TableDef) where
-  -- where all nodes have rules, columns of inputs are counted as they are
-  counted : (all : List Node) → HaveRules all → (done : List (Option (List ColTy))) (o : Op) (inputs : List ℕ) → input_columns all done o inputs ≡ map (numbered_columns done) inputs
-  counted all r done o inputs = plain_inputs all done o inputs (of_each (RuledAt all) inputs (λ p input e. r input))
+  types_append : (done : List (Option (List ColTy))) (nodes more : List Node) → types_after sources done (nodes ++ more) ≡ types_after sources (types_after sources done nodes) more
+  types_append done [] more = refl
+  types_append done (node ∷ nodes) more = types_append (done ++ next_types sources done node ∷ []) nodes more
 
-  -- whatever nodes stand behind
-  types_alike : (all other : List Node) → HaveRules all → HaveRules other → (done : List (Option (List ColTy))) (nodes : List Node) → types_after sources all done nodes ≡ types_after sources other done nodes
-  types_alike all other r s done [] = refl
-  types_alike all other r s done (node ∷ nodes) =
-      ap (λ inputs. types_after sources all (done ++ types_by sources node.op inputs ∷ []) nodes) (counted all r done node.op node.inputs ∙ sym (counted other s done node.op node.inputs))
-      ∙ types_alike all other r s (done ++ next_types sources other done node ∷ []) nodes
-
-  types_append : (all : List Node) (done : List (Option (List ColTy))) (nodes more : List Node) → types_after sources all done (nodes ++ more) ≡ types_after sources all (types_after sources all done nodes) more
-  types_append all done [] more = refl
-  types_append all done (node ∷ nodes) more = types_append all (done ++ next_types sources all done node ∷ []) nodes more
-
-  types_many : (all : List Node) (done : List (Option (List ColTy))) (nodes : List Node) → length (types_after sources all done nodes) ≡ length done + length nodes
-  types_many all done [] = let e : length done ≡ length done + 0 = omega arith in e
-  types_many all done (node ∷ nodes) =
-      let next = next_types sources all done node in
+  types_many : (done : List (Option (List ColTy))) (nodes : List Node) → length (types_after sources done nodes) ≡ length done + length nodes
+  types_many done [] = let e : length done ≡ length done + 0 = omega arith in e
+  types_many done (node ∷ nodes) =
+      let next = next_types sources done node in
       let one = length_push done next in
       let e : length (done ++ next ∷ []) + length nodes ≡ length done + suc (length nodes) = omega (arith, one) in
-      types_many all (done ++ next ∷ []) nodes ∙ e
+      types_many (done ++ next ∷ []) nodes ∙ e
 
-  types_stay : (all : List Node) (done : List (Option (List ColTy))) (nodes : List Node) (n : ℕ) → n < length done → slice_get (types_after sources all done nodes) n ≡ slice_get done n
-  types_stay all done [] n l = refl
-  types_stay all done (node ∷ nodes) n l =
-      let next = next_types sources all done node in
-      types_stay all (done ++ next ∷ []) nodes n (let one = length_push done next in omega (arith, one)) ∙ in_front done (next ∷ []) n l
+  types_stay : (done : List (Option (List ColTy))) (nodes : List Node) (n : ℕ) → n < length done → slice_get (types_after sources done nodes) n ≡ slice_get done n
+  types_stay done [] n l = refl
+  types_stay done (node ∷ nodes) n l =
+      let next = next_types sources done node in
+      types_stay (done ++ next ∷ []) nodes n (let one = length_push done next in omega (arith, one)) ∙ in_front done (next ∷ []) n l
 
   -- the columns that the first nodes send, by place
-  types_ahead : (nodes more : List Node) (n : ℕ) → n < length nodes → slice_get (all_types sources (nodes ++ more)) n ≡ slice_get (types_after sources (nodes ++ more) [] nodes) n
+  types_ahead : (nodes more : List Node) (n : ℕ) → n < length nodes → slice_get (all_types sources (nodes ++ more)) n ≡ slice_get (all_types sources nodes) n
   types_ahead nodes more n l =
-      let many = types_many (nodes ++ more) [] nodes in
-      ap (λ done. slice_get done n) (types_append (nodes ++ more) [] nodes more)
-      ∙ types_stay (nodes ++ more) (types_after sources (nodes ++ more) [] nodes) more n (omega (arith, many))
+      let many = types_many [] nodes in
+      ap (λ done. slice_get done n) (types_append [] nodes more)
+      ∙ types_stay (all_types sources nodes) more n (omega (arith, many))
 
   sent_at : (types : List (Option (List ColTy))) (n : ℕ) → columns_in (sent_columns types) (suc n) ≡ unwrap_or (option_map columns_or_none (slice_get types n)) []
   sent_at types n = sym (unwrap_or-slice_get (map columns_or_none types) n []) ∙ ap (λ o. unwrap_or o []) (slice_get-map columns_or_none types n)
 
   -- and by number, whatever stands behind them
-  pub columns_ahead : (nodes more others : List Node) → HaveRules (nodes ++ more) → HaveRules (nodes ++ others) → (v : ℕ) → v ≤ length nodes
-      → columns_in (sent_columns (all_types sources (nodes ++ more))) v ≡ columns_in (sent_columns (all_types sources (nodes ++ others))) v
-  columns_ahead nodes more others r s zero l = refl
-  columns_ahead nodes more others r s (suc n) l =
+  pub columns_ahead : (nodes more others : List Node) → (v : ℕ) → v ≤ length nodes → columns_in (sent_columns (all_types sources (nodes ++ more))) v ≡ columns_in (sent_columns (all_types sources (nodes ++ others))) v
+  columns_ahead nodes more others zero l = refl
+  columns_ahead nodes more others (suc n) l =
       let here = types_ahead nodes more n (omega arith) in
       let there = types_ahead nodes others n (omega arith) in
-      let same = types_alike (nodes ++ more) (nodes ++ others) r s [] nodes in
       sent_at (all_types sources (nodes ++ more)) n
-      ∙ ap (λ o. unwrap_or (option_map columns_or_none o) []) (here ∙ ap (λ done. slice_get done n) same ∙ sym there)
+      ∙ ap (λ o. unwrap_or (option_map columns_or_none o) []) (here ∙ sym there)
       ∙ sym (sent_at (all_types sources (nodes ++ others)) n)
 
 -- ---- keys

@@ -12,7 +12,7 @@ use Rattle.phys_plan.specs.Reading.{numbered}
 use Rattle.plan_rules.specs.Columns.{columns_by, numbered_columns, node_columns, only}
 use Rattle.sound_plans.proofs.laws.Numbers.{columns_made}
 use Rattle.phys_plan.specs.Columns.{columns_in}
-use Rattle.plan_check.specs.Types.{all_types, input_columns, is_typed_by, keyed_columns, next_types, summed_columns, summed_in, types_after, types_at, types_by, under_parts}
+use Rattle.plan_check.specs.Types.{all_types, is_typed_by, keyed_columns, next_types, types_after, types_at, types_by}
 use Rattle.plan_check.specs.Sound.{columns_or_none, sent_columns}
 use Rattle.plan_rules.specs.Behaviours.{has_rule}
 use Rattle.sound_plans.proofs.laws.Lists.{the_same, map_same}
@@ -36,66 +36,42 @@ all-map : {A : Type 0} (P Q : A → Type 0) → ((x : A) → P x → Q x) → (x
 all-map P Q f [] h = tt
 all-map P Q f (x ∷ xs) h = (f x h.0, all-map P Q f xs h.1)
 
--- the node of a number, if there is one, has a rule
-abbrev pub RuledAt : List Node → ℕ → Type 0
-RuledAt nodes v = (node : Node) → numbered nodes v ≡ Some node → has_rule node.op ≡ true
-
--- what it sends stands for nothing else
-under_same : (done : List (Option (List ColTy))) (v : ℕ) (o : Op) (inputs : List ℕ) → has_rule o ≡ true → under_parts done v o inputs ≡ numbered_columns done v
-under_same done v (op.LocalGroup keys aggs) inputs r = absurd (cc)
-under_same done v _ inputs r = refl
-
-summed_same : (done : List (Option (List ColTy))) (v : ℕ) (o : Option Node) → ((node : Node) → o ≡ Some node → has_rule node.op ≡ true) → summed_in done v o ≡ numbered_columns done v
-summed_same done v None r = refl
-summed_same done v (Some node) r = under_same done v node.op node.inputs (r node refl)
-
-each_summed : (nodes : List Node) (done : List (Option (List ColTy))) (inputs : List ℕ) → AllByRecursion (RuledAt nodes) inputs → map (summed_columns nodes done) inputs ≡ map (numbered_columns done) inputs
-each_summed nodes done [] r = refl
-each_summed nodes done (input ∷ inputs) r = λ i. summed_same done input (numbered nodes input) r.0 i ∷ each_summed nodes done inputs r.1 i
-
--- so the columns of such inputs are counted as they are
-pub plain_inputs : (nodes : List Node) (done : List (Option (List ColTy))) (o : Op) (inputs : List ℕ) → AllByRecursion (RuledAt nodes) inputs → input_columns nodes done o inputs ≡ map (numbered_columns done) inputs
-plain_inputs nodes done (op.BatchGroup keys aggs) inputs r = each_summed nodes done inputs r
-plain_inputs nodes done _ inputs r = refl
-
-module _ (sources : List TableDef) (all : List Node) where
-  stays : (done : List (Option (List ColTy))) (nodes : List Node) (n : ℕ) → n < length done → slice_get (types_after sources all done nodes) n ≡ slice_get done n
+module _ (sources : List TableDef) where
+  stays : (done : List (Option (List ColTy))) (nodes : List Node) (n : ℕ) → n < length done → slice_get (types_after sources done nodes) n ≡ slice_get done n
   stays done [] n l = refl
   stays done (node ∷ nodes) n l =
-      stays (done ++ next_types sources all done node ∷ []) nodes n (let e = longer done (next_types sources all done node) in omega arith)
-      ∙ in_front done (next_types sources all done node ∷ []) n l
+      stays (done ++ next_types sources done node ∷ []) nodes n (let e = longer done (next_types sources done node) in omega arith)
+      ∙ in_front done (next_types sources done node ∷ []) n l
 
-  number_stays : (done : List (Option (List ColTy))) (nodes : List Node) (v : ℕ) → v ≤ length done → numbered_columns done v ≡ numbered_columns (types_after sources all done nodes) v
+  number_stays : (done : List (Option (List ColTy))) (nodes : List Node) (v : ℕ) → v ≤ length done → numbered_columns done v ≡ numbered_columns (types_after sources done nodes) v
   number_stays done nodes zero l = refl
   number_stays done nodes (suc n) l = ap (option_and_then (λ columns. columns)) (sym (stays done nodes n (omega arith)))
 
-  type_from : (done : List (Option (List ColTy))) (nodes : List Node) (k : ℕ) (node : Node) → slice_get nodes k ≡ Some node → AllByRecursion (RuledAt all) node.inputs → AllByRecursion (λ v. v ≤ length done + k) node.inputs
-      → slice_get (types_after sources all done nodes) (length done + k) ≡ Some (types_by sources node.op (map (numbered_columns (types_after sources all done nodes)) node.inputs))
-  type_from done [] k node e r b = absurd (cc)
-  type_from done (first ∷ nodes) zero node e r b =
-      let cs = types_after sources all done (first ∷ nodes) in
-      let x = next_types sources all done first in
+  type_from : (done : List (Option (List ColTy))) (nodes : List Node) (k : ℕ) (node : Node) → slice_get nodes k ≡ Some node → AllByRecursion (λ v. v ≤ length done + k) node.inputs
+      → slice_get (types_after sources done nodes) (length done + k) ≡ Some (types_by sources node.op (map (numbered_columns (types_after sources done nodes)) node.inputs))
+  type_from done [] k node e b = absurd (cc)
+  type_from done (first ∷ nodes) zero node e b =
+      let cs = types_after sources done (first ∷ nodes) in
+      let x = next_types sources done first in
       let here : length done + 0 ≡ length done = omega arith in
       let there : slice_get cs (length done) ≡ Some x = stays (done ++ x ∷ []) nodes (length done) (let l = longer done x in omega arith) ∙ at_end done x in
-      ap (slice_get cs) here ∙ there ∙ ap (λ (n : Node). Some (next_types sources all done n)) (the_same first node e)
-      ∙ ap (λ inputs. Some (types_by sources node.op inputs)) (plain_inputs all done node.op node.inputs r)
+      ap (slice_get cs) here ∙ there ∙ ap (λ (n : Node). Some (next_types sources done n)) (the_same first node e)
       ∙ ap (λ inputs. Some (types_by sources node.op inputs))
       (map_same (numbered_columns done) (numbered_columns cs) node.inputs (all-map (λ v. v ≤ length done + 0) (λ v. numbered_columns done v ≡ numbered_columns cs v) (λ v l. number_stays done (first ∷ nodes) v (omega arith)) node.inputs b))
-  type_from done (first ∷ nodes) (suc k) node e r b =
-      let x = next_types sources all done first in
+  type_from done (first ∷ nodes) (suc k) node e b =
+      let x = next_types sources done first in
       let d = longer done x in
       let i : length (done ++ x ∷ []) + k ≡ length done + suc k = omega arith in
-      ap (slice_get (types_after sources all (done ++ x ∷ []) nodes)) (sym i)
-      ∙ type_from (done ++ x ∷ []) nodes k node e r (subst (λ n. AllByRecursion (λ v. v ≤ n) node.inputs) (sym i) b)
+      ap (slice_get (types_after sources (done ++ x ∷ []) nodes)) (sym i)
+      ∙ type_from (done ++ x ∷ []) nodes k node e (subst (λ n. AllByRecursion (λ v. v ≤ n) node.inputs) (sym i) b)
 
--- a node whose inputs have rules
-pub types_made : (sources : List TableDef) (nodes : List Node) (v : ℕ) (node : Node) → numbered nodes v ≡ Some node → AllByRecursion (RuledAt nodes) node.inputs → AllByRecursion (λ input. input < v) node.inputs
+pub types_made : (sources : List TableDef) (nodes : List Node) (v : ℕ) (node : Node) → numbered nodes v ≡ Some node → AllByRecursion (λ input. input < v) node.inputs
     → types_at sources nodes v ≡ types_by sources node.op (map (types_at sources nodes) node.inputs)
-types_made sources nodes zero node e r b = absurd (cc)
-types_made sources nodes (suc k) node e r b =
+types_made sources nodes zero node e b = absurd (cc)
+types_made sources nodes (suc k) node e b =
     let i : 0 + k ≡ k = omega arith in
     ap (option_and_then (λ columns. columns))
-    (ap (slice_get (all_types sources nodes)) (sym i) ∙ type_from sources nodes [] nodes k node e r (all-map (λ input. input < suc k) (λ v. v ≤ 0 + k) (λ v l. omega arith) node.inputs b))
+    (ap (slice_get (all_types sources nodes)) (sym i) ∙ type_from sources [] nodes k node e (all-map (λ input. input < suc k) (λ v. v ≤ 0 + k) (λ v l. omega arith) node.inputs b))
 
 -- ---- one node
 
@@ -133,16 +109,12 @@ module _ (sources : List TableDef) (sink : TableDef) (nodes : List Node) (rules 
   lower : (v : ℕ) (node : Node) → numbered nodes v ≡ Some node → AllByRecursion (λ input. input < v) node.inputs
   lower v node e = all-map (λ input. (node_of : Node) × (numbered nodes input ≡ Some node_of) × (input < v)) (λ input. input < v) (λ input h. h.2) node.inputs (before v node e)
 
-  ruled : (inputs : List ℕ) → AllByRecursion (RuledAt nodes) inputs
-  ruled [] = tt
-  ruled (input ∷ inputs) = (rules input, ruled inputs)
-
   -- by the numbers below a bound
   agree : (bound v : ℕ) (node : Node) → v < bound → numbered nodes v ≡ Some node → types_at sources nodes v ≡ node_columns sources nodes v
   agree zero v node l e = absurd (omega arith)
   agree (suc bound) v node l e =
       let c = has_columns sink node.op (types_at sources nodes v) (typed v node e) in
-      let made = types_made sources nodes v node e (ruled node.inputs) (lower v node e) in
+      let made = types_made sources nodes v node e (lower v node e) in
       let inputs = map_same (types_at sources nodes) (node_columns sources nodes) node.inputs
       (all-map (λ input. (node_of : Node) × (numbered nodes input ≡ Some node_of) × (input < v)) (λ input. types_at sources nodes input ≡ node_columns sources nodes input) (λ input h. agree bound input h.0 (let k = h.2 in omega arith) h.1) node.inputs (before v node e)) in
       let same = same_columns sources node.op (map (types_at sources nodes) node.inputs) c.0 (rules v node e) (sym made ∙ c.1) in
@@ -155,7 +127,7 @@ module _ (sources : List TableDef) (sink : TableDef) (nodes : List Node) (rules 
 
   -- the columns of a node by those of its inputs, as the rule counts them
   pub typed_by : (v : ℕ) (node : Node) → numbered nodes v ≡ Some node → types_at sources nodes v ≡ types_by sources node.op (map (types_at sources nodes) node.inputs)
-  typed_by v node e = types_made sources nodes v node e (ruled node.inputs) (lower v node e)
+  typed_by v node e = types_made sources nodes v node e (lower v node e)
 
 -- in the table of the inferences too
 table_at : (types : List (Option (List ColTy))) (v : ℕ) (c : List ColTy) → numbered_columns types v ≡ Some c → columns_in (sent_columns types) v ≡ c
