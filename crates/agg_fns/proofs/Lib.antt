@@ -1,7 +1,10 @@
 pub mod Added
+pub mod Unwrapped
 pub mod Counts
 pub mod Ends
 pub mod Locals
+pub mod MergeExamples
+pub mod Merges
 pub mod Replaced
 pub mod Stands
 pub mod laws

@@ -33,7 +33,7 @@ pub(crate) fn number_of(value: &Value) -> i128
 }
 
 // The type in which a sum of values of a type stands.
-fn sum_type(ty: Ty) -> Ty
+pub(crate) fn sum_type(ty: Ty) -> Ty
     ensures { result ≡ sum_type ty }
 {
     match ty {

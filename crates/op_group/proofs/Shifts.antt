@@ -1,10 +1,10 @@
 -- Counters of which the first ones were shifted, and what they then stand for.
-use Rattle.std.proofs.Common.{◌≡◌, ℕ, zero, suc, ◌<◌, ◌≤◌, ◌+◌, ◌&&◌, ◌++◌, Bool, true, false, cond, List, [], ◌∷◌, map, take, length, Option, Some, None, refl, sym, ap, subst, ◌∙◌, arith, append_assoc, slice_index_or, slice_set, Bor}
+use Rattle.std.proofs.Common.{◌≡◌, ℕ, zero, suc, ◌<◌, ◌≤◌, ◌+◌, ◌&&◌, ◌++◌, Bool, true, false, cond, List, [], ◌∷◌, map, take, length, Option, Some, None, refl, sym, ap, subst, ◌∙◌, arith, append_assoc, slice_index_or, Bor}
 use Rattle.std.specs.Prelude.{IsSome, is_some, option_map, option_copied}
 use Rattle.std.specs.List.{list_all, AllByRecursion}
 use Rattle.std.proofs.lemmas.Bool.{and_parts}
 use Rattle.ct_value.specs.Bag.{none, add, remove, copies}
-use Rattle.ct_value.proofs.laws.Bags.{one_at_itself, total-add, total-le, copies-none, same_bag, copies-add, add-remove, remove-add}
+use Rattle.ct_value.proofs.laws.Bags.{one_at_itself, total-add, copies-none, same_bag, copies-add, add-remove, remove-add}
 use Rattle.ct_value.specs.Order.{value_cmp, value_total, value_exact, row_cmp, row_total, row_exact}
 use Rattle.ct_value.specs.declared.row.Row.{Row}
 use Rattle.ct_value.specs.declared.ty.Ty.{Ty}
@@ -13,16 +13,18 @@ use Rattle.ct_value.specs.declared.value.Value.{Value}
 use Rattle.ct_change.specs.Changelog.{Rows}
 use Rattle.ct_change.specs.Emission.{replaced}
 use Rattle.rel_algebra.specs.declared.agg.Agg.{Agg}
-use Rattle.rel_algebra.specs.Aggregates.{Values, size, values_of, argument, passes, agg_result, agg_results, sum_fits}
+use Rattle.rel_algebra.specs.Aggregates.{Values, values_of, argument, passes, agg_result, agg_results, sum_fits}
 use Rattle.rel_algebra.specs.Clauses.{collect}
 use Rattle.rel_algebra.specs.Sums.{add_where, mapped, restrict}
-use Rattle.rel_algebra.proofs.laws.Bags.{restrict-add, restrict-none, mapped-add, mapped-none, total-mapped, total-restrict, each-copies, nothing_weighs}
+use Rattle.rel_algebra.proofs.laws.Bags.{restrict-add, restrict-none, mapped-add, mapped-none, each-copies, nothing_weighs}
+use Rattle.agg_fns.specs.Picked.{picked}
 use Rattle.agg_fns.specs.Standing.{StandsFor, retracts}
+use Rattle.agg_fns.proofs.laws.Upto.{Upto, fails_at}
 use Rattle.emission_rules.specs.Grouping.{row_count}
 use Rattle.emission_rules.proofs.laws.Pieces.{counted_none}
 use Rattle.op_group.specs.declared.counter.Counter.{Counter}
 use Rattle.op_group.specs.declared.kept.Kept.{Kept}
-use Rattle.op_group.specs.Kept.{picked, shifted, HasValue, HasRow, type_among, Stands, AllStand, AllRetract, calls, all_fit, all_counted, IsKept}
+use Rattle.op_group.specs.Kept.{shifted, HasValue, HasRow, type_among, Stands, AllStand, AllRetract, calls, all_fit, all_counted, IsKept}
 
 -- ---- the values of a call
 
@@ -72,13 +74,6 @@ module _ (agg : Agg) where
         | false ↦ λ e. tt
       ] back
 
-  pub values_few : (rows : Rows) → size (values_of agg rows) ≤ row_count rows
-  values_few rows =
-      let a = total-mapped value_total value_exact row_total row_exact (λ _. 1) (argument agg.arg) (restrict (passes agg.filter) rows) in
-      let b = total-restrict row_total row_exact (λ _. 1) (passes agg.filter) rows in
-      let c = total-le (λ row. cond (passes agg.filter row) 1 0) (λ row. elim (passes agg.filter row) as (λ b. cond b 1 0 ≤ 1) [ true ↦ omega arith | false ↦ omega arith ]) rows in
-      omega arith
-
 -- the number of rows
 pub count_replaced : (rows : Rows) (gone come : Option Row) → HasRow rows gone → cond (is_some gone) 1 0 + row_count (replaced rows gone come) ≡ cond (is_some come) 1 0 + row_count rows
 count_replaced rows None None has = refl
@@ -97,45 +92,6 @@ pub record IsShifted (gone come : Option Row) (old new : Counter) : Type 0 where
   pub stands : (ty : Ty) (values : Values) → StandsFor old.agg.call ty old.acc values → HasValue values (picked old.agg gone) → StandsFor old.agg.call ty new.acc (shifted values (picked old.agg gone) (picked old.agg come))
   pub fits : (ty : Ty) (values : Values) → StandsFor old.agg.call ty old.acc values → HasValue values (picked old.agg gone) → sum_fits old.agg.call ty values ≡ true → sum_fits old.agg.call ty (shifted values (picked old.agg gone) (picked old.agg come)) ≡ true
   pub retracting : retracts new.acc ≡ retracts old.acc
-
--- of the first so many it holds, and the others are as before
-abbrev pub Upto : {A : Type 0} → (A → A → Type 0) → ℕ → List A → List A → Type 0
-Upto R n [] [] = Unit {0}
-Upto R n [] (new ∷ news) = ⊥
-Upto R n (old ∷ olds) [] = ⊥
-Upto R zero (old ∷ olds) (new ∷ news) = (old ≡ new) × Upto R zero olds news
-Upto R (suc n) (old ∷ olds) (new ∷ news) = R old new × Upto R n olds news
-
-module _ {A : Type 0} (R : A → A → Type 0) where
-  pub upto_none : (xs : List A) → Upto R 0 xs xs
-  upto_none [] = tt
-  upto_none (x ∷ xs) = (refl, upto_none xs)
-
-  upto_next : (n : ℕ) (olds news : List A) (d : A) (x : A) → Upto R n olds news → n < length olds → ((old : A) → old ≡ slice_index_or news n d → R old x) → Upto R (suc n) olds (slice_set news n x)
-  upto_next n [] [] d x u l h = absurd (omega arith)
-  upto_next n [] (new ∷ news) d x u l h = absurd u
-  upto_next n (old ∷ olds) [] d x u l h = absurd u
-  upto_next zero (old ∷ olds) (new ∷ news) d x u l h = (h old u.0, u.1)
-  upto_next (suc n) (old ∷ olds) (new ∷ news) d x u l h = (u.0, upto_next n olds news d x u.1 (omega arith) h)
-
-  pub upto_more : (n : ℕ) (olds news : List A) (d : A) (x : A) → Upto R n olds news → n < length olds → ((old : A) → old ≡ slice_index_or news n d → R old x) → Upto R (n + 1) olds (slice_set news n x)
-  upto_more n olds news d x u l h = subst (λ m. Upto R m olds (slice_set news n x)) (let e : suc n ≡ n + 1 = omega arith in e) (upto_next n olds news d x u l h)
-
-  -- what is known of an item that is as before
-  pub item_before : (P : A → Type 0) (n : ℕ) (olds news : List A) (d : A) → Upto R n olds news → n < length olds → AllByRecursion P olds → P (slice_index_or news n d)
-  item_before P n [] [] d u l all = absurd (omega arith)
-  item_before P n [] (new ∷ news) d u l all = absurd u
-  item_before P n (old ∷ olds) [] d u l all = absurd u
-  item_before P zero (old ∷ olds) (new ∷ news) d u l all = subst P u.0 all.0
-  item_before P (suc n) (old ∷ olds) (new ∷ news) d u l all = item_before P n olds news d u.1 (omega arith) all.1
-
-  -- a test that fails at an item that is as before
-  pub fails_at : (test : A → Bool) (n : ℕ) (olds news : List A) (d : A) → Upto R n olds news → n < length olds → test (slice_index_or news n d) ≡ false → list_all test olds ≡ false
-  fails_at test n [] [] d u l e = absurd (omega arith)
-  fails_at test n [] (new ∷ news) d u l e = absurd u
-  fails_at test n (old ∷ olds) [] d u l e = absurd u
-  fails_at test zero (old ∷ olds) (new ∷ news) d u l e = ap (λ b. b && list_all test olds) (ap test u.0 ∙ e)
-  fails_at test (suc n) (old ∷ olds) (new ∷ news) d u l e = elim (test old) as (λ b. (b && list_all test olds) ≡ false) [ true ↦ fails_at test n olds news d u.1 (omega arith) e | false ↦ refl ]
 
 -- ---- all counters
 

@@ -9,16 +9,11 @@ use Rattle.ct_value.specs.declared.value.Value.{Value}
 use Rattle.ct_change.specs.Changelog.{Rows}
 use Rattle.ct_change.specs.Emission.{replaced}
 use Rattle.rel_algebra.specs.declared.agg.Agg.{Agg}
-use Rattle.rel_algebra.specs.Aggregates.{Values, values_of, argument, passes, type_in, ty_or_bigint, agg_results, sum_fits}
+use Rattle.rel_algebra.specs.Aggregates.{Values, values_of, type_in, ty_or_bigint, agg_results, sum_fits}
 use Rattle.agg_fns.specs.Standing.{StandsFor, retracts}
 use Rattle.emission_rules.specs.Grouping.{row_count}
 use Rattle.op_group.specs.declared.counter.Counter.{Counter}
 use Rattle.op_group.specs.declared.kept.Kept.{Kept}
-
--- the value that a row has for a call; none where there is no row, or it doesn't count
-abbrev pub picked : Agg → Option Row → Option Value
-picked agg None = None
-picked agg (Some row) = cond (passes agg.filter row) (Some (argument agg.arg row)) None
 
 -- values without one, and with another
 abbrev pub shifted : Values → Option Value → Option Value → Values

@@ -1,15 +1,14 @@
 ghost use Rattle.std.specs.Prelude.{◌≡◌, ◌+◌, ◌<◌, ◌^◌, true, false, IsSome, IfOk, IfErr, OnOk, option_copied};
 ghost use Rattle.ct_value.specs.Bag as bag;
 ghost use Rattle.ct_value.specs.declared.ty.Ty.{Ty};
-ghost use Rattle.ct_value.specs.declared.value.Value.TheVariants.{Null};
-ghost use Rattle.ct_field.specs.Typed.{cell, is_true};
 ghost use Rattle.rel_algebra.specs.declared.agg.AggCall.{AggCall};
-ghost use Rattle.rel_algebra.specs.Aggregates.{Values, size, argument, passes, sum_fits};
+ghost use Rattle.rel_algebra.specs.Aggregates.{Values, size, sum_fits};
 ghost use Rattle.agg_fns.specs.Standing.{StandsFor, retracts};
 ghost use Rattle.agg_fns.specs.declared.acc.AccFault.TheVariants.{Out};
-ghost use Rattle.op_group.specs.Kept.{picked, shifted, HasValue, type_among};
+ghost use Rattle.agg_fns.specs.Picked.{picked};
+ghost use Rattle.op_group.specs.Kept.{shifted, HasValue, type_among};
 
-use agg_fns::{Acc, AccFault};
+use agg_fns::{Acc, AccFault, picked};
 use ct_value::{ColTys, Row, Ty, Value};
 use rel_algebra::Agg;
 use std::alloc::Global;
@@ -82,62 +81,5 @@ fn type_among(tys: &ColTys, agg: Agg) -> Ty
             Some(column) => column.ty,
             None => Ty::BigInt,
         },
-    }
-}
-
-// The value that a row has for a call; none where there is no row, or it doesn't count.
-fn picked<'a>(agg: &Agg, row: Option<&'a Row>, null: &'a Value) -> Option<&'a Value>
-    requires { null.now ≡ Null }
-    ensures { option_copied result ≡ picked agg.now (option_copied row.entry) }
-{
-    let row = row?;
-    if passes(agg.filter, row, null) {
-        Some(argument(agg.arg, row, null))
-    } else {
-        None
-    }
-}
-
-// Whether a row counts: the filter's column, if there is one, is TRUE.
-fn passes(filter: Option<u32>, row: &Row, null: &Value) -> bool
-    requires { null.now ≡ Null }
-    ensures { result ≡ passes filter row.now }
-{
-    match filter {
-        None => true,
-        Some(column) => is_true(cell(row, column, null)),
-    }
-}
-
-// The value that a call takes of a row, NULL where it looks at none.
-fn argument<'a>(arg: Option<u32>, row: &'a Row, null: &'a Value) -> &'a Value
-    requires { null.now ≡ Null }
-    ensures { result.now ≡ argument arg row.now }
-{
-    match arg {
-        None => null,
-        Some(column) => cell(row, column, null),
-    }
-}
-
-// The value of a column.
-#[tactic(auto, using(crate::proofs::Cells::unwrapped))]
-fn cell<'a>(row: &'a Row, column: u32, null: &'a Value) -> &'a Value
-    requires { null.now ≡ Null }
-    ensures { result.now ≡ cell column row.now }
-{
-    match row.get(column as usize) {
-        Some(value) => value,
-        None => null,
-    }
-}
-
-// Whether a value is TRUE.
-fn is_true(value: &Value) -> bool
-    ensures { result ≡ is_true value.now }
-{
-    match value {
-        Value::Bool(truth) => *truth,
-        _ => false,
     }
 }

@@ -1,6 +1,6 @@
 -- With a value more, come or gone, a partial is worth so much more, or so much less, as that of the value alone is.
 use Rattle.std.proofs.Common.{◌≡◌, ℕ, ◌<◌, Bool, true, false, cond, not, ◌||◌, List, [], ◌∷◌, Option, Some, None, refl, sym, ap, ◌∙◌, arith}
-use Rattle.std.specs.Prelude.{ℤ, pos, ◌+ℤ◌, ◌-ℤ◌, ◌&&◌}
+use Rattle.std.specs.Prelude.{ℤ, pos, ◌+ℤ◌, ◌-ℤ◌, ◌&&◌, is_some}
 use Rattle.std.specs.List.{AllByRecursion}
 use Rattle.std.specs.Ordering.{eq_by_cmp, is_gt, ordering_reverse}
 use Rattle.std.specs.declared.cmp.Ordering.TheVariants.{Less, Equal, Greater}
@@ -99,7 +99,7 @@ greater_reaches x (Some y) limit =
     ] refl
 
 -- values that aren't NULL are none of them NULL
-knowns : (values : Values) → AllByRecursion (λ value. is_null value ≡ false) (items (known values))
+pub knowns : (values : Values) → AllByRecursion (λ value. is_null value ≡ false) (items (known values))
 knowns values = copies-each value_total value_exact (λ value. is_null value ≡ false) (known values) (λ value some. passed (is_null value) (copies values value) _ (copies-restrict value_total value_exact (λ other. not (is_null other)) values value) some)
   where
     passed : (t : Bool) (n m : ℕ) → m ≡ cond (not t) n 0 → 0 < m → t ≡ false
@@ -232,7 +232,7 @@ partial_none Avg come gone = (numbers _ _ _ (zero_more _ _ net_known_none), (num
 
 -- ---- what is worth nothing
 
-zero_blank : (n : ℤ) → pos 0 ≡ n → is_blank summed (Num n) ≡ true
+pub zero_blank : (n : ℤ) → pos 0 ≡ n → is_blank summed (Num n) ≡ true
 zero_blank n e = ap (λ m. eq_by_cmp value_cmp (Num m) (Num (pos 0))) (sym e) ∙ (Equal-is (value_cmp (Num (pos 0)) (Num (pos 0)))).1 (tied_itself value_total (Num (pos 0)))
 
 both : (a b : Bool) → a ≡ true → b ≡ true → (a && (b && true)) ≡ true
@@ -256,3 +256,19 @@ pub blank_adds : (part : Part) (x : Value) → is_blank part x ≡ true → (add
 blank_adds summed x e = (ap number_of (value_exact x (Num (pos 0)) ((Equal-is (value_cmp x (Num (pos 0)))).0 e)), λ limit. refl)
 blank_adds lowest x e = (refl, λ limit. ap (λ b. not b && not (is_gt (value_cmp x limit))) e)
 blank_adds highest x e = (refl, λ limit. ap (λ b. not b && not (is_gt (value_cmp limit x))) e)
+
+-- the least or the greatest of values is NULL where there is none
+pub first_blank : (values : Values) → is_null (first_value (items (known values))) ≡ not (is_some (first_item (items (known values))))
+first_blank values = by (items (known values)) (knowns values)
+  where
+    by : (xs : List Value) → AllByRecursion (λ value. is_null value ≡ false) xs → is_null (first_value xs) ≡ not (is_some (first_item xs))
+    by [] h = refl
+    by (x ∷ xs) h = h.0
+
+pub last_blank : (values : Values) → is_null (last_value (items (known values))) ≡ not (is_some (last_item (items (known values))))
+last_blank values = by (items (known values)) (knowns values)
+  where
+    by : (xs : List Value) → AllByRecursion (λ value. is_null value ≡ false) xs → is_null (last_value xs) ≡ not (is_some (last_item xs))
+    by [] h = refl
+    by (x ∷ []) h = h.0
+    by (x ∷ y ∷ ys) h = by (y ∷ ys) h.1

@@ -105,7 +105,7 @@ as_many Avg come gone = refl
 
 -- ---- one call
 
-values_more : (agg : Agg) (rows : Rows) (row : Row) → values_of agg (add rows row) ≡ cond (passes agg.filter row) (add (values_of agg rows) (argument agg.arg row)) (values_of agg rows)
+pub values_more : (agg : Agg) (rows : Rows) (row : Row) → values_of agg (add rows row) ≡ cond (passes agg.filter row) (add (values_of agg rows) (argument agg.arg row)) (values_of agg rows)
 values_more agg rows row = ap (mapped (argument agg.arg)) (restrict-add row_total row_exact (passes agg.filter) rows row) ∙ by (passes agg.filter row)
   where
     by : (b : Bool) → mapped {S = value_cmp} (argument agg.arg) (add_where b row (restrict (passes agg.filter) rows)) ≡ cond b (add (values_of agg rows) (argument agg.arg row)) (values_of agg rows)

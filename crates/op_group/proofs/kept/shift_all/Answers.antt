@@ -3,7 +3,9 @@ use Rattle.ct_change.specs.Emission.{replaced}
 use Rattle.rel_algebra.specs.Aggregates.{values_of, sum_fits}
 use Rattle.agg_fns.specs.Standing.{retracts}
 use Rattle.op_group.specs.Kept.{type_among, Stands}
-use Rattle.op_group.proofs.Shifts.{IsShifted, values_replaced, has_value, values_few, picked_some, upto_none, upto_more, item_before, stand_all, calls_all, retract_all, fits_all, unfit_all}
+use Rattle.agg_fns.proofs.laws.Picked.{values_few}
+use Rattle.agg_fns.proofs.laws.Upto.{upto_none, upto_more, item_before}
+use Rattle.op_group.proofs.Shifts.{IsShifted, values_replaced, has_value, picked_some, stand_all, calls_all, retract_all, fits_all, unfit_all}
 use Rattle.op_group.proofs.kept.shift_all.Goals as goal
 
 pub loop-counter-init : goal.loop-counter-init

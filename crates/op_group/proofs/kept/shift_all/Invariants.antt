@@ -1,5 +1,6 @@
 use Rattle.std.proofs.Common.{option_copied}
-use Rattle.op_group.proofs.Shifts.{IsShifted, Upto}
+use Rattle.agg_fns.proofs.laws.Upto.{Upto}
+use Rattle.op_group.proofs.Shifts.{IsShifted}
 use Rattle.op_group.proofs.kept.shift_all.Given as goal
 
 abbrev pub invariant-loop-counter : goal.invariant-loop-counter

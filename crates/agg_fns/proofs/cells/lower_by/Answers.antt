@@ -1,0 +1,12 @@
+use Rattle.std.proofs.Common.{Some, None, sym, ap, ◌∙◌}
+use Rattle.ct_value.specs.Bag.{items}
+use Rattle.rel_algebra.specs.Aggregates.{known}
+use Rattle.agg_fns.specs.Standing.{first_item}
+use Rattle.agg_fns.proofs.Merges.{known_with, on_ok}
+use Rattle.agg_fns.proofs.cells.lower_by.Goals as goal
+
+pub returns-in-Some-clause-ok : goal.returns-in-Some-clause-ok
+returns-in-Some-clause-ok c = on_ok c.lower.result (λ taken values stands. taken (known values) stands ∙ ap (λ k. first_item (items k)) (sym (known_with values c.args.partial.now (Some c.in-Some.value.now) c.in-Some.ensures))) c.lower.ensures.ok
+
+pub returns-in-None-clause-ok : goal.returns-in-None-clause-ok
+returns-in-None-clause-ok c = λ values stands. stands ∙ ap (λ k. first_item (items k)) (sym (known_with values c.args.partial.now None c.in-None.ensures))

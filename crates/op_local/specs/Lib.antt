@@ -1,0 +1,2 @@
+pub mod Amounting
+pub mod Telling

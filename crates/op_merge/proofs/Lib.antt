@@ -1,0 +1,10 @@
+pub mod Along
+pub mod Arrived
+pub mod Counts
+pub mod Mergers
+pub mod OnTheWay
+pub mod Openings
+pub mod Partials
+pub mod Taking
+pub mod Told
+pub mod Turns
