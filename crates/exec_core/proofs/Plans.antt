@@ -1,8 +1,9 @@
 -- What is asked of the nodes of a sound plan so that it opens.
-use Rattle.std.specs.Prelude.{◌≡◌, ℕ, ◌<◌, ◌≤◌, ◌^◌, ◌==◌, ◌&&◌, nat_le, Bool, cond, max, List, ◌++◌, length, map, slice_get, Option, option_and_then, option_map}
+use Rattle.std.specs.Prelude.{◌≡◌, ℕ, ◌<◌, ◌≤◌, ◌^◌, ◌==◌, ◌&&◌, nat_le, Bool, cond, max, List, ◌++◌, length, map, take, slice_get, Option, option_and_then, option_map}
 use Rattle.std.proofs.Common.{zero, suc, true, false, [], ◌∷◌, refl, sym, ap, subst, ◌∙◌, arith, Some, None}
 use Rattle.std.specs.List.{All, AllByRecursion}
 use Rattle.std.proofs.lemmas.Bool.{leb-true, eqb-true}
+use Rattle.std.proofs.lemmas.List.{length-take-le}
 use Rattle.std.proofs.lemmas.List.Elements.{All-from_recursion}
 use Rattle.ct_value.specs.declared.ty.ColTy.{ColTy}
 use Rattle.ct_expr.specs.Expr.{Expr}
@@ -17,6 +18,7 @@ use Rattle.rel_algebra.proofs.laws.Sets.{set_columns-lengths}
 use Rattle.typing_laws.proofs.laws.CommonColumns.{if_all}
 use Rattle.rel_algebra.specs.Types.{columns_if, is_condition_if, match_fits, pairs_fit}
 use Rattle.phys_plan.specs.declared.edge.Edge.{Edge as PlanEdge}
+use Rattle.phys_plan.specs.declared.edge.Exchange.TheVariants.{Hash}
 use Rattle.phys_plan.specs.declared.node.Node.{Node}
 use Rattle.phys_plan.specs.declared.node.Op.{Op}
 use Rattle.phys_plan.specs.declared.node.Op.TheVariants as op
@@ -49,7 +51,7 @@ use Rattle.sound_plans.proofs.laws.Shapes as shapes
 use Rattle.sound_plans.proofs.laws.Stands.{proper_inputs}
 use Rattle.sound_plans.proofs.laws.Suits as suited
 use Rattle.typing_laws.specs.Exist.{Exist}
-use Rattle.session_open.specs.Opening.{AreRoutable, IsExchange}
+use Rattle.session_open.specs.Opening.{AreRoutable, IsExchange, spread_types, types_by}
 use Rattle.exec_core.specs.Opening.{PlansOpen}
 use Rattle.exec_core.proofs.Tables.{routable, table_routable}
 use Rattle.exec_core.proofs.Ports.{few_once}
@@ -233,6 +235,7 @@ module _ (types : ColumnsHaveTypes) (laws : Laws) (plan : Plan) (ruled : IsRuled
   asked_by v node p input e h there (op.TopN partition order bound ranked) is r = routable (columns_of input) partition (partition_there v node p input e h partition order bound ranked is) there
   asked_by v node p input e h there (op.Materialize key) is r = routable (columns_of input) key (shown_there v node p input e h key is) there
   asked_by v node p input e h there op.Sink is r = tt
+  asked_by v node p input e h there (op.LocalGroup keys aggs) is r = tt
   asked_by v node p input e h there _ is r = absurd (cc)
 
   goes : (v : ℕ) (node : Node) → numbered plan.nodes v ≡ Some node → (o : Option Node) → consumer v plan.nodes ≡ o → IsExchange (columns_of v) (edge_or (numbered plan.edges v)).exchange
@@ -249,6 +252,28 @@ module _ (types : ColumnsHaveTypes) (laws : Laws) (plan : Plan) (ruled : IsRuled
       let node = node_of v edge there in
       subst (λ x. IsExchange (columns_of v) x) (ap (λ o. (edge_or o).exchange) there) (goes v node.0 node.1 (consumer v plan.nodes) refl)
 
+  -- partial rows are spread by the types of their keys
+  few_exist : (n : ℕ) (columns : List ColTy) → Exist columns → Exist (take n columns)
+  few_exist zero columns h = tt
+  few_exist (suc n) [] h = tt
+  few_exist (suc n) (column ∷ columns) h = (h.0, few_exist n columns h.1)
+
+  spread_op : (v : ℕ) (edge : PlanEdge) → numbered plan.edges v ≡ Some edge → (node : Node) → numbered plan.nodes v ≡ Some node → (o : Op) → node.op ≡ o → IsExchange (types_by o (columns_of v)) edge.exchange
+  spread_op v edge there node is (op.LocalGroup keys aggs) own =
+      let i = agreed.one_input laws plan ruled v node is (λ n. ap (λ x. ports_of x n) own) in
+      let agrees = agreed.local_agrees laws plan ruled v node keys aggs i.0 is own i.1 (agreed.under_there laws plan ruled v node keys aggs is own) (proper_inputs laws plan ruled v node is) in
+      let same : columns_of i.0 ≡ columns_of v = the_same (columns_of i.0) (columns_of v) agrees.agrees.typed in
+      let few : keys ≤ length (columns_of v) = subst (λ (c : List ColTy). keys ≤ length c) same (keys_there keys (columns_of i.0) aggs agrees.made agrees.grouped) in
+      let goes : edge.exchange ≡ Hash (first_columns keys) = sym (ap (λ o. (edge_or o).exchange) there) ∙ agrees.exchanged in
+      let many : length (take keys (columns_of v)) ≡ keys = length-take-le keys (columns_of v) few in
+      subst (λ x. IsExchange (take keys (columns_of v)) x) (sym goes)
+      (routable (take keys (columns_of v)) (first_columns keys) (first_within keys (length (take keys (columns_of v))) (omega (arith, many))) (few_exist keys (columns_of v) (exist v)))
+  spread_op v edge there node is _ own = exchanged v edge there
+
+  pub spread_by : (v : ℕ) (edge : PlanEdge) → numbered plan.edges v ≡ Some edge → (o : Option Node) → numbered plan.nodes v ≡ o → IsExchange (spread_types o (columns_of v)) edge.exchange
+  spread_by v edge there None is = exchanged v edge there
+  spread_by v edge there (Some node) is = spread_op v edge there node is node.op refl
+
 -- ---- the plan
 
 pub plans_open : ColumnsHaveTypes → Laws → SoundPlansAreWired → SoundPlansMeetFacts → SoundPortsTake → SoundPlansSuit → PlansOpen
@@ -263,7 +288,7 @@ plans_open types laws wired facts takes suits plan columns ruled columns_are man
         narrow = omega (arith, subtasks_few);
         ports = every_node types laws plan ruled (λ node. length node.inputs < 2 ^ 32) (ports types laws plan ruled);
         typed = many;
-        exchanged = λ e edge there. subst (λ (c : List ColTy). IsExchange c edge.exchange) (sym (columns_are e)) (exchanged types laws plan ruled e edge there);
+        exchanged = λ e edge there. subst (λ (c : List ColTy). IsExchange (spread_types (numbered plan.nodes e) c) edge.exchange) (sym (columns_are e)) (spread_by types laws plan ruled e edge there (numbered plan.nodes e) refl);
         spread = All-from_recursion (λ table. AreRoutable (column_types table) (spread_of table)) plan.sources
             (of_each (λ table. AreRoutable (column_types table) (spread_of table)) plan.sources (λ source table has. table_routable table (shapes.declarable plan (agreed.meets laws plan ruled) laws.shaped source table has)));
       };

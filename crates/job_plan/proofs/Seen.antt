@@ -5,6 +5,7 @@ use Rattle.std.proofs.lemmas.List.{length-map}
 use Rattle.std.proofs.lemmas.Option.{slice_get-map}
 use Rattle.ct_value.specs.declared.ty.ColTy.{ColTy}
 use Rattle.ct_field.specs.Typed.{row_fits}
+use Rattle.ct_change.specs.Changelog.{Mode}
 use Rattle.ct_catalog.specs.declared.table.TableDef.{TableDef}
 use Rattle.ct_expr.specs.View.{expr_view}
 use Rattle.ct_expr.proofs.laws.Seen.{seen}
@@ -16,13 +17,14 @@ use Rattle.phys_plan.specs.declared.node.Op.{Op}
 use Rattle.phys_plan.specs.declared.node.Op.TheVariants as op
 use Rattle.phys_plan.specs.declared.node.Node.{Node}
 use Rattle.phys_plan.specs.declared.plan.Plan.{Plan}
-use Rattle.plan_rules.specs.Plans.{inputs_in, scan_of, scan_in, bundle_of, bundle_in, port_of, feed_at, feed_from, exchange_in, route_by, meaning_in, change_fits, kinds_in, keys_in, table_of, Doing, network_edge, network_of}
+use Rattle.plan_rules.specs.Plans.{inputs_in, scan_of, scan_in, bundle_of, bundle_in, port_of, feed_at, feed_from, exchange_in, route_by, meaning_in, change_fits, kinds_in, keys_in, local_in, table_of, update_in, Doing, network_edge, network_of}
 use Rattle.phys_plan.specs.Reading.{numbered, first_input}
 use Rattle.ct_catalog.specs.Columns.{table_mode}
 use Rattle.plan_rules.specs.Columns.{columns_as, columns_by, numbered_columns, next_columns, columns_after, columns_at}
-use Rattle.plan_rules.specs.Around.{Around, filter_of, project_of, joining_of}
+use Rattle.plan_rules.specs.Around.{Around, filter_of, project_of, joining_of, mode_read}
 use Rattle.plan_rules.specs.Behaviours.{behaviour_by, doing_of, rule_of}
-use Rattle.plan_rules.specs.Doings.{doing_by, update_in, other_inputs, around_of, doing_in, network}
+use Rattle.plan_rules.specs.Phases.{fits_sent, local_by, meaning_sent}
+use Rattle.plan_rules.specs.Doings.{doing_by, other_inputs, around_of, doing_in, network}
 use Rattle.plan_rules.specs.Seen.{op_as_seen, node_as_seen, plan_as_seen}
 use Rattle.plan_rules.proofs.laws.Seen.{exprs_seen, rest_seen, role_seen}
 
@@ -62,13 +64,31 @@ numbered_seen nodes (suc n) = slice_get-map node_as_seen nodes n
 doing_by_seen : (o : Op) (around : Around) → doing_by (op_as_seen o) around ≡ doing_by o around
 doing_by_seen o around = λ i. doing_of (behaviour_by (rule_seen o i) (role_seen o i) around)
 
+local_by_seen : (o : Op) (columns : List ColTy) (input : Mode) → local_by (op_as_seen o) columns input ≡ local_by o columns input
+local_by_seen (op.Filter cond) columns input = refl
+local_by_seen _ columns input = refl
+
+-- what a node sends partial rows of
+local_seen : (columns : ℕ → List ColTy) (plan : Plan) (node : Option Node) → local_in columns (plan_as_seen plan) (option_map node_as_seen node) ≡ local_in columns plan node
+local_seen columns plan None = refl
+local_seen columns plan (Some node) =
+    let input = first_input node.inputs in
+    local_by_seen node.op (columns input) (mode_read (kinds_in (numbered plan.edges input)) (update_in (numbered plan.edges input)))
+
+local_at_seen : (columns : ℕ → List ColTy) (plan : Plan) (v : ℕ) → local_in columns (plan_as_seen plan) (numbered (map node_as_seen plan.nodes) v) ≡ local_in columns plan (numbered plan.nodes v)
+local_at_seen columns plan v = ap (local_in columns (plan_as_seen plan)) (numbered_seen plan.nodes v) ∙ local_seen columns plan (numbered plan.nodes v)
+
 module _ (plan : Plan) where
+  partial_seen : (v : ℕ) → local_in (columns_at plan.sources (map node_as_seen plan.nodes)) (plan_as_seen plan) (numbered (map node_as_seen plan.nodes) v) ≡ local_in (columns_at plan.sources plan.nodes) plan (numbered plan.nodes v)
+  partial_seen v = (λ i. local_in (columns_seen plan.sources plan.nodes i) (plan_as_seen plan) (numbered (map node_as_seen plan.nodes) v)) ∙ local_at_seen (columns_at plan.sources plan.nodes) plan v
+
   around_seen : (v : ℕ) (inputs : List ℕ) → around_of (plan_as_seen plan) v inputs ≡ around_of plan v inputs
   around_seen v inputs = λ i. record {
     kinds = kinds_in (numbered plan.edges (first_input inputs));
     input = update_in (numbered plan.edges (first_input inputs));
     own = update_in (numbered plan.edges v);
     columns = columns_seen plan.sources plan.nodes i (first_input inputs);
+    partial = partial_seen (first_input inputs) i;
     others = map (λ input. record { kinds = kinds_in (numbered plan.edges input); input = update_in (numbered plan.edges input); columns = columns_seen plan.sources plan.nodes i input }) (other_inputs inputs);
     inputs = length inputs;
     declared = plan.sink.mode;
@@ -126,11 +146,11 @@ module _ (columns : ℕ → List ColTy) (doing : ℕ → Doing) (plan : Plan) wh
 
   edge_same : (e : ℕ) → network_edge columns doing (plan_as_seen plan) e ≡ network_edge columns doing plan e
   edge_same e = λ i. record {
-    meaning = cond (e == count_same i) (meaning_of (table_mode plan.sink)) (meaning_in (numbered plan.edges e));
+    meaning = cond (e == count_same i) (meaning_of (table_mode plan.sink)) (meaning_sent (local_at_seen columns plan e i) (meaning_in (numbered plan.edges e)));
     exchange = exchange_in (numbered plan.edges e);
     route = route_by plan.parallelism (columns e) (exchange_in (numbered plan.edges e));
     kinds = kinds_in (numbered plan.edges e);
-    fits = change_fits (cond (e == count_same i) (meaning_of (table_mode plan.sink)) (meaning_in (numbered plan.edges e))) (columns e);
+    fits = fits_sent (local_at_seen columns plan e i) (change_fits (cond (e == count_same i) (meaning_of (table_mode plan.sink)) (meaning_sent (local_at_seen columns plan e i) (meaning_in (numbered plan.edges e)))) (columns e));
     holds = λ row. row_fits (columns e) row;
     unique = keys_same (λ node. node.keys.unique) (λ node. refl) e i;
     local = keys_same (λ node. node.keys.local) (λ node. refl) e i;

@@ -1,5 +1,5 @@
 -- A plan with what is inferred of it, and when that is sound.
-use Rattle.std.specs.Prelude.{◌≡◌, ℕ, true, Some}
+use Rattle.std.specs.Prelude.{◌≡◌, ℕ, true, false, Some}
 use Rattle.phys_plan.specs.declared.node.Node.{Node}
 use Rattle.phys_plan.specs.declared.plan.Plan.{Plan}
 use Rattle.phys_plan.specs.declared.plan.Rule.TheVariants as rule
@@ -8,6 +8,7 @@ use Rattle.mode_infer.specs.Modes.{moded}
 use Rattle.phys_plan.specs.Reading.{numbered}
 use Rattle.plan_check.specs.Sound.{inferred_of, IsSound, Meets}
 use Rattle.plan_rules.specs.Behaviours.{has_rule}
+use Rattle.plan_rules.specs.Phases.{sends_parts}
 
 -- its nodes say the keys that are inferred of them, and its edges carry the kinds, and tell updates in the way, that are inferred
 abbrev pub with_inferred : Plan → Plan
@@ -20,8 +21,9 @@ with_inferred plan = record {
   mini_batch = plan.mini_batch;
 }
 
--- such a plan is sound where the plan has the right shape, types and exchanges, and what comes to its sink suits the table; whatever keys,
+-- such a plan, without local groups, is sound where the plan has the right shape, types and exchanges, and what comes to its sink suits the table; whatever keys,
 -- kinds and updates were said in it before
 abbrev pub InferredPlansAreSound : Type 0
 InferredPlansAreSound = (plan : Plan) → ((v : ℕ) (node : Node) → numbered plan.nodes v ≡ Some node → has_rule node.op ≡ true)
+    → ((v : ℕ) (node : Node) → numbered plan.nodes v ≡ Some node → sends_parts node.op ≡ false)
     → Meets rule.Shape plan → Meets rule.Types plan → Meets rule.Exchanged plan → Meets rule.SinkKey plan → IsSound (with_inferred plan)

@@ -1,5 +1,5 @@
 -- The plan that is laid of a tree, into a table of any mode, which a materializer may stand before, and which rules of sound plans it meets.
-use Rattle.std.specs.Prelude.{◌≡◌, ℕ, ◌<◌, ◌≤◌, true, List, ◌∷◌, length, map, Some}
+use Rattle.std.specs.Prelude.{◌≡◌, ℕ, ◌<◌, ◌≤◌, true, false, List, ◌∷◌, length, map, Some}
 use Rattle.ct_value.specs.declared.ty.ColTy.{ColTy}
 use Rattle.ct_catalog.specs.declared.table.TableDef.{TableDef}
 use Rattle.rel_algebra.specs.Rel.{Rel}
@@ -17,6 +17,7 @@ use Rattle.plan_shape.specs.Tables.{are_tables}
 use Rattle.plan_check.specs.Sound.{Meets}
 use Rattle.plan_check.specs.Types.{fit_sink}
 use Rattle.plan_rules.specs.Behaviours.{has_rule}
+use Rattle.plan_rules.specs.Phases.{sends_parts}
 
 -- the columns of the tables
 abbrev pub types_of : List TableDef → List (List ColTy)
@@ -51,9 +52,10 @@ pub record IsLaidWell (plan : Plan) (rel : Rel) : Type 0 where
   pub narrow : plan.parallelism ≤ 16
   pub bundled : plan.mini_batch ≤ 1000000
 
--- such a plan meets the rules that don't speak of keys and modes, and its operators have rules
+-- such a plan meets the rules that don't speak of keys and modes, and its operators have rules; so far no local groups are laid
 pub record HasTreeShape (plan : Plan) : Type 0 where
   pub rules : (v : ℕ) (node : Node) → numbered plan.nodes v ≡ Some node → has_rule node.op ≡ true
+  pub in_one_phase : (v : ℕ) (node : Node) → numbered plan.nodes v ≡ Some node → sends_parts node.op ≡ false
   pub shape : Meets rule.Shape plan
   pub types : Meets rule.Types plan
   pub exchanged : Meets rule.Exchanged plan

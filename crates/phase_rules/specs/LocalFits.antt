@@ -25,11 +25,12 @@ IsOfBags append = Unit {0}
 IsOfBags retract = Unit {0}
 IsOfBags (upsert key) = ⊥
 
--- changes of the input, at least one, whose rows have the columns and are of the group with this key, whose sums fit one after the other
+-- changes of the input, at least one, whose rows fit the columns and are of the group with this key, whose sums fit one after the other
 pub record AreSummed (l : LocalGrouping) (key : Row) (changes : List Change) : Type 0 where
   pub named : length key ≡ l.keys
   pub some : 0 < length changes
   pub kinds : AllByRecursion (λ change. admits l.input change.kind ≡ true) changes
+  pub whole : AllByRecursion (λ change. row_fits l.columns change.row ≡ true) changes
   pub types : AllByRecursion (λ change. types_fit l.columns change.row ≡ true) changes
   pub own : AllByRecursion (λ change. in_group l.keys key change.row ≡ true) changes
   pub fit : fit_after l.aggs [] changes ≡ true

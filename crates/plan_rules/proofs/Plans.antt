@@ -7,16 +7,14 @@ use Rattle.ct_value.specs.declared.ty.ColTy.{ColTy}
 use Rattle.ct_value.specs.declared.row.Row.{Row}
 use Rattle.ct_change.specs.Changelog.{Mode, append, retract, upsert}
 use Rattle.ct_catalog.specs.declared.table.TableDef.{TableDef}
-use Rattle.phys_plan.specs.declared.edge.Edge.{Edge as PlanEdge}
-use Rattle.ct_change.specs.declared.update.Update.{Update}
-use Rattle.ct_change.specs.declared.update.Update.TheVariants.{Absent, After, Both}
 use Rattle.phys_plan.specs.declared.node.Node.{Node}
 use Rattle.phys_plan.specs.declared.plan.Plan.{Plan}
 use Rattle.op_rules.specs.Edges.{meaning_of, IsPartial, Exchange, forward, hash}
 use Rattle.route.specs.Routing.{key_hash, key_text, types_at}
 use Rattle.stream_model.specs.Tables.{Table}
 use Rattle.stream_model.specs.Network.{Feed, IsNode, IsWired}
-use Rattle.plan_rules.specs.Plans.{inputs_in, scan_of, scan_in, port_of, feed_at, feed_from, route_by, meaning_by, meaning_in, table_of, spread_of, Doing, network_edge, network_of, HasInput, HasShape, FitsShape, PlansAreWired}
+use Rattle.plan_rules.specs.Phases.{meaning_sent}
+use Rattle.plan_rules.specs.Plans.{inputs_in, scan_of, scan_in, port_of, feed_at, feed_from, route_by, meaning_in, local_in, table_of, spread_of, Doing, network_edge, network_of, HasInput, HasShape, FitsShape, PlansAreWired}
 use Rattle.phys_plan.specs.Reading.{numbered}
 use Rattle.ct_catalog.specs.Columns.{table_mode, column_types}
 use Rattle.plan_rules.proofs.laws.Numbers.{get_below, index_there, numbered_below, numbered_within}
@@ -122,17 +120,11 @@ module _ (columns : ℕ → List ColTy) (doing : ℕ → Doing) (plan : Plan) (s
   no_partial_mode retract z = z
   no_partial_mode (upsert key) z = z
 
-  no_partial_edge : (o : Option PlanEdge) → IsPartial (meaning_in o) → ⊥
-  no_partial_edge None z = z
-  no_partial_edge (Some edge) z = by_update edge.update z
-    where
-      by_update : (u : Update) → IsPartial (meaning_by u) → ⊥
-      by_update Absent z = z
-      by_update (After columns) z = z
-      by_update Both z = z
-
-  no_partial : (e : ℕ) → IsPartial (network_edge columns doing plan e).meaning → ⊥
-  no_partial e = elim (e == length plan.nodes) as (λ b. IsPartial (cond b (meaning_of (table_mode plan.sink)) (meaning_in (numbered plan.edges e))) → ⊥) [ true ↦ no_partial_mode (table_mode plan.sink) | false ↦ no_partial_edge (numbered plan.edges e) ]
+  sink_told : IsPartial (network_edge columns doing plan (length plan.nodes)).meaning → ⊥
+  sink_told z =
+      no_partial_mode (table_mode plan.sink)
+      (subst (λ b. IsPartial (cond b (meaning_of (table_mode plan.sink)) (meaning_sent (local_in columns plan (numbered plan.nodes (length plan.nodes))) (meaning_in (numbered plan.edges (length plan.nodes))))))
+      (eq-eqb (length plan.nodes) (length plan.nodes) refl) z)
 
   routed_by : (types : List ColTy) (x : Exchange) (key : Row) → route_by plan.parallelism types x key < plan.parallelism
   routed_by types forward key = shape.parallel
@@ -153,7 +145,7 @@ module _ (columns : ℕ → List ColTy) (doing : ℕ → Doing) (plan : Plan) (s
     feeds_port = λ e feed q. input_at feed.node feed.port e (fed_input e feed q);
     counted = λ v l. let h = has_input v 0 l in (numbered_within plan.nodes v h.node h.is_node).1;
     sink = subst (λ o. 0 < length (inputs_in o)) (sym shape.last.1) (shape.others (length plan.nodes) shape.last.0 shape.last.1 shape.last.2);
-    sink_whole = no_partial (length plan.nodes);
+    sink_whole = sink_told;
     scan_ports = λ v source s. let n = scan_node v source s in ap (λ o. length (inputs_in o)) n.1 ∙ ap length (shape.scans v source n.0 n.1 n.2).0;
     scan_counted = λ v source s. let n = scan_node v source s in (shape.scans v source n.0 n.1 n.2).2;
     scan_table = λ v source s.
@@ -162,7 +154,7 @@ module _ (columns : ℕ → List ColTy) (doing : ℕ → Doing) (plan : Plan) (s
         (table_of plan.parallelism t.0, ap (option_map (table_of plan.parallelism)) t.1);
     scan_opens = λ v source s j. fits.scans_open v source j s;
     opens = λ v j l. fits.opens v j l;
-    formed = λ e. record { keyed = fits.keyed e; unkeyed = λ z. absurd (no_partial e z); routed = routed_by (columns e) (network_edge columns doing plan e).exchange };
+    formed = λ e. record { keyed = fits.keyed e; unkeyed = fits.unkeyed e; routed = routed_by (columns e) (network_edge columns doing plan e).exchange };
     routed = λ source t has key. table_routed source t has key;
   }
     where

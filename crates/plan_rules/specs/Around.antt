@@ -1,5 +1,5 @@
 -- What is around a node of a plan, and what its operator's rule reads of it.
-use Rattle.std.specs.Prelude.{ℕ, Bool, cond, List, [], ◌∷◌, Option}
+use Rattle.std.specs.Prelude.{ℕ, Bool, false, cond, List, [], ◌∷◌, Option}
 use Rattle.ct_value.specs.declared.ty.ColTy.{ColTy}
 use Rattle.ct_change.specs.Changelog.{Mode, append, retract, upsert}
 use Rattle.ct_change.specs.Kinds.{has_more_than_inserts}
@@ -20,7 +20,11 @@ use Rattle.emission_rules.specs.Sink.{Sink}
 use Rattle.emission_rules.specs.Grouping.{Grouping}
 use Rattle.emission_rules.specs.Joining.{Shape, Joining}
 use Rattle.emission_rules.specs.Ranking.{Ranking}
-use Rattle.plan_rules.specs.Plans.{no_kinds}
+use Rattle.phase_rules.specs.LocalGrouping.{LocalGrouping}
+use Rattle.phase_rules.specs.Merging.{Merging}
+
+abbrev pub no_kinds : KindSet
+no_kinds = record { i = false; ub = false; ua = false; d = false }
 
 -- an input: the kinds that come, how updates are told, and its columns
 pub record Side : Type 0 where
@@ -29,13 +33,14 @@ pub record Side : Type 0 where
   pub columns : List ColTy
 
 -- what is around a node: the kinds that its first input carries, how that tells updates and how the node does itself, the columns
--- of its first input, its other inputs, how many inputs it has, and what the sink's table is declared as,
--- with its key
+-- of its first input, the local grouping whose partial rows come by it, where none are rows, its other inputs, how many inputs it has,
+-- and what the sink's table is declared as, with its key
 pub record Around : Type 0 where
   pub kinds : KindSet
   pub input : Update
   pub own : Update
   pub columns : List ColTy
+  pub partial : Option LocalGrouping
   pub others : List Side
   pub inputs : ℕ
   pub declared : Declared
@@ -79,6 +84,12 @@ normalize_of key around = record { key = key; output = mode_told around.own }
 
 abbrev pub grouping_of : ℕ → List Agg → Around → Grouping
 grouping_of keys aggs around = record { keys = keys; aggs = aggs; columns = around.columns; input = mode_read around.kinds around.input; output = mode_told around.own }
+
+abbrev pub local_of : ℕ → List Agg → Around → LocalGrouping
+local_of keys aggs around = record { keys = keys; aggs = aggs; columns = around.columns; input = mode_read around.kinds around.input }
+
+abbrev pub merging_of : LocalGrouping → Around → Merging
+merging_of l around = record { local = l; output = mode_told around.own }
 
 abbrev pub joining_of : Shape → List Pair → Option Expr → Around → Joining
 joining_of shape on rest around = record {

@@ -13,16 +13,25 @@ use Rattle.emission_rules.specs.Normalize.{normalize_rule, TellsKey}
 use Rattle.emission_rules.specs.Materialize.{materialize_rule}
 use Rattle.emission_rules.specs.SetOps.{set_rule}
 use Rattle.emission_rules.specs.Sink.{sink_rule}
-use Rattle.emission_rules.specs.Grouping.{group_rule, IsSound as GroupsWell}
+use Rattle.emission_rules.specs.Grouping.{Grouping, group_rule, IsSound as GroupsWell}
 use Rattle.emission_rules.specs.Joining.{joins, matched, join_rule}
 use Rattle.emission_rules.specs.Ranking.{topn_rule, IsSound as RanksWell}
+use Rattle.rel_algebra.specs.declared.agg.Agg.{Agg}
+use Rattle.phase_rules.specs.LocalFits.{IsOfBags}
+use Rattle.phase_rules.specs.LocalGrouping.{LocalGrouping, SumsUp, local_rule}
+use Rattle.phase_rules.specs.Merging.{in_one_phase, merge_rule}
 use Rattle.phys_plan.specs.declared.node.Op.{Op}
 use Rattle.phys_plan.specs.declared.node.Op.TheVariants as op
-use Rattle.plan_rules.specs.Around.{Around, mode_told, second, filter_of, project_of, union_of, normalize_of, grouping_of, joining_of, ranking_of, sink_of}
+use Rattle.plan_rules.specs.Around.{Around, mode_told, second, filter_of, project_of, union_of, normalize_of, grouping_of, local_of, merging_of, joining_of, ranking_of, sink_of}
 use Rattle.plan_rules.specs.Plans.{Doing, scan_of}
 use Rattle.plan_rules.specs.Roles.{Role, role, batch_by, part_by, range_by}
 
 -- ---- the table
+
+-- a group in bundles goes over rows, or over partial rows
+abbrev pub bundled_rule : ℕ → List Agg → Around → Option LocalGrouping → Rule
+bundled_rule keys aggs around None = group_rule (grouping_of keys aggs around)
+bundled_rule keys aggs around (Some l) = merge_rule (merging_of l around)
 
 -- by which rule an operator tells its answer, among what is around it; none for a scan, and where the rule isn't built yet
 abbrev pub rule_of : Op → Option (Around → Rule)
@@ -32,15 +41,20 @@ rule_of (op.Project items) = Some (λ around. project_rule (project_of (map expr
 rule_of op.Union = Some (λ around. union_rule (union_of around))
 rule_of (op.Normalize key) = Some (λ around. normalize_rule (normalize_of key around))
 rule_of (op.Group keys aggs) = Some (λ around. group_rule (grouping_of keys aggs around))
-rule_of (op.BatchGroup keys aggs) = Some (λ around. group_rule (grouping_of keys aggs around))
+rule_of (op.BatchGroup keys aggs) = Some (λ around. bundled_rule keys aggs around around.partial)
 rule_of (op.Join kind on rest) = Some (λ around. join_rule (joining_of (joins kind) on (option_map expr_view rest) around))
 rule_of (op.Semi anti on rest) = Some (λ around. join_rule (joining_of (matched anti) on (option_map expr_view rest) around))
 rule_of (op.TopN partition order bound ranked) = Some (λ around. topn_rule (ranking_of partition order bound ranked around))
 rule_of (op.Materialize key) = Some (λ around. materialize_rule key)
 rule_of op.Sink = Some (λ around. sink_rule (sink_of around))
-rule_of (op.LocalGroup keys aggs) = None
+rule_of (op.LocalGroup keys aggs) = Some (λ around. local_rule (local_of keys aggs around))
 rule_of (op.MultiJoin on) = None
 rule_of (op.SetOp except all columns) = Some (λ around. set_rule (record { except = except; all = all }))
+
+-- a group's calls have types and modes suit it, and it sums up what can be summed up
+abbrev pub BundlesWell : ℕ → List Agg → Around → Option LocalGrouping → Type 0
+BundlesWell keys aggs around None = GroupsWell (grouping_of keys aggs around)
+BundlesWell keys aggs around (Some l) = SumsUp l × GroupsWell (in_one_phase (merging_of l around))
 
 -- what an operator asks of what is around it: a normalizer tells by its key, a group's calls have types and modes suit it, and a Top-N's
 -- columns are there and modes suit it
@@ -51,13 +65,13 @@ Suits (op.Project items) around = Unit {0}
 Suits op.Union around = Unit {0}
 Suits (op.Normalize key) around = TellsKey key (mode_told around.own)
 Suits (op.Group keys aggs) around = GroupsWell (grouping_of keys aggs around)
-Suits (op.BatchGroup keys aggs) around = GroupsWell (grouping_of keys aggs around)
+Suits (op.BatchGroup keys aggs) around = BundlesWell keys aggs around around.partial
 Suits (op.Join kind on rest) around = Unit {0}
 Suits (op.Semi anti on rest) around = Unit {0}
 Suits (op.TopN partition order bound ranked) around = RanksWell (ranking_of partition order bound ranked around)
 Suits (op.Materialize key) around = Unit {0}
 Suits op.Sink around = Unit {0}
-Suits (op.LocalGroup keys aggs) around = Unit {0}
+Suits (op.LocalGroup keys aggs) around = SumsUp (local_of keys aggs around) × IsOfBags (local_of keys aggs around).input
 Suits (op.MultiJoin on) around = Unit {0}
 Suits (op.SetOp except all columns) around = Unit {0}
 

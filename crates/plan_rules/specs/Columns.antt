@@ -11,7 +11,7 @@ use Rattle.phys_plan.specs.declared.node.Op.{Op}
 use Rattle.phys_plan.specs.declared.node.Node.{Node}
 use Rattle.phys_plan.specs.Reading.{numbered}
 use Rattle.plan_rules.specs.Behaviours.{has_rule}
-use Rattle.plan_rules.specs.Roles.{Role, reads_table, one_of, two_of, all_of, same_as, not_told, role}
+use Rattle.plan_rules.specs.Roles.{Role, reads_table, one_of, two_of, all_of, same_as, part_of, not_told, role}
 
 -- column by column the common columns of these and of further inputs, one after the other
 abbrev pub common_with : Option (List ColTy) → List (Option (List ColTy)) → Option (List ColTy)
@@ -43,6 +43,7 @@ columns_as sources (one_of how) inputs = option_and_then (unary_columns how) (on
 columns_as sources (two_of how) inputs = of_two (binary_columns how) inputs
 columns_as sources all_of inputs = common_of inputs
 columns_as sources same_as inputs = only inputs
+columns_as sources (part_of keys aggs) inputs = only inputs
 columns_as sources (not_told so_many) inputs = None
 
 -- the columns of a node, from those of its inputs; none where it isn't well-typed, or isn't built yet

@@ -1,9 +1,6 @@
 -- What each node of a plan does, by its operator among what is around it.
 use Rattle.std.specs.Prelude.{ℕ, List, [], ◌∷◌, length, map, Option, Some, None, unwrap_or}
-use Rattle.ct_change.specs.declared.update.Update.{Update}
-use Rattle.ct_change.specs.declared.update.Update.TheVariants.{Both}
 use Rattle.phys_plan.specs.Reading.{numbered, first_input}
-use Rattle.phys_plan.specs.declared.edge.Edge.{Edge as PlanEdge}
 use Rattle.phys_plan.specs.declared.node.Node.{Node}
 use Rattle.phys_plan.specs.declared.node.Op.{Op}
 use Rattle.phys_plan.specs.declared.plan.Plan.{Plan}
@@ -11,11 +8,7 @@ use Rattle.stream_model.specs.Network.{Network}
 use Rattle.plan_rules.specs.Around.{Around, Side}
 use Rattle.plan_rules.specs.Behaviours.{behaviour, doing_of, idle}
 use Rattle.plan_rules.specs.Columns.{columns_at}
-use Rattle.plan_rules.specs.Plans.{Doing, kinds_in, network_of}
-
-abbrev pub update_in : Option PlanEdge → Update
-update_in None = Both
-update_in (Some edge) = edge.update
+use Rattle.plan_rules.specs.Plans.{Doing, kinds_in, local_in, network_of, update_in}
 
 abbrev pub other_inputs : List ℕ → List ℕ
 other_inputs [] = []
@@ -30,6 +23,7 @@ around_of plan v inputs = record {
   input = update_in (numbered plan.edges (first_input inputs));
   own = update_in (numbered plan.edges v);
   columns = columns_at plan.sources plan.nodes (first_input inputs);
+  partial = local_in (columns_at plan.sources plan.nodes) plan (numbered plan.nodes (first_input inputs));
   others = map (side_of plan) (other_inputs inputs);
   inputs = length inputs;
   declared = plan.sink.mode;

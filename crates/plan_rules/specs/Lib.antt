@@ -4,6 +4,7 @@ pub mod Behaviours
 pub mod Columns
 pub mod Doings
 pub mod Erased
+pub mod Phases
 pub mod Pieces
 pub mod Plans
 pub mod Roles

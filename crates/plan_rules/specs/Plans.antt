@@ -1,5 +1,6 @@
 -- A plan read as a network: its wiring by numbers, its edges and its tables.
 use Rattle.std.specs.Prelude.{◌≡◌, ℕ, zero, suc, ◌<◌, ◌≤◌, ◌==◌, Bool, true, false, cond, List, [], ◌∷◌, length, slice_get, slice_index_or, Option, Some, None, option_map, unwrap_or}
+use Rattle.std.specs.List.{Contains}
 use Rattle.ct_value.specs.declared.ty.ColTy.{ColTy}
 use Rattle.ct_value.specs.declared.row.Row.{Row}
 use Rattle.ct_field.specs.Typed.{row_fits}
@@ -19,12 +20,15 @@ use Rattle.phys_plan.specs.declared.node.Node.{Node}
 use Rattle.phys_plan.specs.declared.plan.Plan.{Plan}
 use Rattle.op_rules.specs.History.{Arrival}
 use Rattle.op_rules.specs.Rules.{Answer}
-use Rattle.op_rules.specs.Edges.{Meaning, bag, last_rows, partials, meaning_of, Exchange, forward, hash, Edge, IsKeyedBy}
+use Rattle.op_rules.specs.Edges.{Meaning, bag, last_rows, partials, meaning_of, Exchange, forward, hash, Edge, IsKeyedBy, IsPartial}
 use Rattle.route.specs.Routing.{route_of, types_at}
 use Rattle.stream_model.specs.KeysTold.{is_typed, told_fits}
 use Rattle.stream_model.specs.Tables.{Table}
 use Rattle.stream_model.specs.Network.{Feed, Network, IsWired}
-use Rattle.phys_plan.specs.Reading.{numbered}
+use Rattle.phys_plan.specs.Reading.{numbered, first_input}
+use Rattle.phase_rules.specs.LocalGrouping.{LocalGrouping}
+use Rattle.plan_rules.specs.Around.{no_kinds, mode_read}
+use Rattle.plan_rules.specs.Phases.{local_by, meaning_sent, fits_sent}
 
 -- ---- nodes and edges by number, from 1
 
@@ -104,12 +108,13 @@ key_alone (Some key) false = Some key
 abbrev pub change_fits : Meaning → List ColTy → Change → Bool
 change_fits meaning columns change = told_fits (key_alone (key_read meaning) (adds change.kind)) columns change.row
 
-abbrev pub no_kinds : KindSet
-no_kinds = record { i = false; ub = false; ua = false; d = false }
-
 abbrev pub kinds_in : Option PlanEdge → KindSet
 kinds_in None = no_kinds
 kinds_in (Some edge) = edge.kinds
+
+abbrev pub update_in : Option PlanEdge → Update
+update_in None = Both
+update_in (Some edge) = edge.update
 
 abbrev pub keys_in : (Node → List (List ℕ)) → Option Node → List (List ℕ)
 keys_in keys None = []
@@ -152,6 +157,13 @@ pub record Doing : Type 0 where
   pub batch : (ℕ → Rows) → Option Rows
 
 -- by the columns that each node sends, and by what each does
+-- the local grouping of a node over what its input sends; none of one that sends rows
+abbrev pub local_in : (ℕ → List ColTy) → Plan → Option Node → Option LocalGrouping
+local_in columns plan None = None
+local_in columns plan (Some node) =
+    let input = first_input node.inputs in
+    local_by node.op (columns input) (mode_read (kinds_in (numbered plan.edges input)) (update_in (numbered plan.edges input)))
+
 module _ (columns : ℕ → List ColTy) (doing : ℕ → Doing) (plan : Plan) where
   abbrev pub node_at : ℕ → Option Node
   node_at v = numbered plan.nodes v
@@ -161,7 +173,7 @@ module _ (columns : ℕ → List ColTy) (doing : ℕ → Doing) (plan : Plan) wh
 
   -- the sink's changes are read as its table declares
   abbrev pub network_meaning : ℕ → Meaning
-  network_meaning e = cond (e == length plan.nodes) (meaning_of (table_mode plan.sink)) (meaning_in (edge_at e))
+  network_meaning e = cond (e == length plan.nodes) (meaning_of (table_mode plan.sink)) (meaning_sent (local_in columns plan (node_at e)) (meaning_in (edge_at e)))
 
   abbrev pub network_edge : ℕ → Edge
   network_edge e = record {
@@ -169,7 +181,7 @@ module _ (columns : ℕ → List ColTy) (doing : ℕ → Doing) (plan : Plan) wh
     exchange = exchange_in (edge_at e);
     route = route_by plan.parallelism (columns e) (exchange_in (edge_at e));
     kinds = kinds_in (edge_at e);
-    fits = change_fits (network_meaning e) (columns e);
+    fits = fits_sent (local_in columns plan (node_at e)) (change_fits (network_meaning e) (columns e));
     holds = λ row. row_fits (columns e) row;
     unique = keys_in (λ node. node.keys.unique) (node_at e);
     local = keys_in (λ node. node.keys.local) (node_at e);
@@ -213,11 +225,13 @@ pub record HasShape (plan : Plan) : Type 0 where
   pub others : (v : ℕ) (node : Node) → numbered plan.nodes v ≡ Some node → scan_of node.op ≡ None → 0 < length node.inputs
   pub last : (node : Node) × (numbered plan.nodes (length plan.nodes) ≡ Some node) × (scan_of node.op ≡ None)
 
--- nothing but a node with inputs, before the last, opens with changes; an edge of last rows keeps each key in one channel
+-- nothing but a node with inputs, before the last, opens with changes; an edge of last rows keeps each key in one channel, and partial
+-- rows have no keys at every moment
 pub record FitsShape (columns : ℕ → List ColTy) (doing : ℕ → Doing) (plan : Plan) : Type 0 where
   pub scans_open : (v source j : ℕ) → scan_in (numbered plan.nodes v) ≡ Some source → (doing v).opening j ≡ []
   pub opens : (v j : ℕ) → length plan.nodes ≤ v → (doing v).opening j ≡ []
   pub keyed : (e : ℕ) → IsKeyedBy (network_edge columns doing plan e).meaning (network_edge columns doing plan e).exchange
+  pub unkeyed : (e : ℕ) → IsPartial (network_edge columns doing plan e).meaning → (key : List ℕ) → Contains (network_edge columns doing plan e).local key → ⊥
 
 abbrev pub PlansAreWired : Type 0
 PlansAreWired = (columns : ℕ → List ColTy) (doing : ℕ → Doing) (plan : Plan) → HasShape plan → FitsShape columns doing plan → IsWired (network_of columns doing plan)

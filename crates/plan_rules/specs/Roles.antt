@@ -25,6 +25,8 @@ pub data Role : Type 0 where
   all_of : Role
   -- the rows of its input, moved, told otherwise or prepared
   same_as : Role
+  -- the rows of its input, summed up in part by so many first columns, with these calls
+  part_of : ℕ → List Agg → Role
   -- so far the algebra has no such operator; how many inputs it takes
   not_told : (ℕ → Bool) → Role
 
@@ -43,7 +45,7 @@ role (op.Semi anti on rest) = two_of (semi_on anti on (option_map expr_view rest
 role (op.TopN partition order bound ranked) = one_of (rank_in partition order bound ranked)
 role (op.Materialize key) = same_as
 role op.Sink = same_as
-role (op.LocalGroup keys aggs) = same_as
+role (op.LocalGroup keys aggs) = part_of keys aggs
 role (op.MultiJoin on) = not_told (λ inputs. nat_le 3 inputs && nat_le inputs 8)
 role (op.SetOp except all columns) = two_of (set_by except all columns)
 
@@ -90,6 +92,7 @@ takes (one_of how) inputs = inputs == 1
 takes (two_of how) inputs = inputs == 2
 takes all_of inputs = nat_le 2 inputs
 takes same_as inputs = inputs == 1
+takes (part_of keys aggs) inputs = inputs == 1
 takes (not_told so_many) inputs = so_many inputs
 
 -- the tree of no rows
@@ -107,6 +110,8 @@ tree_of (two_of how) (left ∷ (right ∷ inputs)) = Two how left right
 tree_of all_of inputs = Many (rels inputs)
 tree_of same_as [] = nothing
 tree_of same_as (input ∷ inputs) = input
+tree_of (part_of keys aggs) [] = nothing
+tree_of (part_of keys aggs) (input ∷ inputs) = input
 tree_of (not_told so_many) inputs = nothing
 
 -- the batch answer of a node, by the rows of its ports
@@ -116,6 +121,7 @@ batch_by (one_of how) around rows = unary_answer how around.columns (rows 0)
 batch_by (two_of how) around rows = binary_answer how around.columns (second around).columns (rows 0) (rows 1)
 batch_by all_of around rows = union_answer (union_of around) rows
 batch_by same_as around rows = Some (rows 0)
+batch_by (part_of keys aggs) around rows = Some (rows 0)
 batch_by (not_told so_many) around rows = None
 
 -- that of a subtask, by the rows that come to it: the group of all rows is at subtask 0 alone
@@ -131,6 +137,7 @@ part_by (one_of how) around subtask rows = part_of_one how around subtask rows
 part_by (two_of how) around subtask rows = batch_by (two_of how) around rows
 part_by all_of around subtask rows = batch_by all_of around rows
 part_by same_as around subtask rows = batch_by same_as around rows
+part_by (part_of keys aggs) around subtask rows = batch_by (part_of keys aggs) around rows
 part_by (not_told so_many) around subtask rows = None
 
 -- the types of the row at which a node is out of range, by the columns of its first and of its second input: the row that came, the key of
@@ -147,4 +154,5 @@ range_by (one_of how) columns others = range_of_one how columns
 range_by (two_of how) columns others = columns ++ others
 range_by all_of columns others = columns
 range_by same_as columns others = columns
+range_by (part_of keys aggs) columns others = take keys columns
 range_by (not_told so_many) columns others = []

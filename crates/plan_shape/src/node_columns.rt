@@ -45,7 +45,9 @@ pub fn next_columns(
         Op::Filter { cond } => filtered(cond, only_input(done, &node.inputs)),
         Op::Project { items } => projected(items, only_input(done, &node.inputs)),
         Op::Union => common_input(done, &node.inputs),
-        Op::Normalize { .. } => same_columns(only_input(done, &node.inputs)),
+        Op::Normalize { .. } | Op::LocalGroup { .. } => {
+            same_columns(only_input(done, &node.inputs))
+        }
         Op::Group { keys, aggs } | Op::BatchGroup { keys, aggs } => {
             grouped(*keys, aggs, only_input(done, &node.inputs))
         }

@@ -71,7 +71,7 @@ module _ (sound : InferredPlansAreSound) (plan : Plan) (has : HasTreeShape plan)
       sym (ap ruled_in e) ∙ node_read (inferred_of plan).keys ruled_in (λ node keys. refl) plan.nodes v ∙ ruled_below v (numbered plan.nodes v) refl
 
   ruled_with : IsRuled (with_inferred plan)
-  ruled_with = record { sound = sound plan has.rules has.shape has.types has.exchanged sink_key; rules = each_ruled }
+  ruled_with = record { sound = sound plan has.rules has.in_one_phase has.shape has.types has.exchanged sink_key; rules = each_ruled }
 
 module _ (laid : Plan) (rel : Rel) (is : IsLaidPlan laid rel) (setting : Materialize) where
   -- the plan of the tree, with that

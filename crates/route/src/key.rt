@@ -1,4 +1,4 @@
-ghost use Rattle.std.specs.Prelude.{◌≡◌, ◌<◌, ◌++◌, IsTrue, All, length, slice_index_or, IfOk, OnOk};
+ghost use Rattle.std.specs.Prelude.{◌≡◌, ◌<◌, ◌≤◌, ◌++◌, IsTrue, All, length, slice_index_or, IfOk, OnOk};
 ghost use Rattle.ct_value.specs.Rows.{project};
 ghost use Rattle.ct_value.specs.declared.value.Value.TheVariants.{Null};
 ghost use Rattle.ct_field.specs.Fields.{field_text};
@@ -9,11 +9,11 @@ use ct_field::push_field;
 use ct_value::{Bytes, ColTys, Cols, Memory, Row};
 use std::alloc::Global;
 
-/// The text of a row's key, which these columns are: their field texts, joined by commas. The row has to have as many
-/// values as there are types, and the columns.
+/// The text of a row's key, which these columns are: their field texts, joined by commas. Each of them has to have a type,
+/// and the row a value for each type.
 pub fn key_text(alloc: Global, row: &Row, cols: &Cols, tys: &ColTys) -> Result<Bytes, Memory>
-    requires wide { length row.now ≡ length tys.now }
-    requires columns { All (λ col. col < length row.now) cols.now }
+    requires wide { length tys.now ≤ length row.now }
+    requires columns { All (λ col. col < length tys.now) cols.now }
     requires types { All (λ column. IsTrue (is_type column.ty)) tys.now }
     ensures { IfOk result (λ text. text ≡ key_text (types_at cols.now tys.now) (project cols.now row.now)) }
 {
@@ -33,8 +33,8 @@ fn push_others(
     tys: &ColTys,
     cols: &[u32],
 ) -> Result<(), Memory>
-    requires wide { length row.now ≡ length tys.now }
-    requires columns { All (λ col. col < length row.now) cols.now }
+    requires wide { length tys.now ≤ length row.now }
+    requires columns { All (λ col. col < length tys.now) cols.now }
     requires types { All (λ column. IsTrue (is_type column.ty)) tys.now }
     ensures { OnOk result (text.new ≡ text.old ++ behind_commas (types_at cols.now tys.now) (project cols.now row.now)) }
 {
@@ -53,8 +53,8 @@ fn push_column(
     tys: &ColTys,
     col: u32,
 ) -> Result<(), Memory>
-    requires wide { length row.now ≡ length tys.now }
-    requires column { col < length row.now }
+    requires wide { length tys.now ≤ length row.now }
+    requires column { col < length tys.now }
     requires types { All (λ column. IsTrue (is_type column.ty)) tys.now }
     ensures { OnOk result (text.new ≡ text.old ++ field_text (type_at tys.now col) (slice_index_or row.now col Null)) }
 {

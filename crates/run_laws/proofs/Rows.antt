@@ -2,11 +2,12 @@
 use Rattle.std.specs.Prelude.{◌≡◌, ℕ, ◌<◌, ◌==◌, Bool, cond, not, List, ◌++◌, length, map, take, slice_index_or, Option, option_map}
 use Rattle.std.proofs.Common.{zero, suc, true, false, [], ◌∷◌, refl, sym, ap, subst, ◌∙◌, arith, Some, None, Ok, Err}
 use Rattle.std.specs.List.{AllByRecursion, filter}
+use Rattle.std.proofs.lemmas.Bool.{and_parts}
 use Rattle.ct_value.specs.declared.row.Row.{Row}
 use Rattle.ct_value.specs.declared.ty.ColTy.{ColTy}
 use Rattle.ct_field.specs.Typed.{row_fits}
 use Rattle.ct_change.specs.declared.change.Change.{Change}
-use Rattle.ct_change.specs.Changelog.{Mode, retract, Rows, adds, fold, same_row}
+use Rattle.ct_change.specs.Changelog.{Mode, append, retract, upsert, adds, fold, same_row}
 use Rattle.ct_expr.specs.Expr.{Expr}
 use Rattle.ct_expr.specs.View.{expr_view}
 use Rattle.rel_algebra.specs.GroupedCounts.{first_seen}
@@ -21,19 +22,35 @@ use Rattle.emission_rules.specs.Union.{union_change}
 use Rattle.emission_rules.specs.Sink.{sink_change}
 use Rattle.emission_rules.specs.Grouping.{Grouping, KeepsGroups, answers, group_emits, group_rule, groups_of}
 use Rattle.rel_algebra.specs.Clauses.{holds}
+use Rattle.rel_algebra.specs.declared.agg.Agg.{Agg}
+use Rattle.phase_rules.specs.LocalFits.{IsOfBags}
+use Rattle.phase_rules.specs.LocalGrouping.{LocalGrouping, local_answer, local_rule, members_of}
+use Rattle.phase_rules.specs.Merging.{amounts_in, merge_answer, merge_rule}
 use Rattle.ct_expr.specs.Eval.{eval}
 use Rattle.phys_plan.specs.declared.node.Op.{Op}
 use Rattle.phys_plan.specs.declared.node.Op.TheVariants as op
 use Rattle.phys_plan.specs.declared.node.Node.{Node}
 use Rattle.phys_plan.specs.declared.plan.Plan.{Plan}
+use Rattle.phys_plan.specs.declared.plan.Rule.TheVariants as rule
 use Rattle.stream_model.specs.Network.{task}
-use Rattle.plan_rules.specs.Plans.{inputs_in, scan_of}
+use Rattle.plan_rules.specs.Plans.{change_fits, inputs_in, kinds_in, local_in, scan_of, update_in}
+use Rattle.plan_rules.specs.Phases.{fits_sent, local_by}
 use Rattle.phys_plan.specs.Reading.{numbered, first_input}
 use Rattle.plan_rules.specs.Columns.{columns_at}
-use Rattle.plan_rules.specs.Around.{Around, first_side, second, filter_of, project_of, grouping_of, joining_of, sink_of}
-use Rattle.plan_rules.specs.Behaviours.{behaviour, Suits, TakesBy}
+use Rattle.plan_rules.specs.Around.{Around, first_side, second, filter_of, project_of, grouping_of, joining_of, local_of, merging_of, mode_read, sink_of}
+use Rattle.plan_rules.specs.Behaviours.{behaviour, bundled_rule, BundlesWell, Suits, TakesBy}
 use Rattle.plan_rules.specs.Doings.{other_inputs, side_of, around_of, doing_by, doing_in, network}
+use Rattle.plan_shape.specs.Shape.{takes as ports_of}
+use Rattle.plan_shape.specs.Shaped.{MeetsShape}
+use Rattle.plan_shape.proofs.laws.Theorems.{shaped_plans_have_shape}
 use Rattle.sound_plans.specs.Sound.{IsRuled, SoundPlansSuit, SoundPortsTake}
+use Rattle.sound_plans.proofs.laws.Agreed as agreed
+use Rattle.sound_plans.proofs.laws.Lists.{the_same}
+use Rattle.sound_plans.proofs.laws.Numbers.{index_at}
+use Rattle.sound_plans.proofs.laws.Outputs.{local_at}
+use Rattle.sound_plans.proofs.laws.Shapes.{input_there, plain_below, takes_parts}
+use Rattle.sound_plans.proofs.laws.Stands.{proper_inputs, sends_rows}
+use Rattle.sound_plans.proofs.laws.Theorems.{nodes_fit}
 use Rattle.emission_rules.specs.Joining.{joins, matched, Joining, emits, join_rule}
 use Rattle.run_laws.proofs.Answers.{not_err, err_same, OutsAt, outs_both}
 use Rattle.run_laws.proofs.Joins.{all_arrive, joins_out, Arrives, IsTold, Left, Right}
@@ -147,23 +164,39 @@ module _ (plan : Plan) (ruled : IsRuled plan) (takes : SoundPortsTake) (suited :
     second_is (input ∷ []) two = absurd (omega (arith, two))
     second_is (input ∷ other ∷ inputs) two = refl
 
+    -- the rule Shape
+    meets : MeetsShape plan
+    meets w low high = ruled.sound rule.Shape w low high
+
+    -- at none of its ports partial rows come
+    abbrev RowsCome : Type 0
+    RowsCome = (p : ℕ) → p < (task (network plan) v).ports → local_at plan (slice_index_or (inputs_in (numbered plan.nodes v)) p 0) ≡ None
+
+    rows_come : takes_parts node.op ≡ false → RowsCome
+    rows_come n p l =
+        let near : p < length node.inputs = subst (λ o. p < length (inputs_in o)) there l in
+        let i = index_at node.inputs p near in
+        let below = (input_there plan meets shaped_plans_have_shape v node p (slice_index_or node.inputs p 0) there i).1 in
+        ap (λ o. local_at plan (slice_index_or (inputs_in o) p 0)) there
+        ∙ sends_rows nodes_fit plan ruled (slice_index_or node.inputs p 0) below.0 below.1 (plain_below plan meets shaped_plans_have_shape v node p (slice_index_or node.inputs p 0) below.0 there n i below.1)
+
     -- each change that came at a port has the port's columns, where its row is told whole
     abbrev Told : Mode → List ColTy → Change → Type 0
     Told mode columns = IsTold (Fit columns) mode
 
-    port_fits : (rule : Rule) → TakesAll rule (task (network plan) v) → (p : ℕ) → p < (task (network plan) v).ports → AllByRecursion (Told (rule.mode p) (columns_at plan.sources plan.nodes (slice_index_or (inputs_in (numbered plan.nodes v)) p 0))) (at_port p (before ++ piece))
-    port_fits rule takes_all p l =
+    port_fits : (rule : Rule) → TakesAll rule (task (network plan) v) → RowsCome → (p : ℕ) → p < (task (network plan) v).ports → AllByRecursion (Told (rule.mode p) (columns_at plan.sources plan.nodes (slice_index_or (inputs_in (numbered plan.nodes v)) p 0))) (at_port p (before ++ piece))
+    port_fits rule takes_all rows p l =
         let columns = columns_at plan.sources plan.nodes (slice_index_or (inputs_in (numbered plan.nodes v)) p 0) in
         let edge = (task (network plan) v).input p in
-        all_weaker (λ change. edge.fits change ≡ true) (Told (rule.mode p) columns) (λ change fits. whole_fits edge.meaning (rule.mode p) columns change (takes_all.1 p l).reads fits) (at_port p (before ++ piece)) (ready.types p l)
+        all_weaker (λ change. edge.fits change ≡ true) (Told (rule.mode p) columns) (λ change fits. whole_fits edge.meaning (rule.mode p) columns change (takes_all.1 p l).reads (subst (λ o. fits_sent o (change_fits edge.meaning columns) change ≡ true) (rows p l) fits)) (at_port p (before ++ piece)) (ready.types p l)
 
     -- what comes to the sides of a join has their columns
-    both_fit : (j : Joining) → TakesAll (join_rule j) (task (network plan) v) → j.left_columns ≡ around.columns → j.right_columns ≡ (second around).columns → AllByRecursion (Arrives (Left j) (Right j)) (before ++ piece)
-    both_fit j takes_all left_is right_is =
+    both_fit : (j : Joining) → TakesAll (join_rule j) (task (network plan) v) → RowsCome → j.left_columns ≡ around.columns → j.right_columns ≡ (second around).columns → AllByRecursion (Arrives (Left j) (Right j)) (before ++ piece)
+    both_fit j takes_all rows left_is right_is =
         let two : (task (network plan) v).ports ≡ 2 = takes_all.0 in
         let many : length node.inputs ≡ 2 = sym (ap (λ o. length (inputs_in o)) there) ∙ two in
-        let left = port_fits (join_rule j) takes_all 0 (omega (arith, two)) in
-        let right = port_fits (join_rule j) takes_all 1 (omega (arith, two)) in
+        let left = port_fits (join_rule j) takes_all rows 0 (omega (arith, two)) in
+        let right = port_fits (join_rule j) takes_all rows 1 (omega (arith, two)) in
         let first : columns_at plan.sources plan.nodes (slice_index_or (inputs_in (numbered plan.nodes v)) 0 0) ≡ around.columns =
         ap (λ o. columns_at plan.sources plan.nodes (slice_index_or (inputs_in o) 0 0)) there ∙ ap (columns_at plan.sources plan.nodes) (first_is node.inputs) in
         let other : columns_at plan.sources plan.nodes (slice_index_or (inputs_in (numbered plan.nodes v)) 1 0) ≡ (second around).columns =
@@ -180,51 +213,137 @@ module _ (plan : Plan) (ruled : IsRuled plan) (takes : SoundPortsTake) (suited :
     first_of = ap (λ o. slice_index_or (inputs_in o) 0 0) there ∙ first_is node.inputs
 
     -- all that came at the only port has the columns of the input
-    fit_all : (rule : Rule) → TakesAll rule (task (network plan) v) → rule.ports ≡ 1 → AllByRecursion (Told (rule.mode 0) around.columns) (changes_of piece)
-    fit_all rule takes_all one =
+    fit_all : (rule : Rule) → TakesAll rule (task (network plan) v) → RowsCome → rule.ports ≡ 1 → AllByRecursion (Told (rule.mode 0) around.columns) (changes_of piece)
+    fit_all rule takes_all rows one =
         let ports : (task (network plan) v).ports ≡ 1 = takes_all.0 ∙ one in
         let within = subst (λ n. AllByRecursion (λ a. a.port < n) (before ++ piece)) ports ready.ports in
-        let fit = subst (λ e. AllByRecursion (Told (rule.mode 0) (columns_at plan.sources plan.nodes e)) (at_port 0 (before ++ piece))) first_of (port_fits rule takes_all 0 (omega (arith, ports))) in
+        let fit = subst (λ e. AllByRecursion (Told (rule.mode 0) (columns_at plan.sources plan.nodes e)) (at_port 0 (before ++ piece))) first_of (port_fits rule takes_all rows 0 (omega (arith, ports))) in
         all_came (Told (rule.mode 0) around.columns) piece (all_right (λ a. a.port < 1) before piece within) (all_behind (Told (rule.mode 0) around.columns) 0 before piece fit)
 
     -- and the groups' keys have their columns
-    fit_keys : (g : Grouping) → TakesAll (group_rule g) (task (network plan) v) → g.columns ≡ around.columns → KeepsGroups g.keys g.input → AllByRecursion (λ change. Fit (take g.keys g.columns) (take g.keys change.row)) (at_port 0 piece)
-    fit_keys g takes_all same keeps =
-        let ports : (task (network plan) v).ports ≡ 1 = takes_all.0 in
+    fit_keys : (rule : Rule) (keys : ℕ) → TakesAll rule (task (network plan) v) → rule.ports ≡ 1 → RowsCome → KeepsGroups keys (rule.mode 0) → AllByRecursion (λ change. Fit (take keys around.columns) (take keys change.row)) (at_port 0 piece)
+    fit_keys rule keys takes_all one rows keeps =
+        let ports : (task (network plan) v).ports ≡ 1 = takes_all.0 ∙ one in
+        let some : 0 < (task (network plan) v).ports = omega (arith, ports) in
         let edge = (task (network plan) v).input 0 in
         let columns = columns_at plan.sources plan.nodes (slice_index_or (inputs_in (numbered plan.nodes v)) 0 0) in
-        let all = all_weaker (λ change. edge.fits change ≡ true) (λ change. Fit (take g.keys columns) (take g.keys change.row))
-        (λ change fits. group_fits edge.meaning g.input g.keys columns change keeps (takes_all.1 0 (omega (arith, ports))).reads fits) (at_port 0 (before ++ piece)) (ready.types 0 (omega (arith, ports))) in
-        all_behind (λ change. Fit (take g.keys g.columns) (take g.keys change.row)) 0 before piece
-        (subst (λ (c : List ColTy). AllByRecursion (λ change. Fit (take g.keys c) (take g.keys change.row)) (at_port 0 (before ++ piece))) (ap (columns_at plan.sources plan.nodes) first_of ∙ sym same) all)
+        let all = all_weaker (λ change. edge.fits change ≡ true) (λ change. Fit (take keys columns) (take keys change.row))
+        (λ change fits. group_fits edge.meaning (rule.mode 0) keys columns change keeps (takes_all.1 0 some).reads (subst (λ o. fits_sent o (change_fits edge.meaning columns) change ≡ true) (rows 0 some) fits)) (at_port 0 (before ++ piece)) (ready.types 0 some) in
+        all_behind (λ change. Fit (take keys around.columns) (take keys change.row)) 0 before piece
+        (subst (λ (c : List ColTy). AllByRecursion (λ change. Fit (take keys c) (take keys change.row)) (at_port 0 (before ++ piece))) (ap (columns_at plan.sources plan.nodes) first_of) all)
 
-    group_outs : (g : Grouping) → AllByRecursion (λ change. Fit (take g.keys g.columns) (take g.keys change.row)) (at_port 0 piece) → (rows : Rows) → OutsAt (Fit (take g.keys g.columns)) (answers (group_emits g rows (at_port 0 piece)) (groups_of g.keys (at_port 0 piece)))
-    group_outs g fit rows =
+    -- an answer for each group is out of range at the key of one
+    keyed_outs : (keys : ℕ) (columns : List ColTy) (answer : Row → Answer) → ((key : Row) → Fit (take keys columns) key → OutsAt (Fit (take keys columns)) (answer key)) → AllByRecursion (λ change. Fit (take keys columns) (take keys change.row)) (at_port 0 piece)
+        → OutsAt (Fit (take keys columns)) (answers answer (groups_of keys (at_port 0 piece)))
+    keyed_outs keys columns answer outs fit =
         let came = at_port 0 piece in
-        let keys = all_seen (Fit (take g.keys g.columns)) (map (λ change. take g.keys change.row) came)
-        (all_made (λ change. Fit (take g.keys g.columns) (take g.keys change.row)) (Fit (take g.keys g.columns)) (λ change. take g.keys change.row) (λ change h. h) came fit) in
-        outs_groups (Fit (take g.keys g.columns)) (group_emits g rows came) (groups_of g.keys came)
-        (all_weaker (Fit (take g.keys g.columns)) (λ key. OutsAt (Fit (take g.keys g.columns)) (group_emits g rows came key)) (λ key h. outs_if (Fit (take g.keys g.columns)) _ _ key h) (groups_of g.keys came) keys)
+        let named = all_seen (Fit (take keys columns)) (map (λ change. take keys change.row) came)
+        (all_made (λ change. Fit (take keys columns) (take keys change.row)) (Fit (take keys columns)) (λ change. take keys change.row) (λ change h. h) came fit) in
+        outs_groups (Fit (take keys columns)) answer (groups_of keys came) (all_weaker (Fit (take keys columns)) (λ key. OutsAt (Fit (take keys columns)) (answer key)) outs (groups_of keys came) named)
+
+    group_outs : (keys : ℕ) (aggs : List Agg) → TakesAll (group_rule (grouping_of keys aggs around)) (task (network plan) v) → RowsCome → KeepsGroups keys (grouping_of keys aggs around).input
+        → OutsAt (Fit (take keys around.columns)) ((group_rule (grouping_of keys aggs around)).emits before piece)
+    group_outs keys aggs takes_all rows keeps =
+        let g = grouping_of keys aggs around in
+        keyed_outs keys around.columns (group_emits g (fold g.input (at_port 0 before)) (at_port 0 piece)) (λ key h. outs_if (Fit (take keys around.columns)) _ _ key h) (fit_keys (group_rule g) keys takes_all refl rows keeps)
+
+    -- ---- local groups
+
+    keeps_bags : (keys : ℕ) (mode : Mode) → IsOfBags mode → KeepsGroups keys mode
+    keeps_bags keys append of_bags = tt
+    keeps_bags keys retract of_bags = tt
+    keeps_bags keys (upsert key) of_bags = absurd of_bags
+
+    local_outs : (keys : ℕ) (aggs : List Agg) → node.op ≡ op.LocalGroup keys aggs → OutsAt (Fit (take keys around.columns)) ((local_rule (local_of keys aggs around)).emits before piece)
+    local_outs keys aggs own =
+        let l = local_of keys aggs around in
+        let suits = subst (λ (p : Op). Suits p around) own (suited plan ruled v node there) in
+        keyed_outs keys around.columns (λ key. local_answer aggs key (members_of keys key (at_port 0 piece))) (λ key h. outs_if (Fit (take keys around.columns)) _ _ key h)
+        (fit_keys (local_rule l) keys (taken (op.LocalGroup keys aggs) own refl) refl (rows_come (ap takes_parts own)) (keeps_bags keys l.input suits.1))
+
+    -- ---- groups in bundles
+
+    -- the keys of partial rows have the columns of the group's
+    keys_sent : (l : LocalGrouping) → around.partial ≡ Some l → (task (network plan) v).ports ≡ 1 → AllByRecursion (λ change. Fit (take l.keys l.columns) (take l.keys change.row)) (at_port 0 piece)
+    keys_sent l some ports =
+        let within : 0 < (task (network plan) v).ports = omega (arith, ports) in
+        let edge = (task (network plan) v).input 0 in
+        let columns = columns_at plan.sources plan.nodes (slice_index_or (inputs_in (numbered plan.nodes v)) 0 0) in
+        let sends : local_at plan (slice_index_or (inputs_in (numbered plan.nodes v)) 0 0) ≡ Some l = ap (local_at plan) first_of ∙ some in
+        all_behind (λ change. Fit (take l.keys l.columns) (take l.keys change.row)) 0 before piece
+        (all_weaker (λ change. edge.fits change ≡ true) (λ change. Fit (take l.keys l.columns) (take l.keys change.row))
+        (λ change fits. (and_parts (row_fits (take l.keys l.columns) (take l.keys change.row)) _ (subst (λ o. fits_sent o (change_fits edge.meaning columns) change ≡ true) sends fits)).0) (at_port 0 (before ++ piece)) (ready.types 0 within))
+
+    record IsLocalNode (w : ℕ) (l : LocalGrouping) : Type 0 where
+      below : Node
+      is_below : numbered plan.nodes w ≡ Some below
+      keys : ℕ
+      aggs : List Agg
+      is_local : below.op ≡ op.LocalGroup keys aggs
+      same_keys : l.keys ≡ keys
+      same_columns : l.columns ≡ columns_at plan.sources plan.nodes (first_input below.inputs)
+
+    local_node : (w : ℕ) (l : LocalGrouping) → local_at plan w ≡ Some l → IsLocalNode w l
+    local_node w l e = go (numbered plan.nodes w) refl e
+      where
+        by_op : (below : Node) → numbered plan.nodes w ≡ Some below → (o : Op) → below.op ≡ o
+            → local_by o (columns_at plan.sources plan.nodes (first_input below.inputs)) (mode_read (kinds_in (numbered plan.edges (first_input below.inputs))) (update_in (numbered plan.edges (first_input below.inputs)))) ≡ Some l → IsLocalNode w l
+        by_op below is (op.LocalGroup keys aggs) own h =
+            let same = the_same _ l h in
+            record { below = below; is_below = is; keys = keys; aggs = aggs; is_local = own; same_keys = sym (ap (λ (x : LocalGrouping). x.keys) same); same_columns = sym (ap (λ (x : LocalGrouping). x.columns) same) }
+        by_op below is _ own h = absurd (cc)
+
+        go : (o : Option Node) → numbered plan.nodes w ≡ o → local_in (columns_at plan.sources plan.nodes) plan o ≡ Some l → IsLocalNode w l
+        go None is h = absurd (cc)
+        go (Some below) is h = by_op below is below.op refl h
+
+    same_key_columns : (l : LocalGrouping) → around.partial ≡ Some l → (keys : ℕ) (aggs : List Agg) → node.op ≡ op.BatchGroup keys aggs → take l.keys l.columns ≡ take keys around.columns
+    same_key_columns l some keys aggs own =
+        let n = local_node (first_input node.inputs) l some in
+        let i = agreed.one_input nodes_fit plan ruled v node there (λ m. ap (λ x. ports_of x m) own) in
+        let first : first_input node.inputs ≡ i.0 = ap first_input i.1 in
+        let below_there : numbered plan.nodes i.0 ≡ Some n.below = ap (numbered plan.nodes) (sym first) ∙ n.is_below in
+        let shared = agreed.calls_shared nodes_fit plan ruled v node i.0 n.below keys aggs n.keys n.aggs there own i.1 below_there n.is_local in
+        let k = agreed.one_input nodes_fit plan ruled i.0 n.below below_there (λ m. ap (λ x. ports_of x m) n.is_local) in
+        let agrees = agreed.local_agrees nodes_fit plan ruled i.0 n.below n.keys n.aggs k.0 below_there n.is_local k.1 (agreed.under_there nodes_fit plan ruled i.0 n.below n.keys n.aggs below_there n.is_local) (proper_inputs nodes_fit plan ruled i.0 n.below below_there) in
+        let typed : columns_at plan.sources plan.nodes k.0 ≡ columns_at plan.sources plan.nodes i.0 = the_same _ _ agrees.agrees.typed in
+        let columns : l.columns ≡ around.columns =
+        n.same_columns ∙ ap (λ (xs : List ℕ). columns_at plan.sources plan.nodes (first_input xs)) k.1 ∙ typed ∙ ap (columns_at plan.sources plan.nodes) (sym first) in
+        λ i. take ((n.same_keys ∙ sym shared.0) i) (columns i)
+
+    bundle_outs : (keys : ℕ) (aggs : List Agg) → node.op ≡ op.BatchGroup keys aggs → (partial : Option LocalGrouping) → around.partial ≡ partial → OutsAt (Fit (take keys around.columns)) ((bundled_rule keys aggs around partial).emits before piece)
+    bundle_outs keys aggs own None none =
+        let suits : BundlesWell keys aggs around None = subst (BundlesWell keys aggs around) none (subst (λ (p : Op). Suits p around) own (suited plan ruled v node there)) in
+        let takes_all : TakesAll (group_rule (grouping_of keys aggs around)) (task (network plan) v) = subst (λ x. TakesAll (bundled_rule keys aggs around x) (task (network plan) v)) none (taken (op.BatchGroup keys aggs) own refl) in
+        group_outs keys aggs takes_all (only_rows takes_all.0) suits.keeps
+      where
+        only_rows : (task (network plan) v).ports ≡ 1 → RowsCome
+        only_rows one zero l = ap (local_at plan) first_of ∙ none
+        only_rows one (suc p) l = absurd (omega (arith, one, l))
+    bundle_outs keys aggs own (Some l) some =
+        let takes_all : TakesAll (merge_rule (merging_of l around)) (task (network plan) v) = subst (λ x. TakesAll (bundled_rule keys aggs around x) (task (network plan) v)) some (taken (op.BatchGroup keys aggs) own refl) in
+        subst (λ (columns : List ColTy). OutsAt (Fit columns) ((merge_rule (merging_of l around)).emits before piece)) (same_key_columns l some keys aggs own)
+        (keyed_outs l.keys l.columns
+        (λ key. merge_answer (merging_of l around) key (amounts_in l.keys key (at_port 0 before)) (amounts_in l.keys key (at_port 0 piece))) (λ key h. outs_if (Fit (take l.keys l.columns)) _ _ key h) (keys_sent l some takes_all.0))
 
     op_outs : (o : Op) → node.op ≡ o → OutsAt (Fit (doing_by o around).range_types) ((doing_by o around).emits before piece)
     op_outs (op.Filter cond) own =
         outs_each (Fit around.columns) (filter_change (filter_of (expr_view cond))) (changes_of piece)
         (all_weaker (Told retract around.columns) (λ change. OutsAt (Fit around.columns) (filter_change (filter_of (expr_view cond)) change))
-        (λ change h. outs_kept (Fit around.columns) change (h refl) (holds (eval (expr_view cond)) change.row)) (changes_of piece) (fit_all (filter_rule (filter_of (expr_view cond))) (taken (op.Filter cond) own refl) refl))
+        (λ change h. outs_kept (Fit around.columns) change (h refl) (holds (eval (expr_view cond)) change.row)) (changes_of piece) (fit_all (filter_rule (filter_of (expr_view cond))) (taken (op.Filter cond) own refl) (rows_come (ap takes_parts own)) refl))
     op_outs (op.Project items) own =
         outs_each (Fit around.columns) (project_change (project_of (map expr_view items) around)) (changes_of piece)
         (all_weaker (Told (mode_after (after_key around.input)) around.columns) (λ change. OutsAt (Fit around.columns) (project_change (project_of (map expr_view items) around) change))
-        (λ change h. outs_sent (Fit around.columns) (after_key around.input) (map expr_view items) change h) (changes_of piece) (fit_all (project_rule (project_of (map expr_view items) around)) (taken (op.Project items) own refl) refl))
+        (λ change h. outs_sent (Fit around.columns) (after_key around.input) (map expr_view items) change h) (changes_of piece) (fit_all (project_rule (project_of (map expr_view items) around)) (taken (op.Project items) own refl) (rows_come (ap takes_parts own)) refl))
     op_outs op.Union own =
         outs_each (Fit around.columns) union_change (changes_of piece) (all_any (λ change. OutsAt (Fit around.columns) (union_change change)) (λ change row e. not_err (change ∷ []) row e) (changes_of piece))
     op_outs (op.Group keys aggs) own =
         let suits = subst (λ (p : Op). Suits p around) own (suited plan ruled v node there) in
-        group_outs (grouping_of keys aggs around) (fit_keys (grouping_of keys aggs around) (taken (op.Group keys aggs) own refl) refl suits.keeps) (fold (grouping_of keys aggs around).input (at_port 0 before))
-    op_outs (op.BatchGroup keys aggs) own =
-        let suits = subst (λ (p : Op). Suits p around) own (suited plan ruled v node there) in
-        group_outs (grouping_of keys aggs around) (fit_keys (grouping_of keys aggs around) (taken (op.BatchGroup keys aggs) own refl) refl suits.keeps) (fold (grouping_of keys aggs around).input (at_port 0 before))
-    op_outs (op.Join kind on rest) own = let j = joining_of (joins kind) on (option_map expr_view rest) around in both_out j (both_fit j (taken (op.Join kind on rest) own refl) refl refl)
-    op_outs (op.Semi anti on rest) own = let j = joining_of (matched anti) on (option_map expr_view rest) around in both_out j (both_fit j (taken (op.Semi anti on rest) own refl) refl refl)
+        group_outs keys aggs (taken (op.Group keys aggs) own refl) (rows_come (ap takes_parts own)) suits.keeps
+    op_outs (op.BatchGroup keys aggs) own = bundle_outs keys aggs own around.partial refl
+    op_outs (op.LocalGroup keys aggs) own = local_outs keys aggs own
+    op_outs (op.Join kind on rest) own = let j = joining_of (joins kind) on (option_map expr_view rest) around in both_out j (both_fit j (taken (op.Join kind on rest) own refl) (rows_come (ap takes_parts own)) refl refl)
+    op_outs (op.Semi anti on rest) own = let j = joining_of (matched anti) on (option_map expr_view rest) around in both_out j (both_fit j (taken (op.Semi anti on rest) own refl) (rows_come (ap takes_parts own)) refl refl)
     op_outs op.Sink own =
         outs_each (Fit around.columns) (sink_change (sink_of around)) (changes_of piece) (all_any (λ change. OutsAt (Fit around.columns) (sink_change (sink_of around) change)) (λ change row e. not_err _ row e) (changes_of piece))
     -- all others calculate nothing

@@ -12,7 +12,7 @@ use Rattle.plan_rules.specs.Around.{Around, first_side, second}
 use Rattle.plan_rules.specs.Behaviours.{behaviour_by, doing_of, rule_of}
 use Rattle.plan_rules.specs.Columns.{columns_at}
 use Rattle.plan_rules.specs.Doings.{other_inputs, side_of, around_of, doing_in, network}
-use Rattle.plan_rules.specs.Roles.{Role, reads_table, one_of, two_of, all_of, same_as, not_told, range_by, range_of_one, role}
+use Rattle.plan_rules.specs.Roles.{Role, reads_table, one_of, two_of, all_of, same_as, part_of, not_told, range_by, range_of_one, role}
 use Rattle.sound_plans.specs.Sound.{IsRuled}
 use Rattle.sound_plans.proofs.laws.SentTypes.{ColumnsHaveTypes, all_both, sent_types_exist}
 use Rattle.typing_laws.specs.Exist.{Exist}
@@ -46,6 +46,7 @@ module _ (types_exist : ColumnsHaveTypes) (plan : Plan) (ruled : IsRuled plan) w
   role_types (two_of how) columns others h k = all_both _ columns others h k
   role_types all_of columns others h k = h
   role_types same_as columns others h k = h
+  role_types (part_of keys aggs) columns others h k = all_first _ keys columns h
   role_types (not_told so_many) columns others h k = tt
 
   does_types : (told : Option (Around → Rule)) (r : Role) (around : Around) → Exist around.columns → Exist (second around).columns → Exist (doing_of (behaviour_by told r around)).range_types

@@ -10,7 +10,7 @@ use Rattle.phys_plan.specs.declared.plan.Plan.{Plan}
 use Rattle.stream_model.specs.declared.events.StepFault.TheVariants.{Range}
 use Rattle.stream_model.specs.Machine.{State}
 use Rattle.plan_rules.specs.Doings.{network}
-use Rattle.plan_rules.specs.Roles.{Role, reads_table, one_of, two_of, all_of, same_as, not_told, role}
+use Rattle.plan_rules.specs.Roles.{Role, reads_table, one_of, two_of, all_of, same_as, part_of, not_told, role}
 use Rattle.sound_plans.specs.Sound.{IsRuled}
 use Rattle.laid_plans.specs.Inferred.{with_inferred}
 use Rattle.laid_plans.specs.Shapes.{IsLaidOut}
@@ -25,6 +25,8 @@ is_tame_role (one_of how) = is_tame_unary how
 is_tame_role (two_of how) = is_tame_binary how
 is_tame_role all_of = true
 is_tame_role same_as = true
+-- how far what partial rows count stays below the limits isn't said yet
+is_tame_role (part_of keys aggs) = false
 is_tame_role (not_told so_many) = false
 
 abbrev pub is_tame_op : Op → Bool

@@ -3,7 +3,7 @@ ghost use Rattle.ct_field.specs.Numbers.{is_type};
 
 use ct_value::{ColTys, Cols};
 
-/// The columns by whose values rows are spread over subtasks, and the types of all columns of the rows.
+/// The columns by whose values rows are spread over subtasks, and the types of the first columns of the rows, all of these among them.
 #[derive(Drop)]
 pub struct KeyRoute {
     pub columns: Cols,

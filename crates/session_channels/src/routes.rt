@@ -1,4 +1,4 @@
-ghost use Rattle.std.specs.Prelude.{◌≡◌, ◌==◌, ◌<◌, ℕ, length, IfOk};
+ghost use Rattle.std.specs.Prelude.{◌≡◌, ◌==◌, ◌<◌, ◌≤◌, ℕ, length, IfOk};
 ghost use Rattle.ct_value.specs.Rows.{project};
 ghost use Rattle.op_rules.specs.Edges.{Edge, goes};
 ghost use Rattle.route.specs.Routing.{route_of, types_at};
@@ -14,7 +14,7 @@ impl KeyRoute {
     /// The subtask of a row, among so many: that of its key's text.
     pub fn subtask(&self, alloc: Global, parallelism: u32, row: &Row) -> Result<u32, Memory>
         requires some { 0 < parallelism }
-        requires wide { length row.now ≡ length self.now.types }
+        requires wide { length self.now.types ≤ length row.now }
         ensures value { IfOk result (λ to. to ≡ route_of parallelism (types_at self.now.columns self.now.types) (project self.now.columns row.now)) }
         ensures within { IfOk result (λ to. to < parallelism) }
     {

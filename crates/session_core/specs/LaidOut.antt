@@ -1,5 +1,5 @@
 -- A network's wiring, laid out for look-ups.
-use Rattle.std.specs.Prelude.{◌≡◌, ℕ, zero, suc, ◌+◌, ◌<◌, ◌^◌, true, cond, List, [], ◌∷◌, ◌++◌, map, length, get_or, slice_get, Option, Some, None}
+use Rattle.std.specs.Prelude.{◌≡◌, ℕ, zero, suc, ◌+◌, ◌<◌, ◌≤◌, ◌^◌, true, cond, List, [], ◌∷◌, ◌++◌, map, length, get_or, slice_get, Option, Some, None}
 use Rattle.std.specs.List.{All}
 use Rattle.ct_value.specs.declared.ty.ColTy.{ColTy}
 use Rattle.ct_change.specs.declared.change.Change.{Change}
@@ -40,7 +40,7 @@ scans_below g table (suc n) = cond (is_scan_of g table n) (scans_below g table n
 pub record IsTable (g : Network) (number : ℕ) (kept : TableWiring) (table : Table) : Type 0 where
   pub spread : table.spread ≡ kept.spread.columns
   pub spreads : SpreadsBy g.subtasks kept.spread table.route
-  pub wide : (change : Change) → table.fits change ≡ true → length change.row ≡ length kept.spread.types
+  pub wide : (change : Change) → table.fits change ≡ true → length kept.spread.types ≤ length change.row
   pub scans : kept.scans ≡ scans_below g number g.count
 
 abbrev pub IsTableIn : Network → ℕ → Option TableWiring → Option Table → Type 0

@@ -4,19 +4,29 @@ use Rattle.std.specs.Option.{unwrap_or}
 use Rattle.std.specs.Prelude.{slice_get}
 use Rattle.std.proofs.lemmas.Option.{none-some, get_or_from_slice_get, unwrap_or-slice_get}
 use Rattle.ct_value.specs.declared.ty.ColTy.{ColTy}
+use Rattle.ct_change.specs.Changelog.{Mode}
+use Rattle.ct_change.specs.declared.update.Update.{Update}
+use Rattle.ct_change.specs.declared.update.Update.TheVariants.{Absent, After, Both}
+use Rattle.rel_algebra.specs.declared.agg.Agg.{Agg}
 use Rattle.op_rules.specs.History.{Arrival}
 use Rattle.op_rules.specs.Ports.{TakesAll}
 use Rattle.op_rules.specs.Rules.{Rule}
+use Rattle.emission_rules.specs.Grouping.{group_rule, IsSound as GroupsWell}
+use Rattle.phase_rules.specs.LocalGrouping.{LocalGrouping, SumsUp}
+use Rattle.phase_rules.specs.Merging.{Merging, in_one_phase, merge_rule}
+use Rattle.op_merge.specs.Groups.{CanMerge}
 use Rattle.phys_plan.specs.declared.node.Node.{Node}
 use Rattle.phys_plan.specs.declared.plan.Plan.{Plan}
 use Rattle.stream_model.specs.Network.{Network, task}
-use Rattle.plan_rules.specs.Plans.{Doing, bundle_in, bundle_of, inputs_in, kinds_in, scan_of}
+use Rattle.plan_rules.specs.Plans.{Doing, bundle_in, bundle_of, inputs_in, kinds_in, scan_of, update_in}
 use Rattle.phys_plan.specs.Reading.{numbered, first_input}
-use Rattle.plan_rules.specs.Around.{mode_read, second}
-use Rattle.plan_rules.specs.Behaviours.{Behaviour, behaviour, doing_of, range_types_by, rule_of, TakesBy}
-use Rattle.plan_rules.specs.Doings.{around_of, doing_in, network, update_in}
+use Rattle.plan_rules.specs.Around.{Around, mode_read, mode_told, second}
+use Rattle.plan_rules.specs.Behaviours.{Behaviour, behaviour, bundled_rule, BundlesWell, doing_of, range_types_by, rule_of, TakesBy}
+use Rattle.plan_rules.specs.Doings.{around_of, doing_in, network}
 use Rattle.plan_rules.specs.Roles.{role}
 use Rattle.plan_rules.proofs.laws.Behaviours.{scans_have_none, types_told}
+use Rattle.session_open.specs.declared.locals.Local.{Local}
+use Rattle.session_open.specs.Locals.{IsLocal}
 use Rattle.session_open.specs.Opening.{IsMade}
 use Rattle.session_open.specs.Running.{IsBuiltPlan, IsOperatorBy, TakesBundles, second_input}
 
@@ -79,6 +89,47 @@ module _ {O : Type 0} (rule_is : O → Rule) (is_broken : O → Bool) (stands : 
   pub node_made : (node : Node) (made : Option O) → numbered plan.nodes v ≡ Some node → IsOperatorBy rule_is is_broken stands takes_pieces (behaviour node.op (around_of plan v node.inputs)) (bundle_of plan.mini_batch node.op) made → IsMade rule_is is_broken stands takes_pieces g v made
   node_made node made is of =
       subst (λ (g : Network). IsMade rule_is is_broken stands takes_pieces g v made) (sym built.network_is) (made_by node made is (scan_of node.op) refl (behaviour node.op (around_of plan v node.inputs)) refl of)
+
+-- ---- groups in bundles
+
+-- they tell rows that change and go
+can_merge : (l : LocalGrouping) (update : Update) → SumsUp l → GroupsWell (in_one_phase (record { local = l; output = mode_told update })) → CanMerge (record { local = l; output = mode_told update })
+can_merge l Absent sums sound = record { have_partials = sums.have_partials; tells = tt }
+can_merge l (After key) sums sound = record { have_partials = sums.have_partials; tells = sound.tells }
+can_merge l Both sums sound = record { have_partials = sums.have_partials; tells = tt }
+
+no_local : (o : Option LocalGrouping) → IsLocal None o → o ≡ None
+no_local None is = refl
+no_local (Some l) is = absurd is
+
+module _ (keys : ℕ) (aggs : List Agg) (around : Around) where
+  -- over rows
+  module _ (types : List ColTy) (mode own : Mode) (rows : IsLocal None around.partial) (t : types ≡ around.columns) (m : mode ≡ mode_read around.kinds around.input) (o : own ≡ mode_told around.own) where
+    pub group_suits : BundlesWell keys aggs around around.partial → GroupsWell (record { keys = keys; aggs = aggs; columns = types; input = mode; output = own })
+    group_suits suits =
+        subst GroupsWell (λ i. record { keys = keys; aggs = aggs; columns = sym t i; input = sym m i; output = sym o i }) (subst (BundlesWell keys aggs around) (no_local around.partial rows) suits)
+
+    pub group_told : group_rule (record { keys = keys; aggs = aggs; columns = types; input = mode; output = own }) ≡ bundled_rule keys aggs around around.partial
+    group_told =
+        (λ i. group_rule (record { keys = keys; aggs = aggs; columns = t i; input = m i; output = o i })) ∙ ap (bundled_rule keys aggs around) (sym (no_local around.partial rows))
+
+  -- over partial rows
+  module _ (local : Local) (own : Mode) (o : own ≡ mode_told around.own) where
+    abbrev merging : Mode → Mode → Merging
+    merging input output = record { local = record { keys = local.keys; aggs = local.aggs; columns = local.types; input = input }; output = output }
+
+    pub merge_suits : (partial : Option LocalGrouping) → IsLocal (Some local) partial → BundlesWell keys aggs around partial → (input : Mode) × CanMerge (merging input own)
+    merge_suits None is suits = absurd is
+    merge_suits (Some l) is suits =
+        let can = can_merge l around.own suits.0 suits.1 in (
+          l.input,
+          subst CanMerge (λ i. record { local = record { keys = is.0 i; aggs = is.1 i; columns = is.2 i; input = l.input }; output = sym o i }) can,
+        )
+
+    pub merge_told : (rule : Rule) (partial : Option LocalGrouping) → IsLocal (Some local) partial → ((input : Mode) → rule ≡ merge_rule (merging input own)) → rule ≡ bundled_rule keys aggs around partial
+    merge_told rule None is told = absurd is
+    merge_told rule (Some l) is told =
+        told l.input ∙ (λ i. merge_rule (record { local = record { keys = sym is.0 i; aggs = sym is.1 i; columns = sym is.2 i; input = l.input }; output = o i }))
 
 -- the types at a number, none past the end
 pub types_there : (columns : List (List ColTy)) (n : ℕ) (types : List ColTy) → slice_get columns n ≡ Some types → types ≡ get_or columns n []

@@ -1,3 +1,4 @@
+pub mod Locals
 pub mod Modes
 pub mod Opening
 pub mod Running

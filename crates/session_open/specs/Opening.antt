@@ -1,5 +1,5 @@
 -- What is asked of a plan so that a job of it can be opened, and how far the opening is.
-use Rattle.std.specs.Prelude.{◌≡◌, ℕ, ◌+◌, ◌*◌, ◌/◌, ◌%◌, ◌<◌, ◌≤◌, ◌^◌, nat_lt, Bool, true, cond, IsTrue, List, [], length, get_or, Option, Some, None}
+use Rattle.std.specs.Prelude.{◌≡◌, ℕ, ◌+◌, ◌*◌, ◌/◌, ◌%◌, ◌<◌, ◌≤◌, ◌^◌, nat_lt, Bool, true, cond, IsTrue, List, [], length, get_or, take, Option, Some, None}
 use Rattle.std.specs.List.{All, AllByRecursion, filter}
 use Rattle.ct_value.specs.declared.ty.ColTy.{ColTy}
 use Rattle.ct_field.specs.Numbers.{is_type}
@@ -11,6 +11,9 @@ use Rattle.op_rules.specs.Tasks.{total}
 use Rattle.phys_plan.specs.declared.edge.Edge.{Edge as PlanEdge}
 use Rattle.phys_plan.specs.declared.edge.Exchange.{Exchange as PlanExchange}
 use Rattle.phys_plan.specs.declared.edge.Exchange.TheVariants.{Forward, Hash}
+use Rattle.phys_plan.specs.declared.node.Node.{Node}
+use Rattle.phys_plan.specs.declared.node.Op.{Op}
+use Rattle.phys_plan.specs.declared.node.Op.TheVariants.{LocalGroup}
 use Rattle.phys_plan.specs.declared.plan.Plan.{Plan}
 use Rattle.stream_model.specs.Network.{Network, IsWired, MeetsFacts}
 use Rattle.stream_model.specs.Machine.{opened}
@@ -42,6 +45,15 @@ abbrev pub IsExchange : List ColTy → PlanExchange → Type 0
 IsExchange types Forward = Unit {0}
 IsExchange types (Hash columns) = AreRoutable types columns
 
+-- the types by which an edge spreads what its node sends: those of the node's columns, of a local group those of its key columns alone
+abbrev pub types_by : Op → List ColTy → List ColTy
+types_by (LocalGroup keys aggs) columns = take keys columns
+types_by operator columns = columns
+
+abbrev pub spread_types : Option Node → List ColTy → List ColTy
+spread_types None columns = columns
+spread_types (Some node) columns = types_by node.op columns
+
 -- a plan of few nodes in few subtasks, with the columns that each node sends by its number, from 0;
 -- changes can be spread by the columns of its tables and edges
 pub record MayOpen (plan : Plan) (columns : List (List ColTy)) : Type 0 where
@@ -50,7 +62,7 @@ pub record MayOpen (plan : Plan) (columns : List (List ColTy)) : Type 0 where
   pub narrow : plan.parallelism < 17
   pub ports : All (λ node. length node.inputs < 2 ^ 32) plan.nodes
   pub typed : length columns ≡ length plan.nodes + 1
-  pub exchanged : (e : ℕ) (edge : PlanEdge) → numbered plan.edges e ≡ Some edge → IsExchange (get_or columns e []) edge.exchange
+  pub exchanged : (e : ℕ) (edge : PlanEdge) → numbered plan.edges e ≡ Some edge → IsExchange (spread_types (numbered plan.nodes e) (get_or columns e [])) edge.exchange
   pub spread : All (λ table. AreRoutable (column_types table) (spread_of table)) plan.sources
 
 -- a network of a plan, for which operators are made, and whose nodes meet their facts

@@ -5,6 +5,8 @@ use ct_change::{Change, Changes, Steps};
 use ct_value::Memory;
 use op_group::Group;
 use op_join::Join;
+use op_local::LocalGroup;
+use op_merge::MergeGroup;
 use op_row::{FilterOp, NormalizeOp, ProjectOp, UnionOp};
 use op_rules::{OpFault, Operator, PieceOperator};
 use op_semi::SemiJoin;
@@ -20,6 +22,8 @@ pub enum AnyOperator {
     Union(UnionOp),
     Normalize(NormalizeOp<AnyMode>),
     Group(Group<AnyMode, AnyMode>),
+    Local(LocalGroup<AnyMode>),
+    Merge(MergeGroup<AnyMode>),
     Join(Join<AnyMode, AnyMode>),
     Semi(SemiJoin<AnyMode, AnyMode>),
     SetOp(SetOp),
@@ -37,6 +41,8 @@ impl Drop for AnyOperator {
             AnyOperator::Union(operator) => drop(operator),
             AnyOperator::Normalize(operator) => drop(operator),
             AnyOperator::Group(operator) => drop(operator),
+            AnyOperator::Local(operator) => drop(operator),
+            AnyOperator::Merge(operator) => drop(operator),
             AnyOperator::Join(operator) => drop(operator),
             AnyOperator::Semi(operator) => drop(operator),
             AnyOperator::SetOp(operator) => drop(operator),
@@ -48,7 +54,7 @@ impl Drop for AnyOperator {
 }
 
 impl Operator for AnyOperator {
-    ghost use Rattle.session_open.specs.declared.any.AnyOperator.TheVariants.{Filter, Project, Union, Normalize, Group as Grouped, Join as Joined, Semi, SetOp as Operated, TopN as Top, Materialize as Shown, Sink};
+    ghost use Rattle.session_open.specs.declared.any.AnyOperator.TheVariants.{Filter, Project, Union, Normalize, Group as Grouped, Local as Parted, Merge as Merged, Join as Joined, Semi, SetOp as Operated, TopN as Top, Materialize as Shown, Sink};
 
     ghost rule = { elim [
       | Filter o ↦ ⟦<FilterOp as Operator>⟧.rule o
@@ -56,6 +62,8 @@ impl Operator for AnyOperator {
       | Union o ↦ ⟦<UnionOp as Operator>⟧.rule o
       | Normalize o ↦ ⟦<NormalizeOp<AnyMode> as Operator>⟧.rule o
       | Grouped o ↦ ⟦<Group<AnyMode, AnyMode> as Operator>⟧.rule o
+      | Parted o ↦ ⟦<LocalGroup<AnyMode> as Operator>⟧.rule o
+      | Merged o ↦ ⟦<MergeGroup<AnyMode> as Operator>⟧.rule o
       | Joined o ↦ ⟦<Join<AnyMode, AnyMode> as Operator>⟧.rule o
       | Semi o ↦ ⟦<SemiJoin<AnyMode, AnyMode> as Operator>⟧.rule o
       | Operated o ↦ ⟦<SetOp as Operator>⟧.rule o
@@ -70,6 +78,8 @@ impl Operator for AnyOperator {
       | Union o ↦ ⟦<UnionOp as Operator>⟧.broken o
       | Normalize o ↦ ⟦<NormalizeOp<AnyMode> as Operator>⟧.broken o
       | Grouped o ↦ ⟦<Group<AnyMode, AnyMode> as Operator>⟧.broken o
+      | Parted o ↦ ⟦<LocalGroup<AnyMode> as Operator>⟧.broken o
+      | Merged o ↦ ⟦<MergeGroup<AnyMode> as Operator>⟧.broken o
       | Joined o ↦ ⟦<Join<AnyMode, AnyMode> as Operator>⟧.broken o
       | Semi o ↦ ⟦<SemiJoin<AnyMode, AnyMode> as Operator>⟧.broken o
       | Operated o ↦ ⟦<SetOp as Operator>⟧.broken o
@@ -84,6 +94,8 @@ impl Operator for AnyOperator {
       | Union o ↦ ⟦<UnionOp as Operator>⟧.stands_for o
       | Normalize o ↦ ⟦<NormalizeOp<AnyMode> as Operator>⟧.stands_for o
       | Grouped o ↦ ⟦<Group<AnyMode, AnyMode> as Operator>⟧.stands_for o
+      | Parted o ↦ ⟦<LocalGroup<AnyMode> as Operator>⟧.stands_for o
+      | Merged o ↦ ⟦<MergeGroup<AnyMode> as Operator>⟧.stands_for o
       | Joined o ↦ ⟦<Join<AnyMode, AnyMode> as Operator>⟧.stands_for o
       | Semi o ↦ ⟦<SemiJoin<AnyMode, AnyMode> as Operator>⟧.stands_for o
       | Operated o ↦ ⟦<SetOp as Operator>⟧.stands_for o
@@ -108,6 +120,8 @@ impl Operator for AnyOperator {
             AnyOperator::Union(o) => o.consume(port, change, steps),
             AnyOperator::Normalize(o) => o.consume(port, change, steps),
             AnyOperator::Group(o) => o.consume(port, change, steps),
+            AnyOperator::Local(o) => o.consume(port, change, steps),
+            AnyOperator::Merge(o) => o.consume(port, change, steps),
             AnyOperator::Join(o) => o.consume(port, change, steps),
             AnyOperator::Semi(o) => o.consume(port, change, steps),
             AnyOperator::SetOp(o) => o.consume(port, change, steps),
@@ -124,6 +138,8 @@ impl Operator for AnyOperator {
             AnyOperator::Union(o) => o.is_broken(),
             AnyOperator::Normalize(o) => o.is_broken(),
             AnyOperator::Group(o) => o.is_broken(),
+            AnyOperator::Local(o) => o.is_broken(),
+            AnyOperator::Merge(o) => o.is_broken(),
             AnyOperator::Join(o) => o.is_broken(),
             AnyOperator::Semi(o) => o.is_broken(),
             AnyOperator::SetOp(o) => o.is_broken(),
@@ -135,7 +151,7 @@ impl Operator for AnyOperator {
 }
 
 impl PieceOperator for AnyOperator {
-    ghost use Rattle.session_open.specs.declared.any.AnyOperator.TheVariants.{Filter, Project, Union, Normalize, Group as Grouped, Join as Joined, Semi, SetOp as Operated, TopN as Top, Materialize as Shown, Sink};
+    ghost use Rattle.session_open.specs.declared.any.AnyOperator.TheVariants.{Filter, Project, Union, Normalize, Group as Grouped, Local as Parted, Merge as Merged, Join as Joined, Semi, SetOp as Operated, TopN as Top, Materialize as Shown, Sink};
     ghost use Rattle.std.specs.Prelude.{false};
 
     ghost takes_pieces = { elim [
@@ -144,6 +160,8 @@ impl PieceOperator for AnyOperator {
       | Union o ↦ false
       | Normalize o ↦ false
       | Grouped o ↦ ⟦<Group<AnyMode, AnyMode> as PieceOperator>⟧.takes_pieces o
+      | Parted o ↦ ⟦<LocalGroup<AnyMode> as PieceOperator>⟧.takes_pieces o
+      | Merged o ↦ ⟦<MergeGroup<AnyMode> as PieceOperator>⟧.takes_pieces o
       | Joined o ↦ false
       | Semi o ↦ false
       | Operated o ↦ false
@@ -159,6 +177,8 @@ impl PieceOperator for AnyOperator {
     ) -> Result<Changes, OpFault> {
         match self {
             AnyOperator::Group(o) => o.take_piece(changes, steps),
+            AnyOperator::Local(o) => o.take_piece(changes, steps),
+            AnyOperator::Merge(o) => o.take_piece(changes, steps),
             AnyOperator::Filter(_) => unreachable!(),
             AnyOperator::Project(_) => unreachable!(),
             AnyOperator::Union(_) => unreachable!(),
@@ -190,6 +210,8 @@ impl AnyOperator {
             AnyOperator::Union(o) => o.opening(subtask),
             AnyOperator::Normalize(o) => o.opening(subtask),
             AnyOperator::Group(o) => o.opening(subtask),
+            AnyOperator::Local(o) => o.opening(subtask),
+            AnyOperator::Merge(o) => o.opening(subtask),
             AnyOperator::Join(o) => o.opening(subtask),
             AnyOperator::Semi(o) => o.opening(subtask),
             AnyOperator::SetOp(o) => o.opening(subtask),

@@ -5,7 +5,7 @@ ghost use Rattle.phys_plan.specs.Reading.{numbered, first_input};
 ghost use Rattle.ct_change.specs.declared.update.Update.TheVariants.{Absent};
 ghost use Rattle.emission_rules.specs.Changes.{after_key};
 ghost use Rattle.plan_rules.specs.Around.{mode_read, mode_told};
-ghost use Rattle.plan_rules.specs.Doings.{update_in};
+ghost use Rattle.plan_rules.specs.Plans.{update_in};
 ghost use Rattle.session_open.specs.Modes.{mode_in};
 
 use crate::AnyMode;

@@ -2,7 +2,7 @@ ghost use Rattle.std.specs.Prelude.{◌≡◌, [], IfOk, get_or};
 ghost use Rattle.plan_rules.specs.Plans.{kinds_in};
 ghost use Rattle.phys_plan.specs.Reading.{numbered, first_input};
 ghost use Rattle.plan_rules.specs.Around.{mode_read};
-ghost use Rattle.plan_rules.specs.Doings.{update_in};
+ghost use Rattle.plan_rules.specs.Plans.{update_in};
 ghost use Rattle.session_open.specs.Modes.{mode_in};
 ghost use Rattle.session_open.specs.Running.{second_input};
 

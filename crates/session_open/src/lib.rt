@@ -15,6 +15,7 @@ mod edges;
 mod fault;
 mod feeds;
 mod inputs;
+mod locals;
 mod made;
 mod making;
 mod mode;

@@ -13,14 +13,20 @@ ghost use Rattle.emission_rules.specs.Joining.{joins, matched, join_rule};
 ghost use Rattle.emission_rules.specs.Ranking.{topn_rule, IsSound as RanksWell};
 ghost use Rattle.phys_plan.specs.Reading.{numbered, first_input};
 ghost use Rattle.plan_rules.specs.Around.{second};
-ghost use Rattle.plan_rules.specs.Behaviours.{behaviour, Suits};
-ghost use Rattle.plan_rules.specs.Plans.{bundle_of};
-ghost use Rattle.plan_rules.specs.Doings.{around_of, update_in};
+ghost use Rattle.plan_rules.specs.Behaviours.{behaviour, bundled_rule, BundlesWell, Suits};
+ghost use Rattle.plan_rules.specs.Columns.{AreColumns, columns_at};
+ghost use Rattle.ct_change.specs.Changelog.{Mode};
+ghost use Rattle.phase_rules.specs.LocalGrouping.{SumsUp, local_rule};
+ghost use Rattle.phase_rules.specs.Merging.{merge_rule};
+ghost use Rattle.op_merge.specs.Groups.{CanMerge};
+ghost use Rattle.plan_rules.specs.Plans.{bundle_of, update_in};
+ghost use Rattle.plan_rules.specs.Doings.{around_of};
 ghost use Rattle.session_open.specs.Modes.{mode_in};
 ghost use Rattle.session_open.specs.Running.{IsBuiltPlan, IsNew, IsOperatorBy, second_input};
 
 use crate::edges::{after_of, sink_key, told_to, written_at};
 use crate::inputs::{Input, both_inputs, only_input};
+use crate::locals::{Local, local_below};
 use crate::numbers::{count_of, node_at};
 use crate::types::range_types_of;
 use crate::{AnyMode, AnyOperator, PlanOperator};
@@ -29,6 +35,8 @@ use ct_expr::{Expr, Exprs, dup_exprs};
 use ct_value::{ColTys, Cols, List, Memory, Numbers};
 use op_group::Group;
 use op_join::Join;
+use op_local::LocalGroup;
+use op_merge::MergeGroup;
 use op_row::{FilterOp, NormalizeOp, ProjectOp, UnionOp};
 use op_rules::{Operator, PieceOperator};
 use op_semi::SemiJoin;
@@ -81,6 +89,7 @@ fn operator_of(
 ) -> Result<Option<AnyOperator>, Memory>
     requires suits { Suits node.now.op (around_of plan.now number node.now.inputs) }
     requires columns { get_or columns.now (first_input node.now.inputs) [] ≡ (around_of plan.now number node.now.inputs).columns }
+    requires all { AreColumns columns.now (columns_at plan.now.sources plan.now.nodes) }
     requires others { get_or columns.now (second_input node.now.inputs) [] ≡ (second (around_of plan.now number node.now.inputs)).columns }
     ensures { IfOk result (λ made. IsOperatorBy ⟦<AnyOperator as Operator>⟧.rule ⟦<AnyOperator as Operator>⟧.broken ⟦<AnyOperator as Operator>⟧.stands_for ⟦<AnyOperator as PieceOperator>⟧.takes_pieces (behaviour node.now.op (around_of plan.now number node.now.inputs)) (bundle_of plan.now.mini_batch node.now.op) made) }
 {
@@ -92,10 +101,19 @@ fn operator_of(
             let own = written_at(alloc, plan, number)?;
             Ok(Some(normalize_by(alloc, key, own)?))
         }
-        Op::Group { keys, aggs } | Op::BatchGroup { keys, aggs } => {
+        Op::Group { keys, aggs } => {
             let input = only_input(alloc, plan, columns, &node.inputs)?;
             let own = written_at(alloc, plan, number)?;
             Ok(Some(group_by(alloc, input, own, *keys, aggs)?))
+        }
+        Op::BatchGroup { keys, aggs } => {
+            let inputs = &node.inputs;
+            let made = bundled_by(alloc, plan, columns, number, inputs, *keys, aggs)?;
+            Ok(Some(made))
+        }
+        Op::LocalGroup { keys, aggs } => {
+            let input = only_input(alloc, plan, columns, &node.inputs)?;
+            Ok(Some(local_by(alloc, input, *keys, aggs)?))
         }
         Op::Join { kind, on, rest } => {
             let sides = both_inputs(alloc, plan, columns, &node.inputs)?;
@@ -170,6 +188,48 @@ fn group_by(
 {
     let made = Group::new(alloc, keys, aggs.dup()?, input.types, input.mode, own)?;
     Ok(AnyOperator::Group(made))
+}
+
+// A group in bundles, over rows, or over what a local group sends.
+fn bundled_by(
+    alloc: Global,
+    plan: &Plan,
+    columns: &List<ColTys>,
+    number: u32,
+    inputs: &Numbers,
+    keys: u32,
+    aggs: &Aggs,
+) -> Result<AnyOperator, Memory>
+    requires suits { BundlesWell keys aggs.now (around_of plan.now number inputs.now) (around_of plan.now number inputs.now).partial }
+    requires columns { AreColumns columns.now (columns_at plan.now.sources plan.now.nodes) }
+    ensures new { IfOk result (λ made. IsNew ⟦<AnyOperator as Operator>⟧.rule ⟦<AnyOperator as Operator>⟧.broken ⟦<AnyOperator as Operator>⟧.stands_for ⟦<AnyOperator as PieceOperator>⟧.takes_pieces made (bundled_rule keys aggs.now (around_of plan.now number inputs.now) (around_of plan.now number inputs.now).partial)) }
+    ensures pieces { IfOk result (λ made. ⟦<AnyOperator as PieceOperator>⟧.takes_pieces made ≡ true) }
+{
+    let own = written_at(alloc, plan, number)?;
+    match local_below(alloc, plan, columns, inputs)? {
+        None => {
+            let input = only_input(alloc, plan, columns, inputs)?;
+            group_by(alloc, input, own, keys, aggs)
+        }
+        Some(local) => Ok(merging_by(alloc, local, own)),
+    }
+}
+
+fn merging_by(alloc: Global, local: Local, own: AnyMode) -> AnyOperator
+    requires { (input : Mode) × CanMerge (record { local = record { keys = local.keys; aggs = local.aggs; columns = local.types; input = input }; output = mode_in own }) }
+    ensures new { (input : Mode) → IsNew ⟦<AnyOperator as Operator>⟧.rule ⟦<AnyOperator as Operator>⟧.broken ⟦<AnyOperator as Operator>⟧.stands_for ⟦<AnyOperator as PieceOperator>⟧.takes_pieces result (merge_rule (record { local = record { keys = local.keys; aggs = local.aggs; columns = local.types; input = input }; output = mode_in own })) }
+    ensures pieces { ⟦<AnyOperator as PieceOperator>⟧.takes_pieces result ≡ true }
+{
+    AnyOperator::Merge(MergeGroup::new(alloc, local.keys, local.aggs, local.types, own))
+}
+
+fn local_by(alloc: Global, input: Input, keys: u32, aggs: &Aggs) -> Result<AnyOperator, Memory>
+    requires { SumsUp (record { keys = keys; aggs = aggs.now; columns = input.types; input = mode_in input.mode }) }
+    ensures new { IfOk result (λ made. IsNew ⟦<AnyOperator as Operator>⟧.rule ⟦<AnyOperator as Operator>⟧.broken ⟦<AnyOperator as Operator>⟧.stands_for ⟦<AnyOperator as PieceOperator>⟧.takes_pieces made (local_rule (record { keys = keys; aggs = aggs.now; columns = input.types; input = mode_in input.mode }))) }
+    ensures pieces { IfOk result (λ made. ⟦<AnyOperator as PieceOperator>⟧.takes_pieces made ≡ true) }
+{
+    let aggs = aggs.dup()?;
+    Ok(AnyOperator::Local(LocalGroup::new(alloc, keys, aggs, input.types, input.mode)))
 }
 
 fn join_by(

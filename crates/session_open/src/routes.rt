@@ -3,11 +3,12 @@ ghost use Rattle.ct_value.specs.declared.ty.ColTy.{ColTy};
 ghost use Rattle.plan_rules.specs.Plans.{Doing, network_edge};
 ghost use Rattle.phys_plan.specs.Reading.{numbered};
 ghost use Rattle.session_channels.specs.Sending.{AllRoute};
-ghost use Rattle.session_open.specs.Opening.{IsExchange, IsRouteIn, IsRouteOf, MayOpen};
+ghost use Rattle.session_open.specs.Opening.{IsExchange, IsRouteIn, IsRouteOf, MayOpen, spread_types, types_by};
 ghost use Rattle.plan_rules.specs.Columns.{AreColumns};
 
+use crate::numbers::node_at;
 use ct_value::{ColTys, List, Memory};
-use phys_plan::{Edge, Exchange, Plan};
+use phys_plan::{Edge, Exchange, Op, Plan};
 use session_channels::{KeyRoute, Route};
 use std::alloc::Global;
 
@@ -32,12 +33,37 @@ pub(crate) fn routes_of(
 fn route_at(plan: &Plan, columns: &List<ColTys>, edge: usize) -> Result<Route, Memory>
     requires may { MayOpen plan.now columns.now }
     requires edge { edge < length plan.now.nodes + 1 }
-    ensures { IfOk result (λ route. IsRouteIn (get_or columns.now edge []) (numbered plan.now.edges edge) route) }
+    ensures { IfOk result (λ route. IsRouteIn (spread_types (numbered plan.now.nodes edge) (get_or columns.now edge [])) (numbered plan.now.edges edge) route) }
 {
+    let types = types_of(plan, columns, edge)?;
     match edge_at(plan, edge) {
         None => Ok(Route::Forward),
-        Some(of) => exchanged(&of.exchange, &columns.as_slice()[edge]),
+        Some(of) => exchanged(&of.exchange, types),
     }
+}
+
+// The types by which an edge spreads what its node sends.
+fn types_of(plan: &Plan, columns: &List<ColTys>, edge: usize) -> Result<ColTys, Memory>
+    requires may { MayOpen plan.now columns.now }
+    requires edge { edge < length plan.now.nodes + 1 }
+    ensures { IfOk result (λ types. types ≡ spread_types (numbered plan.now.nodes edge) (get_or columns.now edge [])) }
+{
+    let types = columns.as_slice()[edge].dup()?;
+    match node_at(plan, edge as u32) {
+        None => Ok(types),
+        Some(node) => Ok(types_by(&node.op, types)),
+    }
+}
+
+// A local group's rows are spread by the types of its key columns.
+fn types_by(op: &Op, types: ColTys) -> ColTys
+    ensures { result ≡ types_by op.now types }
+{
+    let mut types = types;
+    if let Op::LocalGroup { keys, .. } = op {
+        types.truncate(*keys as usize);
+    }
+    types
 }
 
 // The edge of a number.
@@ -50,16 +76,15 @@ fn edge_at(plan: &Plan, number: usize) -> Option<&Edge>
     plan.edges.get(number - 1)
 }
 
-// The route of an exchange of rows of these columns.
-fn exchanged(exchange: &Exchange, types: &ColTys) -> Result<Route, Memory>
-    requires { IsExchange types.now exchange.now }
-    ensures { IfOk result (λ route. IsRouteOf types.now exchange.now route) }
+// The route of an exchange of rows whose first columns have these types.
+fn exchanged(exchange: &Exchange, types: ColTys) -> Result<Route, Memory>
+    requires { IsExchange types exchange.now }
+    ensures { IfOk result (λ route. IsRouteOf types exchange.now route) }
 {
     match exchange {
         Exchange::Forward => Ok(Route::Forward),
         Exchange::Hash(columns) => {
             let columns = columns.dup()?;
-            let types = types.dup()?;
             Ok(Route::Hash(KeyRoute { columns, types }))
         }
     }

@@ -27,8 +27,8 @@ pub(crate) fn range_types_of(
         Op::Sink => input_types(alloc, columns, &node.inputs),
         Op::Group { keys, .. } => first_types(alloc, columns, node, *keys),
         Op::BatchGroup { keys, .. } => first_types(alloc, columns, node, *keys),
+        Op::LocalGroup { keys, .. } => first_types(alloc, columns, node, *keys),
         Op::Scan { .. } => Ok(ColTys::new(alloc)),
-        Op::LocalGroup { .. } => Ok(ColTys::new(alloc)),
         Op::MultiJoin { .. } => Ok(ColTys::new(alloc)),
         // All others have two inputs.
         _ => joined_types(alloc, columns, &node.inputs),

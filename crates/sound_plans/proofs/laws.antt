@@ -1,4 +1,5 @@
 pub mod Agreed
+pub mod Calls
 pub mod Columns
 pub mod Consumers
 pub mod Filters
@@ -22,6 +23,7 @@ pub mod Names
 pub mod Normalizes
 pub mod Numbers
 pub mod Outputs
+pub mod Phases
 pub mod Projects
 pub mod Routes
 pub mod RowFamilies

@@ -1,25 +1,31 @@
 -- What a sound plan says of a node: that what it sends is what is inferred of it, by what its inputs send.
-use Rattle.std.specs.Prelude.{◌≡◌, ◌⊎◌, ℕ, zero, suc, Bool, true, false, List, [], ◌∷◌, length, map, Option, None, Some}
+use Rattle.std.specs.Prelude.{◌≡◌, ◌⊎◌, ◌<◌, ℕ, zero, suc, Bool, true, false, List, [], ◌∷◌, length, map, Option, None, Some}
+use Rattle.std.specs.List.{list_all}
+use Rattle.ct_value.specs.declared.ty.ColTy.{ColTy}
 use Rattle.ct_change.specs.declared.kind.Declared.{Declared}
 use Rattle.ct_change.specs.declared.kind.Declared.TheVariants.{Append, Retract, Upsert}
 use Rattle.ct_catalog.specs.declared.table.TableDef.{TableDef}
+use Rattle.rel_algebra.specs.declared.agg.Agg.{Agg}
+use Rattle.rel_algebra.specs.Groups.{group_columns}
 use Rattle.phys_plan.specs.declared.edge.Exchange.TheVariants.{Forward, Hash}
 use Rattle.ct_change.specs.declared.update.Update.{Update}
 use Rattle.ct_change.specs.declared.update.Update.TheVariants.{Absent, After}
 use Rattle.phys_plan.specs.declared.node.Op.{Op}
 use Rattle.phys_plan.specs.declared.node.Op.TheVariants as op
 use Rattle.column_sets.specs.Sets.{set_of}
+use Rattle.column_sets.specs.Places.{first_columns}
 use Rattle.ct_catalog.specs.Columns.{column_types}
 use Rattle.plan_rules.specs.Columns.{columns_by}
 use Rattle.upsert_keys.specs.Keys.{keys_of, keyed_by, table_keys}
 use Rattle.phys_plan.specs.Reading.{no_keys}
-use Rattle.mode_infer.specs.Kinds.{flow_of, kind_set, plain, scan_kinds, asked}
+use Rattle.mode_infer.specs.Kinds.{flow_of, group_kinds, kind_set, plain, scan_kinds, asked}
 use Rattle.ct_change.specs.Kinds.{has_more_than_inserts}
 use Rattle.mode_infer.specs.Modes.{edge_kinds, printed}
-use Rattle.mode_infer.specs.UpdateKeys.{update_key_of}
+use Rattle.mode_infer.specs.UpdateKeys.{group_key, update_key_of}
 use Rattle.mode_infer.specs.Updates.{scan_update, takes, told}
 use Rattle.plan_inferred.specs.Ways.{way_of}
 use Rattle.plan_inferred.specs.Rules.{by_columns, is_direct, is_shown}
+use Rattle.plan_shape.specs.Shape.{has_parts}
 use Rattle.sound_plans.specs.Outputs.{Output, AreWithin, IsProper, seen}
 
 -- its edge carries the kinds that it sends, without old rows where these are left out
@@ -47,7 +53,7 @@ abbrev pub first_width : List Output → ℕ
 first_width [] = 0
 first_width (input ∷ inputs) = length input.columns
 
--- a node that neither scans nor normalizes nor materializes and isn't the sink
+-- a node that neither scans nor normalizes nor materializes and isn't the sink, where no partial rows come
 pub record Agrees (sources : List TableDef) (sink : TableDef) (o : Op) (inputs : List Output) (own : Output) : Type 0 where
   pub inputs_asked : AtPorts (IsAsked sink o own.edge.update) 0 inputs
   pub typed : columns_by sources o (map (λ input. Some input.columns) inputs) ≡ Some own.columns
@@ -56,6 +62,26 @@ pub record Agrees (sources : List TableDef) (sink : TableDef) (o : Op) (inputs :
   pub updates : own.update_key ≡ update_key_of (first_width inputs) o (map (λ input. input.update_key) inputs)
   pub carries : Carries own
   -- where its consumer takes new rows alone
+  pub taken : Bool
+  pub tells : own.edge.update ≡ told own.sent own.update_key taken
+
+-- a local group, of key columns: groups of what comes have columns, each call is one that can be summed up, and partial rows go by key
+pub record LocalAgrees (sources : List TableDef) (sink : TableDef) (keys : ℕ) (aggs : List Agg) (input own : Output) : Type 0 where
+  pub agrees : Agrees sources sink (op.LocalGroup keys aggs) (input ∷ []) own
+  pub some_keys : 0 < keys
+  pub made : List ColTy
+  pub grouped : group_columns keys input.columns aggs ≡ Some made
+  pub sum_up : list_all (λ agg. has_parts input.edge.kinds agg.call) aggs ≡ true
+  pub exchanged : own.edge.exchange ≡ Hash (first_columns keys)
+
+-- a group in bundles above a local group, which in turn agrees with its input
+pub record MergeAgrees (sources : List TableDef) (sink : TableDef) (keys : ℕ) (aggs : List Agg) (input below own : Output) : Type 0 where
+  pub local : LocalAgrees sources sink keys aggs input below
+  pub typed : group_columns keys input.columns aggs ≡ Some own.columns
+  pub keyed : own.keys ≡ keyed_by (first_columns keys)
+  pub sends : own.sent ≡ group_kinds keys aggs input.sent
+  pub updates : own.update_key ≡ group_key keys aggs
+  pub carries : Carries own
   pub taken : Bool
   pub tells : own.edge.update ≡ told own.sent own.update_key taken
 

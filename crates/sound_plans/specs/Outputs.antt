@@ -7,14 +7,16 @@ use Rattle.ct_change.specs.declared.kind.KindSet.{KindSet}
 use Rattle.ct_catalog.specs.declared.table.TableDef.{TableDef}
 use Rattle.phys_plan.specs.declared.edge.Edge.{Edge as PlanEdge}
 use Rattle.ct_change.specs.declared.update.Update.{Update}
-use Rattle.phys_plan.specs.declared.edge.Exchange.TheVariants.{Forward}
+use Rattle.phys_plan.specs.declared.edge.Exchange.TheVariants.{Forward, Hash}
 use Rattle.ct_change.specs.declared.update.Update.TheVariants.{Absent, After, Both}
 use Rattle.phys_plan.specs.declared.node.KeyInfo.{KeyInfo}
-use Rattle.op_rules.specs.Edges.{meaning_of, Edge}
+use Rattle.op_rules.specs.Edges.{meaning_of, partials, Edge}
 use Rattle.column_sets.specs.Sets.{is_within}
-use Rattle.plan_rules.specs.Plans.{exchange_of, route_by, meaning_by, change_fits, no_kinds}
+use Rattle.phase_rules.specs.LocalGrouping.{LocalGrouping, partials_of}
+use Rattle.plan_rules.specs.Plans.{exchange_of, route_by, meaning_by, change_fits}
 use Rattle.ct_catalog.specs.Columns.{table_mode}
-use Rattle.plan_rules.specs.Around.{Around, Side}
+use Rattle.plan_rules.specs.Around.{Around, Side, no_kinds}
+use Rattle.plan_rules.specs.Phases.{is_sent}
 use Rattle.upsert_keys.specs.Seen.{seen_over}
 use Rattle.phys_plan.specs.Reading.{no_keys}
 use Rattle.upsert_keys.specs.declared.seen.Seen.{Seen}
@@ -54,6 +56,30 @@ printed_edge many sink out = record {
   unique = out.keys.unique;
   local = out.keys.local;
   fixing = out.keys.fixing;
+}
+
+-- that of a local group, over which its partial rows go
+abbrev pub partial_edge : ℕ → LocalGrouping → Output → Edge
+partial_edge many l out = record {
+  meaning = partials (partials_of l);
+  exchange = exchange_of out.edge.exchange;
+  route = route_by many out.columns (exchange_of out.edge.exchange);
+  kinds = out.edge.kinds;
+  fits = is_sent l;
+  holds = λ row. row_fits out.columns row;
+  unique = out.keys.unique;
+  local = out.keys.local;
+  fixing = out.keys.fixing;
+}
+
+-- what comes to a local group, as it would come by key columns if no local group stood there
+abbrev pub without_local : List ℕ → Output → Output
+without_local key input = record {
+  columns = input.columns;
+  edge = record { exchange = Hash key; kinds = input.edge.kinds; update = input.edge.update };
+  keys = no_keys;
+  sent = input.sent;
+  update_key = input.update_key;
 }
 
 -- of a node that isn't there
@@ -111,14 +137,19 @@ abbrev pub others_of : List Output → List Side
 others_of [] = []
 others_of (input ∷ inputs) = map side_of inputs
 
-abbrev pub around_by : TableDef → List Output → Output → Around
-around_by sink inputs own = record {
+abbrev pub around_sent : Option LocalGrouping → TableDef → List Output → Output → Around
+around_sent partial sink inputs own = record {
   kinds = first_kinds inputs;
   input = first_update inputs;
   own = own.edge.update;
   columns = first_columns_of inputs;
+  partial = partial;
   others = others_of inputs;
   inputs = length inputs;
   declared = sink.mode;
   sink_key = unwrap_or sink.key [];
 }
+
+-- where rows come by its first input
+abbrev pub around_by : TableDef → List Output → Output → Around
+around_by sink inputs own = around_sent None sink inputs own

@@ -14,12 +14,15 @@ use Rattle.emission_rules.specs.Normalize.{NormalizeFits}
 use Rattle.emission_rules.specs.Materialize.{MaterializeFits}
 use Rattle.emission_rules.specs.Sink.{SinkFits}
 use Rattle.emission_rules.specs.GroupFits.{GroupFits}
+use Rattle.phase_rules.specs.LocalFits.{LocalFits}
+use Rattle.phase_rules.specs.MergeFits.{MergeFits}
+use Rattle.column_sets.specs.Places.{first_columns}
 use Rattle.stream_model.specs.Scans.{CarriesTable}
 use Rattle.plan_rules.specs.Plans.{table_of}
 use Rattle.ct_catalog.specs.Columns.{table_mode}
-use Rattle.plan_rules.specs.Around.{project_of, union_of, normalize_of, grouping_of, sink_of}
-use Rattle.sound_plans.specs.Outputs.{Output, IsProper, around_by, edge_of, edges_of, printed_edge}
-use Rattle.sound_plans.specs.Agrees.{Agrees, MaterializeAgrees, NormalizeAgrees, ScanAgrees, SinkAgrees}
+use Rattle.plan_rules.specs.Around.{project_of, union_of, normalize_of, grouping_of, local_of, merging_of, sink_of}
+use Rattle.sound_plans.specs.Outputs.{Output, IsProper, around_by, edge_of, edges_of, partial_edge, printed_edge, without_local}
+use Rattle.sound_plans.specs.Agrees.{Agrees, LocalAgrees, MaterializeAgrees, MergeAgrees, NormalizeAgrees, ScanAgrees, SinkAgrees}
 
 abbrev pub FiltersFit : Type 0
 FiltersFit = (many : ℕ) (sources : List TableDef) (sink : TableDef) (cond : Expr) (input own : Output) → Agrees sources sink (op.Filter cond) (input ∷ []) own
@@ -44,6 +47,16 @@ MaterializesFit = (many : ℕ) → 0 < many → (sink : TableDef) (key : List �
 abbrev pub GroupsFit : Type 0
 GroupsFit = (many : ℕ) → 0 < many → (sources : List TableDef) (sink : TableDef) (keys : ℕ) (aggs : List Agg) (input own : Output) → Agrees sources sink (op.Group keys aggs) (input ∷ []) own
     → GroupFits many (grouping_of keys aggs (around_by sink (input ∷ []) own)) (edge_of many input) (edge_of many own) × IsProper own
+
+abbrev pub LocalGroupsFit : Type 0
+LocalGroupsFit = (many : ℕ) → 0 < many → (sources : List TableDef) (sink : TableDef) (keys : ℕ) (aggs : List Agg) (input own : Output) → LocalAgrees sources sink keys aggs input own
+    → LocalFits many (local_of keys aggs (around_by sink (input ∷ []) own)) (edge_of many input) (partial_edge many (local_of keys aggs (around_by sink (input ∷ []) own)) own) × IsProper own
+
+-- where no local group stood, the group would take what comes to that
+abbrev pub MergingGroupsFit : Type 0
+MergingGroupsFit = (many : ℕ) → 0 < many → (sources : List TableDef) (sink : TableDef) (keys : ℕ) (aggs : List Agg) (input below own : Output) → MergeAgrees sources sink keys aggs input below own
+    → MergeFits many (merging_of (local_of keys aggs (around_by sink (input ∷ []) below)) (around_by sink (below ∷ []) own)) (edge_of many (without_local (first_columns keys) input))
+    (partial_edge many (local_of keys aggs (around_by sink (input ∷ []) below)) below) (edge_of many own) × IsProper own
 
 -- and a sink prints kinds of its table's mode alone
 abbrev pub SinksFit : Type 0

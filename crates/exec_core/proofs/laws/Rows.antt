@@ -22,6 +22,7 @@ use Rattle.plan_check.specs.Sound.{IsSound}
 use Rattle.plan_check.specs.Types.{fit_sink, is_typed, is_typed_by, keep_nulls, types_at}
 use Rattle.plan_rules.specs.Columns.{columns_at}
 use Rattle.plan_rules.specs.Doings.{network}
+use Rattle.plan_rules.specs.Phases.{fits_sent}
 use Rattle.plan_rules.specs.Plans.{change_fits}
 use Rattle.plan_shape.specs.Shape.{has_sizes, is_shaped, is_sink, is_whole}
 use Rattle.plan_shape.specs.Shaped.{MeetsShape}
@@ -32,7 +33,7 @@ use Rattle.sound_plans.specs.Sound.{IsRuled}
 use Rattle.sound_plans.proofs.laws.Columns.{columns_are}
 use Rattle.sound_plans.proofs.laws.Lists.{both}
 use Rattle.sound_plans.proofs.laws.Shapes.{IsBefore, among, inputs_there, last_sinks, shape}
-use Rattle.sound_plans.proofs.laws.Theorems.{sound_plans_are_wired, sound_plans_meet_facts_facts}
+use Rattle.sound_plans.proofs.laws.Theorems.{sink_sends_rows, sound_plans_are_wired, sound_plans_meet_facts_facts}
 use Rattle.stream_model.specs.declared.events.PrintItem.{PrintItem}
 use Rattle.stream_model.specs.declared.events.PrintItem.TheVariants.{Change as Printed, Quiet}
 use Rattle.stream_model.specs.KeysTold.{told_fits}
@@ -96,7 +97,9 @@ pub printed_wide : (plan : Plan) → IsRuled plan → (limit : ℕ) (items : Lis
 printed_wide plan ruled limit items typed =
     let g = network plan in
     let holds = plans_compose g (sound_plans_are_wired plan ruled) (sound_plans_meet_facts_facts plan ruled) limit items typed in
-    items_wide (sent_columns plan) (length (map (λ c. c.ty.ty) plan.sink.cols)) (sent_length plan ruled ∙ types_length plan.sink.cols) _ (after g limit (opened g) items).printed holds.printed_fits
+    let printed = (after g limit (opened g) items).printed in
+    let rows = subst (λ o. AllByRecursion (λ change. fits_sent o (change_fits (g.edge g.count).meaning (sent_columns plan)) change ≡ true) (changes_in printed)) (sink_sends_rows plan ruled) holds.printed_fits in
+    items_wide (sent_columns plan) (length (map (λ c. c.ty.ty) plan.sink.cols)) (sent_length plan ruled ∙ types_length plan.sink.cols) (g.edge g.count).meaning printed rows
 
 -- ---- the types of its columns exist
 

@@ -20,7 +20,8 @@ use Rattle.laid_plans.proofs.laws.LaidTrees.{HasNode}
 use Rattle.plan_shape.specs.Shape.{is_sink, op_in, suits_consumer, suits_input, suits_plan, takes}
 use Rattle.plan_check.specs.Types.{is_typed_by, types_at, types_by}
 use Rattle.plan_rules.specs.Behaviours.{has_rule}
-use Rattle.plan_rules.specs.Roles.{Role, reads_table, one_of, two_of, all_of, same_as, not_told, role}
+use Rattle.plan_rules.specs.Phases.{sends_parts}
+use Rattle.plan_rules.specs.Roles.{Role, reads_table, one_of, two_of, all_of, same_as, part_of, not_told, role}
 use Rattle.sound_plans.proofs.laws.Columns.{types_made}
 
 -- ---- the first columns, made from the last and from the first
@@ -52,6 +53,7 @@ module _ (plan : Plan) where
   -- of all its inputs and of the plan
   pub record OpMeets (v : ℕ) (o : Op) (inputs : List ℕ) : Type 0 where
     pub ruled : has_rule o ≡ true
+    pub whole : sends_parts o ≡ false
     pub suits : suits_plan plan o ≡ true
     pub ports : takes o (length inputs) ≡ true
     pub below : suits_input plan.sources o (op_in (numbered plan.nodes (first_input inputs))) (kinds_in (numbered plan.edges (first_input inputs))) ≡ true
@@ -86,6 +88,7 @@ module _ (plan : Plan) where
   -- such an operator stands on any node, feeds any, and is the sink of none
   pub record IsInner (o : Op) : Type 0 where
     pub ruled : has_rule o ≡ true
+    pub whole : sends_parts o ≡ false
     pub suits : suits_plan plan o ≡ true
     pub below : (input : Option Op) (kinds : KindSet) → suits_input plan.sources o input kinds ≡ true
     pub no_sink : is_sink (Some o) ≡ false
@@ -99,6 +102,7 @@ module _ (plan : Plan) where
   is_made (two_of how) = true
   is_made all_of = true
   is_made same_as = false
+  is_made (part_of keys aggs) = false
   is_made (not_told so_many) = false
 
   abbrev pub is_inner : Op → Bool
@@ -107,11 +111,11 @@ module _ (plan : Plan) where
   asks_nothing : (o : Op) → is_inner o ≡ true → has_rule o ≡ true → IsInner o
   asks_nothing (op.Scan source) e r = absurd (cc)
   asks_nothing (op.Normalize key) e r = absurd (cc)
-  asks_nothing (op.BatchGroup keys aggs) e r = record { ruled = r; suits = e; below = λ input kinds. refl; no_sink = refl; typed = λ columns. refl; feeds = λ above. refl }
+  asks_nothing (op.BatchGroup keys aggs) e r = record { ruled = r; whole = refl; suits = e; below = λ input kinds. refl; no_sink = refl; typed = λ columns. refl; feeds = λ above. refl }
   asks_nothing (op.Materialize key) e r = absurd (cc)
   asks_nothing (op.LocalGroup keys aggs) e r = absurd (cc)
   asks_nothing op.Sink e r = absurd (cc)
-  asks_nothing _ e r = record { ruled = r; suits = refl; below = λ input kinds. refl; no_sink = refl; typed = λ columns. refl; feeds = λ above. refl }
+  asks_nothing _ e r = record { ruled = r; whole = refl; suits = refl; below = λ input kinds. refl; no_sink = refl; typed = λ columns. refl; feeds = λ above. refl }
 
   -- these ask nothing
   pub inner : (o : Op) → is_inner o ≡ true → IsInner o

@@ -31,6 +31,7 @@ use Rattle.plan_shape.specs.Tables.{are_tables, is_declarable}
 use Rattle.plan_check.specs.Sound.{inferred_of, Meets}
 use Rattle.plan_check.specs.Types.{is_typed, is_typed_by, keep_nulls, types_at, types_by}
 use Rattle.plan_rules.specs.Behaviours.{has_rule}
+use Rattle.plan_rules.specs.Phases.{sends_parts}
 use Rattle.sound_plans.proofs.laws.Lists.{both, found, map_length, the_same}
 use Rattle.sound_plans.proofs.laws.Consumers.{by_test}
 use Rattle.sound_plans.proofs.laws.Tables.{key_within}
@@ -116,6 +117,7 @@ sends plan columns has_key (shown key) suits below root told between high =
     record {
       part = next_part plan 0 below root (below ∷ []) (op.Materialize key) told.part next has (record {
         ruled = refl;
+        whole = refl;
         suits = suits;
         ports = refl;
         below = refl;
@@ -187,6 +189,7 @@ module _ (plan : Plan) (rel : Rel) (is : IsLaidWell plan rel) where
       types_from plan v op.Sink (root ∷ []) has (lower, tt) ∙ ap (λ (c : Option (List ColTy)). types_by plan.sources op.Sink (c ∷ [])) under.columns_are in
       next_part plan 0 root v (root ∷ []) op.Sink under.part refl has (record {
         ruled = refl;
+        whole = refl;
         suits = refl;
         ports = refl;
         below = refl;
@@ -361,5 +364,11 @@ module _ (plan : Plan) (rel : Rel) (is : IsLaidWell plan rel) where
       let m = all.segment.each v b.0 b.1 in
       ap (λ (n : Node). has_rule n.op) (sym (the_same m.node node (sym m.is_node ∙ e))) ∙ m.meets.ruled
 
+  in_one_phase : (v : ℕ) (node : Node) → numbered plan.nodes v ≡ Some node → sends_parts node.op ≡ false
+  in_one_phase v node e =
+      let b = reached v node e in
+      let m = all.segment.each v b.0 b.1 in
+      ap (λ (n : Node). sends_parts n.op) (sym (the_same m.node node (sym m.is_node ∙ e))) ∙ m.meets.whole
+
 pub laid_plans_have_shape : LaidPlansHaveShape
-laid_plans_have_shape plan rel is = record { rules = rules plan rel is; shape = shape plan rel is; types = types plan rel is; exchanged = exchanged plan rel is }
+laid_plans_have_shape plan rel is = record { rules = rules plan rel is; in_one_phase = in_one_phase plan rel is; shape = shape plan rel is; types = types plan rel is; exchanged = exchanged plan rel is }

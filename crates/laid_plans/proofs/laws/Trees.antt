@@ -129,6 +129,7 @@ module _ (plan : Plan) where
       record {
         part = next_part plan n last root roots o s next has (record {
           ruled = is.ruled;
+          whole = is.whole;
           suits = is.suits;
           ports = ports;
           below = is.below _ _;
@@ -274,6 +275,7 @@ module _ (plan : Plan) where
         k,
         record {
           ruled = refl;
+          whole = refl;
           suits = lt-ltb source (length plan.sources) (within plan.sources source table e);
           ports = refl;
           below = refl;
@@ -336,6 +338,7 @@ module _ (plan : Plan) where
       record {
         part = next_part plan n (n + 1) root ((n + 1) ∷ []) (op.Normalize key) first (let h : root ≡ n + 1 + 1 = omega arith in h) has (record {
           ruled = refl;
+          whole = refl;
           suits = refl;
           ports = refl;
           below = stands;

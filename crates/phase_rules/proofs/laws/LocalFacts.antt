@@ -11,6 +11,7 @@ use Rattle.ct_value.specs.Order.{row_cmp, row_total, row_exact}
 use Rattle.ct_value.specs.Rows.{project}
 use Rattle.ct_value.specs.declared.row.Row.{Row}
 use Rattle.ct_value.specs.declared.value.Value.{Value}
+use Rattle.ct_field.specs.Typed.{row_fits}
 use Rattle.ct_change.specs.declared.kind.Kind.TheVariants.{I}
 use Rattle.ct_change.specs.declared.change.Change.{Change}
 use Rattle.ct_change.specs.Changelog.{Mode, append, retract, upsert, Rows, same_row, adds, has, admits, AreOf, additions, removals, HasKey, Means}
@@ -369,9 +370,9 @@ module _ (many : ℕ) (l : LocalGrouping) (from to : Edge) (fits : LocalFits man
     typed = all-each (λ change. from.fits change ≡ true) (λ change. types_fit l.columns change.row ≡ true) (λ change t. types_of_row l.columns change.row (fits.fits change t)) took (e.ready.types 0 (omega arith))
 
     taken : AllByRecursion (IsTaken l fits.sums_up) took
-    taken = both_of took typed (e.ready.kinds 0 (omega arith))
+    taken = both_of took (all-each (λ change. from.fits change ≡ true) (λ change. row_fits l.columns change.row ≡ true) (λ change t. fits.fits change t) took (e.ready.types 0 (omega arith))) (e.ready.kinds 0 (omega arith))
       where
-        both_of : (xs : List Change) → Typed xs → AreOf from.kinds xs → AllByRecursion (IsTaken l fits.sums_up) xs
+        both_of : (xs : List Change) → AllByRecursion (λ change. row_fits l.columns change.row ≡ true) xs → AreOf from.kinds xs → AllByRecursion (IsTaken l fits.sums_up) xs
         both_of [] t k = tt
         both_of (x ∷ xs) t k = ((t.0, fits.kinds x.kind k.0), both_of xs t.1 k.1)
 

@@ -9,7 +9,7 @@ use Rattle.ct_value.specs.Order.{number_of}
 use Rattle.ct_value.specs.declared.row.Row.{Row}
 use Rattle.ct_value.specs.declared.ty.ColTy.{ColTy}
 use Rattle.ct_value.specs.declared.value.Value.{Value}
-use Rattle.ct_field.specs.Typed.{cell, value_fits}
+use Rattle.ct_field.specs.Typed.{cell, col_fits, row_fits, value_fits}
 use Rattle.ct_change.specs.declared.kind.Kind.{Kind}
 use Rattle.ct_change.specs.declared.kind.Kind.TheVariants.{I, UB, UA, D}
 use Rattle.ct_change.specs.declared.change.Change.{Change}
@@ -25,7 +25,7 @@ use Rattle.op_rules.specs.History.{Arrival, at_port, joined}
 use Rattle.op_rules.specs.Rules.{Answer, along}
 use Rattle.op_rules.specs.Values.{types_fit}
 use Rattle.op_rules.proofs.laws.Histories.{all-append, all-front, all-back, all-each, at_port-append, ok-same, both-appended}
-use Rattle.op_rules.proofs.laws.Values.{types-length}
+use Rattle.op_rules.proofs.laws.Values.{types-length, types_of_row}
 use Rattle.emission_rules.specs.Grouping.{answers, groups_of, row_count}
 use Rattle.phase_rules.specs.LocalGrouping.{LocalGrouping, SumsUp, amounts, partials_of_calls, parts, parts_of_calls, are_silent, fit_after, rows_come, rows_gone, members_of, partial_row, local_answer, local_emits}
 use Rattle.phase_rules.specs.LocalFits.{AreSummed}
@@ -85,10 +85,13 @@ module _ (l : LocalGrouping) (sums_up : SumsUp l) where
 
   -- a change of the input, of its columns
   abbrev pub IsTaken : Change → Type 0
-  IsTaken change = (types_fit l.columns change.row ≡ true) × (admits l.input change.kind ≡ true)
+  IsTaken change = (row_fits l.columns change.row ≡ true) × (admits l.input change.kind ≡ true)
 
   typed_of : (changes : List Change) → AllByRecursion IsTaken changes → Typed changes
-  typed_of changes taken = all-each IsTaken (λ change. types_fit l.columns change.row ≡ true) (λ change t. t.0) changes taken
+  typed_of changes taken = all-each IsTaken (λ change. types_fit l.columns change.row ≡ true) (λ change t. types_of_row l.columns change.row t.0) changes taken
+
+  whole_of : (changes : List Change) → AllByRecursion IsTaken changes → AllByRecursion (λ change. row_fits l.columns change.row ≡ true) changes
+  whole_of changes taken = all-each IsTaken (λ change. row_fits l.columns change.row ≡ true) (λ change t. t.0) changes taken
 
   kinds_of : (changes : List Change) → AllByRecursion IsTaken changes → AllByRecursion (λ change. admits l.input change.kind ≡ true) changes
   kinds_of changes taken = all-each IsTaken (λ change. admits l.input change.kind ≡ true) (λ change t. t.1) changes taken
@@ -132,6 +135,7 @@ module _ (l : LocalGrouping) (sums_up : SumsUp l) where
           named = named.0;
           some = some.0;
           kinds = all_members (λ change. admits l.input change.kind ≡ true) l.keys key changes (kinds_of changes taken);
+          whole = all_members (λ change. row_fits l.columns change.row ≡ true) l.keys key changes (whole_of changes taken);
           types = all_members (λ change. types_fit l.columns change.row ≡ true) l.keys key changes (typed_of changes taken);
           own = own_members key changes;
           fit = f;
@@ -180,6 +184,25 @@ partial_row_fits l key (x ∷ xs) summed =
     long =
         length-append key values
         ∙ (λ i. summed.named i + suc (many_partials l.aggs (rows_come (x ∷ xs)) (rows_gone (x ∷ xs)) i))
+
+-- the first values fit the first columns
+row_taken : (n : ℕ) (columns : List ColTy) (row : List Value) → row_fits columns row ≡ true → row_fits (take n columns) (take n row) ≡ true
+row_taken zero columns row h = refl
+row_taken (suc n) [] [] h = refl
+row_taken (suc n) [] (value ∷ row) h = absurd (cc)
+row_taken (suc n) (column ∷ columns) [] h = absurd (cc)
+row_taken (suc n) (column ∷ columns) (value ∷ row) h =
+    both (col_fits column value) (row_fits (take n columns) (take n row)) (first (col_fits column value) (row_fits columns row) h)
+    (row_taken n columns row (second (col_fits column value) (row_fits columns row) h))
+
+-- their keys fit the key's columns
+pub partial_key_fits : (l : LocalGrouping) (key : Row) (changes : List Change) → AreSummed l key changes → row_fits (take l.keys l.columns) (take l.keys (partial_row l.aggs key changes)) ≡ true
+partial_key_fits l key [] summed = absurd (let some = summed.some in omega (arith, some))
+partial_key_fits l key (x ∷ xs) summed =
+    ap (row_fits (take l.keys l.columns)) (own ∙ same_row-true key (take l.keys x.row) summed.own.0) ∙ row_taken l.keys l.columns x.row summed.whole.0
+  where
+    own : take l.keys (partial_row l.aggs key (x ∷ xs)) ≡ key
+    own = ap (λ n. take n (partial_row l.aggs key (x ∷ xs))) (sym summed.named) ∙ front_of key (amounts l.aggs (rows_come (x ∷ xs)) (rows_gone (x ∷ xs)))
 
 -- where rows only come, they say that some have come
 pub partial_row_grows : (l : LocalGrouping) (key : Row) (changes : List Change) → AreSummed l key changes → l.input ≡ append → pos 0 <ℤ number_of (cell l.keys (partial_row l.aggs key changes))

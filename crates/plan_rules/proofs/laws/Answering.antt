@@ -29,7 +29,7 @@ use Rattle.plan_rules.specs.Columns.{common_with, columns_as, columns_by, number
 use Rattle.plan_rules.specs.Doings.{around_of, doing_in, network}
 use Rattle.plan_rules.specs.Erased.{erased_at}
 use Rattle.plan_rules.specs.Plans.{inputs_in, scan_of, scan_in, HasShape}
-use Rattle.plan_rules.specs.Roles.{Role, reads_table, one_of, two_of, all_of, same_as, not_told, role, takes, nothing, tree_of, batch_by}
+use Rattle.plan_rules.specs.Roles.{Role, reads_table, one_of, two_of, all_of, same_as, part_of, not_told, role, takes, nothing, tree_of, batch_by}
 use Rattle.plan_rules.proofs.laws.Numbers.{numbered_below, numbered_within, index_there, map_same, read_at}
 
 -- ---- lists
@@ -80,6 +80,7 @@ module _ (sources : List TableDef) where
   role_columns (two_of how) inputs t = let two = two_list inputs t in subst (Typed (two_of how)) (sym two.2) refl
   role_columns all_of inputs t = common_is inputs
   role_columns same_as inputs t = let one = one_list inputs t in subst (Typed same_as) (sym one.1) refl
+  role_columns (part_of keys aggs) inputs t = let one = one_list inputs t in subst (Typed (part_of keys aggs)) (sym one.1) refl
   role_columns (not_told so_many) inputs t = refl
 
   op_columns : (o : Op) (inputs : List Rel) → takes (role o) (length inputs) ≡ true → has_rule o ≡ true → columns_by sources o (map (columns_of types) inputs) ≡ columns_of types (tree_of (role o) inputs)
@@ -200,6 +201,8 @@ module _ (plan : Plan) (has : HasRoles plan) where
     role_answers all_of v inputs whole result t told each e = answers_together inputs whole each ∙ e
     role_answers same_as v [] whole result t told each e = absurd (cc)
     role_answers same_as v (k ∷ inputs) whole result t told each e = each 0 (omega arith) ∙ e
+    role_answers (part_of keys aggs) v [] whole result t told each e = absurd (cc)
+    role_answers (part_of keys aggs) v (k ∷ inputs) whole result t told each e = each 0 (omega arith) ∙ e
     role_answers (not_told so_many) v inputs whole result t told each e = absurd (cc)
 
     scanned : (v source : ℕ) (o : Option Node) → numbered plan.nodes v ≡ o → scan_in o ≡ Some source → answer_at v ≡ Some (rows source)

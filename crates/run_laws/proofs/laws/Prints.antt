@@ -17,10 +17,13 @@ use Rattle.stream_model.specs.Runs.{Item, after, changes_in, AreTyped}
 use Rattle.stream_model.specs.Theorem.{Composes}
 use Rattle.stream_model.specs.Drain.{RunsDrain}
 use Rattle.plan_rules.specs.Doings.{network}
+use Rattle.plan_rules.specs.Phases.{fits_sent, meaning_sent}
 use Rattle.plan_rules.specs.Plans.{change_fits, meaning_in}
 use Rattle.plan_rules.proofs.laws.ChangeFits.{key_told}
 use Rattle.plan_rules.proofs.laws.Reading.{retract_admits}
 use Rattle.sound_plans.specs.Sound.{IsRuled, SoundPlansAreWired, SoundPlansMeetFacts, SoundPlansPrint}
+use Rattle.sound_plans.proofs.laws.Outputs.{local_at}
+use Rattle.sound_plans.proofs.laws.Theorems.{sink_sends_rows}
 use Rattle.source_lines.specs.Fitting.{LinesFitColumns}
 use Rattle.source_lines.specs.Run.{whole_run}
 use Rattle.run_laws.specs.Rows.{sent_columns, RunsPrintRows}
@@ -45,8 +48,12 @@ told_all mode columns rows (change ∷ changes) valid fit =
 -- ---- the sink
 
 -- the sink's changes are read as its table declares
-last_meaning : (plan : Plan) → cond (length plan.nodes == length plan.nodes) (meaning_of (table_mode plan.sink)) (meaning_in (numbered plan.edges (length plan.nodes))) ≡ meaning_of (table_mode plan.sink)
-last_meaning plan = ap (λ b. cond b (meaning_of (table_mode plan.sink)) (meaning_in (numbered plan.edges (length plan.nodes)))) (eq-eqb (length plan.nodes) (length plan.nodes) refl)
+abbrev meaning_last : Plan → Meaning
+meaning_last plan = cond (length plan.nodes == length plan.nodes) (meaning_of (table_mode plan.sink)) (meaning_sent (local_at plan (length plan.nodes)) (meaning_in (numbered plan.edges (length plan.nodes))))
+
+last_meaning : (plan : Plan) → meaning_last plan ≡ meaning_of (table_mode plan.sink)
+last_meaning plan =
+    ap (λ b. cond b (meaning_of (table_mode plan.sink)) (meaning_sent (local_at plan (length plan.nodes)) (meaning_in (numbered plan.edges (length plan.nodes))))) (eq-eqb (length plan.nodes) (length plan.nodes) refl)
 
 -- in each state to which items lead, whose changes have their tables' columns, each row that was printed has the sink's
 abbrev pub PrintedRowsFit : Plan → Type 0
@@ -58,7 +65,8 @@ printed_fit wired meets prints composes plan ruled limit items typed =
     let g = network plan in
     let printed = changes_in (after g limit (opened g) items).printed in
     let all = (composes g (wired plan ruled) (meets plan ruled) limit items typed).printed_fits in
-    let read = subst (λ (m : Meaning). AllByRecursion (λ change. change_fits m (sent_columns plan) change ≡ true) printed) (last_meaning plan) all in
+    let rows = subst (λ o. AllByRecursion (λ change. fits_sent o (change_fits (meaning_last plan) (sent_columns plan)) change ≡ true) printed) (sink_sends_rows plan ruled) all in
+    let read = subst (λ (m : Meaning). AllByRecursion (λ change. change_fits m (sent_columns plan) change ≡ true) printed) (last_meaning plan) rows in
     let told = (prints plan ruled limit items typed).valid (length printed) in
     let valid = subst (IsValidFrom (table_mode plan.sink) none) (take_whole printed) told.valid in
     told_all (table_mode plan.sink) (sent_columns plan) none printed valid read

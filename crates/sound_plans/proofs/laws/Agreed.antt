@@ -1,7 +1,8 @@
 -- Each node of a sound plan agrees with what is inferred of it, where the keys of its inputs are in order.
-use Rattle.std.specs.Prelude.{◌≡◌, ◌⊎◌, ℕ, ◌+◌, ◌<◌, ◌==◌, Bool, ◌||◌, not, nat_le, nat_lt, List, drop, length, map, slice_get, Option, option_map, unwrap_or}
+use Rattle.std.specs.Prelude.{◌≡◌, ◌⊎◌, ℕ, ◌+◌, ◌<◌, ◌==◌, Bool, ◌&&◌, ◌||◌, not, nat_le, nat_lt, List, drop, length, map, slice_get, Option, is_some, option_and_then, option_map, unwrap_or}
 use Rattle.std.proofs.Common.{zero, suc, true, false, [], ◌∷◌, refl, sym, ap, subst, ◌∙◌, inl, inr, arith, Some, None}
 use Rattle.std.proofs.lemmas.Bool.{eqb-true, ltb-true}
+use Rattle.std.specs.List.{list_all}
 use Rattle.ct_change.specs.Changelog.{kinds_of, mode_of}
 use Rattle.ct_change.specs.declared.kind.KindSet.{KindSet}
 use Rattle.ct_change.specs.declared.kind.Declared.{Declared}
@@ -11,7 +12,9 @@ use Rattle.ct_catalog.specs.declared.table.TableDef.{TableDef}
 use Rattle.op_rules.specs.Edges.{IsKeyedBy}
 use Rattle.ct_change.specs.declared.update.Update.{Update}
 use Rattle.ct_change.specs.declared.update.Update.TheVariants.{Absent, After, Both}
-use Rattle.phys_plan.specs.declared.edge.Exchange.TheVariants.{Forward}
+use Rattle.rel_algebra.specs.declared.agg.Agg.{Agg}
+use Rattle.rel_algebra.specs.Groups.{group_columns}
+use Rattle.phys_plan.specs.declared.edge.Exchange.TheVariants.{Forward, Hash}
 use Rattle.phys_plan.specs.declared.node.Node.{Node}
 use Rattle.phys_plan.specs.declared.node.Op.{Op}
 use Rattle.phys_plan.specs.declared.node.Op.TheVariants as op
@@ -19,6 +22,7 @@ use Rattle.phys_plan.specs.declared.plan.Plan.{Plan}
 use Rattle.phys_plan.specs.declared.plan.Rule.TheVariants as rule
 use Rattle.phys_plan.specs.Reading.{at, numbered as item, wires, numbered, first_input}
 use Rattle.upsert_keys.specs.Keys.{keys_of, scan_keys, table_keys}
+use Rattle.column_sets.specs.Places.{first_columns}
 use Rattle.mode_infer.specs.Kinds.{flow_of, plain, scan_kinds, asked}
 use Rattle.ct_change.specs.Kinds.{has_more_than_inserts, is_upsert}
 use Rattle.mode_infer.specs.Modes.{edge_kinds, mode, no_mode, printed, with_sink}
@@ -29,24 +33,25 @@ use Rattle.plan_inferred.specs.Ways.{way_of}
 use Rattle.plan_inferred.specs.declared.inferred.Inferred.{Inferred}
 use Rattle.plan_inferred.specs.Rules.{by_columns, comes_by, comes_keyed, fills, fills_sink, inserts_alone, is_direct, is_shown, suits_table, way_at, way_from}
 use Rattle.plan_check.specs.Sound.{inferred_of}
-use Rattle.plan_check.specs.Types.{types_by}
+use Rattle.plan_check.specs.Types.{grouped_columns, types_by}
 use Rattle.plan_rules.specs.Plans.{exchange_of, kinds_in, meaning_by}
 use Rattle.ct_catalog.specs.Columns.{column_types}
-use Rattle.plan_rules.specs.Columns.{columns_by}
-use Rattle.plan_shape.specs.Shape.{is_keyed_by, is_read, is_sink, is_sink_key, is_upsert_by, normalizes_by, op_in, scans_by, suits_consumer, suits_input, suits_plan, takes as ports_of}
+use Rattle.plan_rules.specs.Columns.{columns_by, only}
+use Rattle.plan_shape.specs.Shape.{has_parts, is_keyed_by, is_read, is_sink, is_sink_key, is_upsert_by, merges, normalizes_by, op_in, same_aggs, scans_by, suits_consumer, suits_input, suits_plan, takes as ports_of}
 use Rattle.plan_shape.specs.Shaped.{MeetsShape}
 use Rattle.plan_shape.specs.Tables.{is_declarable}
-use Rattle.sound_plans.specs.Agrees.{Agrees, AtPorts, Carries, ComesDirect, ComesShown, IsAsked, MaterializeAgrees, NormalizeAgrees, ScanAgrees, SinkAgrees, Suits, first_width, taken_by}
+use Rattle.sound_plans.specs.Agrees.{Agrees, AtPorts, Carries, ComesDirect, ComesShown, IsAsked, LocalAgrees, MaterializeAgrees, MergeAgrees, NormalizeAgrees, ScanAgrees, SinkAgrees, Suits, first_width, taken_by}
 use Rattle.sound_plans.specs.Outputs.{AreWithin, IsProper, Output, seen}
 use Rattle.sound_plans.specs.Sound.{IsRuled}
 use Rattle.sound_plans.proofs.laws.Lists.{both, found, is_somewhere, map_length, not_true, same_numbers, the_same}
 use Rattle.sound_plans.specs.Promises.{Laws}
-use Rattle.sound_plans.proofs.laws.Columns.{passes_on}
+use Rattle.sound_plans.proofs.laws.Calls.{aggs_same}
+use Rattle.sound_plans.proofs.laws.Columns.{grouped_on, passes_on}
 use Rattle.sound_plans.proofs.laws.Consumers.{by_test}
 use Rattle.sound_plans.proofs.laws.Local as l
 use Rattle.sound_plans.proofs.laws.Shapes as s
 use Rattle.sound_plans.proofs.laws.Tables.{key_ordered, key_within, upsert_has_key}
-use Rattle.sound_plans.proofs.laws.Outputs.{output_at}
+use Rattle.sound_plans.proofs.laws.Outputs.{kinds_is, output_at}
 use Rattle.sound_plans.proofs.laws.Widths.{all_within}
 
 -- ---- operators that stand apart
@@ -117,7 +122,7 @@ any_forward_keyed Absent = tt
 any_forward_keyed (After key) = tt
 any_forward_keyed Both = tt
 
-only_one : (x y p : ℕ) → slice_get (x ∷ []) p ≡ Some y → x ≡ y
+pub only_one : (x y p : ℕ) → slice_get (x ∷ []) p ≡ Some y → x ≡ y
 only_one x y zero e = the_same x y e
 only_one x y (suc p) e = absurd (cc)
 
@@ -214,19 +219,130 @@ module _ (laws : Laws) (plan : Plan) (ruled : IsRuled plan) where
       let there = (s.input_there plan meets laws.shaped v node p input e h).1 in
       asked_at v node p input there.0 e h there.1 n (input_not_shown v node p input there.0 e h there.1 b) proper
 
-  pub agrees : (v : ℕ) (node : Node) → numbered plan.nodes v ≡ Some node → scans node.op ≡ false → normalizes node.op ≡ false → materializes node.op ≡ false → sinks node.op ≡ false → AreProper node.inputs
+  -- no partial rows come
+  abbrev pub ArePlain : List ℕ → Type 0
+  ArePlain inputs = s.ArePlain plan meets laws.shaped inputs
+
+  pub all_plain : (v : ℕ) (node : Node) → numbered plan.nodes v ≡ Some node → s.takes_parts node.op ≡ false → ArePlain node.inputs
+  all_plain v node e n = s.all_plain plan meets laws.shaped v node e n
+
+  pub agrees : (v : ℕ) (node : Node) → numbered plan.nodes v ≡ Some node → ArePlain node.inputs → scans node.op ≡ false → normalizes node.op ≡ false → materializes node.op ≡ false → sinks node.op ≡ false → AreProper node.inputs
       → Agrees plan.sources plan.sink node.op (map (output_at plan) node.inputs) (out v)
-  agrees v node e a n m b proper = record {
+  agrees v node e are_plain a n m b proper = record {
     inputs_asked = ports (IsAsked plan.sink node.op (out v).edge.update) 0 node.inputs
         (λ p input h. let here : 0 + p ≡ p = omega arith in subst (λ k. IsAsked plan.sink node.op (out v).edge.update k (out input)) (sym here) (plain_at v node p input e h n b (proper p input h)));
     typed = l.columns_made laws plan ruled v node e;
     keyed = l.keys_are laws plan ruled v node e;
-    sends = l.kinds_are_sent laws plan ruled v node e;
+    sends = l.kinds_are_sent laws plan ruled v node e are_plain;
     updates = l.update_key_is laws plan ruled v node e;
     carries = own_carries v node e b;
     taken = is_taken_at v;
     tells = own_tells v node e a m b;
   }
+
+  only_input : (inputs : List ℕ) → (length inputs == 1) ≡ true → (input : ℕ) × (inputs ≡ input ∷ [])
+  only_input [] e = absurd (cc)
+  only_input (input ∷ []) e = (input, refl)
+  only_input (input ∷ (other ∷ inputs)) e = absurd (let h : suc (suc (length inputs)) ≡ 1 = eqb-true (suc (suc (length inputs))) 1 e in omega arith)
+
+  pub one_input : (v : ℕ) (node : Node) → numbered plan.nodes v ≡ Some node → ((n : ℕ) → ports_of node.op n ≡ (n == 1)) → (input : ℕ) × (node.inputs ≡ input ∷ [])
+  one_input v node e takes_one = only_input node.inputs (sym (takes_one (length node.inputs)) ∙ (s.told plan meets laws.shaped v node e).ports)
+
+  -- ---- local groups, and groups above them
+
+  -- the node that takes the partial rows of a local group
+  pub record IsUnder (v keys : ℕ) (aggs : List Agg) : Type 0 where
+    pub number : ℕ
+    pub above : Node
+    pub is_node : numbered plan.nodes number ≡ Some above
+    pub takes : above.inputs ≡ v ∷ []
+    pub of_keys : ℕ
+    pub of_aggs : List Agg
+    pub is_group : above.op ≡ op.BatchGroup of_keys of_aggs
+    pub same : (of_keys ≡ keys) × (of_aggs ≡ aggs)
+
+  pub local_agrees : (v : ℕ) (node : Node) (keys : ℕ) (aggs : List Agg) (input : ℕ) → numbered plan.nodes v ≡ Some node → node.op ≡ op.LocalGroup keys aggs → node.inputs ≡ input ∷ [] → IsUnder v keys aggs → AreProper node.inputs
+      → LocalAgrees plan.sources plan.sink keys aggs (out input) (out v)
+  local_agrees v node keys aggs input e is are up proper =
+      let first : slice_get node.inputs 0 ≡ Some input = ap (λ (xs : List ℕ). slice_get xs 0) are in
+      let outs : map (output_at plan) node.inputs ≡ out input ∷ [] = ap (map (output_at plan)) are in
+      let typed : option_and_then (grouped_columns keys aggs) (only (map (λ o. Some o.columns) (out input ∷ []))) ≡ Some (out v).columns =
+      sym (λ k. types_by plan.sources (is k) (map (λ o. Some o.columns) (outs k))) ∙ l.types_are laws plan ruled v node e in
+      let made = grouped_on keys aggs (Some (out input).columns ∷ []) (out v).columns typed in
+      let same : (out input).columns ≡ (out v).columns = the_same (out input).columns (out v).columns made.0 in
+      let some = some_there (group_columns keys (out v).columns aggs) made.1 in
+      let suits : (nat_lt 0 plan.mini_batch && nat_lt 0 up.of_keys) ≡ true = sym (ap (suits_plan plan) up.is_group) ∙ (s.told plan meets laws.shaped up.number up.above up.is_node).suits in
+      let below : list_all (λ agg. has_parts (kinds_in (numbered plan.edges input)) agg.call) aggs ≡ true =
+      sym (λ k. suits_input plan.sources (is k) (op_in (numbered plan.nodes (first_input (are k)))) (kinds_in (numbered plan.edges (first_input (are k))))) ∙ (s.told plan meets laws.shaped v node e).input in
+      let goes : (out v).edge.exchange ≡ Hash (first_columns up.of_keys) =
+      l.exchanged laws plan ruled up.number up.above 0 v up.is_node (ap (λ (xs : List ℕ). slice_get xs 0) up.takes) ∙ ap (λ x. by_columns (asked x 0)) up.is_group in
+      record {
+        agrees =
+            subst (λ xs. Agrees plan.sources plan.sink (op.LocalGroup keys aggs) xs (out v)) outs
+            (subst (λ (x : Op). Agrees plan.sources plan.sink x (map (output_at plan) node.inputs) (out v)) is
+            (agrees v node e (all_plain v node e (ap s.takes_parts is)) (ap scans is) (ap normalizes is) (ap materializes is) (ap sinks is) proper));
+        some_keys = subst (λ n. 0 < n) up.same.0 (ltb-true 0 up.of_keys (both (nat_lt 0 plan.mini_batch) (nat_lt 0 up.of_keys) suits).1);
+        made = some.0;
+        grouped = ap (λ (c : List ColTy). group_columns keys c aggs) same ∙ some.1;
+        sum_up = subst (λ (k : KindSet). list_all (λ agg. has_parts k agg.call) aggs ≡ true) (kinds_is plan (numbered plan.edges input)) below;
+        exchanged = goes ∙ ap (λ n. Hash (first_columns n)) up.same.0;
+      }
+    where
+      some_there : (o : Option (List ColTy)) → is_some o ≡ true → (columns : List ColTy) × (o ≡ Some columns)
+      some_there None h = absurd (cc)
+      some_there (Some columns) h = (columns, refl)
+
+  pub under_there : (v : ℕ) (node : Node) (keys : ℕ) (aggs : List Agg) → numbered plan.nodes v ≡ Some node → node.op ≡ op.LocalGroup keys aggs → IsUnder v keys aggs
+  under_there v node keys aggs e is =
+      let fed = s.feeds_merge plan meets laws.shaped v node keys aggs e is in
+      let group = s.is_bundled fed.node.op (s.merges_in_bundles keys aggs fed.node.op fed.sums) in
+      let i = one_input (suc fed.place) fed.node fed.is (λ n. ap (λ x. ports_of x n) group.2) in
+      let p = is_somewhere v fed.node.inputs fed.has in
+      let input : i.0 ≡ v = only_one i.0 v p.0 (sym (ap (λ (xs : List ℕ). slice_get xs p.0) i.1) ∙ p.1) in
+      let b = both (keys == group.0) (same_aggs aggs group.1) (sym (ap (λ x. merges keys aggs (Some x)) group.2) ∙ fed.sums) in
+      record {
+        number = suc fed.place;
+        above = fed.node;
+        is_node = fed.is;
+        takes = i.1 ∙ ap (λ n. n ∷ []) input;
+        of_keys = group.0;
+        of_aggs = group.1;
+        is_group = group.2;
+        same = (sym (eqb-true keys group.0 b.0), sym (aggs_same aggs group.1 b.1));
+      }
+
+  -- a group above a local group has its keys and its calls
+  pub calls_shared : (v : ℕ) (node : Node) (below_at : ℕ) (below : Node) (keys : ℕ) (aggs : List Agg) (under : ℕ) (calls : List Agg) → numbered plan.nodes v ≡ Some node → node.op ≡ op.BatchGroup keys aggs → node.inputs ≡ below_at ∷ []
+      → numbered plan.nodes below_at ≡ Some below → below.op ≡ op.LocalGroup under calls → (keys ≡ under) × (aggs ≡ calls)
+  calls_shared v node below_at below keys aggs under calls e is are f is_local =
+      let first : slice_get node.inputs 0 ≡ Some below_at = ap (λ (xs : List ℕ). slice_get xs 0) are in
+      let suits : merges under calls (Some (op.BatchGroup keys aggs)) ≡ true =
+      sym (λ k. suits_consumer plan.sources (is_local k) (Some (is k))) ∙ s.suits_above plan meets laws.shaped v node 0 below_at below e first f in
+      let b = both (under == keys) (same_aggs calls aggs) suits in
+      (sym (eqb-true under keys b.0), sym (aggs_same calls aggs b.1))
+
+  pub merge_agrees : (v : ℕ) (node : Node) (below_at : ℕ) (below : Node) (input keys : ℕ) (aggs : List Agg) (under : ℕ) (calls : List Agg) → numbered plan.nodes v ≡ Some node → node.op ≡ op.BatchGroup keys aggs
+      → node.inputs ≡ below_at ∷ [] → numbered plan.nodes below_at ≡ Some below → below.op ≡ op.LocalGroup under calls → below.inputs ≡ input ∷ [] → AreProper below.inputs
+      → MergeAgrees plan.sources plan.sink under calls (out input) (out below_at) (out v)
+  merge_agrees v node below_at below input keys aggs under calls e is are f is_local are_its proper =
+      let shared = calls_shared v node below_at below keys aggs under calls e is are f is_local in
+      let up : IsUnder below_at under calls = record { number = v; above = node; is_node = e; takes = are; of_keys = keys; of_aggs = aggs; is_group = is; same = shared } in
+      let local = local_agrees below_at below under calls input f is_local are_its up proper in
+      let outs : map (output_at plan) node.inputs ≡ out below_at ∷ [] = ap (map (output_at plan)) are in
+      let group : op.BatchGroup keys aggs ≡ op.BatchGroup under calls = λ k. op.BatchGroup (shared.0 k) (shared.1 k) in
+      let same : (out input).columns ≡ (out below_at).columns = the_same (out input).columns (out below_at).columns local.agrees.typed in
+      let typed : group_columns under (out below_at).columns calls ≡ Some (out v).columns =
+      sym (λ k. columns_by plan.sources ((is ∙ group) k) (map (λ o. Some o.columns) (outs k))) ∙ l.columns_made laws plan ruled v node e in
+      record {
+        local = local;
+        typed = ap (λ (c : List ColTy). group_columns under c calls) same ∙ typed;
+        keyed = l.keys_are laws plan ruled v node e ∙ ap (λ x. keys_of plan.sources x (map seen (map (output_at plan) node.inputs))) (is ∙ group);
+        sends = l.kinds_are_merged laws plan ruled v node below_at below input under calls under calls e (is ∙ group) are f is_local are_its;
+        updates = l.update_key_is laws plan ruled v node e ∙ ap (λ x. update_key_of (first_width (map (output_at plan) node.inputs)) x (map (λ o. o.update_key) (map (output_at plan) node.inputs))) (is ∙ group);
+        carries = own_carries v node e (ap sinks is);
+        taken = is_taken_at v;
+        tells = own_tells v node e (ap scans is) (ap materializes is) (ap sinks is);
+      }
 
   -- ---- scans
 
@@ -248,7 +364,7 @@ module _ (laws : Laws) (plan : Plan) (ruled : IsRuled plan) where
         has_key = λ m. upsert_has_key table made m;
         keyed = l.keys_are laws plan ruled v node e ∙ ap (λ x. keys_of plan.sources x (map seen (map (output_at plan) node.inputs))) is ∙ ap scan_keys has;
         sends =
-            l.kinds_are_sent laws plan ruled v node e ∙ ap (λ x. (flow_of plan.sources x (map (λ o. plain o.sent) (map (output_at plan) node.inputs))).sent) is ∙ ap scan_kinds has;
+            l.kinds_are_sent laws plan ruled v node e (all_plain v node e (ap s.takes_parts is)) ∙ ap (λ x. (flow_of plan.sources x (map (λ o. plain o.sent) (map (output_at plan) node.inputs))).sent) is ∙ ap scan_kinds has;
         updates = l.update_key_is laws plan ruled v node e ∙ ap (λ x. update_key_of (first_width (map (output_at plan) node.inputs)) x (map (λ o. o.update_key) (map (output_at plan) node.inputs))) is;
         carries = own_carries v node e (ap sinks is);
         tells = own_update v node e ∙ ap (λ x. update_of plan.sources x (out v).sent (out v).update_key (is_taken_at v)) is ∙ ap (λ t. scan_update t (out v).sent) has;
@@ -281,14 +397,6 @@ module _ (laws : Laws) (plan : Plan) (ruled : IsRuled plan) where
       go None has f = absurd (cc)
       go (Some table) has f = let u = upserts table key f in record { source = source; table = table; scanned = is; is_table = has; mode = u.0; key_is = u.1 }
   normalized key input below _ is e = absurd (cc)
-
-  only_input : (inputs : List ℕ) → (length inputs == 1) ≡ true → (input : ℕ) × (inputs ≡ input ∷ [])
-  only_input [] e = absurd (cc)
-  only_input (input ∷ []) e = (input, refl)
-  only_input (input ∷ (other ∷ inputs)) e = absurd (let h : suc (suc (length inputs)) ≡ 1 = eqb-true (suc (suc (length inputs))) 1 e in omega arith)
-
-  pub one_input : (v : ℕ) (node : Node) → numbered plan.nodes v ≡ Some node → ((n : ℕ) → ports_of node.op n ≡ (n == 1)) → (input : ℕ) × (node.inputs ≡ input ∷ [])
-  one_input v node e takes_one = only_input node.inputs (sym (takes_one (length node.inputs)) ∙ (s.told plan meets laws.shaped v node e).ports)
 
   only_two : (inputs : List ℕ) → (length inputs == 2) ≡ true → (left : ℕ) × (right : ℕ) × (inputs ≡ left ∷ (right ∷ []))
   only_two [] e = absurd (cc)
@@ -333,7 +441,7 @@ module _ (laws : Laws) (plan : Plan) (ruled : IsRuled plan) where
             sym (the_same (out input).columns (out v).columns
             (sym (λ k. columns_by plan.sources (is k) (map (λ o. Some o.columns) (outs k))) ∙ l.columns_made laws plan ruled v node e));
         keyed = l.keys_are laws plan ruled v node e ∙ ap (λ x. keys_of plan.sources x (map seen (map (output_at plan) node.inputs))) is;
-        sends = l.kinds_are_sent laws plan ruled v node e ∙ ap (λ x. (flow_of plan.sources x (map (λ o. plain o.sent) (map (output_at plan) node.inputs))).sent) is;
+        sends = l.kinds_are_sent laws plan ruled v node e (all_plain v node e (ap s.takes_parts is)) ∙ ap (λ x. (flow_of plan.sources x (map (λ o. plain o.sent) (map (output_at plan) node.inputs))).sent) is;
         updates = l.update_key_is laws plan ruled v node e ∙ ap (λ x. update_key_of (first_width (map (output_at plan) node.inputs)) x (map (λ o. o.update_key) (map (output_at plan) node.inputs))) is;
         carries = own_carries v node e (ap sinks is);
         taken = is_taken_at v;
@@ -426,7 +534,7 @@ module _ (laws : Laws) (plan : Plan) (ruled : IsRuled plan) where
         suits = shows v node key input there.0 e is are there.1;
         typed = typed;
         keyed = l.keys_are laws plan ruled v node e ∙ ap (λ x. keys_of plan.sources x (map seen (map (output_at plan) node.inputs))) is;
-        sends = l.kinds_are_sent laws plan ruled v node e ∙ ap (λ x. (flow_of plan.sources x (map (λ o. plain o.sent) (map (output_at plan) node.inputs))).sent) is;
+        sends = l.kinds_are_sent laws plan ruled v node e (all_plain v node e (ap s.takes_parts is)) ∙ ap (λ x. (flow_of plan.sources x (map (λ o. plain o.sent) (map (output_at plan) node.inputs))).sent) is;
         updates = l.update_key_is laws plan ruled v node e ∙ ap (λ x. update_key_of (first_width (map (output_at plan) node.inputs)) x (map (λ o. o.update_key) (map (output_at plan) node.inputs))) is;
         carries = own_carries v node e (ap sinks is);
         tells = shown_tells v node key e is;
@@ -524,7 +632,7 @@ module _ (laws : Laws) (plan : Plan) (ruled : IsRuled plan) where
             sym (the_same (out input).columns (out v).columns
             (sym (λ k. columns_by plan.sources (is k) (map (λ o. Some o.columns) (outs k))) ∙ l.columns_made laws plan ruled v node e));
         keyed = l.keys_are laws plan ruled v node e ∙ ap (λ x. keys_of plan.sources x (map seen (map (output_at plan) node.inputs))) is;
-        sends = (l.kinds_are_sent laws plan ruled v node e ∙ (λ k. (flow_of plan.sources (is k) (map (λ o. plain o.sent) (outs k))).sent));
+        sends = (l.kinds_are_sent laws plan ruled v node e (all_plain v node e (ap s.takes_parts is)) ∙ (λ k. (flow_of plan.sources (is k) (map (λ o. plain o.sent) (outs k))).sent));
         updates = l.update_key_is laws plan ruled v node e ∙ ap (λ x. update_key_of (first_width (map (output_at plan) node.inputs)) x (map (λ o. o.update_key) (map (output_at plan) node.inputs))) is;
         forwards = l.forwards_last laws plan ruled v node e last;
         tells = told_is;

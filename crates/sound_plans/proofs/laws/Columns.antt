@@ -1,9 +1,11 @@
 -- The columns that the rule on types finds are those of the network.
-use Rattle.std.specs.Prelude.{◌≡◌, ℕ, ◌+◌, ◌<◌, ◌≤◌, Bool, List, ◌++◌, get_or, length, map, slice_get, Option, option_and_then, unwrap_or}
+use Rattle.std.specs.Prelude.{◌≡◌, ℕ, ◌+◌, ◌<◌, ◌≤◌, Bool, List, ◌++◌, get_or, length, map, slice_get, Option, is_some, option_and_then, unwrap_or}
 use Rattle.std.proofs.Common.{zero, suc, true, false, [], ◌∷◌, refl, sym, ap, subst, ◌∙◌, arith, Some, None}
 use Rattle.std.specs.List.{AllByRecursion, list_all}
 use Rattle.ct_value.specs.declared.ty.ColTy.{ColTy}
 use Rattle.ct_catalog.specs.declared.table.TableDef.{TableDef}
+use Rattle.rel_algebra.specs.declared.agg.Agg.{Agg}
+use Rattle.rel_algebra.specs.Groups.{group_columns}
 use Rattle.rel_algebra.specs.Types.{columns_if, is_column}
 use Rattle.phys_plan.specs.declared.node.Node.{Node}
 use Rattle.phys_plan.specs.declared.node.Op.{Op}
@@ -12,7 +14,7 @@ use Rattle.phys_plan.specs.Reading.{numbered}
 use Rattle.plan_rules.specs.Columns.{columns_by, numbered_columns, node_columns, only}
 use Rattle.sound_plans.proofs.laws.Numbers.{columns_made}
 use Rattle.phys_plan.specs.Columns.{columns_in}
-use Rattle.plan_check.specs.Types.{all_types, is_typed_by, keyed_columns, next_types, types_after, types_at, types_by}
+use Rattle.plan_check.specs.Types.{all_types, grouped_columns, is_typed_by, keyed_columns, next_types, types_after, types_at, types_by}
 use Rattle.plan_check.specs.Sound.{columns_or_none, sent_columns}
 use Rattle.plan_rules.specs.Behaviours.{has_rule}
 use Rattle.sound_plans.proofs.laws.Lists.{the_same, map_same}
@@ -86,11 +88,23 @@ passes_on key (Some columns ∷ []) made e = go (list_all (is_column columns) ke
     go false i f = absurd (cc)
 passes_on key (input ∷ (other ∷ inputs)) made e = absurd (cc)
 
+-- a local group asks besides that groups of rows that have them have columns
+pub grouped_on : (keys : ℕ) (aggs : List Agg) (inputs : List (Option (List ColTy))) (made : List ColTy) → option_and_then (grouped_columns keys aggs) (only inputs) ≡ Some made
+    → (only inputs ≡ Some made) × (is_some (group_columns keys made aggs) ≡ true)
+grouped_on keys aggs [] made e = absurd (cc)
+grouped_on keys aggs (None ∷ []) made e = absurd (cc)
+grouped_on keys aggs (Some columns ∷ []) made e = go (is_some (group_columns keys columns aggs)) refl e
+  where
+    go : (b : Bool) → is_some (group_columns keys columns aggs) ≡ b → columns_if b columns ≡ Some made → (Some columns ≡ Some made) × (is_some (group_columns keys made aggs) ≡ true)
+    go true i f = (f, sym (ap (λ (c : List ColTy). is_some (group_columns keys c aggs)) (the_same columns made f)) ∙ i)
+    go false i f = absurd (cc)
+grouped_on keys aggs (input ∷ (other ∷ inputs)) made e = absurd (cc)
+
 -- where the rule gives columns, the network has the same
 pub same_columns : (sources : List TableDef) (o : Op) (inputs : List (Option (List ColTy))) (made : List ColTy) → has_rule o ≡ true → types_by sources o inputs ≡ Some made → columns_by sources o inputs ≡ Some made
 same_columns sources (op.Normalize key) inputs made r e = (passes_on key inputs made e).0
 same_columns sources (op.Materialize key) inputs made r e = (passes_on key inputs made e).0
-same_columns sources (op.LocalGroup keys aggs) inputs made r e = absurd (cc)
+same_columns sources (op.LocalGroup keys aggs) inputs made r e = (grouped_on keys aggs inputs made e).0
 same_columns sources (op.MultiJoin on) inputs made r e = absurd (cc)
 same_columns sources _ inputs made r e = e
 

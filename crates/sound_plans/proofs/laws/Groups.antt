@@ -51,7 +51,7 @@ use Rattle.sound_plans.proofs.laws.Updates.{mode_full, kinds_full_read, KeyIs, t
 -- ---- the first columns
 
 -- made one after the other as from the first on
-same_first : (keys : ℕ) → first_made keys ≡ first_columns keys
+pub same_first : (keys : ℕ) → first_made keys ≡ first_columns keys
 same_first keys = first_columns_are first_made refl (λ n. refl) keys
 
 project_taken : (keys : ℕ) (row : Row) → keys ≤ length row → project (first_columns keys) row ≡ take keys row
@@ -138,7 +138,7 @@ goes_home : (many : ℕ) (columns : List ColTy) (set : List ℕ) → route_by ma
 goes_home many columns set = ap (λ text. key_hash text % many) (no_text (types_at set columns)) ∙ zero-mod many
 
 -- it never takes new rows alone
-untaken : (sink : TableDef) (keys : ℕ) (aggs : List Agg) (update : Update) (key : Option (List ℕ)) → taken_by sink (op.Group keys aggs) 0 update key ≡ false
+pub untaken : (sink : TableDef) (keys : ℕ) (aggs : List Agg) (update : Update) (key : Option (List ℕ)) → taken_by sink (op.Group keys aggs) 0 update key ≡ false
 untaken sink keys aggs update None = refl
 untaken sink keys aggs update (Some key) = refl
 

@@ -4,6 +4,7 @@ use Rattle.std.proofs.Common.{zero, suc, true, false, [], ◌∷◌, refl, sym, 
 use Rattle.std.specs.List.{AllByRecursion}
 use Rattle.ct_change.specs.declared.kind.KindSet.{KindSet}
 use Rattle.ct_catalog.specs.declared.table.TableDef.{TableDef}
+use Rattle.rel_algebra.specs.declared.agg.Agg.{Agg}
 use Rattle.phys_plan.specs.declared.edge.Edge.{Edge as PlanEdge}
 use Rattle.phys_plan.specs.declared.edge.Exchange.{Exchange}
 use Rattle.phys_plan.specs.declared.edge.Exchange.TheVariants.{Forward, Hash}
@@ -21,7 +22,7 @@ use Rattle.upsert_keys.specs.Keys.{keys, keys_of}
 use Rattle.upsert_keys.specs.Seen.{all_seen, exchange_in, seen_over}
 use Rattle.mode_infer.specs.declared.kinds.Flow.{Flow}
 use Rattle.mode_infer.specs.declared.modes.EdgeMode.{EdgeMode}
-use Rattle.mode_infer.specs.Kinds.{flow_of, flows, no_flow, plain, asked}
+use Rattle.mode_infer.specs.Kinds.{flow_of, flows, group_kinds, grouped_in_bundles, no_flow, partials, plain, asked}
 use Rattle.mode_infer.specs.Modes.{edge_modes, mode, modes_of, updates, with_sink}
 use Rattle.mode_infer.specs.UpdateKeys.{input_width, update_key_of, update_keys}
 use Rattle.mode_infer.specs.Updates.{is_input, is_taken, port_of, takes}
@@ -34,7 +35,6 @@ use Rattle.plan_check.specs.Sound.{inferred_of, meets}
 use Rattle.plan_check.specs.Types.{is_typed, is_typed_by, types_at, types_by}
 use Rattle.sound_plans.specs.Agrees.{taken_by, first_width}
 use Rattle.sound_plans.specs.Outputs.{seen}
-use Rattle.plan_rules.specs.Behaviours.{has_rule}
 use Rattle.sound_plans.specs.Sound.{IsRuled}
 use Rattle.sound_plans.proofs.laws.Lists.{both, drop_at, found, is_somewhere, map_length, map_map, map_same, of_each, same_numbers, within}
 use Rattle.sound_plans.proofs.laws.Consumers.{by_test, consumer_is, only_behind, port_is, taken_is}
@@ -99,14 +99,14 @@ item_there : {A : Type 0} (d : A) (xs : List A) (v : ℕ) → 0 < v → v ≤ le
 item_there d xs zero l h = absurd (omega arith)
 item_there d xs (suc n) l h = let x = found xs n (omega arith) in x.1 ∙ ap (λ y. Some y) (sym (ap (λ o. unwrap_or o d) x.1))
 
--- ---- a node with a rule sends rows as they are
+-- ---- a node that isn't a local group sends rows as they are
 
-flow_plain : (sources : List TableDef) (o : Op) (inputs : List Flow) → has_rule o ≡ true → flow_of sources o inputs ≡ plain (flow_of sources o inputs).sent
-flow_plain sources (op.LocalGroup keys aggs) inputs r = absurd (cc)
-flow_plain sources _ [] r = refl
-flow_plain sources _ (a ∷ []) r = refl
-flow_plain sources _ (a ∷ (b ∷ [])) r = refl
-flow_plain sources _ (a ∷ (b ∷ (c ∷ inputs))) r = refl
+flow_plain : (sources : List TableDef) (o : Op) (inputs : List Flow) → s.sends_parts o ≡ false → flow_of sources o inputs ≡ plain (flow_of sources o inputs).sent
+flow_plain sources (op.LocalGroup keys aggs) inputs n = absurd (cc)
+flow_plain sources _ [] n = refl
+flow_plain sources _ (a ∷ []) n = refl
+flow_plain sources _ (a ∷ (b ∷ [])) n = refl
+flow_plain sources _ (a ∷ (b ∷ (c ∷ inputs))) n = refl
 
 module _ (laws : Laws) (plan : Plan) (ruled : IsRuled plan) where
   pub shape : MeetsShape plan
@@ -205,18 +205,28 @@ module _ (laws : Laws) (plan : Plan) (ruled : IsRuled plan) where
   flow_made : (v : ℕ) (node : Node) → numbered plan.nodes v ≡ Some node → at no_flow flow_table v ≡ flow_of plan.sources node.op (map (at no_flow flow_table) node.inputs)
   flow_made v node e = i.made_at (λ w. flow_of plan.sources w.op) no_flow plan.nodes flow_table flow_is v node (alike plan.nodes v ∙ e)
 
-  sent_alone : (v : ℕ) (node : Node) → numbered plan.nodes v ≡ Some node → at no_flow flow_table v ≡ plain (output_at plan v).sent
-  sent_alone v node e =
+  sent_alone : (v : ℕ) (node : Node) → numbered plan.nodes v ≡ Some node → s.sends_parts node.op ≡ false → at no_flow flow_table v ≡ plain (output_at plan v).sent
+  sent_alone v node e n =
       let made = flow_made v node e in
-      made ∙ flow_plain plan.sources node.op (map (at no_flow flow_table) node.inputs) (ruled.rules v node e) ∙ ap (λ (f : Flow). plain f.sent) (sym made)
+      made ∙ flow_plain plan.sources node.op (map (at no_flow flow_table) node.inputs) n ∙ ap (λ (f : Flow). plain f.sent) (sym made)
 
-  pub kinds_are_sent : (v : ℕ) (node : Node) → numbered plan.nodes v ≡ Some node
+  pub kinds_are_sent : (v : ℕ) (node : Node) → numbered plan.nodes v ≡ Some node → s.ArePlain plan shape laws.shaped node.inputs
       → (output_at plan v).sent ≡ (flow_of plan.sources node.op (map (λ out. plain out.sent) (map (output_at plan) node.inputs))).sent
-  kinds_are_sent v node e =
+  kinds_are_sent v node e are_plain =
       let inputs = map_same (at no_flow flow_table) (λ input. plain (output_at plan input).sent) node.inputs
       (of_each (λ input. at no_flow flow_table input ≡ plain (output_at plan input).sent) node.inputs
-      (λ p input h. let there = (s.input_there plan shape laws.shaped v node p input e h).1 in sent_alone input there.0 there.1)) in
+      (λ p input h. let there = (s.input_there plan shape laws.shaped v node p input e h).1 in sent_alone input there.0 there.1 (are_plain p input there.0 h there.1))) in
       ap (λ (f : Flow). f.sent) (flow_made v node e ∙ ap (flow_of plan.sources node.op) (inputs ∙ sym (map_map (λ out. plain out.sent) (output_at plan) node.inputs)))
+
+  -- a group above a local group goes by what comes to that
+  pub kinds_are_merged : (v : ℕ) (node : Node) (below_at : ℕ) (below : Node) (input keys : ℕ) (aggs : List Agg) (under : ℕ) (calls : List Agg) → numbered plan.nodes v ≡ Some node → node.op ≡ op.BatchGroup keys aggs → node.inputs ≡ below_at ∷ []
+      → numbered plan.nodes below_at ≡ Some below → below.op ≡ op.LocalGroup under calls → below.inputs ≡ input ∷ [] → (output_at plan v).sent ≡ group_kinds keys aggs (output_at plan input).sent
+  kinds_are_merged v node below_at below input keys aggs under calls e is are f is_local are_its =
+      let local : at no_flow flow_table below_at ≡ partials (at no_flow flow_table input) =
+      flow_made below_at below f ∙ (λ i. flow_of plan.sources (is_local i) (map (at no_flow flow_table) (are_its i))) in
+      let whole : at no_flow flow_table v ≡ grouped_in_bundles keys aggs (at no_flow flow_table below_at) =
+      flow_made v node e ∙ (λ i. flow_of plan.sources (is i) (map (at no_flow flow_table) (are i))) in
+      ap (λ (f : Flow). f.sent) (whole ∙ ap (grouped_in_bundles keys aggs) local)
 
   -- ---- update keys
 

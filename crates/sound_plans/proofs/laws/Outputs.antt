@@ -14,13 +14,16 @@ use Rattle.phys_plan.specs.Reading.{at, wires, numbered, no_keys}
 use Rattle.phys_plan.specs.Columns.{columns_in}
 use Rattle.mode_infer.specs.Kinds.{flows, no_flow}
 use Rattle.mode_infer.specs.UpdateKeys.{update_keys}
-use Rattle.plan_rules.specs.Plans.{exchange_in, kinds_in, keys_in, meaning_in, change_fits, no_kinds, route_by}
+use Rattle.phase_rules.specs.LocalGrouping.{LocalGrouping}
+use Rattle.plan_rules.specs.Around.{no_kinds}
+use Rattle.plan_rules.specs.Phases.{fits_sent, meaning_sent}
+use Rattle.plan_rules.specs.Plans.{exchange_in, kinds_in, keys_in, local_in, meaning_in, change_fits, route_by, update_in}
 use Rattle.ct_catalog.specs.Columns.{table_mode}
 use Rattle.plan_rules.specs.Columns.{columns_at}
-use Rattle.plan_rules.specs.Doings.{around_of, network, side_of, update_in}
+use Rattle.plan_rules.specs.Doings.{around_of, network, side_of}
 use Rattle.plan_check.specs.Sound.{sent_columns}
 use Rattle.plan_check.specs.Types.{all_types}
-use Rattle.sound_plans.specs.Outputs.{Output, around_by, edge_of, printed_edge, side_of as output_side}
+use Rattle.sound_plans.specs.Outputs.{Output, around_by, around_sent, edge_of, partial_edge, printed_edge, side_of as output_side}
 
 abbrev pub edge_or : Option PlanEdge → PlanEdge
 edge_or None = record { exchange = Forward; kinds = no_kinds; update = Both }
@@ -46,13 +49,17 @@ module _ (plan : Plan) where
 
   -- ---- edges of the network
 
-  abbrev edge_by : Bool → Option PlanEdge → Option Node → List ColTy → Edge
-  edge_by last edge node columns = record {
-    meaning = cond last (meaning_of (table_mode plan.sink)) (meaning_in edge);
+  -- what a node sends partial rows of, if it does
+  abbrev pub local_at : ℕ → Option LocalGrouping
+  local_at v = local_in (columns_at plan.sources plan.nodes) plan (numbered plan.nodes v)
+
+  abbrev edge_by : Bool → Option LocalGrouping → Option PlanEdge → Option Node → List ColTy → Edge
+  edge_by last local edge node columns = record {
+    meaning = cond last (meaning_of (table_mode plan.sink)) (meaning_sent local (meaning_in edge));
     exchange = exchange_in edge;
     route = route_by plan.parallelism columns (exchange_in edge);
     kinds = kinds_in edge;
-    fits = change_fits (cond last (meaning_of (table_mode plan.sink)) (meaning_in edge)) columns;
+    fits = fits_sent local (change_fits (cond last (meaning_of (table_mode plan.sink)) (meaning_sent local (meaning_in edge))) columns);
     holds = λ row. row_fits columns row;
     unique = keys_in (λ n. n.keys.unique) node;
     local = keys_in (λ n. n.keys.local) node;
@@ -68,23 +75,35 @@ module _ (plan : Plan) where
     update_key = at None (update_keys inferred_columns (wires plan.nodes)) v;
   }
 
-  inner_edge : (v : ℕ) (edge : Option PlanEdge) (node : Option Node) → edge_by false edge node (columns_at plan.sources plan.nodes v) ≡ edge_of plan.parallelism (output_by edge node v)
+  inner_edge : (v : ℕ) (edge : Option PlanEdge) (node : Option Node) → edge_by false None edge node (columns_at plan.sources plan.nodes v) ≡ edge_of plan.parallelism (output_by edge node v)
   inner_edge v None None = refl
   inner_edge v None (Some node) = refl
   inner_edge v (Some edge) None = refl
   inner_edge v (Some edge) (Some node) = refl
 
-  last_edge : (v : ℕ) (edge : Option PlanEdge) (node : Option Node) → edge_by true edge node (columns_at plan.sources plan.nodes v) ≡ printed_edge plan.parallelism plan.sink (output_by edge node v)
+  parts_edge : (l : LocalGrouping) (v : ℕ) (edge : Option PlanEdge) (node : Option Node) → edge_by false (Some l) edge node (columns_at plan.sources plan.nodes v) ≡ partial_edge plan.parallelism l (output_by edge node v)
+  parts_edge l v None None = refl
+  parts_edge l v None (Some node) = refl
+  parts_edge l v (Some edge) None = refl
+  parts_edge l v (Some edge) (Some node) = refl
+
+  last_edge : (v : ℕ) (edge : Option PlanEdge) (node : Option Node) → edge_by true None edge node (columns_at plan.sources plan.nodes v) ≡ printed_edge plan.parallelism plan.sink (output_by edge node v)
   last_edge v None None = refl
   last_edge v None (Some node) = refl
   last_edge v (Some edge) None = refl
   last_edge v (Some edge) (Some node) = refl
 
-  pub edge_is : (v : ℕ) → (v == length plan.nodes) ≡ false → (network plan).edge v ≡ edge_of plan.parallelism (output_at v)
-  edge_is v inner = ap (λ b. edge_by b (numbered plan.edges v) (numbered plan.nodes v) (columns_at plan.sources plan.nodes v)) inner ∙ inner_edge v (numbered plan.edges v) (numbered plan.nodes v)
+  pub edge_is : (v : ℕ) → (v == length plan.nodes) ≡ false → local_at v ≡ None → (network plan).edge v ≡ edge_of plan.parallelism (output_at v)
+  edge_is v inner none =
+      (λ i. edge_by (inner i) (none i) (numbered plan.edges v) (numbered plan.nodes v) (columns_at plan.sources plan.nodes v)) ∙ inner_edge v (numbered plan.edges v) (numbered plan.nodes v)
 
-  pub printed_is : (v : ℕ) → (v == length plan.nodes) ≡ true → (network plan).edge v ≡ printed_edge plan.parallelism plan.sink (output_at v)
-  printed_is v last = ap (λ b. edge_by b (numbered plan.edges v) (numbered plan.nodes v) (columns_at plan.sources plan.nodes v)) last ∙ last_edge v (numbered plan.edges v) (numbered plan.nodes v)
+  pub parts_are : (l : LocalGrouping) (v : ℕ) → (v == length plan.nodes) ≡ false → local_at v ≡ Some l → (network plan).edge v ≡ partial_edge plan.parallelism l (output_at v)
+  parts_are l v inner some =
+      (λ i. edge_by (inner i) (some i) (numbered plan.edges v) (numbered plan.nodes v) (columns_at plan.sources plan.nodes v)) ∙ parts_edge l v (numbered plan.edges v) (numbered plan.nodes v)
+
+  pub printed_is : (v : ℕ) → (v == length plan.nodes) ≡ true → local_at v ≡ None → (network plan).edge v ≡ printed_edge plan.parallelism plan.sink (output_at v)
+  printed_is v last none =
+      (λ i. edge_by (last i) (none i) (numbered plan.edges v) (numbered plan.nodes v) (columns_at plan.sources plan.nodes v)) ∙ last_edge v (numbered plan.edges v) (numbered plan.nodes v)
 
   -- ---- what is around a node
 
@@ -104,14 +123,22 @@ module _ (plan : Plan) where
   many [] = refl
   many (input ∷ inputs) = ap suc (many inputs)
 
-  pub around_is : (v first : ℕ) (inputs : List ℕ) → around_of plan v (first ∷ inputs) ≡ around_by plan.sink (map output_at (first ∷ inputs)) (output_at v)
-  around_is v first inputs = λ i. record {
+  around_told : (v first : ℕ) (inputs : List ℕ) → around_of plan v (first ∷ inputs) ≡ around_sent (local_at first) plan.sink (map output_at (first ∷ inputs)) (output_at v)
+  around_told v first inputs = λ i. record {
     kinds = kinds_is (numbered plan.edges first) i;
     input = update_is (numbered plan.edges first) i;
     own = update_is (numbered plan.edges v) i;
     columns = columns_at plan.sources plan.nodes first;
+    partial = local_at first;
     others = sides inputs i;
     inputs = many (first ∷ inputs) i;
     declared = plan.sink.mode;
     sink_key = unwrap_or plan.sink.key [];
   }
+
+  pub around_is : (v first : ℕ) (inputs : List ℕ) → local_at first ≡ None → around_of plan v (first ∷ inputs) ≡ around_by plan.sink (map output_at (first ∷ inputs)) (output_at v)
+  around_is v first inputs none = around_told v first inputs ∙ ap (λ local. around_sent local plan.sink (map output_at (first ∷ inputs)) (output_at v)) none
+
+  -- where partial rows come
+  pub around_parts : (l : LocalGrouping) (v first : ℕ) (inputs : List ℕ) → local_at first ≡ Some l → around_of plan v (first ∷ inputs) ≡ around_sent (Some l) plan.sink (map output_at (first ∷ inputs)) (output_at v)
+  around_parts l v first inputs some = around_told v first inputs ∙ ap (λ local. around_sent local plan.sink (map output_at (first ∷ inputs)) (output_at v)) some

@@ -17,7 +17,7 @@ use Rattle.phys_plan.specs.declared.plan.Plan.{Plan}
 use Rattle.phys_plan.specs.declared.plan.Rule.TheVariants as rule
 use Rattle.plan_rules.specs.Behaviours.{has_rule}
 use Rattle.plan_rules.specs.Columns.{only, of_two, common_with, common_of, columns_as, columns_by, numbered_columns, next_columns, columns_after, node_columns, columns_at}
-use Rattle.plan_rules.specs.Roles.{Role, reads_table, one_of, two_of, all_of, same_as, not_told, role}
+use Rattle.plan_rules.specs.Roles.{Role, reads_table, one_of, two_of, all_of, same_as, part_of, not_told, role}
 use Rattle.plan_shape.specs.Shape.{has_shape, has_sizes, is_shaped, is_whole}
 use Rattle.plan_shape.specs.Tables.{are_tables, has_columns, has_type, is_declarable}
 use Rattle.typing_laws.specs.Exist.{Exist}
@@ -99,6 +99,7 @@ module _ (types_exist : ColumnsHaveTypes) where
     role_exists (two_of how) inputs h = sides_exist how inputs h
     role_exists all_of inputs h = union_exists inputs h
     role_exists same_as inputs h = only_exist inputs h
+    role_exists (part_of keys aggs) inputs h = only_exist inputs h
     role_exists (not_told so_many) inputs h = tt
 
     -- where an operator has a rule

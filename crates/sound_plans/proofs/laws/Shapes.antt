@@ -4,13 +4,15 @@ use Rattle.std.proofs.Common.{zero, suc, true, false, [], ◌∷◌, refl, sym, 
 use Rattle.std.specs.List.{AllByRecursion, find, list_all}
 use Rattle.std.proofs.lemmas.Bool.{eqb-true, eqb-false}
 use Rattle.ct_catalog.specs.declared.table.TableDef.{TableDef}
+use Rattle.rel_algebra.specs.declared.agg.Agg.{Agg}
 use Rattle.phys_plan.specs.declared.node.Node.{Node}
 use Rattle.phys_plan.specs.declared.node.Op.{Op}
 use Rattle.phys_plan.specs.declared.node.Op.TheVariants as op
 use Rattle.phys_plan.specs.declared.plan.Plan.{Plan}
+pub use Rattle.plan_rules.specs.Phases.{sends_parts}
 use Rattle.plan_rules.specs.Plans.{HasShape, kinds_in}
 use Rattle.phys_plan.specs.Reading.{numbered, first_input}
-use Rattle.plan_shape.specs.Shape.{are_before, consumer, has_input, has_sizes, is_consumed, is_fed, is_shaped, is_sink, is_whole, node_has_shape, op_in, suits_consumer, suits_input, suits_plan, takes, uses}
+use Rattle.plan_shape.specs.Shape.{are_before, consumer, has_input, has_sizes, is_consumed, is_fed, is_shaped, is_sink, is_whole, merges, node_has_shape, op_in, suits_consumer, suits_input, suits_plan, takes, uses}
 use Rattle.plan_shape.specs.Shaped.{MeetsShape, ShapedPlansHaveShape}
 use Rattle.plan_shape.specs.Tables.{are_tables, is_declarable}
 use Rattle.sound_plans.proofs.laws.Lists.{both, found, is_somewhere, is_there, not_true, of_each, same_number, the_same, within}
@@ -47,6 +49,25 @@ pub sink_op : (o : Op) → is_sink (Some o) ≡ true → o ≡ op.Sink
 sink_op op.Sink h = refl
 sink_op _ h = absurd (cc)
 
+-- ---- local groups and groups in bundles
+
+pub is_local : (o : Op) → sends_parts o ≡ true → (keys : ℕ) × (aggs : List Agg) × (o ≡ op.LocalGroup keys aggs)
+is_local (op.LocalGroup keys aggs) h = (keys, aggs, refl)
+is_local _ h = absurd (cc)
+
+-- whether it may take them
+abbrev pub takes_parts : Op → Bool
+takes_parts (op.BatchGroup keys aggs) = true
+takes_parts _ = false
+
+pub is_bundled : (o : Op) → takes_parts o ≡ true → (keys : ℕ) × (aggs : List Agg) × (o ≡ op.BatchGroup keys aggs)
+is_bundled (op.BatchGroup keys aggs) h = (keys, aggs, refl)
+is_bundled _ h = absurd (cc)
+
+pub merges_in_bundles : (keys : ℕ) (aggs : List Agg) (o : Op) → merges keys aggs (Some o) ≡ true → takes_parts o ≡ true
+merges_in_bundles keys aggs (op.BatchGroup of_keys of_aggs) h = refl
+merges_in_bundles keys aggs _ h = absurd (cc)
+
 -- a node whose operator is the sink's, by its place among these, with this number among its inputs
 pub record IsSinkOver (nodes : List Node) (v : ℕ) : Type 0 where
   pub place : ℕ
@@ -63,6 +84,23 @@ sink_over v (first ∷ nodes) e =
     (λ f.
     let later = sink_over v nodes (sym (ap (λ b. is_sink (op_in (cond b (Some first) (find (has_input v) nodes)))) f) ∙ e) in
     record { place = suc later.place; node = later.node; is = later.is; has = later.has; sinks = later.sinks })
+
+-- a group in bundles that sums up what such a local group sends, by its place among these, with this number among its inputs
+pub record IsMergeOver (nodes : List Node) (v keys : ℕ) (aggs : List Agg) : Type 0 where
+  pub place : ℕ
+  pub node : Node
+  pub is : slice_get nodes place ≡ Some node
+  pub has : has_input v node ≡ true
+  pub sums : merges keys aggs (Some node.op) ≡ true
+
+merge_over : (v keys : ℕ) (aggs : List Agg) (nodes : List Node) → merges keys aggs (op_in (find (has_input v) nodes)) ≡ true → IsMergeOver nodes v keys aggs
+merge_over v keys aggs [] e = absurd (cc)
+merge_over v keys aggs (first ∷ nodes) e =
+    by_test (has_input v first)
+    (λ t. record { place = 0; node = first; is = refl; has = t; sums = sym (ap (λ b. merges keys aggs (op_in (cond b (Some first) (find (has_input v) nodes)))) t) ∙ e })
+    (λ f.
+    let later = merge_over v keys aggs nodes (sym (ap (λ b. merges keys aggs (op_in (cond b (Some first) (find (has_input v) nodes)))) f) ∙ e) in
+    record { place = suc later.place; node = later.node; is = later.is; has = later.has; sums = later.sums })
 
 -- what the rule says of one node
 pub record IsTold (plan : Plan) (v : ℕ) (node : Node) : Type 0 where
@@ -194,3 +232,35 @@ module _ (plan : Plan) (meets : MeetsShape plan) (shaped : ShapedPlansHaveShape)
       let fed = (both (not (is_sink (Some node.op))) (uses v plan.nodes == 1 && suits_consumer plan.sources node.op (consumer v plan.nodes)) (inner v node e l)).1 in
       let suits = (both (uses v plan.nodes == 1) (suits_consumer plan.sources node.op (consumer v plan.nodes)) fed).1 in
       sink_over v plan.nodes (sym (alone (consumer v plan.nodes)) ∙ suits))
+
+  -- ---- local groups
+
+  -- only a group in bundles takes partial rows
+  pub plain_below : (v : ℕ) (node : Node) (p input : ℕ) (below : Node) → numbered plan.nodes v ≡ Some node → takes_parts node.op ≡ false → slice_get node.inputs p ≡ Some input → numbered plan.nodes input ≡ Some below → sends_parts below.op ≡ false
+  plain_below v node p input below e n i f =
+      by_test (sends_parts below.op)
+      (λ t.
+      let local = is_local below.op t in
+      let suits : merges local.0 local.1 (Some node.op) ≡ true = sym (ap (λ o. suits_consumer plan.sources o (Some node.op)) local.2) ∙ suits_above v node p input below e i f in
+      absurd (let clash : false ≡ true = sym n ∙ merges_in_bundles local.0 local.1 node.op suits in cc))
+      (λ g. g)
+
+  -- no input sends partial rows
+  abbrev pub ArePlain : List ℕ → Type 0
+  ArePlain inputs = (p input : ℕ) (below : Node) → slice_get inputs p ≡ Some input → numbered plan.nodes input ≡ Some below → sends_parts below.op ≡ false
+
+  pub all_plain : (v : ℕ) (node : Node) → numbered plan.nodes v ≡ Some node → takes_parts node.op ≡ false → ArePlain node.inputs
+  all_plain v node e n p input below i f = plain_below v node p input below e n i f
+
+  -- a local group feeds the group in bundles that sums up what it sends
+  pub feeds_merge : (v : ℕ) (node : Node) (keys : ℕ) (aggs : List Agg) → numbered plan.nodes v ≡ Some node → node.op ≡ op.LocalGroup keys aggs → IsMergeOver plan.nodes v keys aggs
+  feeds_merge v node keys aggs e is =
+      by_test (v == length plan.nodes)
+      (λ t. absurd (let last = last_sinks v node e (eqb-true v (length plan.nodes) t) in let clash : false ≡ true = sym (ap (λ o. is_sink (Some o)) is) ∙ last in cc))
+      (λ f.
+      let a = among plan.nodes v node e in
+      let apart = eqb-false v (length plan.nodes) f in
+      let l : v < length plan.nodes = let g = a.few in omega arith in
+      let fed = (both (not (is_sink (Some node.op))) (uses v plan.nodes == 1 && suits_consumer plan.sources node.op (consumer v plan.nodes)) (inner v node e l)).1 in
+      let suits = (both (uses v plan.nodes == 1) (suits_consumer plan.sources node.op (consumer v plan.nodes)) fed).1 in
+      merge_over v keys aggs plan.nodes (sym (ap (λ o. suits_consumer plan.sources o (consumer v plan.nodes)) is) ∙ suits))

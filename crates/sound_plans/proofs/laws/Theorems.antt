@@ -1,4 +1,6 @@
 -- The theorems of this crate, put together of its lemmas.
+use Rattle.std.specs.Prelude.{◌≡◌, length, None}
+use Rattle.phys_plan.specs.declared.plan.Plan.{Plan}
 use Rattle.sound_plans.specs.Promises.{Laws}
 use Rattle.plan_inferred.proofs.laws.Theorems.{keys_go_by_inputs_local, kinds_go_by_inputs_local, update_keys_go_by_inputs_local}
 use Rattle.sound_plans.proofs.laws.JoinInputs.{edges_are_keyed}
@@ -6,7 +8,8 @@ use Rattle.plan_shape.proofs.laws.Theorems.{shaped_plans_have_shape}
 use Rattle.stream_model.proofs.laws.Theorems.{plans_compose, printed_folds_to_answer}
 use Rattle.sound_plans.proofs.laws.States.{plans_hold}
 use Rattle.sound_plans.proofs.laws.Wiring as wiring
-use Rattle.sound_plans.specs.Sound.{SoundNodesHaveColumns, SoundPlansAnswer, SoundPlansMeetFacts, SoundPlansSuit, SoundPortsTake, SoundPlansAreWired, SoundPlansPrint}
+use Rattle.sound_plans.proofs.laws.Outputs.{local_at}
+use Rattle.sound_plans.specs.Sound.{IsRuled, SoundNodesHaveColumns, SoundPlansAnswer, SoundPlansMeetFacts, SoundPlansSuit, SoundPortsTake, SoundPlansAreWired, SoundPlansPrint}
 use Rattle.sound_plans.proofs.laws.Suits as suited
 use Rattle.sound_plans.specs.States.{SoundPlansHold}
 use Rattle.plan_rules.proofs.laws.Theorems.{plans_answer_as_erased, plans_are_wired}
@@ -37,6 +40,10 @@ sound_plans_meet_facts_takes = wiring.sound_ports_take nodes_fit
 -- A sound plan is wired: each port is fed by one node that stands before it, and each node but the sink feeds one port.
 pub sound_plans_are_wired : SoundPlansAreWired
 sound_plans_are_wired = wiring.sound_plans_are_wired nodes_fit plans_are_wired
+
+-- Its sink sends rows.
+pub sink_sends_rows : (plan : Plan) → IsRuled plan → local_at plan (length plan.nodes) ≡ None
+sink_sends_rows = wiring.sink_sends_rows nodes_fit
 
 -- What its operators ask of what is around them holds.
 pub sound_plans_suit : SoundPlansSuit

@@ -1,12 +1,16 @@
 -- A sound plan is wired, each of its nodes meets its facts, and what it prints folds to its sink's answer.
-use Rattle.std.specs.Prelude.{◌≡◌, ℕ, ◌+◌, ◌<◌, ◌≤◌, ◌⊎◌, ◌==◌, cond, List, length, slice_get, Option, option_map}
+use Rattle.std.specs.Prelude.{◌≡◌, ℕ, ◌+◌, ◌<◌, ◌≤◌, ◌⊎◌, ◌==◌, cond, List, length, map, slice_get, Option, option_map}
 use Rattle.std.proofs.Common.{zero, suc, true, false, [], ◌∷◌, refl, sym, ap, subst, ◌∙◌, arith, Some, None, inl, inr}
 use Rattle.std.proofs.lemmas.Bool.{eqb-true}
+use Rattle.std.specs.List.{Contains}
 use Rattle.ct_change.specs.Changelog.{Mode, append, retract, upsert, has}
-use Rattle.op_rules.specs.Edges.{Edge, forward, meaning_of, IsKeyedBy}
+use Rattle.ct_change.specs.declared.update.Update.{Update}
+use Rattle.ct_change.specs.declared.update.Update.TheVariants.{Absent, After, Both}
+use Rattle.op_rules.specs.Edges.{Edge, forward, meaning_of, partials, IsKeyedBy, IsPartial}
 use Rattle.op_rules.specs.Tasks.{Facts}
 use Rattle.phys_plan.specs.declared.edge.Edge.{Edge as PlanEdge}
-use Rattle.phys_plan.specs.declared.edge.Exchange.TheVariants.{Forward}
+use Rattle.phys_plan.specs.declared.edge.Exchange.TheVariants.{Forward, Hash}
+use Rattle.phys_plan.specs.declared.node.KeyInfo.{KeyInfo}
 use Rattle.phys_plan.specs.declared.node.Node.{Node}
 use Rattle.phys_plan.specs.declared.node.Op.{Op}
 use Rattle.phys_plan.specs.declared.node.Op.TheVariants as op
@@ -17,15 +21,22 @@ use Rattle.stream_model.specs.Theorem.{PrintedFolds}
 use Rattle.mode_infer.specs.Updates.{is_input}
 use Rattle.plan_inferred.specs.Rules.{consumer}
 use Rattle.plan_rules.proofs.laws.ChangeFits.{fits_keyed}
-use Rattle.plan_rules.specs.Plans.{inputs_in, scan_of, scan_in, meaning_by, meaning_in, exchange_in, exchange_of, table_of, HasShape, FitsShape, PlansAreWired}
-use Rattle.phys_plan.specs.Reading.{numbered}
+use Rattle.phase_rules.specs.LocalGrouping.{partials_of}
+use Rattle.column_sets.specs.Places.{first_columns}
+use Rattle.upsert_keys.specs.Keys.{keys_of}
+use Rattle.plan_rules.specs.Around.{local_of}
+use Rattle.plan_rules.specs.Phases.{meaning_sent}
+use Rattle.plan_rules.specs.Plans.{inputs_in, keys_in, local_in, scan_of, scan_in, meaning_by, meaning_in, exchange_in, exchange_of, table_of, HasShape, FitsShape, PlansAreWired}
+use Rattle.phys_plan.specs.Reading.{no_keys, numbered}
 use Rattle.ct_catalog.specs.Columns.{table_mode}
 use Rattle.plan_rules.specs.Columns.{columns_at}
 use Rattle.plan_rules.specs.Answers.{PlansAnswerAsErased}
 use Rattle.plan_rules.proofs.laws.Behaviours.{scans_open}
 use Rattle.plan_rules.specs.Behaviours.{behaviour, TakesBy}
 use Rattle.plan_rules.specs.Doings.{around_of, doing_by, doing_in, network}
+use Rattle.plan_shape.specs.Shape.{takes as ports_of}
 use Rattle.plan_shape.specs.Shaped.{MeetsShape}
+use Rattle.sound_plans.specs.Outputs.{around_by, seen}
 use Rattle.sound_plans.specs.Sound.{IsRuled, SoundPlansAreWired, SoundPlansMeetFacts, SoundNodesHaveColumns, SoundPlansAnswer, SoundPortsTake, SoundPlansPrint}
 use Rattle.sound_plans.proofs.laws.Lists.{is_somewhere, same_number, the_same}
 use Rattle.sound_plans.proofs.laws.Consumers.{by_test}
@@ -33,9 +44,10 @@ use Rattle.sound_plans.specs.Promises.{Laws}
 use Rattle.sound_plans.proofs.laws.Agreed as a
 use Rattle.sound_plans.proofs.laws.Local as l
 use Rattle.sound_plans.proofs.laws.Shapes as s
+use Rattle.sound_plans.proofs.laws.Groups.{same_first}
 use Rattle.sound_plans.proofs.laws.Sinks.{sinks_fit}
-use Rattle.sound_plans.proofs.laws.Outputs.{edge_or, output_at, printed_is}
-use Rattle.sound_plans.proofs.laws.Stands.{IsScanNode, IsWorker, edge_at, node_stands, proper_inputs, sink_is}
+use Rattle.sound_plans.proofs.laws.Outputs.{edge_or, keys_or, local_at, output_at, printed_is}
+use Rattle.sound_plans.proofs.laws.Stands.{IsScanNode, IsWorker, edge_at, grouping_there, node_stands, proper_inputs, sends_rows, sink_is}
 
 -- the consumer of an edge is a node that has it among its inputs
 consumer_there : (v : ℕ) (nodes : List Node) (node : Node) → consumer v nodes ≡ Some node → (n : ℕ) × (slice_get nodes n ≡ Some node) × (is_input v node.inputs ≡ true)
@@ -73,16 +85,79 @@ module _ (laws : Laws) (plan : Plan) (ruled : IsRuled plan) where
           let p = is_somewhere v above.inputs has.2 in
           a.keyed_at laws plan ruled (suc has.0) above p.0 v has.1 p.1 (node_stands laws plan ruled v node e).proper (proper_inputs laws plan ruled (suc has.0) above has.1)
 
-  keyed_edge : (v : ℕ) → IsKeyedBy (meaning_in (numbered plan.edges v)) (exchange_in (numbered plan.edges v))
+  -- partial rows go by the key columns
+  keyed_parts : (v : ℕ) (node : Node) → numbered plan.nodes v ≡ Some node → s.sends_parts node.op ≡ true → IsKeyedBy (meaning_sent (local_at plan v) (meaning_in (numbered plan.edges v))) (exchange_in (numbered plan.edges v))
+  keyed_parts v node e t =
+      let local = s.is_local node.op t in
+      let i = a.one_input laws plan ruled v node e (λ n. ap (λ x. ports_of x n) local.2) in
+      let agrees = a.local_agrees laws plan ruled v node local.0 local.1 i.0 e local.2 i.1 (a.under_there laws plan ruled v node local.0 local.1 e local.2) (proper_inputs laws plan ruled v node e) in
+      let goes : exchange_in (numbered plan.edges v) ≡ exchange_of (Hash (first_columns local.0)) = exchanged (numbered plan.edges v) ∙ ap exchange_of agrees.exchanged in
+      subst (λ x. IsKeyedBy (meaning_sent x (meaning_in (numbered plan.edges v))) (exchange_in (numbered plan.edges v))) (sym (grouping_there laws plan ruled v node local.0 local.1 i.0 e local.2 i.1))
+      (subst (λ x. IsKeyedBy (partials (partials_of (local_of local.0 local.1 (around_by plan.sink (output_at plan i.0 ∷ []) (output_at plan v))))) x) (sym goes) (sym (same_first local.0)))
+    where
+      exchanged : (o : Option PlanEdge) → exchange_in o ≡ exchange_of (edge_or o).exchange
+      exchanged None = refl
+      exchanged (Some edge) = refl
+
+  keyed_edge : (v : ℕ) → IsKeyedBy (meaning_sent (local_at plan v) (meaning_in (numbered plan.edges v))) (exchange_in (numbered plan.edges v))
   keyed_edge v = go (numbered plan.nodes v) refl
     where
       told : (o : Option PlanEdge) → IsKeyedBy (meaning_by (edge_or o).update) (exchange_of (edge_or o).exchange) → IsKeyedBy (meaning_in o) (exchange_in o)
       told None h = tt
       told (Some edge) h = h
 
-      go : (o : Option Node) → numbered plan.nodes v ≡ o → IsKeyedBy (meaning_in (numbered plan.edges v)) (exchange_in (numbered plan.edges v))
-      go (Some node) e = told (numbered plan.edges v) (keyed_inner v node e)
-      go None e = subst (λ (o : Option PlanEdge). IsKeyedBy (meaning_in o) (exchange_in o)) (sym (s.no_edge plan meets laws.shaped v e)) tt
+      rows : local_at plan v ≡ None → IsKeyedBy (meaning_in (numbered plan.edges v)) (exchange_in (numbered plan.edges v)) → IsKeyedBy (meaning_sent (local_at plan v) (meaning_in (numbered plan.edges v))) (exchange_in (numbered plan.edges v))
+      rows none h = subst (λ x. IsKeyedBy (meaning_sent x (meaning_in (numbered plan.edges v))) (exchange_in (numbered plan.edges v))) (sym none) h
+
+      go : (o : Option Node) → numbered plan.nodes v ≡ o → IsKeyedBy (meaning_sent (local_at plan v) (meaning_in (numbered plan.edges v))) (exchange_in (numbered plan.edges v))
+      go (Some node) e =
+          by_test (s.sends_parts node.op) (λ t. keyed_parts v node e t) (λ n. rows (sends_rows laws plan ruled v node e n) (told (numbered plan.edges v) (keyed_inner v node e)))
+      go None e =
+          rows (ap (local_in (columns_at plan.sources plan.nodes) plan) e) (subst (λ (o : Option PlanEdge). IsKeyedBy (meaning_in o) (exchange_in o)) (sym (s.no_edge plan meets laws.shaped v e)) tt)
+
+  -- they have no keys
+  no_parts : (m : Mode) → IsPartial (meaning_of m) → ⊥
+  no_parts append z = z
+  no_parts retract z = z
+  no_parts (upsert key) z = z
+
+  no_edge_parts : (o : Option PlanEdge) → IsPartial (meaning_in o) → ⊥
+  no_edge_parts None z = z
+  no_edge_parts (Some edge) z = go edge.update z
+    where
+      go : (update : Update) → IsPartial (meaning_by update) → ⊥
+      go Absent z = z
+      go (After key) z = z
+      go Both z = z
+
+  abbrev Unkeyed : ℕ → Option Node → Type 0
+  Unkeyed v o = (key : List ℕ) → Contains (keys_in (λ node. node.keys.local) o) key → ⊥
+
+  unkeyed_edge : (v : ℕ) → IsPartial (meaning_sent (local_at plan v) (meaning_in (numbered plan.edges v))) → Unkeyed v (numbered plan.nodes v)
+  unkeyed_edge v z = go (numbered plan.nodes v) refl
+    where
+      nothing : (key : List ℕ) → Contains {X = List ℕ} [] key → ⊥
+      nothing key c = let few = c.1 in omega (arith, few)
+
+      rows : local_at plan v ≡ None → ⊥
+      rows none = no_edge_parts (numbered plan.edges v) (subst (λ x. IsPartial (meaning_sent x (meaning_in (numbered plan.edges v)))) none z)
+
+      go : (o : Option Node) → numbered plan.nodes v ≡ o → Unkeyed v o
+      go None e key c = nothing key c
+      go (Some node) e key c =
+          by_test (s.sends_parts node.op)
+          (λ t.
+          let local = s.is_local node.op t in
+          let none : (output_at plan v).keys ≡ no_keys = l.keys_are laws plan ruled v node e ∙ ap (λ x. keys_of plan.sources x (map seen (map (output_at plan) node.inputs))) local.2 in
+          let held : (output_at plan v).keys ≡ node.keys = ap keys_or e in
+          nothing key (subst (λ (k : KeyInfo). Contains k.local key) (sym held ∙ none) c))
+          (λ n. absurd (rows (sends_rows laws plan ruled v node e n)))
+
+  unkeyed : (v : ℕ) → IsPartial (cond (v == length plan.nodes) (meaning_of (table_mode plan.sink)) (meaning_sent (local_at plan v) (meaning_in (numbered plan.edges v)))) → Unkeyed v (numbered plan.nodes v)
+  unkeyed v z =
+      by_test (v == length plan.nodes)
+      (λ t. absurd (no_parts (table_mode plan.sink) (subst (λ b. IsPartial (cond b (meaning_of (table_mode plan.sink)) (meaning_sent (local_at plan v) (meaning_in (numbered plan.edges v))))) t z)))
+      (λ f. unkeyed_edge v (subst (λ b. IsPartial (cond b (meaning_of (table_mode plan.sink)) (meaning_sent (local_at plan v) (meaning_in (numbered plan.edges v))))) f z))
 
   last_node : (node : Node) × (numbered plan.nodes (length plan.nodes) ≡ Some node) × (node.op ≡ op.Sink)
   last_node =
@@ -111,20 +186,21 @@ module _ (laws : Laws) (plan : Plan) (ruled : IsRuled plan) where
       let is : exchange_in (numbered plan.edges (length plan.nodes)) ≡ forward = ap exchange_in edge.1 ∙ ap exchange_of (sym (ap (λ o. (edge_or o).exchange) edge.1) ∙ goes) in
       subst (λ x. IsKeyedBy (meaning_of (table_mode plan.sink)) x) (sym is) (forward_keyed (table_mode plan.sink))
 
-  keyed : (v : ℕ) → IsKeyedBy (cond (v == length plan.nodes) (meaning_of (table_mode plan.sink)) (meaning_in (numbered plan.edges v))) (exchange_in (numbered plan.edges v))
+  keyed : (v : ℕ) → IsKeyedBy (cond (v == length plan.nodes) (meaning_of (table_mode plan.sink)) (meaning_sent (local_at plan v) (meaning_in (numbered plan.edges v)))) (exchange_in (numbered plan.edges v))
   keyed v =
       by_test (v == length plan.nodes)
       (λ t.
       let last : v ≡ length plan.nodes = eqb-true v (length plan.nodes) t in
-      subst (λ b. IsKeyedBy (cond b (meaning_of (table_mode plan.sink)) (meaning_in (numbered plan.edges v))) (exchange_in (numbered plan.edges v))) (sym t)
+      subst (λ b. IsKeyedBy (cond b (meaning_of (table_mode plan.sink)) (meaning_sent (local_at plan v) (meaning_in (numbered plan.edges v)))) (exchange_in (numbered plan.edges v))) (sym t)
       (subst (λ n. IsKeyedBy (meaning_of (table_mode plan.sink)) (exchange_in (numbered plan.edges n))) (sym last) keyed_last))
-      (λ f. subst (λ b. IsKeyedBy (cond b (meaning_of (table_mode plan.sink)) (meaning_in (numbered plan.edges v))) (exchange_in (numbered plan.edges v))) (sym f) (keyed_edge v))
+      (λ f. subst (λ b. IsKeyedBy (cond b (meaning_of (table_mode plan.sink)) (meaning_sent (local_at plan v) (meaning_in (numbered plan.edges v)))) (exchange_in (numbered plan.edges v))) (sym f) (keyed_edge v))
 
   fits : FitsShape (columns_at plan.sources plan.nodes) (λ v. doing_in plan v (numbered plan.nodes v)) plan
   fits = record {
     scans_open = λ v source j e. scan_opens v source j (numbered plan.nodes v) e;
     opens = λ v j h. opens v j h (numbered plan.nodes v) refl;
     keyed = keyed;
+    unkeyed = unkeyed;
   }
 
   -- ---- facts
@@ -162,6 +238,10 @@ module _ (laws : Laws) (plan : Plan) (ruled : IsRuled plan) where
       go (inl n) = absurd (let clash : None ≡ Some n.source = sym h ∙ n.scans in cc)
       go (inr w) = w.stands.1
 
+-- a sink sends rows
+pub sink_sends_rows : Laws → (plan : Plan) → IsRuled plan → local_at plan (length plan.nodes) ≡ None
+sink_sends_rows laws plan ruled = let n = last_node laws plan ruled in sends_rows laws plan ruled (length plan.nodes) n.0 n.1 (ap s.sends_parts n.2)
+
 pub sound_plans_are_wired : Laws → PlansAreWired → SoundPlansAreWired
 sound_plans_are_wired laws wired plan ruled = wired (columns_at plan.sources plan.nodes) (λ v. doing_in plan v (numbered plan.nodes v)) plan (shape laws plan ruled) (fits laws plan ruled)
 
@@ -183,7 +263,7 @@ pub sound_plans_print : Laws → PlansAreWired → PrintedFolds → SoundPlansPr
 sound_plans_print laws wired printed plan ruled limit items typed =
     let n = last_node laws plan ruled in
     let sink = sink_is laws plan ruled (length plan.nodes) n.0 n.1 n.2 (proper_inputs laws plan ruled (length plan.nodes) n.0 n.1) in
-    let last = printed_is plan (length plan.nodes) (same_number (length plan.nodes)) in
+    let last = printed_is plan (length plan.nodes) (same_number (length plan.nodes)) (sends_rows laws plan ruled (length plan.nodes) n.0 n.1 (ap s.sends_parts n.2)) in
     printed (network plan) (sound_plans_are_wired laws wired plan ruled) (meets_facts laws plan ruled) (table_mode plan.sink)
     (ap (λ (x : Edge). x.meaning) last)
     (λ kind h. (sinks_fit plan.parallelism plan.sink (output_at plan sink.0) (output_at plan (length plan.nodes)) sink.2).2 kind (subst (λ (x : Edge). has x.kinds kind ≡ true) last h))

@@ -104,3 +104,18 @@ returns-in-SetOp-clause-range g c = rw c.in-SetOp.is c.consume-in-SetOp.ensures.
 
 pub returns-in-SetOp-clause-cost : goal.returns-in-SetOp-clause-cost
 returns-in-SetOp-clause-cost g c = rw c.in-SetOp.is c.consume-in-SetOp.ensures.cost
+
+pub returns-in-Local-clause-ok : goal.returns-in-Local-clause-ok
+returns-in-Local-clause-ok g c = rw c.in-Local.is c.consume-in-Local.ensures.ok
+
+pub returns-in-Local-clause-range : goal.returns-in-Local-clause-range
+returns-in-Local-clause-range g c = rw c.in-Local.is c.consume-in-Local.ensures.range
+
+pub returns-in-Local-clause-cost : goal.returns-in-Local-clause-cost
+returns-in-Local-clause-cost g c = rw c.in-Local.is c.consume-in-Local.ensures.cost
+
+pub returns-in-Merge-clause-ok : goal.returns-in-Merge-clause-ok
+returns-in-Merge-clause-ok g c = rw c.in-Merge.is c.consume-in-Merge.ensures.ok
+
+pub returns-in-Merge-clause-cost : goal.returns-in-Merge-clause-cost
+returns-in-Merge-clause-cost g c = rw c.in-Merge.is c.consume-in-Merge.ensures.cost
