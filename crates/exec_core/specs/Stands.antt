@@ -9,9 +9,12 @@ use Rattle.stream_model.specs.declared.events.StepFault.{StepFault}
 use Rattle.stream_model.specs.Machine.{State, step, IsQuiet}
 use Rattle.stream_model.specs.Runs.{Item, happens, quiet, IsTyped}
 use Rattle.stream_model.specs.Drain.{Leads, StopsAlong, IsDrainFault, drain, stages}
+use Rattle.session_core.specs.declared.session.Session as of_any
 use Rattle.session_core.specs.Stands as of_network
+use Rattle.session_open.specs.declared.any.AnyOperator.{AnyOperator}
 use Rattle.session_open.specs.contracts.any.AnyOperatorOperator.TheImpl.{ghosts}
 use Rattle.session_open.specs.contracts.any.AnyOperatorPieceOperator.TheImpl.{ghosts as piece_ghosts}
+use Rattle.exec_core.specs.declared.check.TableCheck.{TableCheck}
 use Rattle.exec_core.specs.declared.session.Session.{Session}
 use Rattle.exec_core.specs.Checked.{HasChecked}
 
@@ -19,10 +22,18 @@ use Rattle.exec_core.specs.Checked.{HasChecked}
 abbrev pub reached : Plan → ℕ → List Item → State
 reached plan limit items = of_network.reached (network plan) limit items
 
--- the plan's operators have rules, and a session that handed out these items stands for this run, which sends at most so many changes
+-- a session over any network, of the operators and the tests of a plan
+abbrev pub Job : Type 0
+Job = of_any.Session AnyOperator TableCheck
+
+-- such a job that handed out these items stands for this run of the plan's network, which sends at most so many changes
+abbrev pub RunsBy : Job → Plan → ℕ → List PrintItem → List Item → Type 0
+RunsBy job plan limit handed items = of_network.StandsFor ghosts.rule ghosts.broken ghosts.stands_for piece_ghosts.takes_pieces HasChecked (network plan) limit job handed items
+
+-- the plan's operators have rules, and a session that handed out these items stands for this run
 pub record Stands (session : Session) (plan : Plan) (limit : ℕ) (handed : List PrintItem) (items : List Item) : Type 0 where
   pub ruled : IsRuled plan
-  pub stands_for : of_network.StandsFor ghosts.rule ghosts.broken ghosts.stands_for piece_ghosts.takes_pieces HasChecked (network plan) limit session.job handed items
+  pub stands_for : RunsBy session.job.value plan limit handed items
 
 -- ---- what holds of some run that a session stands for, and of each
 

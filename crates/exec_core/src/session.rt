@@ -7,7 +7,7 @@ ghost use Rattle.stream_model.specs.Machine as machine;
 ghost use Rattle.stream_model.specs.Machine.{IsQuiet, opened};
 ghost use Rattle.stream_model.specs.Drain.{StopsBy, stages};
 ghost use Rattle.stream_model.specs.Looks.{in_flight, taken_of};
-ghost use Rattle.stream_model.specs.declared.events.StepFault.TheVariants.{Memory};
+ghost use Rattle.stream_model.specs.declared.events.StepFault.TheVariants.{Memory as Wanting};
 ghost use Rattle.session_core.specs.LaidOut.{IsStageThere, stage_of};
 ghost use Rattle.session_core.specs.Stands.{HasAnswered, buffer_at};
 ghost use Rattle.session_open.specs.Opening.{IsTooMany};
@@ -15,18 +15,20 @@ ghost use Rattle.exec_core.specs.Stands.{ForRuns, ForSteps, HasDrained, HasStage
 
 use crate::TableCheck;
 use ct_change::Steps;
+use ct_value::Memory;
 use phys_plan::Plan;
 use plan_shape::columns_of;
 use session_core::{Buffer, Stage};
 use session_open::{AnyOperator, OpenFault, open_job};
 use std::alloc::Global;
 use std::sync::ledger::Ledger;
-use stream_model::{Event, PrintList, Stopped};
+use stream_model::{Event, PrintList, StepFault, Stopped};
 
-/// A job of a plan: its operators, the tests of its sources, what is in flight, and what was printed and not yet handed out.
+/// A job of a plan: its operators, the tests of its sources, what is in flight, and what was printed and not yet handed
+/// out. It is handed on from step to step, so it lies in a box: what is moved is a pointer.
 #[derive(Drop)]
 pub struct Session {
-    job: session_core::Session<AnyOperator, TableCheck>,
+    job: Box<session_core::Session<AnyOperator, TableCheck>>,
 }
 
 impl Session {
@@ -40,36 +42,45 @@ impl Session {
     {
         let columns = columns_of(alloc, plan)?;
         let job = open_job::<AnyOperator, TableCheck>(alloc, plan, &columns, sent_limit)?;
-        Ok(Session { job })
+        match Box::new(alloc, job) {
+            Ok(job) => Ok(Session { job }),
+            Err(_) => Err(OpenFault::Memory),
+        }
     }
 
     /// The session after one event. A change that is taken has to fit its table: as many values as columns, each NULL or of
     /// its column's type, and in a `-D` of an upsert table NULL in every column outside the key. A stop comes exactly where the machine stops, with its cause, NULL where none may stand among them,
     /// or for want of memory; it consumes the session, adds nothing to what was printed, and hands back what was printed and
     /// not yet handed out.
-    pub fn step<L: Ledger>(self, event: Event, steps: &mut Steps<L>) -> Result<Session, Stopped>
+    pub fn step<L: Ledger>(mut self, event: Event, steps: &mut Steps<L>) -> Result<Session, Stopped>
         requires ready { MayStep self event }
         ensures ok { IfOk result (λ next. HasStepped self event next) }
         ensures err { IfErr result (λ stopped. ForSteps self event (λ plan limit handed items. StopsBy (machine.step (network plan) limit (reached plan limit items) event) stopped.cause)) }
         ensures printed { IfErr result (λ stopped. ForRuns self (λ plan limit handed items. (reached plan limit items).printed ≡ handed ++ stopped.printed)) }
     {
         match self.job.step(event, steps) {
-            Ok(job) => Ok(Session { job }),
-            Err(stopped) => Err(stopped),
+            Ok(()) => Ok(self),
+            Err(cause) => {
+                let printed = self.job.take_printed();
+                Err(Stopped { cause, printed })
+            }
         }
     }
 
     /// The session after a drain's events, and a quiet item behind what was printed. It leaves the job quiet. A stop comes
     /// exactly where the machine stops along them, out of range or by the limit, or for want of memory; it hands back what
     /// was printed before it and not yet handed out.
-    pub fn drain<L: Ledger>(self, steps: &mut Steps<L>) -> Result<Session, Stopped>
+    pub fn drain<L: Ledger>(mut self, steps: &mut Steps<L>) -> Result<Session, Stopped>
         requires ready { StandsForSome self }
         ensures ok { IfOk result (λ next. HasDrained self next) }
         ensures err { IfErr result (λ stopped. StopsDraining self stopped.cause stopped.printed) }
     {
         match self.job.drain(steps) {
-            Ok(job) => Ok(Session { job }),
-            Err(stopped) => Err(stopped),
+            Ok(()) => Ok(self),
+            Err(cause) => {
+                let printed = self.job.take_printed();
+                Err(Stopped { cause, printed })
+            }
         }
     }
 
@@ -93,14 +104,20 @@ impl Session {
 
     /// The session with a quiet item behind what was printed. It stops for want of memory alone, and hands back what was printed
     /// and not yet handed out.
-    pub fn tell_quiet(self) -> Result<Session, Stopped>
+    pub fn tell_quiet(mut self) -> Result<Session, Stopped>
         ensures ok { IfOk result (λ next. HasTold self next) }
-        ensures cause { IfErr result (λ stopped. stopped.cause ≡ Memory) }
+        ensures cause { IfErr result (λ stopped. stopped.cause ≡ Wanting) }
         ensures printed { IfErr result (λ stopped. ForRuns self (λ plan limit handed items. (reached plan limit items).printed ≡ handed ++ stopped.printed)) }
     {
         match self.job.tell_quiet() {
-            Ok(job) => Ok(Session { job }),
-            Err(stopped) => Err(stopped),
+            Ok(()) => Ok(self),
+            Err(Memory) => {
+                let printed = self.job.take_printed();
+                Err(Stopped {
+                    cause: StepFault::Memory,
+                    printed,
+                })
+            }
         }
     }
 

@@ -1,5 +1,4 @@
-ghost use Rattle.std.specs.Prelude.{◌≡◌, ◌+◌, ◌++◌, ◌∷◌, drop, length, ℕ, List, OnOk, IfOk, IfErr};
-ghost use Rattle.stream_model.specs.declared.events.StepFault.TheVariants.{Memory as Wanting};
+ghost use Rattle.std.specs.Prelude.{◌≡◌, ◌+◌, ◌++◌, ◌∷◌, drop, length, ℕ, List, OnOk, OnErr, IfErr};
 ghost use Rattle.stream_model.specs.declared.events.PrintItem.{PrintItem};
 ghost use Rattle.stream_model.specs.Network.{Network};
 ghost use Rattle.stream_model.specs.Machine.{State};
@@ -13,7 +12,7 @@ use ct_change::Steps;
 use ct_value::Memory;
 use op_rules::PieceOperator;
 use std::sync::ledger::Ledger;
-use stream_model::{StepFault, Stopped};
+use stream_model::StepFault;
 
 impl<O: PieceOperator + Drop, S: SourceCheck> Session<O, S> {
     // What is in flight in a channel is delivered whole.
@@ -84,42 +83,29 @@ impl<O: PieceOperator + Drop, S: SourceCheck> Session<O, S> {
         self.wiring.stage(number)
     }
 
-    /// The session with a quiet item behind what was printed. It stops for want of memory alone, and hands back what was printed
-    /// and not yet handed out.
-    pub fn tell_quiet(mut self) -> Result<Session<O, S>, Stopped>
-        ensures ok { IfOk result (λ next. HasTold O.rule O.broken O.stands_for O.takes_pieces S.stands_for self next) }
-        ensures cause { IfErr result (λ stopped. stopped.cause ≡ Wanting) }
-        ensures printed { IfErr result (λ stopped. stopped.printed ≡ self.traffic.printed) }
+    /// Tells that the job is quiet: a quiet item stands behind what was printed. It stops for want of memory alone, and
+    /// then nothing is printed.
+    pub fn tell_quiet(&mut self) -> Result<(), Memory>
+        ensures ok { OnOk result (HasTold O.rule O.broken O.stands_for O.takes_pieces S.stands_for self.old self.new) }
+        ensures printed { OnErr result (self.new.traffic.printed ≡ self.old.traffic.printed) }
     {
         match self.traffic.tell_quiet() {
-            Ok(()) => Ok(self),
-            Err(Memory) => {
-                let traffic = self.traffic;
-                Err(Stopped {
-                    cause: StepFault::Memory,
-                    printed: traffic.printed,
-                })
-            }
+            Ok(()) => Ok(()),
+            Err(Memory) => Err(Memory),
         }
     }
 
-    /// The session after a drain's events, and a quiet item behind what was printed. It leaves the job quiet. A stop comes
-    /// exactly where the machine stops along them, out of range or by the limit, or for want of memory; it hands back what
-    /// was printed before it and not yet handed out.
-    pub fn drain<L: Ledger>(mut self, steps: &mut Steps<L>) -> Result<Session<O, S>, Stopped>
-        requires ready { StandsForSome O.rule O.broken O.stands_for O.takes_pieces S.stands_for self }
-        ensures ok { IfOk result (λ next. HasDrained O.rule O.broken O.stands_for O.takes_pieces S.stands_for self next) }
-        ensures err { IfErr result (λ stopped. StopsDraining O.rule O.broken O.stands_for O.takes_pieces S.stands_for self stopped.cause stopped.printed) }
+    /// A drain's events, and a quiet item behind what was printed. It leaves the job quiet. It stops exactly where the
+    /// machine stops along them, out of range or by the limit, or for want of memory; then what was printed before that
+    /// is what the session has printed and not yet handed out, and it is good for no more events.
+    pub fn drain<L: Ledger>(&mut self, steps: &mut Steps<L>) -> Result<(), StepFault>
+        requires ready { StandsForSome O.rule O.broken O.stands_for O.takes_pieces S.stands_for self.old }
+        ensures ok { OnOk result (HasDrained O.rule O.broken O.stands_for O.takes_pieces S.stands_for self.old self.new) }
+        ensures err { IfErr result (λ fault. StopsDraining O.rule O.broken O.stands_for O.takes_pieces S.stands_for self.old fault self.new.traffic.printed) }
     {
         match self.run_drain(steps) {
-            Ok(()) => Ok(self),
-            Err(cause) => {
-                let traffic = self.traffic;
-                Err(Stopped {
-                    cause,
-                    printed: traffic.printed,
-                })
-            }
+            Ok(()) => Ok(()),
+            Err(cause) => Err(cause),
         }
     }
 }

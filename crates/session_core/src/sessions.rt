@@ -1,4 +1,4 @@
-ghost use Rattle.std.specs.Prelude.{◌≡◌, ℕ, OnOk, OnErr, IfOk, IfErr};
+ghost use Rattle.std.specs.Prelude.{◌≡◌, ℕ, OnOk, OnErr, IfErr};
 ghost use Rattle.stream_model.specs.declared.events.Event.TheVariants.{Take as Takes};
 ghost use Rattle.stream_model.specs.Network.{Network};
 ghost use Rattle.stream_model.specs.Machine as machine;
@@ -14,7 +14,7 @@ use ct_change::{Change, Changes, Steps};
 use ct_value::OrderCode;
 use op_rules::PieceOperator;
 use std::sync::ledger::Ledger;
-use stream_model::{Event, StepFault, Stopped};
+use stream_model::{Event, StepFault};
 
 impl<O: PieceOperator + Drop, S: SourceCheck> Session<O, S> {
     // One change leaves the front of a channel and is consumed.
@@ -100,29 +100,19 @@ impl<O: PieceOperator + Drop, S: SourceCheck> Session<O, S> {
         }
     }
 
-    /// The session after one event. A change that is taken has to fit its table: as many values as columns, each NULL or of
-    /// its column's type, and a `-D` of an upsert table NULL outside the key. A stop comes exactly where the machine stops, with its cause, NULL where none may stand among them,
-    /// or for want of memory; it consumes the session, adds nothing to what was printed, and hands back what was printed and
-    /// not yet handed out.
-    pub fn step<L: Ledger>(
-        mut self,
-        event: Event,
-        steps: &mut Steps<L>,
-    ) -> Result<Session<O, S>, Stopped>
-        requires ready { MayStep O.rule O.broken O.stands_for O.takes_pieces S.stands_for self event }
-        ensures ok { IfOk result (λ next. HasStepped O.rule O.broken O.stands_for O.takes_pieces S.stands_for self event next) }
-        ensures err { IfErr result (λ stopped. ForSteps O.rule O.broken O.stands_for O.takes_pieces S.stands_for self event (λ g limit handed items. StopsBy (machine.step g limit (reached g limit items) event) stopped.cause)) }
-        ensures printed { IfErr result (λ stopped. stopped.printed ≡ self.traffic.printed) }
+    /// One event. A change that is taken has to fit its table: as many values as columns, each NULL or of its column's
+    /// type, and a `-D` of an upsert table NULL outside the key. It stops exactly where the machine stops, with its cause,
+    /// NULL where none may stand among them, or for want of memory; then it added nothing to what was printed, and the
+    /// session is good for no more events.
+    pub fn step<L: Ledger>(&mut self, event: Event, steps: &mut Steps<L>) -> Result<(), StepFault>
+        requires ready { MayStep O.rule O.broken O.stands_for O.takes_pieces S.stands_for self.old event }
+        ensures ok { OnOk result (HasStepped O.rule O.broken O.stands_for O.takes_pieces S.stands_for self.old event self.new) }
+        ensures err { IfErr result (λ fault. ForSteps O.rule O.broken O.stands_for O.takes_pieces S.stands_for self.old event (λ g limit handed items. StopsBy (machine.step g limit (reached g limit items) event) fault)) }
+        ensures printed { OnErr result (self.new.traffic.printed ≡ self.old.traffic.printed) }
     {
         match self.apply(event, steps) {
-            Ok(()) => Ok(self),
-            Err(cause) => {
-                let traffic = self.traffic;
-                Err(Stopped {
-                    cause,
-                    printed: traffic.printed,
-                })
-            }
+            Ok(()) => Ok(()),
+            Err(cause) => Err(cause),
         }
     }
 }

@@ -10,7 +10,7 @@ use Rattle.stream_model.specs.Machine.{State, opened}
 use Rattle.stream_model.specs.Runs.{Item, after, state_in, step_item}
 use Rattle.exec_core.specs.declared.session.Session.{Session}
 use Rattle.exec_core.specs.Goes.{StandsIn}
-use Rattle.exec_core.specs.Stands.{Stands, reached}
+use Rattle.exec_core.specs.Stands.{Job, RunsBy, Stands, reached}
 
 after-append : (g : Network) (limit : ℕ) (s : State) (xs ys : List Item) → after g limit s (xs ++ ys) ≡ after g limit (after g limit s xs) ys
 after-append g limit s [] ys = refl
@@ -30,3 +30,11 @@ stands_more next plan limit handed items item s t is steps stands = record { ite
 -- so it does where it has handed out as much
 pub handed_same : (session : Session) (plan : Plan) (limit : ℕ) (handed others : List PrintItem) (s : State) → handed ≡ others → StandsIn session plan limit handed s → StandsIn session plan limit others s
 handed_same session plan limit handed others s same stands = subst (λ (l : List PrintItem). StandsIn session plan limit l s) same stands
+
+-- the job in a session's box stands for the session's run
+pub held : (session : Session) (job : Job) → job ≡ session.job.value → (plan : Plan) (limit : ℕ) (handed : List PrintItem) (items : List Item) → Stands session plan limit handed items → RunsBy job plan limit handed items
+held session job is plan limit handed items stands = subst (λ (it : Job). RunsBy it plan limit handed items) (sym is) stands.stands_for
+
+-- what the job in a box printed, which a call left as it was
+pub same_printed : (boxed left : Job) (printed was : List PrintItem) → printed ≡ boxed.traffic.printed → boxed ≡ left → left.traffic.printed ≡ was → was ≡ printed
+same_printed boxed left printed was of_box is same = sym (of_box ∙ ap (λ (job : Job). job.traffic.printed) is ∙ same)

@@ -12,7 +12,7 @@ returns-in-Ok-clause-ok b c = λ g limit handed items stands.
     let kept = stands.keeps in
     record {
       typed = typed-append g items (quiet ∷ []) stands.typed (tt, tt);
-      keeps = subst (Keeps b.O.Operator.rule b.O.Operator.broken b.O.Operator.stands_for b.O.PieceOperator.takes_pieces b.S.SourceCheck.stands_for g limit (record c.args.self { traffic = c.tell_quiet.new.self }) handed)
+      keeps = subst (Keeps b.O.Operator.rule b.O.Operator.broken b.O.Operator.stands_for b.O.PieceOperator.takes_pieces b.S.SourceCheck.stands_for g limit (record c.args.self.now { traffic = c.tell_quiet.new.self }) handed)
           (sym (after-append g limit (opened g) items (quiet ∷ [])))
           (record {
             laid = kept.laid;
