@@ -8,7 +8,7 @@ use std::alloc::Global;
 pub fn alone(alloc: Global, change: Change) -> Result<Changes, Memory>
     ensures { IfOk result (λ sent. sent ≡ change ∷ []) }
 {
-    let mut sent = Changes::new(alloc);
+    let mut sent = Changes::with_capacity(alloc, 1)?;
     sent.push(change)?;
     Ok(sent)
 }

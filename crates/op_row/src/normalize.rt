@@ -121,7 +121,7 @@ fn told<O: OutMode>(
     requires { CanTell (O.mode output.now) old fresh }
     ensures { IfOk result (λ sent. sent ≡ emission (O.mode output.now) old fresh) }
 {
-    let mut sent = Changes::new(alloc);
+    let mut sent = Changes::with_capacity(alloc, 2)?;
     output.emit(old, fresh, &mut sent)?;
     Ok(sent)
 }

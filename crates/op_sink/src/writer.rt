@@ -133,7 +133,7 @@ fn printed(
 {
     let Change { kind, row } = change;
     let row = row_printed(alloc, declared, key, kind.is_addition(), row)?;
-    let mut sent = Changes::new(alloc);
+    let mut sent = Changes::with_capacity(alloc, 1)?;
     sent.push(Change::new(kind_printed(split, kind), row))?;
     Ok(sent)
 }
