@@ -1,3 +1,4 @@
+pub mod Ends
 pub mod MadeLines
 pub mod Names
 pub mod Numerals

@@ -51,7 +51,7 @@ pub record Leaves (p : Read) (n : ℕ) : Type 0 where
 leaves-more : (p : Read) (n m : ℕ) → n ≤ m → Leaves p n → Leaves p m
 leaves-more p n m h l = record { shorter = omega arith; between = l.between }
 
-some-same : (p q : Read) → Some p ≡ Some q → p ≡ q
+pub some-same : (p q : Read) → Some p ≡ Some q → p ≡ q
 some-same p q e = cc e
 
 -- what ends a record at the end of a text
@@ -74,7 +74,7 @@ next-leaves (c ∷ rest) s f g p e = step-leaves (is_end (step default_config s 
     (λ later. leaves-more p (length rest) (length (c ∷ rest)) (omega arith) (next-leaves rest _ _ _ p later))
 
 -- a read from between two records takes a byte at least
-next-shorter : (s : State) (xs : List ℕ) (p : Read) → ends_at_end s ≡ false → next_record default_config s [] [] xs ≡ Some p → length p.2 < length xs
+pub next-shorter : (s : State) (xs : List ℕ) (p : Read) → ends_at_end s ≡ false → next_record default_config s [] [] xs ≡ Some p → length p.2 < length xs
 unfolding next_record
 next-shorter s [] p b e = cc (rw b at e)
 next-shorter s (c ∷ rest) p b e =
@@ -83,7 +83,7 @@ next-shorter s (c ∷ rest) p b e =
     (λ later. next-leaves rest _ _ _ p later) in
     let h : length p.2 ≤ length rest = l.shorter in omega arith
 
-next-cases : (o : Option Read) → (o ≡ None) ⊎ ((p : Read) × (o ≡ Some p))
+pub next-cases : (o : Option Read) → (o ≡ None) ⊎ ((p : Read) × (o ≡ Some p))
 next-cases None = inl refl
 next-cases (Some p) = inr (p, refl)
 
@@ -133,7 +133,7 @@ pub records_of-after : (xs : List ℕ) → records_of xs ≡ records_after st.St
 unfolding records_after
 records_of-after xs = refl
 
-strip_bom-few : (xs : List ℕ) → length (strip_bom xs) ≤ length xs
+pub strip_bom-few : (xs : List ℕ) → length (strip_bom xs) ≤ length xs
 unfolding strip_bom
 strip_bom-few [] = omega arith
 strip_bom-few (a ∷ []) = omega arith

@@ -1,4 +1,5 @@
 pub mod AtKey
+pub mod Ends
 pub mod Cuts
 pub mod Fitting
 pub mod Lines

@@ -8,7 +8,7 @@
 //! (`specs/Told`). It stands on fields, changes, declared tables and the machine's printed items.
 #![tactic(auto)]
 
-mod fields;
+mod counting;
 mod line;
 mod lines;
 mod made;

@@ -4,7 +4,7 @@ ghost use Rattle.csv.specs.Records.{fields_of};
 ghost use Rattle.job_text.specs.Lines.{LinesLeft, Record, answer_of, line_in, one_read, records_of};
 ghost use Rattle.job_text.specs.Reading.{IsReading, Takes, left_in};
 
-use crate::fields::test_fields;
+use crate::counting::count_records;
 use crate::line::{Line, LineFault, line_in};
 use crate::named::NamedSources;
 use csv::{ByteRecord, Reader, ReaderBuilder};
@@ -52,22 +52,6 @@ fn try_record<R: Read>(reader: &mut Reader<R>, fields: &mut ByteRecord) -> Resul
     Ok(found)
 }
 
-// How many records these bytes have, which are no more than the bytes.
-#[tactic(auto, using(crate::proofs::Reading::few_records))]
-fn count_records(alloc: Global, bytes: &[u8]) -> Result<u32, Memory>
-    requires { length bytes.now ≤ 67108864 }
-    ensures { IfOk result (λ count. count ≡ length (records_of bytes.now)) }
-{
-    let mut reader = reader_of(alloc, bytes);
-    let mut fields = ByteRecord::new(alloc);
-    for count in 0..67108865u32 {
-        if !try_record(&mut reader, &mut fields)? {
-            return Ok(count);
-        }
-    }
-    unreachable!()
-}
-
 /// The lines of a change file, of which some were read. It is seen as how many were read and the list of the records that are left.
 #[derive(Drop)]
 pub struct ChangeLines {
@@ -97,8 +81,7 @@ impl ChangeLines {
         requires { length bytes ≤ 67108864 }
         ensures { IfOk result (λ lines. lines ≡ record { feed = feed; read = 0; records = records_of bytes }) }
     {
-        test_fields(bytes.as_slice())?;
-        let left = count_records(alloc, bytes.as_slice())?;
+        let left = count_records(bytes.as_slice())?;
         Ok(ChangeLines {
             alloc,
             reader: reader_of(alloc, Cursor::new(FileBytes { bytes })),
