@@ -1,6 +1,6 @@
 -- What the planner makes of the plan that is laid of a script's query.
-use Rattle.std.specs.Prelude.{◌≡◌, ℕ, Bool, cond, List, map, Option, Result, IfOk, IfErr}
-use Rattle.std.proofs.Common.{true, false, refl, sym, ap, subst, ◌∙◌, Some, None, Ok, Err}
+use Rattle.std.specs.Prelude.{◌≡◌, ℕ, List, map, Option, Result, IfOk, IfErr}
+use Rattle.std.proofs.Common.{false, refl, sym, ap, subst, ◌∙◌, Some, None, Ok, Err}
 use Rattle.ct_value.specs.declared.codes.ScriptCode.{ScriptCode}
 use Rattle.ct_catalog.specs.Catalogue.{Catalogue}
 use Rattle.ct_catalog.specs.declared.settings.Materialize.{Materialize}
@@ -12,10 +12,10 @@ use Rattle.query_answer.specs.Answer.{types}
 use Rattle.binding.specs.Checked.{Checked}
 use Rattle.binding.specs.Inserts.{Inserted, insert_bound}
 use Rattle.ct_catalog.specs.Columns.{column_types}
-use Rattle.judge.specs.Judgement.{Judged, then}
 use Rattle.phys_plan.specs.declared.plan.Plan.{Plan}
 use Rattle.plan_laying.specs.Faults.{lacks_table}
 use Rattle.plan_rules.specs.Seen.{plan_as_seen}
+use Rattle.plan_rules.specs.Phases.{Bundles}
 use Rattle.plan_rules.specs.Pieces.{Top, bare, plan_of_tree}
 use Rattle.plan_inferred.specs.declared.inferred.Inferred.{Inferred}
 use Rattle.plan_check.specs.declared.checked.CheckedPlan.{CheckedPlan}
@@ -34,9 +34,9 @@ use Rattle.planner.proofs.laws.Topped.{topped_seen}
 use Rattle.job_plan.specs.Inserts.{InsertsHaveLaidPlans}
 use Rattle.job_judgement.specs.Judged.{IsBound, IsJudged}
 use Rattle.job_judgement.specs.Judgement.{Accepted}
-use Rattle.job_plan.specs.Promises.{RunnableScriptsArePlanned}
-use Rattle.job_plan.specs.Planned.{built, laid, mini_batch_of, planned, planned_by, takes_two_phases}
-use Rattle.job_plan.specs.Views.{plan_view, planned_view}
+use Rattle.job_plan.specs.Promises.{ScriptsArePlanned}
+use Rattle.job_plan.specs.Planned.{bundles_by, laid, mini_batch_of, planned_by}
+use Rattle.job_plan.specs.Views.{plan_view}
 
 -- ---- the plan that is laid
 
@@ -64,11 +64,12 @@ module _ (script : Accepted) (bound : IsBound script) where
       let sink : plan.sink ≡ script.inserted.sink = ap (λ (p : Plan). p.sink) is in
       let parallelism : plan.parallelism ≡ script.catalogue.settings.parallelism = ap (λ (p : Plan). p.parallelism) is in
       let mini_batch : plan.mini_batch ≡ mini_batch_of script.catalogue.settings = ap (λ (p : Plan). p.mini_batch) is in
+      let phases : bound.asked.catalogue.settings.two_phase ≡ script.catalogue.settings.two_phase = ap (λ (c : Catalogue). c.settings.two_phase) bound.tables in
       inserts bound.text bound.table script.query script.inserted plan (record {
         asked = bound.asked;
         is_asked = bound.asks;
         is_bound = ap (λ (c : Catalogue). insert_bound c.tables bound.table script.query) bound.tables ∙ bound.bound;
-        laid_out = is ∙ sym (λ i. plan_of_tree (sources i) (sink i) (parallelism i) (mini_batch i) bare script.inserted.query.rel);
+        laid_out = is ∙ sym (λ i. plan_of_tree (sources i) (sink i) (parallelism i) (record { size = mini_batch i; two_phase = phases i }) bare script.inserted.query.rel);
         sources = sources;
         sink = sink;
         parallelism = parallelism ∙ sym (ap (λ (c : Catalogue). c.settings.parallelism) bound.tables);
@@ -116,48 +117,25 @@ pub ruled : PlannedPlansAreRuled → (script : Accepted) (plan : Plan) → IsLai
 ruled planned script plan is setting (Ok checked) e = planned plan script.inserted.query.rel setting (plan_in checked) is e
 ruled planned script plan is setting (Err f) e = tt
 
--- ---- scripts
-
-pub planned_as : (script : Accepted) (m : Made) → made (laid script) script.catalogue.settings.materialize ≡ m → planned script ≡ planned_by script.statement (takes_two_phases script) m
-planned_as script m e = ap (planned_by script.statement (takes_two_phases script)) e
-
-abbrev ok_view : Option CheckedPlan → Judged (Option Plan)
-ok_view o = Ok (planned_view o)
-
-planned_unless : (statement : ℕ) (phases : Bool) (checked : CheckedPlan) → planned_by statement phases (Planned (plan_view checked)) ≡ ok_view (cond phases None (Some checked))
-planned_unless statement true checked = refl
-planned_unless statement false checked = refl
-
-pub planned_plan : (script : Accepted) (checked : CheckedPlan) (o : Option CheckedPlan) → made (laid script) script.catalogue.settings.materialize ≡ Planned (plan_view checked) → o ≡ cond (takes_two_phases script) None (Some checked) → planned script ≡ Ok (planned_view o)
-planned_plan script checked o e is = planned_as script (Planned (plan_view checked)) e ∙ planned_unless script.statement (takes_two_phases script) checked ∙ sym (ap ok_view is)
-
-pub ruled_unless : (phases : Bool) (checked : CheckedPlan) (o : Option CheckedPlan) → IsRuled (plan_in checked) → o ≡ cond phases None (Some checked) → (own : CheckedPlan) → o ≡ Some own → IsRuled (plan_in own)
-ruled_unless true checked o is e own f = absurd (let none : None ≡ Some own = sym e ∙ f in cc)
-ruled_unless false checked o is e own f = let same : checked ≡ own = cc (e, f) in subst (λ (c : CheckedPlan). IsRuled (plan_in c)) same is
-
 -- ---- the law
 
 abbrev pub PlansOfTreesAreSeen : Type 0
-PlansOfTreesAreSeen = (sources : List TableDef) (sink : TableDef) (parallelism mini_batch : ℕ) (top : Top) (rel : Rel) → plan_as_seen (plan_of_tree sources sink parallelism mini_batch top rel) ≡ plan_of_tree sources sink parallelism mini_batch top rel
+PlansOfTreesAreSeen = (sources : List TableDef) (sink : TableDef) (parallelism : ℕ) (b : Bundles) (top : Top) (rel : Rel) → plan_as_seen (plan_of_tree sources sink parallelism b top rel) ≡ plan_of_tree sources sink parallelism b top rel
 
-built_plan : (statement : ℕ) (phases : Bool) (own plan : Plan) → then (built statement) (Ok (cond phases None (Some own))) ≡ Ok plan → Planned own ≡ Planned plan
-built_plan statement true own plan e = absurd (cc (e))
-built_plan statement false own plan e = let same : own ≡ plan = cc (e) in ap Planned same
-
-of_built : (script : Accepted) (m : Made) (plan : Plan) → made (laid script) script.catalogue.settings.materialize ≡ m → then (built script.statement) (planned_by script.statement (takes_two_phases script) m) ≡ Ok plan → m ≡ Planned plan
-of_built script (Refused code) plan is e = absurd (cc (e))
-of_built script (Planned own) plan is e = built_plan script.statement (takes_two_phases script) own plan e
+of_planned : (statement : ℕ) (m : Made) (plan : Plan) → planned_by statement m ≡ Ok plan → m ≡ Planned plan
+of_planned statement (Refused code) plan e = absurd (cc (e))
+of_planned statement (Planned own) plan e = let same : own ≡ plan = cc (e) in ap Planned same
 
 inferred_is : (p plan : Plan) (code : Option ScriptCode) (top : Top) → made_by p code top ≡ Planned plan → plan ≡ with_inferred (topped_plan top p)
 inferred_is p plan (Some code) top e = absurd (cc)
 inferred_is p plan None top e = sym (let same : with_inferred (topped_plan top p) ≡ plan = cc (e) in same)
 
-pub are_planned : ((script : Accepted) → IsJudged script → IsBound script) → InsertsHaveLaidPlans → PlannedPlansAreRuled → ToppedPlansAreLaidOut → PlansOfTreesAreSeen → RunnableScriptsArePlanned
+pub are_planned : ((script : Accepted) → IsJudged script → IsBound script) → InsertsHaveLaidPlans → PlannedPlansAreRuled → ToppedPlansAreLaidOut → PlansOfTreesAreSeen → ScriptsArePlanned
 are_planned bound inserts rules tops seen script judged plan e =
     let b = bound script judged in
     let setting = script.catalogue.settings.materialize in
-    let m : made (laid script) setting ≡ Planned plan = of_built script (made (laid script) setting) plan refl e in
-    let well = laid_well script b inserts (laid script) (seen script.inserted.sources script.inserted.sink script.catalogue.settings.parallelism (mini_batch_of script.catalogue.settings) bare script.inserted.query.rel) in
+    let m : made (laid script) setting ≡ Planned plan = of_planned script.statement (made (laid script) setting) plan e in
+    let well = laid_well script b inserts (laid script) (seen script.inserted.sources script.inserted.sink script.catalogue.settings.parallelism (bundles_by script.catalogue.settings) bare script.inserted.query.rel) in
     record {
       laid_well = well;
       laid_out = tops (laid script) script.inserted.query.rel setting well;

@@ -110,6 +110,7 @@ OfInserts P = (tables : List TableDef) (name : Text) (query : Query) → IfOk (i
 pub have_laid_plans : OfInserts (λ bound. columns_of (map column_types bound.sources) bound.query.rel ≡ Some (types bound.query.scope)) → OfInserts (λ bound. has_full_unions bound.query.rel ≡ true)
     → OfInserts (λ bound. go_into (types bound.query.scope) (column_types bound.sink) ≡ true) → TablesHaveTypes → SettingsAreFew → InsertsHaveLaidPlans
 have_laid_plans typed unions goes declared few text name query bound plan is = record {
+  two_phase = is.asked.catalogue.settings.two_phase;
   laid_out = is.laid_out;
   columns = types bound.query.scope;
   typed = ap (λ (sources : List TableDef). columns_of (map column_types sources) bound.query.rel) is.sources

@@ -11,12 +11,12 @@ use Rattle.planner.specs.Planned.{IsLaidPlan}
 use Rattle.job_plan.specs.Planned.{mini_batch_of}
 
 -- a text asks for some tables, an INSERT over them is bound, and this is the plan that is laid of its query over its sources into its
--- table, in as many subtasks as the text sets and in its mini-batches
+-- table, in as many subtasks as the text sets and in its mini-batches, with groups in as many phases
 pub record IsPlanOfInsert (text : List ℕ) (name : Text) (query : Query) (bound : Inserted) (plan : Plan) : Type 0 where
   pub asked : Asked
   pub is_asked : asked_of text ≡ Ok asked
   pub is_bound : insert_bound asked.catalogue.tables name query ≡ Ok bound
-  pub laid_out : IsLaidWith bare plan bound.query.rel
+  pub laid_out : IsLaidWith asked.catalogue.settings.two_phase bare plan bound.query.rel
   pub sources : plan.sources ≡ bound.sources
   pub sink : plan.sink ≡ bound.sink
   pub parallelism : plan.parallelism ≡ asked.catalogue.settings.parallelism

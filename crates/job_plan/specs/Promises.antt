@@ -7,7 +7,7 @@ use Rattle.laid_plans.specs.Shapes.{IsLaidOut}
 use Rattle.planner.specs.Planned.{IsLaidPlan}
 use Rattle.job_judgement.specs.Judged.{IsJudged}
 use Rattle.job_judgement.specs.Judgement.{Accepted}
-use Rattle.job_plan.specs.Planned.{laid, runnable, topped}
+use Rattle.job_plan.specs.Planned.{laid, planned, topped}
 
 -- it is the plan that is laid of the tree to which the script's query is bound, with what stands before its sink and with what is inferred of
 -- it so; that is sound, and its operators have rules
@@ -17,5 +17,5 @@ pub record IsScriptPlan (script : Accepted) (plan : Plan) : Type 0 where
   pub is : plan ≡ with_inferred (topped script)
   pub ruled : IsRuled plan
 
-abbrev pub RunnableScriptsArePlanned : Type 0
-RunnableScriptsArePlanned = (script : Accepted) → IsJudged script → (plan : Plan) → runnable script ≡ Ok plan → IsScriptPlan script plan
+abbrev pub ScriptsArePlanned : Type 0
+ScriptsArePlanned = (script : Accepted) → IsJudged script → (plan : Plan) → planned script ≡ Ok plan → IsScriptPlan script plan

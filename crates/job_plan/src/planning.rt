@@ -1,5 +1,5 @@
 //! The plan of an accepted script.
-ghost use Rattle.std.specs.Prelude.{◌≡◌, cond, Some, None, Ok, IfOk, IfErr};
+ghost use Rattle.std.specs.Prelude.{◌≡◌, Ok, IfOk, IfErr};
 ghost use Rattle.plan_check.specs.declared.checked.CheckedPlan.{CheckedPlan};
 ghost use Rattle.plan_check.specs.Checked.{plan_in};
 ghost use Rattle.sound_plans.specs.Sound.{IsRuled};
@@ -8,10 +8,9 @@ ghost use Rattle.planner.specs.Planned.{Planned, Says, made};
 ghost use Rattle.job_judgement.specs.Halts.{IsHalt};
 ghost use Rattle.job_judgement.specs.Judged.{IsJudged};
 ghost use Rattle.job_judgement.specs.Views.{accepted_view};
-ghost use Rattle.job_plan.specs.Planned.{laid, mini_batch_of, planned, runnable, takes_two_phases};
-ghost use Rattle.job_plan.specs.Views.{plan_view, planned_view};
+ghost use Rattle.job_plan.specs.Planned.{laid, mini_batch_of, planned};
+ghost use Rattle.job_plan.specs.Views.{plan_view};
 
-use crate::groups::has_keyed_group;
 use ct_catalog::Settings;
 use ct_value::{Memory, ScriptCode};
 use job_ending::Halt;
@@ -22,43 +21,17 @@ use plan_laying::{LayingFault, plan_of};
 use planner::{PlannerFault, plan};
 use std::alloc::Global;
 
-/// The plan of an accepted script, or none where that waits for what isn't built: for groups in mini-batches that aggregate in two phases (Flink
-/// documentation, "Performance Tuning", "Local-Global Aggregation"). The script is refused at its statement by the first of the planner's refusals.
-pub fn planned(alloc: Global, script: &Accepted) -> Result<Option<CheckedPlan>, Halt>
+/// The plan of an accepted script. The script is refused at its statement by the first of the planner's refusals.
+pub fn planned(alloc: Global, script: &Accepted) -> Result<CheckedPlan, Halt>
     requires judged { IsJudged (accepted_view script.now) }
-    ensures ok { IfOk result (λ made. planned (accepted_view script.now) ≡ Ok (planned_view made)) }
-    ensures ruled { IfOk result (λ made. (checked : CheckedPlan) → made ≡ Some checked → IsRuled (plan_in checked)) }
+    ensures ok { IfOk result (λ checked. planned (accepted_view script.now) ≡ Ok (plan_view checked)) }
+    ensures ruled { IfOk result (λ checked. IsRuled (plan_in checked)) }
     ensures halts { IfErr result (λ halt. IsHalt halt (planned (accepted_view script.now))) }
 {
     match made(alloc, script) {
-        Ok(checked) => Ok(unless_two_phases(script, checked)),
+        Ok(checked) => Ok(checked),
         Err(PlannerFault::Refused(code)) => Err(halt_at(script, code)),
         Err(PlannerFault::Memory) => Err(Halt::Memory),
-    }
-}
-
-/// The plan of an accepted script; one that waits for what isn't built is refused as unsupported at its statement.
-pub fn runnable(alloc: Global, script: &Accepted) -> Result<CheckedPlan, Halt>
-    requires judged { IsJudged (accepted_view script.now) }
-    ensures ok { IfOk result (λ checked. runnable (accepted_view script.now) ≡ Ok (plan_view checked)) }
-    ensures ruled { IfOk result (λ checked. IsRuled (plan_in checked)) }
-    ensures halts { IfErr result (λ halt. IsHalt halt (runnable (accepted_view script.now))) }
-{
-    match planned(alloc, script)? {
-        Some(checked) => Ok(checked),
-        None => Err(halt_at(script, ScriptCode::Unsupported)),
-    }
-}
-
-// None where groups take two phases.
-fn unless_two_phases(script: &Accepted, checked: CheckedPlan) -> Option<CheckedPlan>
-    ensures { result ≡ cond (takes_two_phases (accepted_view script.now)) None (Some checked) }
-{
-    let settings = script.catalog.settings();
-    if settings.batching && settings.two_phase && has_keyed_group(&script.inserted.query.rel) {
-        None
-    } else {
-        Some(checked)
     }
 }
 
@@ -83,7 +56,16 @@ fn laid_of(alloc: Global, script: &Accepted) -> Result<Plan, Memory>
     let settings = script.catalog.settings();
     let rel = &script.inserted.query.rel;
     let mini_batch = mini_batch_of(settings);
-    match plan_of(alloc, rel, sources, sink, settings.parallelism, mini_batch) {
+    let parallelism = settings.parallelism;
+    match plan_of(
+        alloc,
+        rel,
+        sources,
+        sink,
+        parallelism,
+        mini_batch,
+        settings.two_phase,
+    ) {
         Ok(plan) => Ok(plan),
         Err(LayingFault::Memory) => Err(Memory),
         Err(LayingFault::NoTable) => unreachable!(),

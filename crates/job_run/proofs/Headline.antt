@@ -51,8 +51,8 @@ use Rattle.job_stream.specs.Stream.{most_sent, outcome_of, sink_key, sink_types,
 use Rattle.laid_plans.specs.Erased.{InferredPlansAnswer}
 use Rattle.plan_rules.specs.Answers.{Answers}
 use Rattle.sound_plans.specs.Sound.{IsRuled}
-use Rattle.job_plan.specs.Promises.{IsScriptPlan, RunnableScriptsArePlanned}
-use Rattle.job_plan.specs.Planned.{planned, runnable, topped}
+use Rattle.job_plan.specs.Promises.{IsScriptPlan, ScriptsArePlanned}
+use Rattle.job_plan.specs.Planned.{planned, topped}
 use Rattle.job_run.specs.Answers.{AreAnswers, AreAnswersOf, HasAnswers, HasRun, Wrote}
 use Rattle.job_run.specs.Edges.{AreCarried, AreCarriedOf, run_of}
 use Rattle.job_run.specs.Headline.{HasAnswered, HasExplained, HasLoaded, IsHeadline, IsHeadlineOf}
@@ -152,7 +152,7 @@ pub record Laws : Type 0 where
   pub ends_quiet : RunsEndQuiet
   pub rows : RunsPrintRows
   pub sinks : SinksFit
-  pub can : RunnableScriptsArePlanned
+  pub can : ScriptsArePlanned
   pub answers : InferredPlansAnswer
   pub agree : AnswersAgree
   pub fit : RowsTakenFit
@@ -165,7 +165,7 @@ module _ (h : Holdings) (names : FileNames) (text : List ℕ) (script_held : loa
 
   -- ---- a run
 
-  module _ (laws : Laws) (order : Option (List ℕ)) (plan : Plan) (runs : runnable script ≡ Ok plan) (files : ChangeFiles) (held : IsInput h names.input plan.sources files) (orders : List OrderLine) (ordered : IsOrder h order (is_by_table files) orders) where
+  module _ (laws : Laws) (order : Option (List ℕ)) (plan : Plan) (runs : planned script ≡ Ok plan) (files : ChangeFiles) (held : IsInput h names.input plan.sources files) (orders : List OrderLine) (ordered : IsOrder h order (is_by_table files) orders) where
     abbrev went : Went (At State)
     went = run_of plan files orders
 
@@ -291,15 +291,15 @@ module _ (h : Holdings) (names : FileNames) (text : List ℕ) (script_held : loa
 
   -- what holds of a run holds where nothing is run
   module _ (order : Option (List ℕ)) (Q : Outcome → Type 0) (none : (ending : Ending) → (ending ≡ e.Done → ⊥) → Q (ends ending))
-      (ran : (plan : Plan) → runnable script ≡ Ok plan → (files : ChangeFiles) → IsInput h names.input plan.sources files → (orders : List OrderLine) → IsOrder h order (is_by_table files) orders → Q (streamed plan files orders)) where
-    over_plan : (j : Judged Plan) → runnable script ≡ j → Q (after_judgement (run_plan h names.input order) j)
+      (ran : (plan : Plan) → planned script ≡ Ok plan → (files : ChangeFiles) → IsInput h names.input plan.sources files → (orders : List OrderLine) → IsOrder h order (is_by_table files) orders → Q (streamed plan files orders)) where
+    over_plan : (j : Judged Plan) → planned script ≡ j → Q (after_judgement (run_plan h names.input order) j)
     over_plan (Err refusal) is = none (e.Script refusal.code refusal.statement) (λ done. absurd (cc (done)))
     over_plan (Ok plan) is =
         at_input h Q (halts_before Q none) names.input plan.sources (λ files. with_order h order (is_by_table files) (streamed plan files))
         (λ files held. at_order h Q (halts_before Q none) order (is_by_table files) (streamed plan files) (λ orders ordered. ran plan is files held orders ordered))
 
     pub over_script : Q (run_script h names.input order script)
-    over_script = over_plan (runnable script) refl
+    over_script = over_plan (planned script) refl
 
   -- ---- a batch answer
 
@@ -328,7 +328,7 @@ module _ (h : Holdings) (names : FileNames) (text : List ℕ) (script_held : loa
       batch_lines (Err refusal) is done = absurd (cc (done))
       batch_lines (Ok taken) is done = batch_rows taken is _ _ refl done
 
-    batch_planned : (j : Judged (Option Plan)) → WellAnswered (after_judgement (λ plan. over_input h names.input script.inserted.sources (batch_changes script first)) j)
+    batch_planned : (j : Judged Plan) → WellAnswered (after_judgement (λ plan. over_input h names.input script.inserted.sources (batch_changes script first)) j)
     batch_planned (Err refusal) = λ done. absurd (cc (done))
     batch_planned (Ok plan) =
         at_input h WellAnswered (halts_before WellAnswered (λ ending other done. absurd (other done))) names.input script.inserted.sources (batch_changes script first)
@@ -339,8 +339,8 @@ module _ (h : Holdings) (names : FileNames) (text : List ℕ) (script_held : loa
 
 -- ---- a plan
 
-module _ (h : Holdings) (name script_text : List ℕ) (script_held : loaded h name 262144 ≡ Whole script_text) (script : Accepted) (accepted : judgement script_text ≡ Ok script) (can : RunnableScriptsArePlanned) where
-  explained_so : (j : Judged Plan) → runnable script ≡ j → (after_judgement shown j).ending ≡ e.Done → HasExplained name h (after_judgement shown j).bytes
+module _ (h : Holdings) (name script_text : List ℕ) (script_held : loaded h name 262144 ≡ Whole script_text) (script : Accepted) (accepted : judgement script_text ≡ Ok script) (can : ScriptsArePlanned) where
+  explained_so : (j : Judged Plan) → planned script ≡ j → (after_judgement shown j).ending ≡ e.Done → HasExplained name h (after_judgement shown j).bytes
   explained_so (Err refusal) is done = absurd (cc (done))
   explained_so (Ok plan) is done = record {
     script_text = script_text;
@@ -354,7 +354,7 @@ module _ (h : Holdings) (name script_text : List ℕ) (script_held : loaded h na
   }
 
   pub explained_here : (explain_script script).ending ≡ e.Done → HasExplained name h (explain_script script).bytes
-  explained_here done = explained_so (runnable script) refl done
+  explained_here done = explained_so (planned script) refl done
 
 -- ---- what holds behind the judgement of the script holds of the job
 

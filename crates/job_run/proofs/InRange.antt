@@ -1,6 +1,6 @@
 -- A run of a script without arithmetic never leaves a type's range.
 use Rattle.std.specs.Prelude.{◌↔◌}
-use Rattle.std.proofs.Common.{◌≡◌, ℕ, ◌+◌, Bool, true, false, ◌||◌, List, [], ◌∷◌, Option, Result, Ok, Err, refl, sym, ap, subst, ◌∙◌, arith}
+use Rattle.std.proofs.Common.{◌≡◌, ℕ, ◌+◌, ◌≤◌, Bool, true, false, ◌||◌, List, [], ◌∷◌, Option, Result, Ok, Err, refl, sym, ap, subst, ◌∙◌, arith}
 use Rattle.ct_value.specs.declared.codes.ScriptCode.{ScriptCode}
 use Rattle.ct_value.specs.declared.row.Row.{Row}
 use Rattle.ct_value.specs.declared.ty.ColTy.{ColTy}
@@ -28,8 +28,8 @@ use Rattle.source_lines.specs.Supply.{is_by_table}
 use Rattle.source_lines.specs.declared.supply.ChangeFiles.{ChangeFiles}
 use Rattle.range_rules.specs.Statement.{InsertsAreTame}
 use Rattle.run_laws.specs.Runs.{RunsStayInRange, TreesHaveTamePlans, is_tame_plan}
-use Rattle.job_plan.specs.Promises.{RunnableScriptsArePlanned}
-use Rattle.job_plan.specs.Planned.{runnable, topped}
+use Rattle.job_plan.specs.Promises.{ScriptsArePlanned}
+use Rattle.job_plan.specs.Planned.{planned, topped}
 use Rattle.job_run.specs.Complete.{HasNoArithmetic}
 use Rattle.job_run.specs.Outcome.{after_judgement, after_load, outcome, run_plan, run_script, script_limit, with_order, with_request}
 use Rattle.job_run.proofs.Inputs.{HoldsBefore, at_input, at_order}
@@ -85,7 +85,7 @@ free_query text statements script read none e =
 
 -- ---- the run
 
-module _ (bound : (script : Accepted) → IsJudged script → IsBound script) (tame : InsertsAreTame) (can : RunnableScriptsArePlanned) (trees : TreesHaveTamePlans) (stays : RunsStayInRange) (h : Holdings) (node subtask : ℕ) (row : Row) (columns : List ColTy) (names : FileNames) (order : Option (List ℕ))
+module _ (bound : (script : Accepted) → IsJudged script → IsBound script) (tame : InsertsAreTame) (can : ScriptsArePlanned) (trees : TreesHaveTamePlans) (stays : RunsStayInRange) (h : Holdings) (node subtask : ℕ) (row : Row) (columns : List ColTy) (names : FileNames) (order : Option (List ℕ))
     (script_text : List ℕ) (statements : List t.Statement) (read : s.read_text script_text ≡ s.answered statements) (none : in_statements statements ≡ false) where
   abbrev Stays : Outcome → Type 0
   Stays o = o.ending ≡ e.Range node subtask row columns → ⊥
@@ -93,7 +93,7 @@ module _ (bound : (script : Accepted) → IsJudged script → IsBound script) (t
   halts_before : HoldsBefore Stays
   halts_before = record { missing = λ out. absurd (cc (out)); long = λ name out. absurd (cc (out)); bad = λ line out. absurd (cc (out)) }
 
-  run_stays : (script : Accepted) → judgement script_text ≡ Ok script → (plan : Plan) → runnable script ≡ Ok plan → (files : ChangeFiles) (orders : List OrderLine) → Stays (streamed plan files orders)
+  run_stays : (script : Accepted) → judgement script_text ≡ Ok script → (plan : Plan) → planned script ≡ Ok plan → (files : ChangeFiles) (orders : List OrderLine) → Stays (streamed plan files orders)
   run_stays script judged plan runs files orders out =
       let is : IsJudged script = record { text = script_text; judged = judged } in
       let b = bound script is in
@@ -101,9 +101,10 @@ module _ (bound : (script : Accepted) → IsJudged script → IsBound script) (t
       let ran = stopped_so (is_by_table files) (sink_types plan.sink) (sink_key plan.sink) (whole_run (network plan) most_sent plan.sources files orders) node subtask row columns out in
       let of = can script is plan runs in
       let tame_plan : is_tame_plan plan ≡ true = ap is_tame_plan of.is ∙ trees (topped script) script.inserted.query.rel of.laid_out calculates_nothing in
-      stays plan of.ruled tame_plan most_sent (omega arith) files orders node subtask row columns ran.0 ran.1
+      let bundled : plan.mini_batch ≤ 1000000 = subst (λ (p : Plan). p.mini_batch ≤ 1000000) (sym of.is) of.laid_well.bundled in
+      stays plan of.ruled tame_plan most_sent (omega arith) (λ v node there sends. omega (arith, bundled)) files orders node subtask row columns ran.0 ran.1
 
-  plan_stays : (script : Accepted) → judgement script_text ≡ Ok script → (j : Judged Plan) → runnable script ≡ j → Stays (after_judgement (run_plan h names.input order) j)
+  plan_stays : (script : Accepted) → judgement script_text ≡ Ok script → (j : Judged Plan) → planned script ≡ j → Stays (after_judgement (run_plan h names.input order) j)
   plan_stays script judged (Err refusal) is = λ out. absurd (cc (out))
   plan_stays script judged (Ok plan) is =
       at_input h Stays halts_before names.input plan.sources (λ files. with_order h order (is_by_table files) (streamed plan files))
@@ -111,12 +112,12 @@ module _ (bound : (script : Accepted) → IsJudged script → IsBound script) (t
 
   script_stays : (j : Judged Accepted) → judgement script_text ≡ j → Stays (after_judgement (run_script h names.input order) j)
   script_stays (Err refusal) is = λ out. absurd (cc (out))
-  script_stays (Ok script) is = plan_stays script is (runnable script) refl
+  script_stays (Ok script) is = plan_stays script is (planned script) refl
 
   file_stays : (l : Loaded) → l ≡ Whole script_text → Stays (after_load ScriptLimit (λ text. after_judgement (run_script h names.input order) (judgement text)) l)
   file_stays l is = subst (λ (x : Loaded). Stays (after_load ScriptLimit (λ text. after_judgement (run_script h names.input order) (judgement text)) x)) (sym is) (script_stays (judgement script_text) refl)
 
-pub stays_in_range : ((script : Accepted) → IsJudged script → IsBound script) → InsertsAreTame → RunnableScriptsArePlanned → TreesHaveTamePlans → RunsStayInRange → ((text : List ℕ) (x : t.Script) → (s.read_text text ≡ s.answered x.statements) ↔ IsScript text x)
+pub stays_in_range : ((script : Accepted) → IsJudged script → IsBound script) → InsertsAreTame → ScriptsArePlanned → TreesHaveTamePlans → RunsStayInRange → ((text : List ℕ) (x : t.Script) → (s.read_text text ≡ s.answered x.statements) ↔ IsScript text x)
     → (h : Holdings) (node subtask : ℕ) (row : Row) (columns : List ColTy) (words : List (List ℕ)) → HasNoArithmetic words h → (outcome words h).ending ≡ e.Range node subtask row columns → ⊥
 stays_in_range bound tame can trees stays reads h node subtask row columns words free out =
     file_stays bound tame can trees stays h node subtask row columns free.names free.order free.script_text free.script.statements ((reads free.script_text free.script).1 free.spelled) free.none

@@ -21,7 +21,7 @@ use Rattle.job_judgement.specs.Judgement.{Accepted, judgement}
 use Rattle.range_rules.specs.Arithmetic.{in_statements}
 use Rattle.job_batch.specs.Agree.{query_answer}
 use Rattle.job_batch.specs.Batch.{with_rows}
-use Rattle.job_plan.specs.Planned.{planned, runnable}
+use Rattle.job_plan.specs.Planned.{planned}
 use Rattle.job_run.specs.Edges.{run_of}
 use Rattle.job_run.specs.Held.{AreHeld}
 use Rattle.job_run.specs.Loads.{load_holdings, load_names, printed_feed, sums_holdings, sums_names}
@@ -36,19 +36,19 @@ pub record MayRun (names : FileNames) (order : Option (List ℕ)) (h : Holdings)
   pub orders : List OrderLine
   pub taken : Taken
   pub held : AreHeld names order h script plan.sources files orders
-  pub runs : runnable script ≡ Ok plan
+  pub runs : planned script ≡ Ok plan
   pub lines_taken : taken_of script.inserted.sources None files ≡ Ok taken
   pub lawful : (code : OrderCode) (line : ℕ) (p : At State) → run_of plan files orders ≡ halts (disordered code line) p → ⊥
   pub in_range : (node subtask : ℕ) (row : Row) (types : List ColTy) (p : At State) → run_of plan files orders ≡ halts (stopped (Range node subtask row types)) p → ⊥
   pub few : (p : At State) → run_of plan files orders ≡ halts (stopped Limit) p → ⊥
 
--- the same of a batch answer: the script has a plan or waits for one, the first lines are taken, and nothing that is evaluated is out of range
+-- the same of a batch answer: the script has a plan, the first lines are taken, and nothing that is evaluated is out of range
 pub record MayAnswer (names : FileNames) (first : Option ℕ) (h : Holdings) : Type 0 where
   pub script : Accepted
   pub files : ChangeFiles
   pub taken : Taken
   pub rows : Rows
-  pub plan : Option Plan
+  pub plan : Plan
   pub held : AreHeld names None h script script.inserted.sources files []
   pub planned_so : planned script ≡ Ok plan
   pub lines_taken : taken_of script.inserted.sources first files ≡ Ok taken
@@ -62,7 +62,7 @@ pub record MayExplain (name : List ℕ) (h : Holdings) : Type 0 where
   pub plan : Plan
   pub script_held : loaded h name script_limit ≡ Whole script_text
   pub accepted : judgement script_text ≡ Ok script
-  pub runs : runnable script ≡ Ok plan
+  pub runs : planned script ≡ Ok plan
 
 -- the same of a load: of its run, and of the sums over what that prints
 pub record MayLoad (seed lines : ℕ) : Type 0 where

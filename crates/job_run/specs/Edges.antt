@@ -13,7 +13,7 @@ use Rattle.source_lines.specs.Run.{At, Went, place_of, printed_by, whole_run}
 use Rattle.source_lines.specs.Supply.{is_by_table}
 use Rattle.source_lines.specs.declared.supply.ChangeFiles.{ChangeFiles}
 use Rattle.job_judgement.specs.Judgement.{Accepted}
-use Rattle.job_plan.specs.Planned.{runnable}
+use Rattle.job_plan.specs.Planned.{planned}
 use Rattle.job_stream.specs.Stream.{most_sent, sink_key, sink_types}
 use Rattle.job_run.specs.Held.{AreHeld}
 
@@ -29,7 +29,7 @@ pub record HasCarried (names : FileNames) (order : Option (List ℕ)) (holdings 
   pub files : ChangeFiles
   pub orders : List OrderLine
   pub held : AreHeld names order holdings script plan.sources files orders
-  pub runs : runnable script ≡ Ok plan
+  pub runs : planned script ≡ Ok plan
   pub sound : IsRuled plan
   pub rest : List ℕ
   pub reads : item_lines (is_by_table files) (sink_types plan.sink) (sink_key plan.sink) (printed_by (run_of plan files orders)) ≡ written ++ rest

@@ -14,7 +14,7 @@ use Rattle.job_text.specs.Printed.{row_lines}
 use Rattle.phys_plan.specs.Explained.{explained}
 use Rattle.job_judgement.specs.Judgement.{Accepted, judgement}
 use Rattle.job_stream.specs.Stream.{sink_types}
-use Rattle.job_plan.specs.Planned.{runnable}
+use Rattle.job_plan.specs.Planned.{planned}
 use Rattle.job_run.specs.Answers.{HasRun}
 use Rattle.job_run.specs.Held.{IsInput}
 use Rattle.job_run.specs.Insert.{Insert, answer_of, sources_of}
@@ -39,7 +39,7 @@ pub record HasExplained (name : List ℕ) (holdings : Holdings) (bytes : List �
   pub plan : Plan
   pub script_held : loaded holdings name script_limit ≡ Whole script_text
   pub accepted : judgement script_text ≡ Ok script
-  pub runs : runnable script ≡ Ok plan
+  pub runs : planned script ≡ Ok plan
   pub sound : IsRuled plan
   pub reads : bytes ≡ explained 0 plan
 

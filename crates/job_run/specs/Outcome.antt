@@ -21,7 +21,7 @@ use Rattle.job_ending.specs.Outcome.{Outcome, ends}
 use Rattle.job_judgement.specs.Judgement.{Accepted, judgement}
 use Rattle.job_batch.specs.Batch.{with_changes as batch_changes}
 use Rattle.job_plan.specs.Shown.{shown}
-use Rattle.job_plan.specs.Planned.{planned, runnable}
+use Rattle.job_plan.specs.Planned.{planned}
 use Rattle.job_stream.specs.Stream.{streamed}
 use Rattle.route.specs.Routing.{key_hash}
 use Rattle.job_run.specs.Loads.{line_count, load_holdings, load_names, printed_feed, sums_holdings, sums_names, summary}
@@ -85,7 +85,7 @@ run_plan holdings input order plan = over_input holdings input plan.sources (λ 
 
 -- that of the script's plan, where the script can be run
 abbrev pub run_script : Holdings → Input → Option (List ℕ) → Accepted → Outcome
-run_script holdings input order script = after_judgement (run_plan holdings input order) (runnable script)
+run_script holdings input order script = after_judgement (run_plan holdings input order) (planned script)
 
 -- the batch answer, where the script has a plan or waits for one
 abbrev pub batch_script : Holdings → Input → Option ℕ → Accepted → Outcome
@@ -100,7 +100,7 @@ batch_named names first holdings = with_script holdings names.script (batch_scri
 
 -- the script's plan
 abbrev pub explain_script : Accepted → Outcome
-explain_script script = after_judgement shown (runnable script)
+explain_script script = after_judgement shown (planned script)
 
 -- what is made of all that was written where that ended well
 abbrev pub where_well : (List ℕ → Outcome) → List ℕ → Ending → Outcome

@@ -18,7 +18,7 @@ use ct_io::{Shelf, Sink};
 use ct_value::Text;
 use job_ending::Halt;
 use job_judgement::Accepted;
-use job_plan::runnable;
+use job_plan::planned;
 use job_stream::stream;
 use job_text::Orders;
 use phys_plan::Plan;
@@ -53,7 +53,7 @@ fn run_script<F: Shelf, K: Sink>(
     ensures printable { IsPrintable (ending_of result) }
     ensures later { F.faults shelf.old ≤ F.faults shelf.new }
 {
-    let checked = runnable(alloc, script)?;
+    let checked = planned(alloc, script)?;
     run_plan(alloc, checked.plan(), input, order, shelf, out)
 }
 

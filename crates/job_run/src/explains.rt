@@ -11,7 +11,7 @@ use ct_io::{Shelf, Sink};
 use ct_value::Text;
 use job_ending::Halt;
 use job_judgement::Accepted;
-use job_plan::{explain, runnable};
+use job_plan::{explain, planned};
 use std::alloc::Global;
 
 /// Writes the plan of the script of this name.
@@ -33,6 +33,6 @@ fn explain_script<K: Sink>(alloc: Global, script: &Accepted, out: &mut K) -> Res
     ensures runs { RunsThere (explain_script (accepted_view script.now)) (Rose (K.faults out.old) (K.faults out.new)) (K.written out.old) (K.written out.new) result }
     ensures printable { IsPrintable (ending_of result) }
 {
-    let checked = runnable(alloc, script)?;
+    let checked = planned(alloc, script)?;
     explain(alloc, checked.plan(), out)
 }

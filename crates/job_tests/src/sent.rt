@@ -7,7 +7,7 @@ use crate::judging::{bytes_of, script_of};
 use crate::scripts::{COUNT_APPEND, KEEPS_NOTHING};
 use ct_io::SureSink;
 use job_ending::{Halt, LimitName};
-use job_plan::runnable;
+use job_plan::planned;
 use job_stream::stream_within;
 use job_text::Orders;
 use phys_plan::Plan;
@@ -45,7 +45,7 @@ pub(crate) fn plan_of(alloc: Global, script: &str) -> Result<CheckedPlan, Halt>
 {
     let text = bytes_of(alloc, script)?;
     let script = script_of(alloc, &text)?;
-    runnable(alloc, &script)
+    planned(alloc, &script)
 }
 
 // The same of a script.

@@ -15,6 +15,7 @@ pub mod Plans
 pub mod Same
 pub mod SeenTrees
 pub mod Segments
+pub mod Sent
 pub mod Shapes
 pub mod Tables
 pub mod Theorems

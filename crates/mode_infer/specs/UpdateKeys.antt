@@ -24,12 +24,21 @@ project_key items _ = None
 
 -- the update key of a node, from those of its inputs, of which the first has so many columns
 abbrev pub update_key_of : ℕ → Op → List (Option (List ℕ)) → Option (List ℕ)
+update_key_of width (op.Scan source) inputs = None
+update_key_of width (op.Filter cond) inputs = None
 update_key_of width (op.Project items) inputs = project_key (plain_columns items) inputs
+update_key_of width op.Union inputs = None
 update_key_of width (op.Normalize key) inputs = Some (set_of key)
 update_key_of width (op.Group keys aggs) inputs = group_key keys aggs
 update_key_of width (op.BatchGroup keys aggs) inputs = group_key keys aggs
+update_key_of width (op.Join kind on rest) inputs = None
+update_key_of width (op.Semi anti on rest) inputs = None
 update_key_of width (op.TopN partition order bound ranked) inputs = top_key ranked partition bound width
-update_key_of width _ inputs = None
+update_key_of width (op.Materialize key) inputs = None
+update_key_of width op.Sink inputs = None
+update_key_of width (op.LocalGroup keys aggs) inputs = None
+update_key_of width (op.MultiJoin on) inputs = None
+update_key_of width (op.SetOp except all columns) inputs = None
 
 -- how many columns the first of these inputs sends
 abbrev pub input_width : (ℕ → List ColTy) → List ℕ → ℕ

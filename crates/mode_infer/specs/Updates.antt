@@ -45,13 +45,21 @@ is_after Both image = false
 -- whether an operator takes new rows alone by this key at a port, where its own edge tells updates so: where rows of one key come to
 -- one subtask, which knows the row before; an upsert sink by its key; and a Project that hands them on
 abbrev pub takes : TableDef → Op → ℕ → Update → List ℕ → Bool
+takes sink (op.Scan source) port update key = false
+takes sink (op.Filter cond) port update key = false
 takes sink (op.Project items) port update key = is_after update (image (plain_columns items) key)
+takes sink op.Union port update key = false
+takes sink (op.Normalize by) port update key = false
+takes sink (op.Group keys aggs) port update key = false
+takes sink (op.BatchGroup keys aggs) port update key = false
 takes sink (op.Join kind on rest) port update key = is_within (side_columns on port) key
 takes sink (op.Semi anti on rest) port update key = is_within (side_columns on port) key
 takes sink (op.TopN partition order bound ranked) port update key = is_within partition key
+takes sink (op.Materialize shown) port update key = false
 takes sink op.Sink port update key = sink_takes sink key
+takes sink (op.LocalGroup keys aggs) port update key = false
 takes sink (op.MultiJoin on) port update key = is_within (chain_columns on port) key
-takes sink _ port update key = false
+takes sink (op.SetOp except all columns) port update key = false
 
 -- whether the consumer of an edge does: the first of the nodes behind it that has the edge among its inputs
 abbrev pub takes_after : TableDef → List ℕ → ℕ → List Wire → List Update → Bool
@@ -88,9 +96,20 @@ scan_update (Some table) kinds = table_update table.mode table.key kinds
 -- how the edge of a node tells updates, by the kinds and the update key of the node and whether its consumer takes new rows alone
 abbrev pub update_of : List TableDef → Op → KindSet → Option (List ℕ) → Bool → Update
 update_of sources (op.Scan source) kinds key taken = scan_update (slice_get sources source) kinds
+update_of sources (op.Filter cond) kinds key taken = told kinds key taken
+update_of sources (op.Project items) kinds key taken = told kinds key taken
+update_of sources op.Union kinds key taken = told kinds key taken
+update_of sources (op.Normalize by) kinds key taken = told kinds key taken
+update_of sources (op.Group keys aggs) kinds key taken = told kinds key taken
+update_of sources (op.BatchGroup keys aggs) kinds key taken = told kinds key taken
+update_of sources (op.Join kind on rest) kinds key taken = told kinds key taken
+update_of sources (op.Semi anti on rest) kinds key taken = told kinds key taken
+update_of sources (op.TopN partition order bound ranked) kinds key taken = told kinds key taken
 update_of sources (op.Materialize shown) kinds key taken = After shown
 update_of sources op.Sink kinds key taken = Absent
-update_of sources _ kinds key taken = told kinds key taken
+update_of sources (op.LocalGroup keys aggs) kinds key taken = told kinds key taken
+update_of sources (op.MultiJoin on) kinds key taken = told kinds key taken
+update_of sources (op.SetOp except all columns) kinds key taken = told kinds key taken
 
 -- the edges of nodes behind so many others, by the kinds and the update key of each node: each edge is found from those behind it
 abbrev pub updates_behind : List TableDef → TableDef → List Flow → List (Option (List ℕ)) → ℕ → List Wire → List Update

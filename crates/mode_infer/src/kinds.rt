@@ -84,7 +84,8 @@ pub(crate) fn with_old(kinds: KindSet) -> KindSet
     kind_set(kinds.i, kinds.ub || kinds.ua, kinds.ua, kinds.d)
 }
 
-pub(crate) fn plain(kinds: KindSet) -> Flow
+/// What goes over an edge whose changes stand for themselves.
+pub fn plain(kinds: KindSet) -> Flow
     ensures { result ≡ k.plain kinds }
 {
     Flow {

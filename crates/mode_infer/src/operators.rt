@@ -13,8 +13,8 @@ use phys_plan::{Op, left_columns, right_columns};
 use rel_algebra::{Agg, JoinKind, Pairs};
 use std::alloc::Global;
 
-/// What an operator sends, from what its inputs send.
-pub(crate) fn flow_of(sources: &[TableDef], op: &Op, inputs: &[Flow]) -> Flow
+/// What an operator sends, from what its inputs send, as long as no edge leaves out the old rows.
+pub fn flow_of(sources: &[TableDef], op: &Op, inputs: &[Flow]) -> Flow
     ensures { result ≡ k.flow_of sources.now op.now inputs.now }
 {
     match op {

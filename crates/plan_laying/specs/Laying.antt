@@ -1,20 +1,32 @@
 -- What is laid of a plan, and what a tree adds to it.
 use Rattle.std.specs.Prelude.{◌≡◌, ℕ, ◌+◌, false, true, List, [], ◌∷◌, ◌++◌, length, map, ⊤}
-use Rattle.ct_change.specs.Changelog.{retract, kinds_of}
 use Rattle.ct_change.specs.declared.kind.KindSet.{KindSet}
+use Rattle.rel_algebra.specs.declared.agg.Agg.{Agg}
 use Rattle.rel_algebra.specs.Rel.{Rel, Rels, Scan, One, Two, Many}
+use Rattle.emission_rules.specs.GroupFits.{first_columns}
+use Rattle.mode_infer.specs.declared.kinds.Flow.{Flow}
+use Rattle.mode_infer.specs.Kinds.{flow_of, group_kinds, inserts, sent_of}
 use Rattle.phys_plan.specs.declared.edge.Exchange.{Exchange}
+use Rattle.phys_plan.specs.declared.edge.Exchange.TheVariants.{Forward, Hash}
 use Rattle.ct_change.specs.declared.update.Update.{Update}
 use Rattle.ct_change.specs.declared.update.Update.TheVariants.{Both}
 use Rattle.phys_plan.specs.declared.node.Op.{Op}
+use Rattle.phys_plan.specs.declared.node.Op.TheVariants as op
+use Rattle.plan_rules.specs.Phases.{Bundles}
+use Rattle.plan_rules.specs.TreeKinds.{tree_kinds, trees_kinds}
 use Rattle.plan_rules.specs.Pieces.{Piece, node_of, edge_of, pieces_of, pieces_of_all, roots_of, nodes_in, edges_in}
 use Rattle.plan_rules.specs.Roles.{unary_way, binary_way}
 use Rattle.plan_rules.specs.Seen.{op_as_seen, node_as_seen}
 use Rattle.plan_laying.specs.declared.laying_fault.LayingFault.{LayingFault}
 use Rattle.plan_laying.specs.declared.laying_fault.LayingFault.TheVariants.{NoTable, Memory}
+use Rattle.plan_laying.specs.declared.laying.Laid.{Laid}
 use Rattle.plan_laying.specs.declared.laying.Laying.{Laying}
 use Rattle.plan_laying.specs.Faults.{lacks_table, any_lacks}
-use Rattle.plan_laying.specs.Topped.{shown_nodes, shown_edges}
+use Rattle.plan_laying.specs.Topped.{send_last, shown_nodes, shown_edges}
+
+-- how groups in bundles are laid
+abbrev pub bundles_of : Laying → Bundles
+bundles_of l = record { size = l.mini_batch; two_phase = l.two_phase }
 
 -- ---- a node
 
@@ -22,45 +34,69 @@ use Rattle.plan_laying.specs.Topped.{shown_nodes, shown_edges}
 pub record Pushed (old new : Laying) (op : Op) (inputs : List ℕ) (exchange : Exchange) (kinds : KindSet) (update : Update) (number : ℕ) : Type 0 where
   pub number_is : number ≡ length old.nodes + 1
   pub sources : new.sources ≡ old.sources
-  pub mini_batch : new.mini_batch ≡ old.mini_batch
+  pub bundles : bundles_of new ≡ bundles_of old
   pub nodes : new.nodes ≡ old.nodes ++ node_of op inputs ∷ []
   pub edges : new.edges ≡ old.edges ++ edge_of exchange kinds update ∷ []
 
--- one more, whose operator is seen so, and whose edge carries all kinds, and both rows of an update
-abbrev pub PushedAs : Laying → Laying → Op → List ℕ → Exchange → ℕ → Type 0
-PushedAs old new seen inputs exchange number = (o : Op) × (op_as_seen o ≡ seen) × Pushed old new o inputs exchange (kinds_of retract) Both number
+-- one more over inputs of these flows, whose edge carries what it sends, and both rows of an update
+pub record Sends (old new : Laying) (op : Op) (inputs : List ℕ) (flows : List Flow) (exchange : Exchange) (laid : Laid) : Type 0 where
+  pub kinds_are : laid.kinds ≡ (flow_of old.sources op flows).sent
+  pub pushed : Pushed old new op inputs exchange laid.kinds Both laid.root
+
+-- the same of one whose operator is seen so
+abbrev pub PushedAs : Laying → Laying → Op → List ℕ → List Flow → Exchange → Laid → Type 0
+PushedAs old new seen inputs flows exchange laid = (o : Op) × (op_as_seen o ≡ seen) × Sends old new o inputs flows exchange laid
+
+-- the last edge becomes a forward edge
+pub record Forwards (old new : Laying) : Type 0 where
+  pub sources : new.sources ≡ old.sources
+  pub bundles : bundles_of new ≡ bundles_of old
+  pub nodes : new.nodes ≡ old.nodes
+  pub edges : new.edges ≡ send_last Forward old.edges
+
+-- a local group over the last node, which sends its rows forward, and over it the group that merges its partial rows
+pub record Phased (old new : Laying) (below : Laid) (keys : ℕ) (aggs : List Agg) (exchange : Exchange) (laid : Laid) : Type 0 where
+  pub ahead : Laying
+  pub middle : Laying
+  pub local : ℕ
+  pub forwards : Forwards old ahead
+  pub summed : Pushed ahead middle (op.LocalGroup keys aggs) (below.root ∷ []) (Hash (first_columns keys)) inserts Both local
+  pub merged : Pushed middle new (op.BatchGroup keys aggs) (local ∷ []) exchange laid.kinds Both laid.root
+  pub kinds_are : laid.kinds ≡ group_kinds keys aggs below.kinds
 
 -- ---- a tree
 
 -- these pieces are laid behind what was laid, as they are seen
 pub record Adds (old new : Laying) (pieces : List Piece) : Type 0 where
   pub sources : new.sources ≡ old.sources
-  pub mini_batch : new.mini_batch ≡ old.mini_batch
+  pub bundles : bundles_of new ≡ bundles_of old
   pub nodes : map node_as_seen new.nodes ≡ map node_as_seen old.nodes ++ nodes_in pieces
   pub edges : new.edges ≡ old.edges ++ edges_in pieces
 
 -- a tree is laid behind what was laid, up to its root, for a consumer that asks for this exchange
-pub record Lays (old new : Laying) (exchange : Exchange) (rel : Rel) (root : ℕ) : Type 0 where
-  pub adds : Adds old new (pieces_of old.sources old.mini_batch (length old.nodes) exchange rel)
-  pub root_is : root ≡ length new.nodes
+pub record Lays (old new : Laying) (exchange : Exchange) (rel : Rel) (laid : Laid) : Type 0 where
+  pub adds : Adds old new (pieces_of old.sources (bundles_of old) (length old.nodes) exchange rel)
+  pub root_is : laid.root ≡ length new.nodes
+  pub sends : laid.kinds ≡ tree_kinds old.sources rel
   pub tables : lacks_table old.sources rel ≡ false
 
 -- the same of several trees
-pub record LaysAll (old new : Laying) (inputs : Rels) (roots : List ℕ) : Type 0 where
-  pub adds : Adds old new (pieces_of_all old.sources old.mini_batch (length old.nodes) inputs)
-  pub roots_are : roots ≡ roots_of old.sources old.mini_batch (length old.nodes) inputs
+pub record LaysAll (old new : Laying) (inputs : Rels) (roots : List ℕ) (flows : List Flow) : Type 0 where
+  pub adds : Adds old new (pieces_of_all old.sources (bundles_of old) (length old.nodes) inputs)
+  pub roots_are : roots ≡ roots_of old.sources (bundles_of old) (length old.nodes) inputs
+  pub send : map sent_of flows ≡ trees_kinds old.sources inputs
   pub tables : any_lacks old.sources inputs ≡ false
 
 -- what is laid of a tree once its first input is, up to this node: nothing where it has none
-abbrev pub Begun : Laying → Laying → ℕ → Rel → Type 0
+abbrev pub Begun : Laying → Laying → Laid → Rel → Type 0
 Begun old mid below (Scan source) = old ≡ mid
 Begun old mid below (One how input) = Lays old mid (unary_way how).asks input below
 Begun old mid below (Two how left right) = Lays old mid (binary_way how).left left below
 Begun old mid below (Many inputs) = old ≡ mid
 
 -- the rest of it is laid behind its first input
-pub record Tops (mid new : Laying) (below : ℕ) (exchange : Exchange) (rel : Rel) (root : ℕ) : Type 0 where
-  pub tops : (old : Laying) → Begun old mid below rel → Lays old new exchange rel root
+pub record Tops (mid new : Laying) (below : Laid) (exchange : Exchange) (rel : Rel) (laid : Laid) : Type 0 where
+  pub tops : (old : Laying) → Begun old mid below rel → Lays old new exchange rel laid
 
 -- ---- what stands before the sink
 
@@ -68,7 +104,7 @@ pub record Tops (mid new : Laying) (below : ℕ) (exchange : Exchange) (rel : Re
 pub record Shows (key : List ℕ) (old new : Laying) : Type 0 where
   pub sources : new.sources ≡ old.sources
   pub nodes : new.nodes ≡ shown_nodes key old.nodes
-  pub edges : new.edges ≡ shown_edges old.edges
+  pub edges : new.edges ≡ shown_edges key old.edges
 
 -- ---- faults
 

@@ -2,26 +2,37 @@
 ghost use Rattle.std.specs.Prelude.{◌≡◌, ◌+◌, [], ◌∷◌, IfOk, IfErr, OnOk};
 ghost use Rattle.ct_change.specs.Changelog.{retract, upsert, kinds_of};
 ghost use Rattle.phys_plan.specs.declared.edge.Exchange.TheVariants.{Forward as ToSame, Hash as ByHash};
-ghost use Rattle.ct_change.specs.declared.update.Update.TheVariants.{Absent as NoUpdate, After as AfterKey, Both as BothRows};
+ghost use Rattle.ct_change.specs.declared.update.Update.TheVariants.{Absent as NoUpdate, After as AfterKey};
 ghost use Rattle.phys_plan.specs.declared.node.Op.TheVariants as op;
-ghost use Rattle.plan_laying.specs.Laying.{Pushed, Shows};
+ghost use Rattle.mode_infer.specs.Kinds as k;
+ghost use Rattle.plan_laying.specs.Laying.{Forwards, Pushed, Sends, Shows};
 
 use crate::laying_fault::LayingFault;
 use crate::parts::{all_kinds, no_keys, two_numbers, upsert_kinds};
 use ct_catalog::Sources;
-use ct_change::Update;
-use ct_value::{Cols, Numbers};
+use ct_change::{KindSet, Update};
+use ct_value::{Cols, List, Numbers};
+use mode_infer::{Flow, flow_of, plain};
 use phys_plan::{Edge, Edges, Exchange, Node, Nodes, Op};
 use std::alloc::Global;
 
-/// What is laid of a plan over some tables, whose bundles hold so many changes: its nodes so far, and the edges that leave them.
+/// What is laid of a plan over some tables, whose bundles hold so many changes, and whose groups in bundles are taken in two phases or in one:
+/// its nodes so far, and the edges that leave them.
 #[derive(Drop)]
 pub struct Laying {
     pub alloc: Global,
     pub sources: Sources,
     pub mini_batch: u32,
+    pub two_phase: bool,
     pub nodes: Nodes,
     pub edges: Edges,
+}
+
+/// The last node of what is laid of a tree, and the kinds that it sends as long as no edge leaves out old rows.
+#[derive(Clone, Copy)]
+pub struct Laid {
+    pub root: u32,
+    pub kinds: KindSet,
 }
 
 impl Laying {
@@ -45,52 +56,91 @@ impl Laying {
         Ok(number)
     }
 
-    // The same of a node whose edge carries all kinds, and both rows of an update.
-    pub(crate) fn push_whole(
+    // The same of a node over inputs of these flows, whose edge carries what it sends, and both rows of an update.
+    pub(crate) fn push_sending(
         &mut self,
         op: Op,
         inputs: Numbers,
+        flows: &[Flow],
         exchange: Exchange,
-    ) -> Result<u32, LayingFault>
-        ensures pushed { IfOk result (λ number. Pushed self.old self.new op inputs exchange (kinds_of retract) BothRows number) }
+    ) -> Result<Laid, LayingFault>
+        ensures pushed { IfOk result (λ laid. Sends self.old self.new op inputs flows.now exchange laid) }
         ensures full { IfErr result (λ fault. fault ≡ LayingFault.Memory) }
     {
+        let kinds = flow_of(self.sources.as_slice(), &op, flows).sent;
         let edge = Edge {
             exchange,
-            kinds: all_kinds(),
+            kinds,
             update: Update::Both,
         };
-        self.push(op, inputs, edge)
+        let root = self.push(op, inputs, edge)?;
+        Ok(Laid { root, kinds })
     }
 
     // The same of one with a single input.
-    pub(crate) fn push_over(
+    pub(crate) fn push_one(
         &mut self,
         below: u32,
+        flow: Flow,
         op: Op,
         exchange: Exchange,
-    ) -> Result<u32, LayingFault>
-        ensures pushed { IfOk result (λ number. Pushed self.old self.new op (below ∷ []) exchange (kinds_of retract) BothRows number) }
+    ) -> Result<Laid, LayingFault>
+        ensures pushed { IfOk result (λ laid. Sends self.old self.new op (below ∷ []) (flow ∷ []) exchange laid) }
         ensures full { IfErr result (λ fault. fault ≡ LayingFault.Memory) }
     {
         let mut inputs = Numbers::new(self.alloc);
         inputs.push(below)?;
-        self.push_whole(op, inputs, exchange)
+        let mut flows = List::new(self.alloc);
+        flows.push(flow)?;
+        self.push_sending(op, inputs, flows.as_slice(), exchange)
     }
 
-    // The same of one with two inputs.
-    pub(crate) fn push_both(
+    // The same over the root of a tree.
+    pub(crate) fn push_over(
         &mut self,
-        left: u32,
-        right: u32,
+        below: Laid,
         op: Op,
         exchange: Exchange,
-    ) -> Result<u32, LayingFault>
-        ensures pushed { IfOk result (λ number. Pushed self.old self.new op (left ∷ (right ∷ [])) exchange (kinds_of retract) BothRows number) }
+    ) -> Result<Laid, LayingFault>
+        ensures pushed { IfOk result (λ laid. Sends self.old self.new op (below.root ∷ []) (k.plain below.kinds ∷ []) exchange laid) }
         ensures full { IfErr result (λ fault. fault ≡ LayingFault.Memory) }
     {
-        let inputs = two_numbers(self.alloc, left, right)?;
-        self.push_whole(op, inputs, exchange)
+        self.push_one(below.root, plain(below.kinds), op, exchange)
+    }
+
+    // The same over the roots of two.
+    pub(crate) fn push_both(
+        &mut self,
+        left: Laid,
+        right: Laid,
+        op: Op,
+        exchange: Exchange,
+    ) -> Result<Laid, LayingFault>
+        ensures pushed { IfOk result (λ laid. Sends self.old self.new op (left.root ∷ (right.root ∷ [])) (k.plain left.kinds ∷ (k.plain right.kinds ∷ [])) exchange laid) }
+        ensures full { IfErr result (λ fault. fault ≡ LayingFault.Memory) }
+    {
+        let inputs = two_numbers(self.alloc, left.root, right.root)?;
+        let mut flows = List::new(self.alloc);
+        flows.push(plain(left.kinds))?;
+        flows.push(plain(right.kinds))?;
+        self.push_sending(op, inputs, flows.as_slice(), exchange)
+    }
+
+    // The last edge becomes a forward edge.
+    #[tactic(auto, using(crate::proofs::laws::LastEdges::forwards))]
+    pub(crate) fn forward_last(&mut self) -> Result<(), LayingFault>
+        ensures forwards { OnOk result (Forwards self.old self.new) }
+        ensures full { IfErr result (λ fault. fault ≡ LayingFault.Memory) }
+    {
+        let Some(edge) = self.edges.pop() else {
+            return Ok(());
+        };
+        self.edges.push(Edge {
+            exchange: Exchange::Forward,
+            kinds: edge.kinds,
+            update: edge.update,
+        })?;
+        Ok(())
     }
 
     // A scan whose edge is after-only by a key, and hashed by it.
@@ -130,8 +180,12 @@ impl Laying {
         let Ok(root) = u32::try_from(self.nodes.len()) else {
             return Err(LayingFault::Memory);
         };
-        let shown = self.push_over(root, Op::Materialize { key }, Exchange::Forward)?;
-        self.push_sink(shown)?;
+        let below = Laid {
+            root,
+            kinds: all_kinds(),
+        };
+        let shown = self.push_over(below, Op::Materialize { key }, Exchange::Forward)?;
+        self.push_sink(shown.root)?;
         Ok(())
     }
 }

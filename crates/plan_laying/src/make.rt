@@ -16,7 +16,8 @@ use std::alloc::Global;
 const MOST_LEVELS: u32 = 1_000;
 
 /// The plan that is laid of a tree over these tables, each node in so many subtasks, wherever the parts of its expressions lie; its last node is the sink.
-/// Where `mini_batch` isn't 0, groups by keys keep bundles of so many changes (Flink documentation, "Performance Tuning", "MiniBatch Aggregation").
+/// Where `mini_batch` isn't 0, groups by keys keep bundles of so many changes, and with `two_phase` those whose calls can be summed up are taken in two
+/// phases: a local group before the exchange (Flink documentation, "Performance Tuning", "MiniBatch Aggregation", "Local-Global Aggregation").
 /// `NoTable` comes where a part of the tree scans a table that isn't there. Otherwise there is a plan, or memory was wanting, as where other inputs than
 /// first ones nest more than 1,000 levels.
 pub fn plan_of(
@@ -26,8 +27,9 @@ pub fn plan_of(
     sink: TableDef,
     parallelism: u32,
     mini_batch: u32,
+    two_phase: bool,
 ) -> Result<Plan, LayingFault>
-    ensures plan { IfOk result (λ plan. plan_as_seen plan ≡ plan_of_tree sources sink parallelism mini_batch bare (rel_view rel.now)) }
+    ensures plan { IfOk result (λ plan. plan_as_seen plan ≡ plan_of_tree sources sink parallelism (record { size = mini_batch; two_phase = two_phase }) bare (rel_view rel.now)) }
     ensures tables { OnOk result (lacks_table sources (rel_view rel.now) ≡ false) }
     ensures fault { IfErr result (λ fault. Says sources (rel_view rel.now) fault) }
 {
@@ -35,11 +37,12 @@ pub fn plan_of(
         alloc,
         sources,
         mini_batch,
+        two_phase,
         nodes: Nodes::new(alloc),
         edges: Edges::new(alloc),
     };
-    let root = laying.lay(rel, Exchange::Forward, MOST_LEVELS)?;
-    laying.push_sink(root)?;
+    let tree = laying.lay(rel, Exchange::Forward, MOST_LEVELS)?;
+    laying.push_sink(tree.root)?;
     let Laying {
         sources,
         nodes,

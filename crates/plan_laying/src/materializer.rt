@@ -1,7 +1,8 @@
 //! A materializer before the sink of a plan.
 ghost use Rattle.std.specs.Prelude.{◌≡◌, IfOk};
+ghost use Rattle.phys_plan.specs.declared.edge.Exchange.TheVariants.{Hash as ByHash};
 ghost use Rattle.plan_rules.specs.Pieces.{shown as ShownBy};
-ghost use Rattle.plan_laying.specs.Topped.{all_but_last, hash_last, topped_plan};
+ghost use Rattle.plan_laying.specs.Topped.{all_but_last, send_last, topped_plan};
 
 use crate::laying::Laying;
 use ct_value::{Cols, List, Memory};
@@ -26,6 +27,7 @@ pub fn with_materializer(alloc: Global, laid: Plan, key: Cols) -> Result<Plan, M
         alloc,
         sources,
         mini_batch,
+        two_phase: false,
         nodes: all_but_last(nodes),
         edges,
     };
@@ -60,7 +62,7 @@ fn all_but_last<T: Drop>(items: List<T>) -> List<T>
 // The edges, of which the last goes by these columns.
 #[tactic(auto, using(crate::proofs::laws::LastEdges::hashed_none))]
 fn hash_last(edges: Edges, key: &Cols) -> Result<Edges, Memory>
-    ensures { IfOk result (λ hashed. hashed ≡ hash_last key.now edges) }
+    ensures { IfOk result (λ hashed. hashed ≡ send_last (ByHash key.now) edges) }
 {
     let mut edges = edges;
     let Some(edge) = edges.pop() else {

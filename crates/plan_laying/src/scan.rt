@@ -5,19 +5,19 @@ ghost use Rattle.ct_change.specs.declared.kind.Declared.TheVariants.{Upsert as I
 ghost use Rattle.rel_algebra.specs.Rel as r;
 ghost use Rattle.plan_laying.specs.Laying.{Lays, Fails};
 
-use crate::laying::Laying;
+use crate::laying::{Laid, Laying};
 use crate::laying_fault::LayingFault;
-use crate::parts::key_of;
+use crate::parts::{key_of, upsert_kinds};
 use ct_change::Declared;
-use ct_value::{Cols, Numbers};
+use ct_value::{Cols, List, Numbers};
 use phys_plan::{Exchange, Op};
 
 impl Laying {
     // The nodes of a table.
     #[inline(never)]
     #[tactic(auto, using(crate::proofs::laws::Laid::no_table))]
-    pub(crate) fn lay_scan(&mut self, source: u32, exchange: Exchange) -> Result<u32, LayingFault>
-        ensures laid { IfOk result (λ root. Lays self.old self.new exchange (r.Scan source) root) }
+    pub(crate) fn lay_scan(&mut self, source: u32, exchange: Exchange) -> Result<Laid, LayingFault>
+        ensures laid { IfOk result (λ laid. Lays self.old self.new exchange (r.Scan source) laid) }
         ensures fails { IfErr result (λ fault. Fails self.old (r.Scan source) fault) }
     {
         let table = match self.sources.get(source as usize) {
@@ -35,23 +35,33 @@ impl Laying {
 
     // The scan of an append or retract table.
     #[tactic(auto, using(crate::proofs::laws::Laid::plain_lays, crate::proofs::laws::Laid::full_fails))]
-    fn lay_plain(&mut self, source: u32, exchange: Exchange) -> Result<u32, LayingFault>
+    fn lay_plain(&mut self, source: u32, exchange: Exchange) -> Result<Laid, LayingFault>
         requires table { (table : TableDef) × (slice_get self.old.sources source ≡ Some table) × (table.mode ≢ IsUpsert) }
-        ensures laid { IfOk result (λ root. Lays self.old self.new exchange (r.Scan source) root) }
+        ensures laid { IfOk result (λ laid. Lays self.old self.new exchange (r.Scan source) laid) }
         ensures fails { IfErr result (λ fault. Fails self.old (r.Scan source) fault) }
     {
         let inputs = Numbers::new(self.alloc);
-        self.push_whole(Op::Scan { source }, inputs, exchange)
+        let flows = List::new(self.alloc);
+        self.push_sending(Op::Scan { source }, inputs, flows.as_slice(), exchange)
     }
 
     // The scan of an upsert table, normalized by its key.
     #[tactic(auto, using(crate::proofs::laws::Laid::upsert_lays, crate::proofs::laws::Laid::full_fails))]
-    fn lay_upsert(&mut self, source: u32, key: Cols, exchange: Exchange) -> Result<u32, LayingFault>
+    fn lay_upsert(
+        &mut self,
+        source: u32,
+        key: Cols,
+        exchange: Exchange,
+    ) -> Result<Laid, LayingFault>
         requires table { (table : TableDef) × (slice_get self.old.sources source ≡ Some table) × (table.mode ≡ IsUpsert) × (unwrap_or table.key [] ≡ key) }
-        ensures laid { IfOk result (λ root. Lays self.old self.new exchange (r.Scan source) root) }
+        ensures laid { IfOk result (λ laid. Lays self.old self.new exchange (r.Scan source) laid) }
         ensures fails { IfErr result (λ fault. Fails self.old (r.Scan source) fault) }
     {
-        let below = self.push_keyed_scan(source, &key)?;
+        let root = self.push_keyed_scan(source, &key)?;
+        let below = Laid {
+            root,
+            kinds: upsert_kinds(),
+        };
         self.push_over(below, Op::Normalize { key }, exchange)
     }
 }

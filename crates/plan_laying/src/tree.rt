@@ -10,17 +10,18 @@ ghost use Rattle.phys_plan.specs.declared.node.Op.TheVariants as op;
 ghost use Rattle.plan_laying.specs.Laying.{Lays, LaysAll, Fails, FailsAll, Tops};
 ghost use Rattle.plan_laying.specs.Ways.{asked_for, asked_view, first_input};
 
-use crate::laying::Laying;
+use crate::laying::{Laid, Laying};
 use crate::laying_fault::LayingFault;
-use crate::parts::{first_columns, left_columns, right_columns};
+use crate::parts::{all_kinds, first_columns, left_columns, right_columns};
 use crate::way::{Asked, way_down};
-use ct_value::{Memory, Numbers};
+use ct_value::{List, Memory, Numbers};
+use mode_infer::{Flow, plain};
 use phys_plan::{Exchange, Op};
 use rel_algebra::{Pairs, Rel};
 use std::alloc::Global;
 
 impl Laying {
-    /// Lays the nodes of a tree whose consumer asks for this exchange, and answers the number of its root. The way up its first inputs is a loop, so that
+    /// Lays the nodes of a tree whose consumer asks for this exchange, and answers its root. The way up its first inputs is a loop, so that
     /// a long chain takes no stack. Its other inputs may nest so many levels; more are want of memory.
     #[cycle(tree)]
     pub(crate) fn lay(
@@ -28,7 +29,7 @@ impl Laying {
         rel: &Rel,
         exchange: Exchange,
         levels: u32,
-    ) -> Result<u32, LayingFault>
+    ) -> Result<Laid, LayingFault>
         ensures laid { IfOk result (λ root. Lays self.old self.new exchange (rel_view rel.now) root) }
         ensures fails { IfErr result (λ fault. Fails self.old (rel_view rel.now) fault) }
     {
@@ -36,7 +37,10 @@ impl Laying {
             return Err(LayingFault::Memory);
         }
         let mut way = way_down(self.alloc, rel, exchange)?;
-        let mut root = 0;
+        let mut root = Laid {
+            root: 0,
+            kinds: all_kinds(),
+        };
         'up: while let Some(top) = way.pop() {
             root = self.lay_node(top.rel, root, top.exchange, levels - 1)?;
         }
@@ -49,10 +53,10 @@ impl Laying {
     fn lay_node(
         &mut self,
         rel: &Rel,
-        below: u32,
+        below: Laid,
         exchange: Exchange,
         levels: u32,
-    ) -> Result<u32, LayingFault>
+    ) -> Result<Laid, LayingFault>
         ensures laid { IfOk result (λ root. Tops self.old self.new below exchange (rel_view rel.now) root) }
         ensures fails { IfErr result (λ fault. Fails self.old (rel_view rel.now) fault) }
     {
@@ -105,7 +109,7 @@ impl Laying {
 
     // The right side of a join, hashed by its columns of the pairs.
     #[cycle(tree)]
-    fn lay_right(&mut self, right: &Rel, on: &Pairs, levels: u32) -> Result<u32, LayingFault>
+    fn lay_right(&mut self, right: &Rel, on: &Pairs, levels: u32) -> Result<Laid, LayingFault>
         ensures laid { IfOk result (λ root. Lays self.old self.new (ByHash (right_pairs on.now)) (rel_view right.now) root) }
         ensures fails { IfErr result (λ fault. Fails self.old (rel_view right.now) fault) }
     {
@@ -115,7 +119,7 @@ impl Laying {
 
     // The right side of a set operation, hashed by all its columns.
     #[cycle(tree)]
-    fn lay_whole(&mut self, right: &Rel, columns: u32, levels: u32) -> Result<u32, LayingFault>
+    fn lay_whole(&mut self, right: &Rel, columns: u32, levels: u32) -> Result<Laid, LayingFault>
         ensures laid { IfOk result (λ root. Lays self.old self.new (ByHash (first_columns columns)) (rel_view right.now) root) }
         ensures fails { IfErr result (λ fault. Fails self.old (rel_view right.now) fault) }
     {
@@ -129,27 +133,36 @@ impl Laying {
         inputs: &[Rel],
         exchange: Exchange,
         levels: u32,
-    ) -> Result<u32, LayingFault>
+    ) -> Result<Laid, LayingFault>
         ensures laid { IfOk result (λ root. Lays self.old self.new exchange (r.Union (rels (rels_view inputs.now))) root) }
         ensures fails { IfErr result (λ fault. Fails self.old (r.Union (rels (rels_view inputs.now))) fault) }
     {
-        let roots = self.lay_all(inputs, levels)?;
-        self.push_whole(Op::Union, roots, exchange)
+        let all = self.lay_all(inputs, levels)?;
+        self.push_sending(Op::Union, all.roots, all.flows.as_slice(), exchange)
     }
 
-    // Several trees, one behind the other, with the numbers of their roots.
+    // Several trees, one behind the other, with their roots and what these send.
     #[cycle(tree)]
-    fn lay_all(&mut self, inputs: &[Rel], levels: u32) -> Result<Numbers, LayingFault>
-        ensures laid { IfOk result (λ roots. LaysAll self.old self.new (rels (rels_view inputs.now)) roots) }
+    fn lay_all(&mut self, inputs: &[Rel], levels: u32) -> Result<LaidAll, LayingFault>
+        ensures laid { IfOk result (λ all. LaysAll self.old self.new (rels (rels_view inputs.now)) all.roots all.flows) }
         ensures fails { IfErr result (λ fault. FailsAll self.old (rels (rels_view inputs.now)) fault) }
     {
         let mut roots = Numbers::new(self.alloc);
+        let mut flows = List::new(self.alloc);
         for input in inputs {
-            let root = self.lay(input, Exchange::Forward, levels)?;
-            roots.push(root)?;
+            let laid = self.lay(input, Exchange::Forward, levels)?;
+            roots.push(laid.root)?;
+            flows.push(plain(laid.kinds))?;
         }
-        Ok(roots)
+        Ok(LaidAll { roots, flows })
     }
+}
+
+// The roots of several trees, and what they send.
+#[derive(Drop)]
+pub(crate) struct LaidAll {
+    pub(crate) roots: Numbers,
+    pub(crate) flows: List<Flow>,
 }
 
 fn set_operation(except: bool, all: bool, columns: u32) -> Op

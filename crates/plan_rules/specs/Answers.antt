@@ -13,6 +13,7 @@ use Rattle.plan_rules.specs.Behaviours.{has_rule}
 use Rattle.plan_rules.specs.Doings.{network}
 use Rattle.plan_rules.specs.Erased.{erased, erased_at}
 use Rattle.plan_rules.specs.Pieces.{Top, plan_of_tree}
+use Rattle.plan_rules.specs.Phases.{Bundles}
 use Rattle.plan_rules.specs.Plans.{HasShape}
 use Rattle.plan_rules.specs.Roles.{role, takes}
 
@@ -38,4 +39,4 @@ Answers plan rel = (rows : ℕ → Rows) (result : Rows) → IsAnswer (network p
 
 -- the tree of the plan of a tree is that tree, whatever stands before the sink
 abbrev pub TreesAreErased : Type 0
-TreesAreErased = (sources : List TableDef) (sink : TableDef) (parallelism mini_batch : ℕ) (top : Top) (rel : Rel) → erased (plan_of_tree sources sink parallelism mini_batch top rel) ≡ rel
+TreesAreErased = (sources : List TableDef) (sink : TableDef) (parallelism : ℕ) (b : Bundles) (top : Top) (rel : Rel) → erased (plan_of_tree sources sink parallelism b top rel) ≡ rel

@@ -8,4 +8,5 @@ pub mod Phases
 pub mod Pieces
 pub mod Plans
 pub mod Roles
+pub mod TreeKinds
 pub mod Seen

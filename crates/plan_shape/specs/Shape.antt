@@ -11,6 +11,7 @@ use Rattle.phys_plan.specs.declared.node.Node.{Node}
 use Rattle.phys_plan.specs.declared.node.Op.{Op}
 use Rattle.phys_plan.specs.declared.node.Op.TheVariants as op
 use Rattle.phys_plan.specs.declared.plan.Plan.{Plan}
+pub use Rattle.plan_rules.specs.Phases.{only_inserts, has_parts}
 use Rattle.plan_rules.specs.Plans.{kinds_in}
 use Rattle.plan_rules.specs.Roles.{role, takes as takes_as}
 use Rattle.phys_plan.specs.Reading.{numbered, first_input}
@@ -85,10 +86,20 @@ is_sink_key sink key (Some of_sink) = is_upsert sink.mode && same_numbers key of
 -- bundles are of keys
 abbrev pub suits_plan : Plan → Op → Bool
 suits_plan plan (op.Scan source) = nat_lt source (length plan.sources)
-suits_plan plan (op.Materialize key) = is_sink_key plan.sink key plan.sink.key
+suits_plan plan (op.Filter cond) = true
+suits_plan plan (op.Project items) = true
+suits_plan plan op.Union = true
+suits_plan plan (op.Normalize key) = true
+suits_plan plan (op.Group keys aggs) = true
 suits_plan plan (op.BatchGroup keys aggs) = nat_lt 0 plan.mini_batch && nat_lt 0 keys
+suits_plan plan (op.Join kind on rest) = true
+suits_plan plan (op.Semi anti on rest) = true
+suits_plan plan (op.TopN partition order bound ranked) = true
+suits_plan plan (op.Materialize key) = is_sink_key plan.sink key plan.sink.key
+suits_plan plan op.Sink = true
 suits_plan plan (op.LocalGroup keys aggs) = nat_lt 0 plan.mini_batch
-suits_plan plan _ = true
+suits_plan plan (op.MultiJoin on) = true
+suits_plan plan (op.SetOp except all columns) = true
 
 -- ---- what it asks of its input
 
@@ -106,25 +117,24 @@ abbrev pub scans_by : List TableDef → List ℕ → Option Op → Bool
 scans_by sources key (Some (op.Scan source)) = is_upsert_by key (slice_get sources source)
 scans_by sources key _ = false
 
-abbrev pub only_inserts : KindSet → Bool
-only_inserts kinds = kinds.i && (not kinds.ub && (not kinds.ua && not kinds.d))
-
--- a call of which parts can be summed up, over changes of these kinds
-abbrev pub has_parts : KindSet → AggCall → Bool
-has_parts kinds CountAll = true
-has_parts kinds Count = true
-has_parts kinds CountDistinct = false
-has_parts kinds Sum = true
-has_parts kinds Min = only_inserts kinds
-has_parts kinds Max = only_inserts kinds
-has_parts kinds Avg = true
-
 -- by the input's operator and the kinds of its edge: a normalizer stands on a scan of an upsert table, by its key, and a local
 -- group sums up parts
 abbrev pub suits_input : List TableDef → Op → Option Op → KindSet → Bool
+suits_input sources (op.Scan source) below kinds = true
+suits_input sources (op.Filter cond) below kinds = true
+suits_input sources (op.Project items) below kinds = true
+suits_input sources op.Union below kinds = true
 suits_input sources (op.Normalize key) below kinds = scans_by sources key below
+suits_input sources (op.Group keys aggs) below kinds = true
+suits_input sources (op.BatchGroup keys aggs) below kinds = true
+suits_input sources (op.Join kind on rest) below kinds = true
+suits_input sources (op.Semi anti on rest) below kinds = true
+suits_input sources (op.TopN partition order bound ranked) below kinds = true
+suits_input sources (op.Materialize shown) below kinds = true
+suits_input sources op.Sink below kinds = true
 suits_input sources (op.LocalGroup keys aggs) below kinds = list_all (λ agg. has_parts kinds agg.call) aggs
-suits_input sources _ below kinds = true
+suits_input sources (op.MultiJoin on) below kinds = true
+suits_input sources (op.SetOp except all columns) below kinds = true
 
 -- ---- what it asks of its consumer
 
@@ -173,9 +183,20 @@ is_read (Some table) above = not (is_upsert table.mode) || normalizes_by table.k
 -- in bundles whose parts it sums up
 abbrev pub suits_consumer : List TableDef → Op → Option Op → Bool
 suits_consumer sources (op.Scan source) above = is_read (slice_get sources source) above
+suits_consumer sources (op.Filter cond) above = true
+suits_consumer sources (op.Project items) above = true
+suits_consumer sources op.Union above = true
+suits_consumer sources (op.Normalize key) above = true
+suits_consumer sources (op.Group keys aggs) above = true
+suits_consumer sources (op.BatchGroup keys aggs) above = true
+suits_consumer sources (op.Join kind on rest) above = true
+suits_consumer sources (op.Semi anti on rest) above = true
+suits_consumer sources (op.TopN partition order bound ranked) above = true
 suits_consumer sources (op.Materialize key) above = is_sink above
+suits_consumer sources op.Sink above = true
 suits_consumer sources (op.LocalGroup keys aggs) above = merges keys aggs above
-suits_consumer sources _ above = true
+suits_consumer sources (op.MultiJoin on) above = true
+suits_consumer sources (op.SetOp except all columns) above = true
 
 -- ---- nodes
 

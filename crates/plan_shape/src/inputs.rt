@@ -112,7 +112,8 @@ fn is_keyed_by(key: &Cols, of_table: &Option<Cols>) -> bool
     }
 }
 
-fn have_parts(kinds: KindSet, aggs: &[Agg]) -> bool
+/// Whether parts of each of these calls can be summed up, over changes of these kinds.
+pub fn have_parts(kinds: KindSet, aggs: &[Agg]) -> bool
     ensures { result ≡ list_all (λ agg. s.has_parts kinds agg.call) aggs.now }
 {
     aggs.iter().all(|agg| has_parts(kinds, agg.call))

@@ -18,6 +18,7 @@ mod ranks;
 mod tables;
 
 pub use input_columns::{NodeColumns, numbered_columns, only_input, same_columns};
+pub use inputs::have_parts;
 pub use joins::pairs_fit;
 pub use listed::columns_of;
 pub use node_columns::next_columns;

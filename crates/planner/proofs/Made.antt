@@ -71,7 +71,7 @@ module _ (sound : InferredPlansAreSound) (plan : Plan) (has : HasTreeShape plan)
       sym (ap ruled_in e) ∙ node_read (inferred_of plan).keys ruled_in (λ node keys. refl) plan.nodes v ∙ ruled_below v (numbered plan.nodes v) refl
 
   ruled_with : IsRuled (with_inferred plan)
-  ruled_with = record { sound = sound plan has.rules has.in_one_phase has.shape has.types has.exchanged sink_key; rules = each_ruled }
+  ruled_with = record { sound = sound plan has.rules has.kinds has.shape has.types has.exchanged sink_key; rules = each_ruled }
 
 module _ (laid : Plan) (rel : Rel) (is : IsLaidPlan laid rel) (setting : Materialize) where
   -- the plan of the tree, with that
@@ -80,10 +80,10 @@ module _ (laid : Plan) (rel : Rel) (is : IsLaidPlan laid rel) (setting : Materia
     where
       go : IsBare (has_materializer (sink_way (inferred_of laid) laid setting)) (sink_top laid setting) ⊎ IsShown laid.sink.mode laid.sink.key (has_materializer (sink_way (inferred_of laid) laid setting)) (sink_top laid setting)
           → IsLaidOut (topped_plan (sink_top laid setting) laid) rel
-      go (inl b) = subst (λ (top : Top). IsLaidOut (topped_plan top laid) rel) (sym b.top_is) (record { top = bare; suits = tt; laid = is.laid_out })
+      go (inl b) = subst (λ (top : Top). IsLaidOut (topped_plan top laid) rel) (sym b.top_is) (record { two_phase = is.two_phase; top = bare; suits = tt; laid = is.laid_out })
       go (inr s) =
           subst (λ (top : Top). IsLaidOut (topped_plan top laid) rel) (sym s.top_is)
-          (record { top = shown s.key; suits = behind.suits_sink laid rel is setting s.key s.is_mode s.is_key; laid = laid_with s.key laid rel is.laid_out })
+          (record { two_phase = is.two_phase; top = shown s.key; suits = behind.suits_sink laid rel is setting s.key s.is_mode s.is_key; laid = laid_with s.key laid rel is.two_phase is.laid_out })
 
   module _ (shapes : LaidPlansHaveShape) (sound : InferredPlansAreSound) (shaped : ShapedPlansHaveShape) (accepted : refusal (inferred_of laid) laid setting ≡ None) where
     pub made_is_ruled : IsRuled (with_inferred (topped_plan (sink_top laid setting) laid))

@@ -171,8 +171,8 @@ module _ (laid : Plan) (rel : Rel) (is : IsLaidPlan laid rel) (setting : Materia
   way = sink_way (inferred_of laid) laid setting
 
   -- its nodes
-  abbrev out : LaysOut laid bare rel
-  out = lays_out_with laid bare rel is.laid_out
+  abbrev out : LaysOut laid is.two_phase bare rel
+  out = lays_out_with laid is.two_phase bare rel is.laid_out
 
   abbrev root : ℕ
   root = out.root
@@ -206,7 +206,7 @@ module _ (laid : Plan) (rel : Rel) (is : IsLaidPlan laid rel) (setting : Materia
   types =
       let same : out.root ≡ out.below = out.topped in
       let high : out.below < length laid.nodes = let n = out.nodes in omega (arith, n, same) in
-      ap (types_at laid.sources laid.nodes) same ∙ (tree laid tables rel 0 Forward out.below out.laid high is.unions is.columns is.typed).columns_are
+      ap (types_at laid.sources laid.nodes) same ∙ (tree laid is.two_phase tables rel 0 Forward out.below out.laid high is.unions is.columns is.typed).columns_are
 
   -- the node below the sink is the tree's root
   pub below_is : below_sink laid.nodes ≡ root
@@ -227,7 +227,7 @@ module _ (laid : Plan) (rel : Rel) (is : IsLaidPlan laid rel) (setting : Materia
   module _ (shapes : LaidPlansHaveShape) (shaped : ShapedPlansHaveShape) (plain : has_materializer (sink_way (inferred_of laid) laid setting) ≡ false) where
     well : IsLaidWell laid rel
     well = record {
-      laid_out = record { top = bare; suits = tt; laid = is.laid_out };
+      laid_out = record { two_phase = is.two_phase; top = bare; suits = tt; laid = is.laid_out };
       columns = is.columns;
       typed = is.typed;
       unions = is.unions;
@@ -249,7 +249,7 @@ module _ (laid : Plan) (rel : Rel) (is : IsLaidPlan laid rel) (setting : Materia
 
     root_is_other : (v : ℕ) (below : Node) → v ≡ root → numbered laid.nodes v ≡ Some below → materializes below.op ≡ false
     root_is_other zero below is_root e = absurd (let l = some_root in omega (arith, is_root))
-    root_is_other (suc n) below is_root e = root_other laid rel is.laid_out n below (let many = out.nodes in omega (arith, many, is_root)) e
+    root_is_other (suc n) below is_root e = root_other laid rel is.two_phase is.laid_out n below (let many = out.nodes in omega (arith, many, is_root)) e
 
     suits_root : suits_table inferred laid.nodes laid.sink.mode laid.sink.key root ≡ true
     suits_root =

@@ -8,7 +8,7 @@ use Rattle.std.proofs.lemmas.List.{length_push}
 use Rattle.std.proofs.lemmas.Slice.Eq.{bytes_eq-Decides}
 use Rattle.ct_value.specs.declared.ty.ColTy.{ColTy}
 use Rattle.ct_change.specs.Kinds.{is_upsert}
-use Rattle.ct_change.specs.Changelog.{retract, kinds_of}
+use Rattle.ct_change.specs.Changelog.{retract, upsert, kinds_of}
 use Rattle.ct_change.specs.declared.kind.Declared.{Declared}
 use Rattle.ct_change.specs.declared.kind.Declared.TheVariants.{Upsert}
 use Rattle.ct_change.specs.declared.update.Update.TheVariants.{Absent, Both}
@@ -103,11 +103,11 @@ module _ (laid : Plan) (rel : Rel) (is : IsLaidPlan laid rel) (setting : Materia
 
   -- ---- the nodes of both plans
 
-  abbrev own : LaysOut laid bare rel
-  own = lays_out_with laid bare rel is.laid_out
+  abbrev own : LaysOut laid is.two_phase bare rel
+  own = lays_out_with laid is.two_phase bare rel is.laid_out
 
-  out : LaysOut topped (shown key) rel
-  out = lays_out_with topped (shown key) rel (laid_with key laid rel is.laid_out)
+  out : LaysOut topped is.two_phase (shown key) rel
+  out = lays_out_with topped is.two_phase (shown key) rel (laid_with key laid rel is.two_phase is.laid_out)
 
   abbrev tree : List Node
   tree = all_but_last laid.nodes
@@ -119,7 +119,7 @@ module _ (laid : Plan) (rel : Rel) (is : IsLaidPlan laid rel) (setting : Materia
   behind = node_of (op.Materialize key) (length tree ∷ []) ∷ (node_of op.Sink ((length tree + 1) ∷ []) ∷ [])
 
   abbrev told : List Edge
-  told = edge_of Forward (kinds_of retract) Both ∷ (edge_of Forward (kinds_of retract) Absent ∷ [])
+  told = edge_of Forward (kinds_of (upsert key)) Both ∷ (edge_of Forward (kinds_of retract) Absent ∷ [])
 
   last_node : (sink : Node) × (laid.nodes ≡ tree ++ sink ∷ [])
   last_node = has_last laid.nodes (let n = own.nodes in omega (arith, n))
@@ -147,7 +147,7 @@ module _ (laid : Plan) (rel : Rel) (is : IsLaidPlan laid rel) (setting : Materia
   module _ (shapes : LaidPlansHaveShape) (shaped : ShapedPlansHaveShape) (accepted : refusal (inferred_of laid) laid setting ≡ None) (materialized : has_materializer (sink_way (inferred_of laid) laid setting) ≡ true) where
     well : IsLaidWell topped rel
     well = record {
-      laid_out = record { top = shown key; suits = suits_sink; laid = laid_with key laid rel is.laid_out };
+      laid_out = record { two_phase = is.two_phase; top = shown key; suits = suits_sink; laid = laid_with key laid rel is.two_phase is.laid_out };
       columns = is.columns;
       typed = is.typed;
       unions = is.unions;

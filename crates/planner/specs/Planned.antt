@@ -1,5 +1,5 @@
 -- The plan of a script's tree: what is asked of it as it is laid, and what comes of it.
-use Rattle.std.specs.Prelude.{◌≡◌, ◌<◌, ◌≤◌, true, List, ◌∷◌, Option, None, Some}
+use Rattle.std.specs.Prelude.{◌≡◌, ◌<◌, ◌≤◌, true, List, ◌∷◌, Option, None, Some, Bool}
 use Rattle.ct_value.specs.declared.codes.ScriptCode.{ScriptCode}
 use Rattle.ct_value.specs.declared.ty.ColTy.{ColTy}
 use Rattle.ct_catalog.specs.declared.settings.Materialize.{Materialize}
@@ -24,7 +24,8 @@ use Rattle.planner.specs.declared.fault.PlannerFault.TheVariants as fault
 -- the plan that is laid of a tree: a well-typed one, whose unions have two inputs or more and whose columns go into the sink's, over tables that may
 -- be declared, in 1 to 16 subtasks and bundles of at most 1,000,000 changes
 pub record IsLaidPlan (laid : Plan) (rel : Rel) : Type 0 where
-  pub laid_out : IsLaidWith bare laid rel
+  pub two_phase : Bool
+  pub laid_out : IsLaidWith two_phase bare laid rel
   pub columns : List ColTy
   pub typed : columns_of (types_of laid.sources) rel ≡ Some columns
   pub unions : has_full_unions rel ≡ true

@@ -4,7 +4,9 @@ pub mod Expressions
 pub mod Folds
 pub mod Groups
 pub mod Joins
+pub mod LocalGroups
 pub mod Materializes
+pub mod MergingGroups
 pub mod Ranks
 pub mod Rows
 pub mod SetOps

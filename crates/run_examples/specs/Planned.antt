@@ -1,14 +1,15 @@
 -- Worked runs over real plans of SELECT word, COUNT(*) FROM t GROUP BY word: into a table of changes, behind a materializer into a table
 -- by the word, and in mini-batches.
-use Rattle.std.specs.Prelude.{◌≡◌, ℕ, false, pos, List, [], ◌∷◌, ◌++◌, codes, Some, None}
+use Rattle.std.specs.Prelude.{◌≡◌, ℕ, true, false, pos, List, [], ◌∷◌, ◌++◌, codes, Some, None}
 use Rattle.ct_value.specs.declared.ty.Ty.TheVariants.{Text as Texts, BigInt}
 use Rattle.ct_value.specs.declared.value.Value.TheVariants.{Null, Num, Text}
 use Rattle.ct_value.specs.declared.row.Row.{Row}
 use Rattle.ct_change.specs.declared.kind.Kind.{Kind}
 use Rattle.ct_change.specs.declared.kind.Kind.TheVariants.{I, UB, UA, D}
 use Rattle.ct_change.specs.declared.kind.Declared.TheVariants.{Append, Retract, Upsert}
+use Rattle.ct_change.specs.declared.kind.KindSet.{KindSet}
 use Rattle.ct_change.specs.declared.change.Change.{Change}
-use Rattle.ct_change.specs.Changelog.{retract, kinds_of}
+use Rattle.ct_change.specs.Changelog.{append, retract, upsert, kinds_of}
 use Rattle.ct_catalog.specs.declared.table.ColDef.{ColDef}
 use Rattle.ct_catalog.specs.declared.table.TableDef.{TableDef}
 use Rattle.rel_algebra.specs.GroupedCounts.{count_all}
@@ -18,6 +19,8 @@ use Rattle.phys_plan.specs.declared.edge.Exchange.TheVariants.{Forward, Hash}
 use Rattle.ct_change.specs.declared.update.Update.TheVariants.{Absent, Both}
 use Rattle.phys_plan.specs.declared.node.Op.TheVariants as op
 use Rattle.phys_plan.specs.declared.plan.Plan.{Plan}
+use Rattle.mode_infer.specs.Kinds.{kind_set}
+use Rattle.plan_rules.specs.Phases.{Bundles}
 use Rattle.plan_rules.specs.Pieces.{bare, shown, plan_of_tree}
 use Rattle.plan_rules.specs.Seen.{plan_as_seen}
 use Rattle.phys_plan.specs.Reading.{no_keys}
@@ -39,6 +42,14 @@ word_table = record { name = codes "t"; cols = word_column ∷ []; key = None; m
 abbrev pub count_table : TableDef
 count_table = record { name = codes "out_t"; cols = word_column ∷ count_column ∷ []; key = None; mode = Retract }
 
+-- a count comes and changes, and never goes, where rows only come
+abbrev pub counts_change : KindSet
+counts_change = kind_set true true true false
+
+-- groups in one phase, in bundles of so many changes
+abbrev pub in_bundles : ℕ → Bundles
+in_bundles size = record { size = size; two_phase = false }
+
 -- words counted, in one subtask
 abbrev pub counts : Plan
 counts = record {
@@ -50,8 +61,8 @@ counts = record {
       ∷ record { op = op.Sink; inputs = 2 ∷ []; keys = no_keys }
       ∷ [];
   edges =
-      record { exchange = Hash (0 ∷ []); kinds = kinds_of retract; update = Both }
-      ∷ record { exchange = Forward; kinds = kinds_of retract; update = Both }
+      record { exchange = Hash (0 ∷ []); kinds = kinds_of append; update = Both }
+      ∷ record { exchange = Forward; kinds = counts_change; update = Both }
       ∷ record { exchange = Forward; kinds = kinds_of retract; update = Absent }
       ∷ [];
   parallelism = 1;
@@ -76,9 +87,9 @@ shown_counts = record {
       ∷ record { op = op.Sink; inputs = 3 ∷ []; keys = no_keys }
       ∷ [];
   edges =
-      record { exchange = Hash (0 ∷ []); kinds = kinds_of retract; update = Both }
-      ∷ record { exchange = Hash (0 ∷ []); kinds = kinds_of retract; update = Both }
-      ∷ record { exchange = Forward; kinds = kinds_of retract; update = Both }
+      record { exchange = Hash (0 ∷ []); kinds = kinds_of append; update = Both }
+      ∷ record { exchange = Hash (0 ∷ []); kinds = counts_change; update = Both }
+      ∷ record { exchange = Forward; kinds = kinds_of (upsert (0 ∷ [])); update = Both }
       ∷ record { exchange = Forward; kinds = kinds_of retract; update = Absent }
       ∷ [];
   parallelism = 1;
@@ -96,8 +107,8 @@ bundled_counts = record {
       ∷ record { op = op.Sink; inputs = 2 ∷ []; keys = no_keys }
       ∷ [];
   edges =
-      record { exchange = Hash (0 ∷ []); kinds = kinds_of retract; update = Both }
-      ∷ record { exchange = Forward; kinds = kinds_of retract; update = Both }
+      record { exchange = Hash (0 ∷ []); kinds = kinds_of append; update = Both }
+      ∷ record { exchange = Forward; kinds = counts_change; update = Both }
       ∷ record { exchange = Forward; kinds = kinds_of retract; update = Absent }
       ∷ [];
   parallelism = 1;
@@ -120,7 +131,7 @@ abbrev pub counted : Kind → ℕ → Change
 counted kind n = record { kind = kind; row = a_word ++ Num (pos n) ∷ [] }
 
 pub record CountsAsWorked : Type 0 where
-  pub is_plan : plan_as_seen counts ≡ plan_of_tree (word_table ∷ []) count_table 1 0 bare counts_rel
+  pub is_plan : plan_as_seen counts ≡ plan_of_tree (word_table ∷ []) count_table 1 (in_bundles 0) bare counts_rel
   -- the first count, and then the second in its place
   pub printed : printed_by (network counts) twice ≡ Printed (counted I 1) ∷ Printed (counted UB 1) ∷ Printed (counted UA 2) ∷ Quiet (2 ∷ []) ∷ []
 
@@ -129,11 +140,11 @@ abbrev pub word_gone : Change
 word_gone = record { kind = D; row = a_word ++ Null ∷ [] }
 
 pub record ShownAsWorked : Type 0 where
-  pub is_plan : plan_as_seen shown_counts ≡ plan_of_tree (word_table ∷ []) word_counts 1 0 (shown (0 ∷ [])) counts_rel
+  pub is_plan : plan_as_seen shown_counts ≡ plan_of_tree (word_table ∷ []) word_counts 1 (in_bundles 0) (shown (0 ∷ [])) counts_rel
   -- the first count, which goes before the second comes
   pub printed : printed_by (network shown_counts) twice ≡ Printed (counted I 1) ∷ Printed word_gone ∷ Printed (counted I 2) ∷ Quiet (2 ∷ []) ∷ []
 
 pub record BundledAsWorked : Type 0 where
-  pub is_plan : plan_as_seen bundled_counts ≡ plan_of_tree (word_table ∷ []) count_table 1 1000 bare counts_rel
+  pub is_plan : plan_as_seen bundled_counts ≡ plan_of_tree (word_table ∷ []) count_table 1 (in_bundles 1000) bare counts_rel
   -- both rows are one change of the group
   pub printed : printed_by (network bundled_counts) twice ≡ Printed (counted I 2) ∷ Quiet (2 ∷ []) ∷ []

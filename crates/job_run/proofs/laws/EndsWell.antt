@@ -19,7 +19,7 @@ use Rattle.source_lines.specs.Run.{At, Went, on, halts, refused, disordered, sto
 use Rattle.source_lines.specs.Supply.{is_by_table}
 use Rattle.run_laws.specs.Stops.{EndsOrStops}
 use Rattle.run_laws.proofs.laws.Theorems.{runs_end_or_stop}
-use Rattle.job_plan.proofs.laws.Theorems.{runnable_scripts_are_planned}
+use Rattle.job_plan.proofs.laws.Theorems.{scripts_are_planned}
 use Rattle.job_judgement.specs.Judgement.{Accepted, judgement}
 use Rattle.job_batch.specs.Agree.{query_answer}
 use Rattle.job_batch.specs.Batch.{after_lines as batch_lines, answered, sink_types as answer_types, with_changes as batch_changes}
@@ -53,7 +53,7 @@ run_well : (names : FileNames) (order : Option (List ℕ)) (h : Holdings) → Ma
 run_well names order h may =
     let plan = may.plan in
     let by_table = is_by_table may.files in
-    let is = runnable_scripts_are_planned may.script (record { text = may.held.script_text; judged = may.held.accepted }) plan may.runs in
+    let is = scripts_are_planned may.script (record { text = may.held.script_text; judged = may.held.accepted }) plan may.runs in
     let passes : taken_of plan.sources None may.files ≡ Ok may.taken = ap (λ (p : Plan). taken_of p.sources None may.files) is.is ∙ may.lines_taken in
     let for_sources = input_for h names.input plan.sources may.files may.held.input_held in
     script_well names.script may.held.script_text h may.script may.held.script_held may.held.accepted (run_script h names.input order)
@@ -66,7 +66,7 @@ answer_well : (names : FileNames) (first : Option ℕ) (h : Holdings) → MayAns
 answer_well names first h may =
     let sources = may.script.inserted.sources in
     script_well names.script may.held.script_text h may.script may.held.script_held may.held.accepted (batch_script h names.input first)
-    ∙ ap (λ (j : Judged (Option Plan)). (after_judgement (λ plan. over_input h names.input sources (batch_changes may.script first)) j).ending) may.planned_so
+    ∙ ap (λ (j : Judged Plan). (after_judgement (λ plan. over_input h names.input sources (batch_changes may.script first)) j).ending) may.planned_so
     ∙ ap (λ (o : Outcome). o.ending) (input_is h names.input sources may.files (batch_changes may.script first) may.held.input_held)
     ∙ ap (λ (r : Result Taken RefusedLine). (batch_lines may.script r).ending) may.lines_taken
     ∙ ap (λ (b : Bool). (answered (answer_types may.script) b (query_answer may.script (rows_of sources may.taken))).ending) may.narrow

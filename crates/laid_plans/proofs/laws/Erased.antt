@@ -1,11 +1,12 @@
 -- The trees of the nodes of a laid tree are its parts, by induction over the tree.
-use Rattle.std.specs.Prelude.{◌≡◌, ℕ, ◌+◌, ◌<◌, ◌≤◌, List, length, map, slice_get, slice_index_or, Option, unwrap_or}
+use Rattle.std.specs.Prelude.{◌≡◌, ℕ, ◌+◌, ◌<◌, ◌≤◌, Bool, List, length, map, slice_get, slice_index_or, Option, unwrap_or}
 use Rattle.std.proofs.Common.{zero, suc, [], ◌∷◌, refl, sym, ap, subst, ◌∙◌, arith, Some, None}
+use Rattle.ct_change.specs.declared.kind.KindSet.{KindSet}
 use Rattle.ct_change.specs.declared.kind.Declared.{Declared}
 use Rattle.ct_change.specs.declared.kind.Declared.TheVariants.{Append, Retract, Upsert}
 use Rattle.ct_catalog.specs.declared.table.TableDef.{TableDef}
 use Rattle.rel_algebra.specs.Answer.{answer}
-use Rattle.rel_algebra.specs.Rel.{Rel, Rels, Scan, One, Two, Many, no_rels, rel_and, rels}
+use Rattle.rel_algebra.specs.Rel.{Unary, Rel, Rels, Scan, One, Two, Many, no_rels, rel_and, rels}
 use Rattle.phys_plan.specs.Reading.{at, read_up}
 use Rattle.phys_plan.specs.declared.edge.Exchange.{Exchange}
 use Rattle.phys_plan.specs.declared.edge.Exchange.TheVariants.{Forward}
@@ -16,13 +17,17 @@ use Rattle.upsert_keys.proofs.laws.Keys.{wires_keyed}
 use Rattle.plan_check.specs.Sound.{inferred_of}
 use Rattle.plan_rules.specs.Answers.{tables_with}
 use Rattle.plan_rules.specs.Erased.{erased, erased_at}
-use Rattle.laid_plans.proofs.laws.LaidTrees.{HasNode, ScanLaid, SourceLaid, IsLaid, AreLaid, TopLaid}
+use Rattle.laid_plans.proofs.laws.LaidTrees.{HasNode, ScanLaid, SourceLaid, OneLaid, IsLaid, AreLaid, TopLaid}
+use Rattle.plan_rules.specs.Phases.{Bundles, local_below}
+use Rattle.plan_rules.specs.TreeKinds.{tree_kinds}
+use Rattle.plan_rules.proofs.laws.Erasing.{local_told}
 use Rattle.plan_rules.specs.Pieces.{Top, bare, shown, asks_of}
 use Rattle.plan_rules.specs.Roles.{nothing, role, tree_of, unary_way, binary_way}
 use Rattle.plan_rules.proofs.laws.Answering.{tree_is}
 use Rattle.sound_plans.specs.Sound.{SoundPlansAnswer}
 use Rattle.laid_plans.specs.Erased.{InferredPlansAnswer, LaidPlansAreErased}
 use Rattle.laid_plans.specs.Inferred.{with_inferred}
+use Rattle.laid_plans.specs.Shapes.{bundles_in}
 use Rattle.laid_plans.proofs.laws.Given.{nodes_many}
 use Rattle.laid_plans.proofs.laws.Placed.{lays_out}
 use Rattle.laid_plans.proofs.laws.Trees.{unary_fits, binary_fits}
@@ -96,32 +101,45 @@ module _ (plan : Plan) where
       over_one n (n + 1) root (op.Normalize key) (Scan source) (Scan source) l.3 l.3.is_op (omega (arith, l.0)) scan refl
 
   source_root : (n : ℕ) (x : Exchange) (source root : ℕ) (o : Option TableDef) → SourceLaid plan n x source o root → IsRoot n root (Scan source)
-  source_root n x source root None l = table_root n x source Append [] root l
+  source_root n x source root None l = record { behind = omega (arith, l.0); tree = tree_from root (op.Scan source) [] l.1 l.1.is_op (none_lower root) }
   source_root n x source root (Some table) l = table_root n x source table.mode (unwrap_or table.key []) root l
 
   -- ---- the tree
 
+  -- a node with one input, over a local group or not
+  one_root : (how : Unary) (input : Rel) (n : ℕ) (kinds_below : KindSet) (b : Bundles) (x : Exchange) (kinds : KindSet) (root : ℕ) (Laid : Exchange → ℕ → Type 0) → ((asks : Exchange) (below : ℕ) → Laid asks below → IsRoot n below input)
+      → (local : Option Op) → local_below b how kinds_below ≡ local → OneLaid plan how local Laid x kinds root → IsRoot n root (One how input)
+  one_root how input n kinds_below b x kinds root Laid below None e laid =
+      let o = laid.2 in
+      over_one n laid.0 root o.1.node.op input (One how input) o.1 refl o.0 (below (unary_way how).asks laid.0 laid.1) (ap (λ r. tree_of r (input ∷ [])) (unary_fits plan how o.1.node.op o.1.is_op).told)
+  one_root how input n kinds_below b x kinds root Laid below (Some local) e laid =
+      let l = laid.3 in
+      let o = laid.4 in
+      let under : IsRoot n laid.1 input = over_one n laid.0 laid.1 local input input l.1 l.1.is_op l.0 (below Forward laid.0 laid.2) (local_told b how kinds_below local input e) in
+      over_one n laid.1 root o.1.node.op input (One how input) o.1 refl o.0 under (ap (λ r. tree_of r (input ∷ [])) (unary_fits plan how o.1.node.op o.1.is_op).told)
+
   mutual
-    tree_root : (rel : Rel) (n : ℕ) (x : Exchange) (root : ℕ) → IsLaid plan n x rel root → IsRoot n root rel
-    tree_root (Scan source) n x root laid = source_root n x source root (slice_get plan.sources source) laid
-    tree_root (One how input) n x root laid =
-        over_one n laid.0 root laid.3.node.op input (One how input) laid.3 refl laid.2 (tree_root input n (unary_way how).asks laid.0 laid.1) (ap (λ r. tree_of r (input ∷ [])) (unary_fits plan how laid.3.node.op laid.3.is_op).told)
-    tree_root (Two how left right) n x root laid =
-        over_two n laid.0 laid.1 root laid.5.node.op left right (Two how left right) laid.5 refl laid.4 (tree_root left n (binary_way how).left laid.0 laid.2)
-        (tree_root right laid.0 (binary_way how).right laid.1 laid.3) (ap (λ r. tree_of r (left ∷ (right ∷ []))) (binary_fits plan how laid.5.node.op laid.5.is_op).told)
-    tree_root (Many inputs) n x root laid =
-        let all = trees_root inputs n laid.0 laid.1 laid.2 in
+    tree_root : (two_phase : Bool) (rel : Rel) (n : ℕ) (x : Exchange) (root : ℕ) → IsLaid plan two_phase n x rel root → IsRoot n root rel
+    tree_root two_phase (Scan source) n x root laid = source_root n x source root (slice_get plan.sources source) laid
+    tree_root two_phase (One how input) n x root laid =
+        one_root how input n (tree_kinds plan.sources input) (bundles_in plan two_phase) x (tree_kinds plan.sources (One how input)) root (λ asks below. IsLaid plan two_phase n asks input below)
+        (λ asks below under. tree_root two_phase input n asks below under) (local_below (bundles_in plan two_phase) how (tree_kinds plan.sources input)) refl laid
+    tree_root two_phase (Two how left right) n x root laid =
+        over_two n laid.0 laid.1 root laid.5.node.op left right (Two how left right) laid.5 refl laid.4 (tree_root two_phase left n (binary_way how).left laid.0 laid.2)
+        (tree_root two_phase right laid.0 (binary_way how).right laid.1 laid.3) (ap (λ r. tree_of r (left ∷ (right ∷ []))) (binary_fits plan how laid.5.node.op laid.5.is_op).told)
+    tree_root two_phase (Many inputs) n x root laid =
+        let all = trees_root two_phase inputs n laid.0 laid.1 laid.2 in
         let before = all.behind in
         record {
           behind = omega (arith, before, laid.3);
           tree = tree_from root op.Union laid.0 laid.4 laid.4.is_op (λ p l. let k = all.within p l in omega (arith, k, laid.3)) ∙ ap Many all.trees;
         }
 
-    trees_root : (inputs : Rels) (n : ℕ) (roots : List ℕ) (last : ℕ) → AreLaid plan n inputs roots last → AreRoots n last roots inputs
-    trees_root no_rels n roots last laid = subst (λ (rs : List ℕ). AreRoots n last rs no_rels) (sym laid.0) (record { behind = omega (arith, laid.1); within = none_lower (last + 1); trees = refl })
-    trees_root (rel_and input inputs) n roots last laid =
-        let first = tree_root input n Forward laid.0 laid.2 in
-        let rest = trees_root inputs laid.0 laid.1 last laid.3 in
+    trees_root : (two_phase : Bool) (inputs : Rels) (n : ℕ) (roots : List ℕ) (last : ℕ) → AreLaid plan two_phase n inputs roots last → AreRoots n last roots inputs
+    trees_root two_phase no_rels n roots last laid = subst (λ (rs : List ℕ). AreRoots n last rs no_rels) (sym laid.0) (record { behind = omega (arith, laid.1); within = none_lower (last + 1); trees = refl })
+    trees_root two_phase (rel_and input inputs) n roots last laid =
+        let first = tree_root two_phase input n Forward laid.0 laid.2 in
+        let rest = trees_root two_phase inputs laid.0 laid.1 last laid.3 in
         let before = first.behind in
         let later = rest.behind in
         subst (λ (rs : List ℕ). AreRoots n last rs (rel_and input inputs)) (sym laid.4) (record {
@@ -145,7 +163,7 @@ erased_stays plan =
 pub laid_plans_are_erased : LaidPlansAreErased
 laid_plans_are_erased plan rel is =
     let out = lays_out plan rel is in
-    let tree = tree_root plan rel 0 (asks_of is.top) out.below out.laid in
+    let tree = tree_root plan is.two_phase rel 0 (asks_of is.top) out.below out.laid in
     let under = topped_root plan is.top out.below out.root rel tree out.topped in
     let sink = over_one plan 0 out.root (out.root + 1) op.Sink rel rel out.sink_node out.sink_node.is_op refl under refl in
     erased_stays plan ∙ ap (erased_at plan) out.nodes ∙ sink.tree

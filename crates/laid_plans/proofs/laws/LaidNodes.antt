@@ -1,5 +1,5 @@
 -- What a node of a laid tree asks of its inputs, by its operator.
-use Rattle.std.specs.Prelude.{◌≡◌, ℕ, ◌+◌, ◌<◌, ◌==◌, ◌&&◌, Bool, List, ◌++◌, length, map, slice_get, Option}
+use Rattle.std.specs.Prelude.{◌≡◌, ℕ, ◌+◌, ◌<◌, ◌==◌, ◌&&◌, Bool, List, ◌++◌, length, map, slice_get, slice_index_or, Option}
 use Rattle.std.proofs.Common.{zero, suc, true, false, [], ◌∷◌, refl, sym, ap, subst, ◌∙◌, arith, Some}
 use Rattle.std.specs.List.{AllByRecursion, range_with_len}
 use Rattle.std.proofs.lemmas.Bool.{and_parts}
@@ -12,16 +12,18 @@ use Rattle.phys_plan.specs.declared.node.Node.{Node}
 use Rattle.phys_plan.specs.declared.node.Op.{Op}
 use Rattle.phys_plan.specs.declared.node.Op.TheVariants as op
 use Rattle.phys_plan.specs.declared.plan.Plan.{Plan}
-use Rattle.mode_infer.specs.Kinds.{asked}
+use Rattle.mode_infer.specs.declared.kinds.Flow.{Flow}
+use Rattle.mode_infer.specs.Kinds.{asked, flow_of, flows, no_flow}
 use Rattle.plan_inferred.specs.Rules.{by_columns}
 use Rattle.plan_rules.specs.Plans.{kinds_in}
-use Rattle.phys_plan.specs.Reading.{numbered, first_input}
+use Rattle.phys_plan.specs.Reading.{at, numbered, first_input, wires}
 use Rattle.laid_plans.proofs.laws.LaidTrees.{HasNode}
 use Rattle.plan_shape.specs.Shape.{is_sink, op_in, suits_consumer, suits_input, suits_plan, takes}
 use Rattle.plan_check.specs.Types.{is_typed_by, types_at, types_by}
 use Rattle.plan_rules.specs.Behaviours.{has_rule}
 use Rattle.plan_rules.specs.Phases.{sends_parts}
 use Rattle.plan_rules.specs.Roles.{Role, reads_table, one_of, two_of, all_of, same_as, part_of, not_told, role}
+use Rattle.plan_rules.proofs.laws.Numbers.{read_at}
 use Rattle.sound_plans.proofs.laws.Columns.{types_made}
 
 -- ---- the first columns, made from the last and from the first
@@ -50,10 +52,14 @@ module _ (plan : Plan) where
     pub is_edge : numbered plan.edges input ≡ Some edge
     pub exchanged : by_columns (asked o port) ≡ edge.exchange
 
-  -- of all its inputs and of the plan
+  -- what goes over the edge of a node, as long as no edge leaves out old rows
+  abbrev pub flow_at : ℕ → Flow
+  flow_at v = at no_flow (flows plan.sources (wires plan.nodes)) v
+
+  -- of all its inputs and of the plan; below a local group the edge says what goes over it
   pub record OpMeets (v : ℕ) (o : Op) (inputs : List ℕ) : Type 0 where
     pub ruled : has_rule o ≡ true
-    pub whole : sends_parts o ≡ false
+    pub keeps : sends_parts o ≡ true → (flow_at (first_input inputs)).sent ≡ kinds_in (numbered plan.edges (first_input inputs))
     pub suits : suits_plan plan o ≡ true
     pub ports : takes o (length inputs) ≡ true
     pub below : suits_input plan.sources o (op_in (numbered plan.nodes (first_input inputs))) (kinds_in (numbered plan.edges (first_input inputs))) ≡ true
@@ -82,6 +88,19 @@ module _ (plan : Plan) where
   types_from v o inputs has below =
       types_made plan.sources plan.nodes v has.node has.is_there (subst (λ (ins : List ℕ). AllByRecursion (λ input. input < v) ins) (sym has.inputs_are) below)
       ∙ (λ i. types_by plan.sources (has.is_op i) (map (types_at plan.sources plan.nodes) (has.inputs_are i)))
+
+  -- ---- flows
+
+  lower_at : (v : ℕ) (inputs : List ℕ) → AllByRecursion (λ input. input < v) inputs → (p : ℕ) → p < length inputs → slice_index_or inputs p 0 < v
+  lower_at v [] h p l = absurd (omega (arith, l))
+  lower_at v (input ∷ inputs) h zero l = h.0
+  lower_at v (input ∷ inputs) h (suc p) l = lower_at v inputs h.1 p (omega (arith, l))
+
+  -- what goes over the edge of a node whose operator and inputs are known
+  pub flow_from : (v : ℕ) (o : Op) (inputs : List ℕ) → HasNode plan v (λ p. p ≡ o) inputs → AllByRecursion (λ input. input < v) inputs → flow_at v ≡ flow_of plan.sources o (map flow_at inputs)
+  flow_from v o inputs has below =
+      read_at (λ w. flow_of plan.sources w.op) no_flow plan.nodes v has.node has.is_there (lower_at v has.node.inputs (subst (λ (ins : List ℕ). AllByRecursion (λ input. input < v) ins) (sym has.inputs_are) below))
+      ∙ (λ i. flow_of plan.sources (has.is_op i) (map flow_at (has.inputs_are i)))
 
   -- ---- operators that ask nothing of the tables
 

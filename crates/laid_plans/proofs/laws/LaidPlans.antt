@@ -9,6 +9,7 @@ use Rattle.ct_value.specs.declared.ty.ColTy.{ColTy}
 use Rattle.ct_catalog.specs.Columns.{column_types}
 use Rattle.ct_catalog.specs.declared.table.TableDef.{TableDef}
 use Rattle.ct_change.specs.Kinds.{is_upsert}
+use Rattle.ct_change.specs.declared.kind.KindSet.{KindSet}
 use Rattle.rel_algebra.specs.GoesInto.{goes_into, go_into}
 use Rattle.rel_algebra.specs.Rel.{Rel}
 use Rattle.rel_algebra.specs.Types.{columns_if, is_column}
@@ -19,14 +20,18 @@ use Rattle.phys_plan.specs.declared.node.Op.{Op}
 use Rattle.phys_plan.specs.declared.node.Op.TheVariants as op
 use Rattle.phys_plan.specs.declared.plan.Plan.{Plan}
 use Rattle.phys_plan.specs.declared.plan.Rule.TheVariants as rule
-use Rattle.mode_infer.specs.Kinds.{asked}
+use Rattle.mode_infer.specs.Kinds.{asked, needs_old_rows}
 use Rattle.plan_inferred.specs.Rules.{by_columns, consumer as consumer_of, exchange_by, says_exchange}
 use Rattle.plan_inferred.specs.Same.{same_exchange}
+use Rattle.plan_rules.specs.TreeKinds.{tree_kinds}
 use Rattle.plan_rules.specs.Pieces.{Top, bare, shown, asks_of}
-use Rattle.plan_rules.specs.Plans.{HasInput}
-use Rattle.phys_plan.specs.Reading.{numbered}
+use Rattle.plan_rules.specs.Plans.{HasInput, kinds_in}
+use Rattle.phys_plan.specs.Columns.{columns_in}
+use Rattle.phys_plan.specs.Reading.{first_input, numbered}
 use Rattle.sound_plans.proofs.laws.Numbers.{below_is_not, numbered_within, side}
-use Rattle.plan_shape.specs.Shape.{are_before, consumer, has_nodes, has_sizes, is_consumed, is_fed, is_shaped, is_sink, is_sink_key, is_up_to, is_whole, most_bundled, most_nodes, most_subtasks, node_has_shape, op_in, suits_consumer, suits_plan, takes, uses}
+use Rattle.plan_shape.specs.Shape.{are_before, consumer, has_nodes, has_sizes, is_consumed, is_fed, is_shaped, is_sink, is_sink_key, is_up_to, is_whole, most_bundled, most_nodes, most_subtasks, node_has_shape, op_in, suits_consumer, suits_input, suits_plan, takes, uses}
+use Rattle.plan_shape.specs.Shaped.{MeetsShape}
+use Rattle.plan_shape.proofs.laws.Theorems.{shaped_plans_have_shape}
 use Rattle.plan_shape.specs.Tables.{are_tables, is_declarable}
 use Rattle.plan_check.specs.Sound.{inferred_of, Meets}
 use Rattle.plan_check.specs.Types.{is_typed, is_typed_by, keep_nulls, types_at, types_by}
@@ -34,13 +39,17 @@ use Rattle.plan_rules.specs.Behaviours.{has_rule}
 use Rattle.plan_rules.specs.Phases.{sends_parts}
 use Rattle.sound_plans.proofs.laws.Lists.{both, found, map_length, the_same}
 use Rattle.sound_plans.proofs.laws.Consumers.{by_test}
+use Rattle.sound_plans.proofs.laws.Shapes as s
 use Rattle.sound_plans.proofs.laws.Tables.{key_within}
+use Rattle.laid_plans.specs.Inferred.{InferredKindsSuit, suits_kinds, with_inferred}
 use Rattle.laid_plans.specs.Shapes.{IsLaidWell, LaidPlansHaveShape, SuitsTop}
 use Rattle.laid_plans.proofs.laws.Uses.{IsUsedOnce, all_pass, and, consumer_once, found_once, no_consumer, port_once, used_once}
-use Rattle.laid_plans.proofs.laws.LaidNodes.{IsFed, types_from}
+use Rattle.laid_plans.proofs.laws.LaidNodes.{IsFed, flow_at, types_from}
 use Rattle.laid_plans.proofs.laws.LaidTrees.{LaysOut, TopLaid}
 use Rattle.laid_plans.proofs.laws.Placed.{lays_out}
 use Rattle.laid_plans.proofs.laws.Parts.{IsAmong, IsUsed, Part, next_part}
+use Rattle.laid_plans.proofs.laws.Shapes.{any_kinds}
+use Rattle.laid_plans.proofs.laws.Updates.{carries_all}
 use Rattle.laid_plans.proofs.laws.Trees.{Told, are_columns, feeds_port, one_port, tree}
 
 -- an exchange is the same as itself
@@ -100,24 +109,24 @@ record Sends (plan : Plan) (root : ℕ) (columns : List ColTy) : Type 0 where
 
 -- those of a tree, with what stands above it, where the columns of a materializer's key are among the tree's
 sends : (plan : Plan) (columns : List ColTy) → ((key : List ℕ) → is_sink_key plan.sink key plan.sink.key ≡ true → list_all (is_column columns) key ≡ true)
-    → (top : Top) → SuitsTop plan.sink top → (below root : ℕ) → Told plan 0 (asks_of top) below columns → TopLaid plan top below root → root < length plan.nodes → Sends plan root columns
-sends plan columns has_key bare suits below root told between high = subst (λ v. Sends plan v columns) (sym between) (record {
+    → (top : Top) → SuitsTop plan.sink top → (below root : ℕ) (kinds : KindSet) → Told plan 0 (asks_of top) below columns kinds → TopLaid plan top below root → root < length plan.nodes → Sends plan root columns
+sends plan columns has_key bare suits below root kinds told between high = subst (λ v. Sends plan v columns) (sym between) (record {
   part = told.part;
   columns_are = told.columns_are;
-  fed = feeds_port plan 0 Forward below columns op.Sink 0 refl told;
+  fed = feeds_port plan 0 Forward below columns kinds op.Sink 0 refl told;
 })
-sends plan columns has_key (shown key) suits below root told between high =
+sends plan columns has_key (shown key) suits below root kinds told between high =
     let next = between.0 in
     let has = between.1 in
     let lower : below < root = omega (arith, next) in
-    let feeds = one_port plan (op.Materialize key) below (feeds_port plan 0 (Hash key) below columns (op.Materialize key) 0 refl told) in
+    let feeds = one_port plan (op.Materialize key) below (feeds_port plan 0 (Hash key) below columns kinds (op.Materialize key) 0 refl told) in
     let k : types_at plan.sources plan.nodes root ≡ Some columns =
     types_from plan root (op.Materialize key) (below ∷ []) has (lower, tt) ∙ ap (λ (c : Option (List ColTy)). types_by plan.sources (op.Materialize key) (c ∷ [])) told.columns_are
     ∙ ap (λ b. columns_if b columns) (has_key key suits) in
     record {
       part = next_part plan 0 below root (below ∷ []) (op.Materialize key) told.part next has (record {
         ruled = refl;
-        whole = refl;
+        keeps = λ parts. absurd (cc (parts));
         suits = suits;
         ports = refl;
         below = refl;
@@ -142,7 +151,7 @@ module _ (plan : Plan) (rel : Rel) (is : IsLaidWell plan rel) where
   top = is.laid_out.top
 
   -- its nodes
-  abbrev out : LaysOut plan top rel
+  abbrev out : LaysOut plan is.laid_out.two_phase top rel
   out = lays_out plan rel is.laid_out
 
   -- the sink's input
@@ -165,14 +174,14 @@ module _ (plan : Plan) (rel : Rel) (is : IsLaidWell plan rel) where
       are_columns is.columns key (subst (λ w. AllByRecursion (λ column. column < w) key) wide (key_within plan.sink key sink (shows_key plan.sink key plan.sink.key suits)))
 
   -- what holds of the tree's nodes
-  told : Told plan 0 (asks_of top) out.below is.columns
+  told : Told plan 0 (asks_of top) out.below is.columns (tree_kinds plan.sources rel)
   told =
       let lower = root_before plan top out.below out.root out.topped in
-      tree plan tables rel 0 (asks_of top) out.below out.laid (let n = out.nodes in omega arith) is.unions is.columns is.typed
+      tree plan is.laid_out.two_phase tables rel 0 (asks_of top) out.below out.laid (let n = out.nodes in omega arith) is.unions is.columns is.typed
 
   -- and of the nodes below the sink
   under : Sends plan root is.columns
-  under = sends plan is.columns has_key top is.laid_out.suits out.below out.root told out.topped (let n = out.nodes in omega arith)
+  under = sends plan is.columns has_key top is.laid_out.suits out.below out.root (tree_kinds plan.sources rel) told out.topped (let n = out.nodes in omega arith)
 
   pub top_typed : types_at plan.sources plan.nodes (lays_out plan rel is.laid_out).root ≡ Some is.columns
   top_typed = under.columns_are
@@ -189,7 +198,7 @@ module _ (plan : Plan) (rel : Rel) (is : IsLaidWell plan rel) where
       types_from plan v op.Sink (root ∷ []) has (lower, tt) ∙ ap (λ (c : Option (List ColTy)). types_by plan.sources op.Sink (c ∷ [])) under.columns_are in
       next_part plan 0 root v (root ∷ []) op.Sink under.part refl has (record {
         ruled = refl;
-        whole = refl;
+        keeps = λ parts. absurd (cc (parts));
         suits = refl;
         ports = refl;
         below = refl;
@@ -364,11 +373,37 @@ module _ (plan : Plan) (rel : Rel) (is : IsLaidWell plan rel) where
       let m = all.segment.each v b.0 b.1 in
       ap (λ (n : Node). has_rule n.op) (sym (the_same m.node node (sym m.is_node ∙ e))) ∙ m.meets.ruled
 
-  in_one_phase : (v : ℕ) (node : Node) → numbered plan.nodes v ≡ Some node → sends_parts node.op ≡ false
-  in_one_phase v node e =
+  -- ---- kinds
+
+  -- the only input of a local group
+  only_input : (o : Op) (inputs : List ℕ) → sends_parts o ≡ true → takes o (length inputs) ≡ true → slice_get inputs 0 ≡ Some (first_input inputs)
+  only_input o (input ∷ inputs) t p = refl
+  only_input (op.LocalGroup keys aggs) [] t p = absurd (cc (p))
+  only_input _ [] t p = absurd (cc (t))
+
+  -- it needs old rows
+  parts_need : (o : Op) → sends_parts o ≡ true → needs_old_rows o ≡ true
+  parts_need (op.LocalGroup keys aggs) t = refl
+  parts_need _ t = absurd (cc (t))
+
+  -- what is inferred of a local group's input is what was laid
+  parts_suit : (v : ℕ) (node : Node) → numbered plan.nodes v ≡ Some node → sends_parts node.op ≡ true → suits_kinds plan (with_inferred plan).edges node ≡ suits_kinds plan plan.edges node
+  parts_suit v node e t =
       let b = reached v node e in
       let m = all.segment.each v b.0 b.1 in
-      ap (λ (n : Node). sends_parts n.op) (sym (the_same m.node node (sym m.is_node ∙ e))) ∙ m.meets.whole
+      let same : m.node ≡ node = the_same m.node node (sym m.is_node ∙ e) in
+      let input = first_input node.inputs in
+      let keeps : (flow_at plan (first_input node.inputs)).sent ≡ kinds_in (numbered plan.edges (first_input node.inputs)) =
+      subst (λ (n : Node). sends_parts n.op ≡ true → (flow_at plan (first_input n.inputs)).sent ≡ kinds_in (numbered plan.edges (first_input n.inputs))) same m.meets.keeps t in
+      let ports : takes node.op (length node.inputs) ≡ true = subst (λ (n : Node). takes n.op (length n.inputs) ≡ true) same m.meets.ports in
+      let h = only_input node.op node.inputs t ports in
+      let meets : MeetsShape plan = λ w low high. shape w low high in
+      let there = (s.input_there plan meets shaped_plans_have_shape v node 0 input e h).1 in
+      let carries = carries_all plan meets shaped_plans_have_shape rules (columns_in (inferred_of plan).columns) v node 0 input there.0 e h (parts_need node.op t) there.1 in
+      ap (suits_input plan.sources node.op (op_in (numbered plan.nodes input))) (carries ∙ keeps)
+
+  kinds_suit : InferredKindsSuit plan
+  kinds_suit v node e = by_test (sends_parts node.op) (parts_suit v node e) (λ f. any_kinds plan.sources node.op _ _ _ f)
 
 pub laid_plans_have_shape : LaidPlansHaveShape
-laid_plans_have_shape plan rel is = record { rules = rules plan rel is; in_one_phase = in_one_phase plan rel is; shape = shape plan rel is; types = types plan rel is; exchanged = exchanged plan rel is }
+laid_plans_have_shape plan rel is = record { rules = rules plan rel is; kinds = kinds_suit plan rel is; shape = shape plan rel is; types = types plan rel is; exchanged = exchanged plan rel is }

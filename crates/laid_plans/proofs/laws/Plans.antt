@@ -1,6 +1,6 @@
 -- A plan of the right shape, types and exchanges is sound with what is inferred of it.
 use Rattle.std.specs.Prelude.{◌≡◌, ℕ, ◌≤◌, length, max, Option}
-use Rattle.std.proofs.Common.{false, zero, suc, true, refl, sym, ap, subst, ◌∙◌, Some, None}
+use Rattle.std.proofs.Common.{zero, suc, true, refl, sym, ap, subst, ◌∙◌, Some, None}
 use Rattle.phys_plan.specs.declared.node.Node.{Node}
 use Rattle.phys_plan.specs.declared.plan.Plan.{Plan}
 use Rattle.phys_plan.specs.declared.plan.Rule.TheVariants as rule
@@ -10,9 +10,8 @@ use Rattle.plan_inferred.specs.Rules.{has_keys, has_kinds, has_old_rows, has_upd
 use Rattle.plan_shape.specs.Shaped.{MeetsShape, ShapedPlansHaveShape}
 use Rattle.plan_check.specs.Sound.{inferred_of, IsSound, Meets}
 use Rattle.plan_rules.specs.Behaviours.{has_rule}
-use Rattle.plan_rules.specs.Phases.{sends_parts}
 use Rattle.sound_plans.proofs.laws.Shapes as s
-use Rattle.laid_plans.specs.Inferred.{InferredPlansAreSound, with_inferred}
+use Rattle.laid_plans.specs.Inferred.{InferredKindsSuit, InferredPlansAreSound, with_inferred}
 use Rattle.laid_plans.proofs.laws.Columns.{typed_same}
 use Rattle.laid_plans.proofs.laws.Inferences.{exchanged_same, inferred_same, sink_same}
 use Rattle.laid_plans.proofs.laws.Nodes.{item_read, many_from}
@@ -22,7 +21,7 @@ use Rattle.laid_plans.proofs.laws.Tables.{edge_modes_many, keys_many}
 use Rattle.laid_plans.proofs.laws.Updates.{old_rows_come}
 
 module _ (shaped : ShapedPlansHaveShape) (plan : Plan) (rules : (v : ℕ) (node : Node) → numbered plan.nodes v ≡ Some node → has_rule node.op ≡ true)
-    (whole : (v : ℕ) (node : Node) → numbered plan.nodes v ≡ Some node → sends_parts node.op ≡ false)
+    (kinds : InferredKindsSuit plan)
     (shape : Meets rule.Shape plan) (types : Meets rule.Types plan) (exchanged : Meets rule.Exchanged plan) (sink : Meets rule.SinkKey plan) where
   -- the plan with what is inferred of it
   abbrev made : Plan
@@ -74,7 +73,7 @@ module _ (shaped : ShapedPlansHaveShape) (plan : Plan) (rules : (v : ℕ) (node 
 
   -- each rule
   sound : IsSound made
-  sound rule.Shape v low high = shape_stays (inferred_of plan).keys (inferred_of plan).modes plan whole v ∙ shape v low (looked v high)
+  sound rule.Shape v low high = shape_stays (inferred_of plan).keys (inferred_of plan).modes plan kinds v ∙ shape v low (looked v high)
   sound rule.Types v low high = typed_same (inferred_of plan).keys plan.sources plan.nodes plan.sink v ∙ types v low (looked v high)
   sound rule.Keys v low high = keys_hold v
   sound rule.Kinds v low high = kinds_are_said v
@@ -86,4 +85,4 @@ module _ (shaped : ShapedPlansHaveShape) (plan : Plan) (rules : (v : ℕ) (node 
 
 -- the law, on that of shapes
 pub inferred_plans_are_sound : ShapedPlansHaveShape → InferredPlansAreSound
-inferred_plans_are_sound shaped plan rules whole shape types exchanged sink = sound shaped plan rules whole shape types exchanged sink
+inferred_plans_are_sound shaped plan rules kinds shape types exchanged sink = sound shaped plan rules kinds shape types exchanged sink

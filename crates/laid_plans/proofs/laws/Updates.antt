@@ -18,7 +18,8 @@ use Rattle.phys_plan.specs.Reading.{at, numbered as item, wires, numbered}
 use Rattle.mode_infer.specs.declared.kinds.Flow.{Flow}
 use Rattle.mode_infer.specs.declared.modes.EdgeMode.{EdgeMode}
 use Rattle.mode_infer.specs.Kinds.{flows, needs_old_rows, no_flow}
-use Rattle.mode_infer.specs.Modes.{edge_modes, moded, modes_of, no_mode, updates, with_sink}
+use Rattle.plan_rules.specs.Plans.{kinds_in}
+use Rattle.mode_infer.specs.Modes.{edge_kinds, edge_modes, mode, moded, modes_of, no_mode, updates, with_sink}
 use Rattle.mode_infer.specs.UpdateKeys.{update_keys}
 use Rattle.mode_infer.specs.Updates.{in_full, is_taken, port_of, scan_update, table_update, takes, told, update_of}
 use Rattle.plan_inferred.specs.Rules.{brings_old_rows, has_old_rows, tells_old_rows}
@@ -169,6 +170,40 @@ module _ (plan : Plan) (meets : MeetsShape plan) (shaped : ShapedPlansHaveShape)
       ap (λ i. brings_old_rows (item (moded modes plan.edges) i)) a.number
       ∙ ap brings_old_rows (mode_given modes plan.edges a.place edge.0 edge.1)
       ∙ mode_tells v node p input there.0 e h n there.1 a
+
+  -- such an edge carries all that its node sends
+  pub carries_all : (v : ℕ) (node : Node) (p input : ℕ) (below : Node) → numbered plan.nodes v ≡ Some node → slice_get node.inputs p ≡ Some input → needs_old_rows node.op ≡ true → numbered plan.nodes input ≡ Some below
+      → kinds_in (item (moded modes plan.edges) input) ≡ (at no_flow sent input).sent
+  carries_all v node p input below e h n f =
+      let a = s.among plan.nodes input below f in
+      let many = s.edges_many plan meets shaped in
+      let edge = found plan.edges a.place (let l = a.few in let g = a.number in omega (arith, many)) in
+      let count = flows_many plan.sources plan.nodes in
+      let flow = found sent a.place (let l = a.few in let g = a.number in omega (arith, count)) in
+      let update = m.told_at plan.sources plan.sink sent by_keys (suc a.place) below.op (wires (drop (suc a.place) plan.nodes)) (drop (suc a.place) told_by) in
+      let own = m.mode_at sent told_by a.place flow.0 update flow.1 (m.update_at plan.sources plan.sink sent by_keys plan.nodes a.place below a.is) in
+      let sunk = m.sunk_at plan.sink.mode (modes_of sent told_by) plan.nodes (modes_of sent told_by) a.place below _ a.is own in
+      let there = (s.input_there plan meets shaped v node p input e h).1 in
+      let b = s.among plan.nodes v node e in
+      let other : is_sink (Some below.op) ≡ false = s.inner_no_sink plan meets shaped input below f (let l = there.2 in let w = b.few in omega (arith, l, w)) in
+      let tells : tells_old_rows (with_sink plan.sink.mode (modes_of sent told_by) below.op below.inputs (mode flow.0.sent update)).update ≡ true =
+      sym (ap (λ o. tells_old_rows (unwrap_or o no_mode).update) sunk) ∙ mode_tells v node p input below e h n f a in
+      ap (λ i. kinds_in (item (moded modes plan.edges) i)) a.number
+      ∙ ap kinds_in (mode_given modes plan.edges a.place edge.0 edge.1)
+      ∙ ap (λ o. (unwrap_or o no_mode).kinds) sunk
+      ∙ unsunk below.op below.inputs flow.0.sent update other tells
+      ∙ ap (λ o. (unwrap_or o no_flow).sent) (sym flow.1)
+      ∙ ap (λ i. (at no_flow sent i).sent) (sym a.number)
+    where
+      full : (kinds : KindSet) (update : Update) → tells_old_rows update ≡ true → edge_kinds kinds update ≡ kinds
+      full kinds Absent t = refl
+      full kinds (After key) t = absurd (cc)
+      full kinds Both t = refl
+
+      unsunk : (o : Op) (inputs : List ℕ) (kinds : KindSet) (update : Update) → is_sink (Some o) ≡ false → tells_old_rows (with_sink plan.sink.mode (modes_of sent told_by) o inputs (mode kinds update)).update ≡ true
+          → (with_sink plan.sink.mode (modes_of sent told_by) o inputs (mode kinds update)).kinds ≡ kinds
+      unsunk op.Sink inputs kinds update other t = absurd (cc)
+      unsunk _ inputs kinds update other t = full kinds update t
 
   -- new rows alone don't come to an operator that needs the old ones
   pub old_rows_come : (v : ℕ) (node : Node) → numbered plan.nodes v ≡ Some node → has_old_rows (moded modes plan.edges) (Some node) ≡ true

@@ -137,10 +137,10 @@ calls_blank [] = refl
 calls_blank (agg ∷ aggs) = append_blank (parts_by agg.call) (parts_of_calls aggs) (partials_sum agg.call []) (sums_of_calls aggs []) (as_many_sums agg.call []) (one_blank agg.call) (calls_blank aggs)
 
 -- one more partial row
-merged_adds : (aggs : List Agg) (row : List Value) (rows : List (List Value)) → AllAddUp (parts aggs) row (merged aggs rows) (merged aggs (row ∷ rows))
+pub merged_adds : (aggs : List Agg) (row : List Value) (rows : List (List Value)) → AllAddUp (parts aggs) row (merged aggs rows) (merged aggs (row ∷ rows))
 merged_adds aggs row rows = (added 0 row rows, calls_merge aggs (drop 1 row) (map (λ other. drop 1 other) rows))
 
-merged_blank : (aggs : List Agg) → all_blank (parts aggs) (merged aggs []) ≡ true
+pub merged_blank : (aggs : List Agg) → all_blank (parts aggs) (merged aggs []) ≡ true
 merged_blank aggs = ap (λ b. b && all_blank (parts_of_calls aggs) (sums_of_calls aggs [])) zero_blank ∙ calls_blank aggs
 
 module _ (l : LocalGrouping) (g : Row) where

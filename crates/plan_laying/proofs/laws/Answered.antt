@@ -9,3 +9,8 @@ if_ok (Err e) P Q more p = tt
 pub if_err : {T E : Type 0} (r : Result T E) (P Q : E → Type 0) → ((e : E) → P e → Q e) → IfErr r P → IfErr r Q
 if_err (Ok x) P Q more p = tt
 if_err (Err e) P Q more p = more e p
+
+-- what is answered of each is answered of one
+pub if_each : {T E I : Type 0} (r : Result T E) (P : I → T → Type 0) (i : I) → IfOk r (λ x. (j : I) → P j x) → IfOk r (P i)
+if_each (Ok x) P i p = p i
+if_each (Err e) P i p = tt

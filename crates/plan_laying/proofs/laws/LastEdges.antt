@@ -1,9 +1,13 @@
--- Lists without their last, and edges of which the last goes by a key's columns.
+-- Lists without their last, and edges of which the last goes by an exchange.
 use Rattle.std.specs.Prelude.{◌≡◌, ℕ, ◌<◌, List, ◌++◌, length, map, slice_get, Option, option_to_list, IfNone}
 use Rattle.std.proofs.Common.{zero, suc, [], ◌∷◌, refl, sym, ap, ◌∙◌, arith, Some, None}
 use Rattle.std.proofs.lemmas.List.{append-nil}
 use Rattle.phys_plan.specs.declared.edge.Edge.{Edge}
-use Rattle.plan_laying.specs.Topped.{all_but_last, hashed_by, hash_last}
+use Rattle.phys_plan.specs.declared.edge.Exchange.{Exchange}
+use Rattle.phys_plan.specs.declared.edge.Exchange.TheVariants.{Forward}
+use Rattle.plan_laying.specs.Topped.{all_but_last, sent_by, send_last}
+use Rattle.plan_laying.specs.declared.laying.Laying.{Laying}
+use Rattle.plan_laying.specs.Laying.{Forwards, bundles_of}
 
 -- ---- all but the last
 
@@ -27,29 +31,33 @@ mapped f [] = refl
 mapped f (x ∷ []) = refl
 mapped f (x ∷ (y ∷ xs)) = ap (λ ys. f x ∷ ys) (mapped f (y ∷ xs))
 
--- ---- edges of which the last goes by a key's columns
+-- ---- edges of which the last goes by an exchange
 
-pub hashed : (key : List ℕ) (es : List Edge) (e : Edge) → hash_last key (es ++ e ∷ []) ≡ es ++ hashed_by key e ∷ []
-hashed key [] e = refl
-hashed key (x ∷ []) e = refl
-hashed key (x ∷ (y ∷ es)) e = ap (λ xs. x ∷ xs) (hashed key (y ∷ es) e)
+pub hashed : (x : Exchange) (es : List Edge) (e : Edge) → send_last x (es ++ e ∷ []) ≡ es ++ sent_by x e ∷ []
+hashed x [] e = refl
+hashed x (f ∷ []) e = refl
+hashed x (f ∷ (g ∷ es)) e = ap (λ fs. f ∷ fs) (hashed x (g ∷ es) e)
 
 -- one that is taken off is put back so
-pub hashed_at_end : (key : List ℕ) (old rest new : List Edge) (o : Option Edge) (edge : Edge) → o ≡ Some edge → old ≡ rest ++ option_to_list o → new ≡ rest ++ hashed_by key edge ∷ [] → new ≡ hash_last key old
-hashed_at_end key old rest new o edge is e put = put ∙ sym (ap (hash_last key) (e ∙ ap (λ (p : Option Edge). rest ++ option_to_list p) is) ∙ hashed key rest edge)
+pub hashed_at_end : (x : Exchange) (old rest new : List Edge) (o : Option Edge) (edge : Edge) → o ≡ Some edge → old ≡ rest ++ option_to_list o → new ≡ rest ++ sent_by x edge ∷ [] → new ≡ send_last x old
+hashed_at_end x old rest new o edge is e put = put ∙ sym (ap (send_last x) (e ∙ ap (λ (p : Option Edge). rest ++ option_to_list p) is) ∙ hashed x rest edge)
 
-pub hashed_none : (key : List ℕ) (old new : List Edge) (o : Option Edge) → o ≡ None → old ≡ new ++ option_to_list o → IfNone o (old ≡ []) → new ≡ hash_last key old
-hashed_none key old new None is e none = sym (append-nil new) ∙ sym e ∙ none ∙ sym (ap (hash_last key) none)
-hashed_none key old new (Some edge) is e none = absurd (cc)
+pub hashed_none : (x : Exchange) (old new : List Edge) (o : Option Edge) → o ≡ None → old ≡ new ++ option_to_list o → IfNone o (old ≡ []) → new ≡ send_last x old
+hashed_none x old new None is e none = sym (append-nil new) ∙ sym e ∙ none ∙ sym (ap (send_last x) none)
+hashed_none x old new (Some edge) is e none = absurd (cc)
 
 -- those before it stay, as many as they were
-pub hashed_many : (key : List ℕ) (es : List Edge) → length (hash_last key es) ≡ length es
-hashed_many key [] = refl
-hashed_many key (e ∷ []) = refl
-hashed_many key (e ∷ (f ∷ es)) = ap suc (hashed_many key (f ∷ es))
+pub hashed_many : (x : Exchange) (es : List Edge) → length (send_last x es) ≡ length es
+hashed_many x [] = refl
+hashed_many x (e ∷ []) = refl
+hashed_many x (e ∷ (f ∷ es)) = ap suc (hashed_many x (f ∷ es))
 
-pub hashed_ahead : (key : List ℕ) (es : List Edge) (n : ℕ) → suc n < length es → slice_get (hash_last key es) n ≡ slice_get es n
-hashed_ahead key [] n l = absurd (omega arith)
-hashed_ahead key (e ∷ []) n l = absurd (omega arith)
-hashed_ahead key (e ∷ (f ∷ es)) zero l = refl
-hashed_ahead key (e ∷ (f ∷ es)) (suc n) l = hashed_ahead key (f ∷ es) n (omega arith)
+pub hashed_ahead : (x : Exchange) (es : List Edge) (n : ℕ) → suc n < length es → slice_get (send_last x es) n ≡ slice_get es n
+hashed_ahead x [] n l = absurd (omega arith)
+hashed_ahead x (e ∷ []) n l = absurd (omega arith)
+hashed_ahead x (e ∷ (f ∷ es)) zero l = refl
+hashed_ahead x (e ∷ (f ∷ es)) (suc n) l = hashed_ahead x (f ∷ es) n (omega arith)
+
+-- a plan's last edge becomes a forward edge: where there is none, nothing is changed
+pub forwards : (old new : Laying) (o : Option Edge) → o ≡ None → new.sources ≡ old.sources → bundles_of new ≡ bundles_of old → new.nodes ≡ old.nodes → old.edges ≡ new.edges ++ option_to_list o → IfNone o (old.edges ≡ []) → Forwards old new
+forwards old new o is sources bundles nodes e none = record { sources = sources; bundles = bundles; nodes = nodes; edges = hashed_none Forward old.edges new.edges o is e none }

@@ -7,29 +7,33 @@ use Rattle.ct_catalog.specs.declared.table.TableDef.{TableDef}
 use Rattle.rel_algebra.specs.Rel.{Unary, Binary, Rel, Rels, Scan, One, Two, Many}
 use Rattle.rel_algebra.specs.View.{rel_view}
 use Rattle.phys_plan.specs.declared.edge.Exchange.{Exchange}
+use Rattle.mode_infer.specs.Kinds.{plain}
+use Rattle.plan_rules.specs.Phases.{local_below}
 use Rattle.plan_rules.specs.Roles.{unary_way, binary_way}
 use Rattle.plan_laying.specs.declared.laying_fault.LayingFault.{LayingFault}
 use Rattle.plan_laying.specs.declared.laying_fault.LayingFault.TheVariants.{NoTable, Memory}
+use Rattle.plan_laying.specs.declared.laying.Laid.{Laid}
 use Rattle.plan_laying.specs.declared.laying.Laying.{Laying}
 use Rattle.plan_laying.specs.Faults.{lacks_table}
-use Rattle.plan_laying.specs.Laying.{PushedAs, Lays, Fails, Begun, Tops}
+use Rattle.plan_laying.specs.Laying.{bundles_of, PushedAs, Lays, Fails, Begun, Tops}
 use Rattle.plan_laying.specs.declared.way.Asked.{Asked as CodeAsked}
 use Rattle.plan_laying.specs.Ways.{Asked, asked_for, asked_view, first_input, way_of}
 use Rattle.plan_laying.proofs.laws.Laid.{one_lays, two_lay}
 
 -- ---- a tree's own node
 
-pub scan_tops : (mid new : Laying) (below : ℕ) (x : Exchange) (source root : ℕ) → Lays mid new x (Scan source) root → Tops mid new below x (Scan source) root
+pub scan_tops : (mid new : Laying) (below : Laid) (x : Exchange) (source : ℕ) (root : Laid) → Lays mid new x (Scan source) root → Tops mid new below x (Scan source) root
 scan_tops mid new below x source root l = record { tops = λ old same. subst (λ (start : Laying). Lays start new x (Scan source) root) (sym same) l }
 
-pub union_tops : (mid new : Laying) (below : ℕ) (x : Exchange) (inputs : Rels) (root : ℕ) → Lays mid new x (Many inputs) root → Tops mid new below x (Many inputs) root
+pub union_tops : (mid new : Laying) (below : Laid) (x : Exchange) (inputs : Rels) (root : Laid) → Lays mid new x (Many inputs) root → Tops mid new below x (Many inputs) root
 union_tops mid new below x inputs root l = record { tops = λ old same. subst (λ (start : Laying). Lays start new x (Many inputs) root) (sym same) l }
 
-pub one_tops : (mid new : Laying) (below : ℕ) (x : Exchange) (how : Unary) (input : Rel) (root : ℕ) → PushedAs mid new ((unary_way how).op mid.mini_batch) (below ∷ []) x root → Tops mid new below x (One how input) root
-one_tops mid new below x how input root p = record { tops = λ old l. one_lays old mid new x how input below root l p }
+pub one_tops : (mid new : Laying) (below : Laid) (x : Exchange) (how : Unary) (input : Rel) (root : Laid) → local_below (bundles_of mid) how below.kinds ≡ None
+    → PushedAs mid new ((unary_way how).op mid.mini_batch) (below.root ∷ []) (plain below.kinds ∷ []) x root → Tops mid new below x (One how input) root
+one_tops mid new below x how input root none p = record { tops = λ old l. one_lays old mid new x how input below root l none p }
 
-pub two_tops : (mid behind new : Laying) (below second : ℕ) (x : Exchange) (how : Binary) (left right : Rel) (root : ℕ) → Lays mid behind (binary_way how).right right second
-    → PushedAs behind new (binary_way how).op (below ∷ (second ∷ [])) x root → Tops mid new below x (Two how left right) root
+pub two_tops : (mid behind new : Laying) (below second : Laid) (x : Exchange) (how : Binary) (left right : Rel) (root : Laid) → Lays mid behind (binary_way how).right right second
+    → PushedAs behind new (binary_way how).op (below.root ∷ (second.root ∷ [])) (plain below.kinds ∷ (plain second.kinds ∷ [])) x root → Tops mid new below x (Two how left right) root
 two_tops mid behind new below second x how left right root m p = record { tops = λ old l. two_lay old mid behind new x how left right below second root l m p }
 
 -- what its second input lacks, it lacks
@@ -38,7 +42,7 @@ two_fails l how left right NoTable f = or_right (lacks_table l.sources left) (la
 two_fails l how left right Memory f = tt
 
 -- the same of a tree that is seen so
-pub seen_tops : (r : Result ℕ LayingFault) (mid new : Laying) (below : ℕ) (x : Exchange) (seen rel : Rel) → seen ≡ rel → IfOk r (λ root. Tops mid new below x rel root) → IfOk r (λ root. Tops mid new below x seen root)
+pub seen_tops : (r : Result Laid LayingFault) (mid new : Laying) (below : Laid) (x : Exchange) (seen rel : Rel) → seen ≡ rel → IfOk r (λ root. Tops mid new below x rel root) → IfOk r (λ root. Tops mid new below x seen root)
 seen_tops r mid new below x seen rel same tops = subst (λ (tree : Rel). IfOk r (λ root. Tops mid new below x tree root)) (sym same) tops
 
 -- ---- the way down
@@ -110,35 +114,35 @@ lacks sources (a ∷ rest) x (Two how left right) top done e f =
 lacks sources (a ∷ rest) x (Many inputs) top done e f = absurd (not_none rest top done (others_same _ _ _ _ e))
 
 -- of these trees the first is laid, up to this node
-abbrev pub Reached : Laying → Laying → ℕ → List Asked → Type 0
+abbrev pub Reached : Laying → Laying → Laid → List Asked → Type 0
 Reached old now root [] = old ≡ now
 Reached old now root (top ∷ done) = Lays old now top.exchange top.rel root
 
-reached_sources : (old now : Laying) (root : ℕ) (done : List Asked) → Reached old now root done → now.sources ≡ old.sources
+reached_sources : (old now : Laying) (root : Laid) (done : List Asked) → Reached old now root done → now.sources ≡ old.sources
 reached_sources old now root [] r = ap (λ (l : Laying). l.sources) (sym r)
 reached_sources old now root (top ∷ done) r = r.adds.sources
 
 -- some trees of a way are left to be laid, and the first of the others is
-pub record Upward (old now : Laying) (root : ℕ) (x : Exchange) (rel : Rel) (left : List Asked) : Type 0 where
+pub record Upward (old now : Laying) (root : Laid) (x : Exchange) (rel : Rel) (left : List Asked) : Type 0 where
   pub done : List Asked
   pub parts : way_of x rel ≡ left ++ done
   pub reached : Reached old now root done
 
-pub up_begins : (l : Laying) (root : ℕ) (x : Exchange) (rel : Rel) (way : List Asked) → way ≡ way_of x rel → Upward l l root x rel way
+pub up_begins : (l : Laying) (root : Laid) (x : Exchange) (rel : Rel) (way : List Asked) → way ≡ way_of x rel → Upward l l root x rel way
 up_begins l root x rel way is = record { done = []; parts = sym (append-nil way ∙ is); reached = refl }
 
-begun : (old mid : Laying) (below : ℕ) (rel : Rel) (done : List Asked) → rest_of (first_input rel) ≡ done → Reached old mid below done → Begun old mid below rel
+begun : (old mid : Laying) (below : Laid) (rel : Rel) (done : List Asked) → rest_of (first_input rel) ≡ done → Reached old mid below done → Begun old mid below rel
 begun old mid below (Scan source) done e r = subst (Reached old mid below) (sym e) r
 begun old mid below (One how input) done e r = subst (Reached old mid below) (way_is (unary_way how).asks input) (subst (Reached old mid below) (sym e) r)
 begun old mid below (Two how left right) done e r = subst (Reached old mid below) (way_is (binary_way how).left left) (subst (Reached old mid below) (sym e) r)
 begun old mid below (Many inputs) done e r = subst (Reached old mid below) (sym e) r
 
-module _ (old mid : Laying) (below : ℕ) (x : Exchange) (rel : Rel) (left rest : List Asked) (top : Asked) (u : Upward old mid below x rel left) (popped : left ≡ rest ++ top ∷ []) where
+module _ (old mid : Laying) (below : Laid) (x : Exchange) (rel : Rel) (left rest : List Asked) (top : Asked) (u : Upward old mid below x rel left) (popped : left ≡ rest ++ top ∷ []) where
   parts_at : way_of x rel ≡ rest ++ top ∷ u.done
   parts_at = u.parts ∙ ap (λ (ts : List Asked). ts ++ u.done) popped ∙ append_assoc rest (top ∷ []) u.done
 
   -- one more is laid
-  pub step_up : (new : Laying) (root : ℕ) → Tops mid new below top.exchange top.rel root → Upward old new root x rel rest
+  pub step_up : (new : Laying) (root : Laid) → Tops mid new below top.exchange top.rel root → Upward old new root x rel rest
   step_up new root t =
       let l = t.tops old (begun old mid below top.rel u.done (behind rest x rel top u.done parts_at) u.reached) in
       record { done = top ∷ u.done; parts = parts_at; reached = l }
@@ -148,6 +152,6 @@ module _ (old mid : Laying) (below : ℕ) (x : Exchange) (rel : Rel) (left rest 
   up_fails Memory f = tt
 
 -- all are
-pub up_ends : (old new : Laying) (root : ℕ) (x : Exchange) (rel : Rel) (left : List Asked) → left ≡ [] → Upward old new root x rel left → Lays old new x rel root
+pub up_ends : (old new : Laying) (root : Laid) (x : Exchange) (rel : Rel) (left : List Asked) → left ≡ [] → Upward old new root x rel left → Lays old new x rel root
 up_ends old new root x rel left none u =
     subst (Reached old new root) (sym (u.parts ∙ ap (λ (ts : List Asked). ts ++ u.done) none) ∙ way_is x rel) u.reached

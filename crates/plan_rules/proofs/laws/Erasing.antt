@@ -1,9 +1,10 @@
 -- The tree of the plan of a tree is that tree.
-use Rattle.std.proofs.Common.{◌≡◌, ℕ, zero, suc, ◌+◌, ◌<◌, ◌==◌, ◌||◌, Bool, true, false, cond, List, [], ◌∷◌, ◌++◌, length, map, slice_get, Option, Some, None, option_map, refl, sym, ap, subst, ◌∙◌, arith, append_assoc, append-nil, length-append}
+use Rattle.std.proofs.Common.{◌≡◌, ℕ, zero, suc, ◌+◌, ◌<◌, ◌==◌, ◌||◌, ◌&&◌, Bool, true, false, cond, not, List, [], ◌∷◌, ◌++◌, length, map, slice_get, Option, Some, None, option_map, refl, sym, ap, subst, ◌∙◌, arith, append_assoc, append-nil, length-append}
+use Rattle.std.specs.List.{list_all}
 use Rattle.std.specs.Option.{unwrap_or}
 use Rattle.std.proofs.lemmas.Bool.{eqb-false}
 use Rattle.std.proofs.lemmas.List.{length-map, map-append}
-use Rattle.ct_change.specs.Changelog.{retract, upsert, kinds_of}
+use Rattle.ct_change.specs.Changelog.{append, retract, upsert, kinds_of}
 use Rattle.ct_change.specs.declared.kind.Declared.{Declared}
 use Rattle.ct_change.specs.declared.kind.Declared.TheVariants.{Append, Retract, Upsert}
 use Rattle.ct_change.specs.declared.kind.KindSet.{KindSet}
@@ -14,6 +15,7 @@ use Rattle.ct_expr.specs.Expr.{Expr}
 use Rattle.ct_expr.specs.View.{expr_view}
 use Rattle.ct_expr.specs.Views.{expr_of}
 use Rattle.ct_expr.proofs.laws.Seen.{seen}
+use Rattle.mode_infer.specs.Kinds.{inserts, no_kinds}
 use Rattle.rel_algebra.specs.declared.agg.Agg.{Agg}
 use Rattle.rel_algebra.specs.Rel.{Unary, filter_by, project_on, group_by, rank_in, Binary, join_on, semi_on, Rel, Rels, Scan, One, Two, Many, no_rels, rel_and, rels}
 use Rattle.phys_plan.specs.Reading.{at, numbered, read_up, wire, wires}
@@ -23,8 +25,10 @@ use Rattle.phys_plan.specs.declared.node.Op.{Op}
 use Rattle.phys_plan.specs.declared.node.Op.TheVariants as op
 use Rattle.phys_plan.proofs.laws.Reading.{read_append}
 use Rattle.plan_rules.specs.Answers.{TreesAreErased}
-use Rattle.plan_rules.specs.Pieces.{Piece, piece, scan_pieces, source_pieces, topped, topped_both, pieces_of, pieces_of_all, roots_of, nodes_in, Top, bare, shown, asks_of, with_top, with_sink}
+use Rattle.plan_rules.specs.Phases.{Bundles, has_parts, local_below}
+use Rattle.plan_rules.specs.Pieces.{Piece, piece, scan_pieces, source_pieces, topped, topped_both, one_pieces, pieces_of, pieces_of_all, roots_of, nodes_in, Top, bare, shown, asks_of, with_top, with_sink}
 use Rattle.plan_rules.specs.Roles.{nothing, one_of, two_of, same_as, role, tree_of, group_op, unary_way, binary_way}
+use Rattle.plan_rules.specs.TreeKinds.{tree_kinds}
 use Rattle.plan_rules.proofs.laws.Numbers.{get_at, get_more}
 
 -- ---- expressions are seen
@@ -123,18 +127,18 @@ root_is : (n : ℕ) (done : List Rel) (ps : List Piece) (rel : Rel) → Ends n d
 root_is n done ps rel e = ap (λ o. unwrap_or o nothing) e.root
 
 -- over one root
-topped_ends : (n : ℕ) (done : List Rel) (ps : List Piece) (o : Op) (x : Exchange) (input rel : Rel) → Ends n done ps input → tree_of (role o) (input ∷ []) ≡ rel → Ends n done (topped n ps o x) rel
-topped_ends n done ps o x input rel p e =
-    ends_on n done ps o ((n + length ps) ∷ []) x (kinds_of retract) Both rel p.goes (ap (λ t. tree_of (role o) (t ∷ [])) (root_is n done ps input p) ∙ e)
+topped_ends : (n : ℕ) (done : List Rel) (ps : List Piece) (o : Op) (x : Exchange) (kinds : KindSet) (input rel : Rel) → Ends n done ps input → tree_of (role o) (input ∷ []) ≡ rel → Ends n done (topped n ps o x kinds) rel
+topped_ends n done ps o x kinds input rel p e =
+    ends_on n done ps o ((n + length ps) ∷ []) x kinds Both rel p.goes (ap (λ t. tree_of (role o) (t ∷ [])) (root_is n done ps input p) ∙ e)
 
 -- and over two
-both_end : (n : ℕ) (done : List Rel) (ps qs : List Piece) (o : Op) (x : Exchange) (left right rel : Rel) → Ends n done ps left → Ends (n + length ps) (after done ps) qs right
-    → tree_of (role o) (left ∷ (right ∷ [])) ≡ rel → Ends n done (topped_both n ps qs o x) rel
-both_end n done ps qs o x left right rel p q e =
+both_end : (n : ℕ) (done : List Rel) (ps qs : List Piece) (o : Op) (x : Exchange) (kinds : KindSet) (left right rel : Rel) → Ends n done ps left → Ends (n + length ps) (after done ps) qs right
+    → tree_of (role o) (left ∷ (right ∷ [])) ≡ rel → Ends n done (topped_both n ps qs o x kinds) rel
+both_end n done ps qs o x kinds left right rel p q e =
     let first : at nothing (after done (ps ++ qs)) (n + length ps) ≡ left = stays n done ps qs (n + length ps) left q.goes p.root in
     let second : at nothing (after done (ps ++ qs)) (n + length ps + length qs) ≡ right =
     ap (λ l. at nothing l (n + length ps + length qs)) (after_more done ps qs) ∙ root_is (n + length ps) (after done ps) qs right q in
-    ends_on n done (ps ++ qs) o ((n + length ps) ∷ ((n + length ps + length qs) ∷ [])) x (kinds_of retract) Both rel (both_go n done ps qs p.goes q.goes)
+    ends_on n done (ps ++ qs) o ((n + length ps) ∷ ((n + length ps + length qs) ∷ [])) x kinds Both rel (both_go n done ps qs p.goes q.goes)
     ((λ i. tree_of (role o) (first i ∷ (second i ∷ []))) ∙ e)
 
 -- ---- tables
@@ -144,49 +148,70 @@ none_more : (n : ℕ) (done : List Rel) → length done ≡ n → GoOn n done []
 none_more n done size = record { more = []; begins = sym (append-nil done); many = (let same : length done ≡ n + 0 = omega (arith, size) in same) }
 
 scan_ends : (n : ℕ) (done : List Rel) (size : length done ≡ n) (x : Exchange) (source : ℕ) (mode : Declared) (key : List ℕ) → Ends n done (scan_pieces n x source mode key) (Scan source)
-scan_ends n done size x source Append key = ends_on n done [] (op.Scan source) [] x (kinds_of retract) Both (Scan source) (none_more n done size) refl
+scan_ends n done size x source Append key = ends_on n done [] (op.Scan source) [] x (kinds_of append) Both (Scan source) (none_more n done size) refl
 scan_ends n done size x source Retract key = ends_on n done [] (op.Scan source) [] x (kinds_of retract) Both (Scan source) (none_more n done size) refl
 scan_ends n done size x source Upsert key =
     let scan = piece (op.Scan source) [] (Hash key) (kinds_of (upsert key)) (After key) in
     let first : Ends n done (scan ∷ []) (Scan source) = ends_on n done [] (op.Scan source) [] (Hash key) (kinds_of (upsert key)) (After key) (Scan source) (none_more n done size) refl in
-    topped_ends n done (scan ∷ []) (op.Normalize key) x (Scan source) (Scan source) first refl
+    topped_ends n done (scan ∷ []) (op.Normalize key) x (kinds_of retract) (Scan source) (Scan source) first refl
 
 source_ends : (n : ℕ) (done : List Rel) (size : length done ≡ n) (x : Exchange) (source : ℕ) (table : Option TableDef) → Ends n done (source_pieces n x source table) (Scan source)
-source_ends n done size x source None = ends_on n done [] (op.Scan source) [] x (kinds_of retract) Both (Scan source) (none_more n done size) refl
+source_ends n done size x source None = ends_on n done [] (op.Scan source) [] x no_kinds Both (Scan source) (none_more n done size) refl
 source_ends n done size x source (Some table) = scan_ends n done size x source table.mode (unwrap_or table.key [])
 
 -- ---- the tree
 
-module _ (sources : List TableDef) (mini_batch : ℕ) where
+-- a local group's tree is its input's
+pub local_told : (b : Bundles) (how : Unary) (kinds : KindSet) (local : Op) (input : Rel) → local_below b how kinds ≡ Some local → tree_of (role local) (input ∷ []) ≡ input
+local_told b (group_by keys aggs) kinds local input e = by (b.two_phase && (not (b.size == 0 || keys == 0) && list_all (λ agg. has_parts kinds agg.call) aggs)) e
+  where
+    by : (t : Bool) → cond t (Some (op.LocalGroup keys aggs)) None ≡ Some local → tree_of (role local) (input ∷ []) ≡ input
+    by true h = let same : op.LocalGroup keys aggs ≡ local = cc in subst (λ o. tree_of (role o) (input ∷ []) ≡ input) same refl
+    by false h = absurd (cc)
+local_told b (filter_by condition) kinds local input e = absurd (cc)
+local_told b (project_on items) kinds local input e = absurd (cc)
+local_told b (rank_in partition order bound ranked) kinds local input e = absurd (cc)
+
+module _ (sources : List TableDef) (b : Bundles) where
+  -- a node with one input, over a local group or not
+  one_ends : (how : Unary) (input : Rel) (n : ℕ) (done : List Rel) (x : Exchange) (kinds : KindSet) → ((asks : Exchange) → Ends n done (pieces_of sources b n asks input) input) → (local : Option Op) → local_below b how (tree_kinds sources input) ≡ local
+      → Ends n done (one_pieces n b how local (λ asks. pieces_of sources b n asks input) x kinds) (One how input)
+  one_ends how input n done x kinds below None e =
+      topped_ends n done (pieces_of sources b n (unary_way how).asks input) ((unary_way how).op b.size) x kinds input (One how input) (below (unary_way how).asks) (ap (λ r. tree_of r (input ∷ [])) (unary_told b.size how))
+  one_ends how input n done x kinds below (Some local) e =
+      let ps = pieces_of sources b n Forward input in
+      let under : Ends n done (topped n ps local (unary_way how).asks inserts) input =
+      topped_ends n done ps local (unary_way how).asks inserts input input (below Forward) (local_told b how (tree_kinds sources input) local input e) in
+      topped_ends n done (topped n ps local (unary_way how).asks inserts) ((unary_way how).op b.size) x kinds input (One how input) under (ap (λ r. tree_of r (input ∷ [])) (unary_told b.size how))
+
   -- several trees behind n trees
   record AllEnd (n : ℕ) (done : List Rel) (inputs : Rels) : Type 0 where
-    pub goes : GoOn n done (pieces_of_all sources mini_batch n inputs)
-    pub trees : rels (map (at nothing (after done (pieces_of_all sources mini_batch n inputs))) (roots_of sources mini_batch n inputs)) ≡ inputs
+    pub goes : GoOn n done (pieces_of_all sources b n inputs)
+    pub trees : rels (map (at nothing (after done (pieces_of_all sources b n inputs))) (roots_of sources b n inputs)) ≡ inputs
 
   mutual
-    tree_ends : (rel : Rel) (n : ℕ) (done : List Rel) → length done ≡ n → (x : Exchange) → Ends n done (pieces_of sources mini_batch n x rel) rel
+    tree_ends : (rel : Rel) (n : ℕ) (done : List Rel) → length done ≡ n → (x : Exchange) → Ends n done (pieces_of sources b n x rel) rel
     tree_ends (Scan source) n done size x = source_ends n done size x source (slice_get sources source)
-    tree_ends (One how input) n done size x =
-        topped_ends n done (pieces_of sources mini_batch n (unary_way how).asks input) ((unary_way how).op mini_batch) x input (One how input) (tree_ends input n done size (unary_way how).asks) (ap (λ r. tree_of r (input ∷ [])) (unary_told mini_batch how))
+    tree_ends (One how input) n done size x = one_ends how input n done x (tree_kinds sources (One how input)) (λ asks. tree_ends input n done size asks) (local_below b how (tree_kinds sources input)) refl
     tree_ends (Two how left right) n done size x =
-        let ps = pieces_of sources mini_batch n (binary_way how).left left in
-        let qs = pieces_of sources mini_batch (n + length ps) (binary_way how).right right in
+        let ps = pieces_of sources b n (binary_way how).left left in
+        let qs = pieces_of sources b (n + length ps) (binary_way how).right right in
         let first : Ends n done ps left = tree_ends left n done size (binary_way how).left in
-        both_end n done ps qs (binary_way how).op x left right (Two how left right) first (tree_ends right (n + length ps) (after done ps) first.goes.many (binary_way how).right) (ap (λ r. tree_of r (left ∷ (right ∷ []))) (binary_told how))
+        both_end n done ps qs (binary_way how).op x (tree_kinds sources (Two how left right)) left right (Two how left right) first (tree_ends right (n + length ps) (after done ps) first.goes.many (binary_way how).right) (ap (λ r. tree_of r (left ∷ (right ∷ []))) (binary_told how))
     tree_ends (Many inputs) n done size x =
         let all = trees_end inputs n done size in
-        ends_on n done (pieces_of_all sources mini_batch n inputs) op.Union (roots_of sources mini_batch n inputs) x (kinds_of retract) Both (Many inputs) all.goes (ap Many all.trees)
+        ends_on n done (pieces_of_all sources b n inputs) op.Union (roots_of sources b n inputs) x (tree_kinds sources (Many inputs)) Both (Many inputs) all.goes (ap Many all.trees)
 
     trees_end : (inputs : Rels) (n : ℕ) (done : List Rel) → length done ≡ n → AllEnd n done inputs
     trees_end no_rels n done size = record { goes = none_more n done size; trees = refl }
     trees_end (rel_and input inputs) n done size =
-        let ps = pieces_of sources mini_batch n Forward input in
-        let qs = pieces_of_all sources mini_batch (n + length ps) inputs in
+        let ps = pieces_of sources b n Forward input in
+        let qs = pieces_of_all sources b (n + length ps) inputs in
         let first : Ends n done ps input = tree_ends input n done size Forward in
         let others : AllEnd (n + length ps) (after done ps) inputs = trees_end inputs (n + length ps) (after done ps) first.goes.many in
         let own : at nothing (after done (ps ++ qs)) (n + length ps) ≡ input = stays n done ps qs (n + length ps) input others.goes first.root in
-        let rest : rels (map (at nothing (after done (ps ++ qs))) (roots_of sources mini_batch (n + length ps) inputs)) ≡ inputs =
-        ap (λ l. rels (map (at nothing l) (roots_of sources mini_batch (n + length ps) inputs))) (after_more done ps qs) ∙ others.trees in
+        let rest : rels (map (at nothing (after done (ps ++ qs))) (roots_of sources b (n + length ps) inputs)) ≡ inputs =
+        ap (λ l. rels (map (at nothing l) (roots_of sources b (n + length ps) inputs))) (after_more done ps qs) ∙ others.trees in
         record { goes = both_go n done ps qs first.goes others.goes; trees = λ i. rel_and (own i) (rest i) }
 
 -- a node more over the root that passes its rows on leaves the tree
@@ -199,12 +224,12 @@ passed_on ps o x kinds update rel same e =
 
 topped_on : (top : Top) (ps : List Piece) (rel : Rel) → Ends 0 [] ps rel → Ends 0 [] (with_top top ps) rel
 topped_on bare ps rel e = e
-topped_on (shown key) ps rel e = topped_ends 0 [] ps (op.Materialize key) Forward rel rel e refl
+topped_on (shown key) ps rel e = topped_ends 0 [] ps (op.Materialize key) Forward (kinds_of (upsert key)) rel rel e refl
 
 pub trees_are_erased : TreesAreErased
-trees_are_erased sources sink parallelism mini_batch top rel =
-    let ps = with_top top (pieces_of sources mini_batch 0 (asks_of top) rel) in
-    let tree : Ends 0 [] ps rel = topped_on top (pieces_of sources mini_batch 0 (asks_of top) rel) rel (tree_ends sources mini_batch rel 0 [] refl (asks_of top)) in
+trees_are_erased sources sink parallelism b top rel =
+    let ps = with_top top (pieces_of sources b 0 (asks_of top) rel) in
+    let tree : Ends 0 [] ps rel = topped_on top (pieces_of sources b 0 (asks_of top) rel) rel (tree_ends sources b rel 0 [] refl (asks_of top)) in
     let whole : Ends 0 [] (with_sink ps) rel = passed_on ps op.Sink Forward (kinds_of retract) Absent rel refl tree in
     let count : length (nodes_in (with_sink ps)) ≡ 0 + length (with_sink ps) = length-map (with_sink ps) (λ p. p.node) ∙ (let same : length (with_sink ps) ≡ 0 + length (with_sink ps) = omega arith in same) in
     ap (at nothing (after [] (with_sink ps))) count ∙ root_is 0 [] (with_sink ps) rel whole

@@ -1,5 +1,5 @@
 -- A plan with a materializer before its sink is, as it is seen, the plan of its tree with that.
-use Rattle.std.specs.Prelude.{◌≡◌, ℕ, ◌+◌, ◌<◌, List, ◌++◌, length, map, slice_get, Option, option_map, option_to_list, IfNone}
+use Rattle.std.specs.Prelude.{◌≡◌, ℕ, ◌+◌, ◌<◌, Bool, List, ◌++◌, length, map, slice_get, Option, option_map, option_to_list, IfNone}
 use Rattle.std.proofs.Common.{zero, suc, false, [], ◌∷◌, refl, sym, ap, ◌∙◌, arith, Some, None, length-append}
 use Rattle.std.proofs.lemmas.List.{append-nil, append_assoc, length-map, map-append}
 use Rattle.std.proofs.lemmas.Option.{slice_get-map}
@@ -22,81 +22,28 @@ use Rattle.plan_rules.specs.Roles.{unary_way, binary_way}
 use Rattle.plan_rules.specs.Seen.{node_as_seen, op_as_seen, plan_as_seen}
 use Rattle.plan_rules.proofs.laws.Erasing.{of_groups}
 use Rattle.sound_plans.proofs.laws.Agreed.{materializes}
-use Rattle.laid_plans.specs.Shapes.{IsLaidWith}
+use Rattle.plan_rules.specs.Phases.{Bundles}
+use Rattle.laid_plans.specs.Shapes.{bundles_in, IsLaidWith}
+use Rattle.plan_laying.proofs.laws.LastPieces.{EndsAsAsked, tree_ends, nodes_end, edges_end, same_nodes, other_edges}
 use Rattle.plan_laying.proofs.laws.LastEdges.{all_of, mapped, hashed, hashed_many, hashed_ahead}
 use Rattle.planner.proofs.laws.Ahead.{in_front, behind}
-use Rattle.plan_laying.specs.Topped.{all_but_last, hashed_by, hash_last, shown_nodes, shown_edges, topped_plan}
+use Rattle.plan_laying.specs.Topped.{all_but_last, send_last, shown_nodes, shown_edges, topped_plan}
 
--- ---- the last piece of a tree
-
--- only the edge of the last piece goes as the consumer asks for it, and its node is no materializer
-record EndsAsAsked (pieces : Exchange → List Piece) : Type 0 where
-  front : List Piece
-  operator : Op
-  inputs : List ℕ
-  other : materializes operator ≡ false
-  are : (x : Exchange) → pieces x ≡ front ++ full_piece operator inputs x ∷ []
-
-scan_ends : (n source : ℕ) (mode : Declared) (key : List ℕ) → EndsAsAsked (λ x. scan_pieces n x source mode key)
-scan_ends n source Append key = record { front = []; operator = op.Scan source; inputs = []; other = refl; are = λ x. refl }
-scan_ends n source Retract key = record { front = []; operator = op.Scan source; inputs = []; other = refl; are = λ x. refl }
-scan_ends n source Upsert key =
-    record { front = piece (op.Scan source) [] (Hash key) (kinds_of (upsert key)) (After key) ∷ []; operator = op.Normalize key; inputs = (n + 1) ∷ []; other = refl; are = λ x. refl }
-
-source_ends : (n source : ℕ) (table : Option TableDef) → EndsAsAsked (λ x. source_pieces n x source table)
-source_ends n source None = record { front = []; operator = op.Scan source; inputs = []; other = refl; are = λ x. refl }
-source_ends n source (Some table) = scan_ends n source table.mode _
-
-unary_other : (mini_batch : ℕ) (how : Unary) → materializes ((unary_way how).op mini_batch) ≡ false
-unary_other mini_batch (filter_by condition) = refl
-unary_other mini_batch (project_on items) = refl
-unary_other mini_batch (group_by keys aggs) = of_groups (λ o. materializes o ≡ false) mini_batch keys aggs refl (λ some keyed. refl)
-unary_other mini_batch (rank_in partition order bound ranked) = refl
-
-binary_other : (how : Binary) → materializes (binary_way how).op ≡ false
-binary_other (join_on kind pairs rest) = refl
-binary_other _ = refl
-
-tree_ends : (sources : List TableDef) (mini_batch n : ℕ) (rel : Rel) → EndsAsAsked (λ x. pieces_of sources mini_batch n x rel)
-tree_ends sources mini_batch n (Scan source) = source_ends n source (slice_get sources source)
-tree_ends sources mini_batch n (One how input) =
-    let ps = pieces_of sources mini_batch n (unary_way how).asks input in
-    record { front = ps; operator = (unary_way how).op mini_batch; inputs = (n + length ps) ∷ []; other = unary_other mini_batch how; are = λ x. refl }
-tree_ends sources mini_batch n (Two how left right) =
-    let ps = pieces_of sources mini_batch n (binary_way how).left left in
-    let qs = pieces_of sources mini_batch (n + length (pieces_of sources mini_batch n (binary_way how).left left)) (binary_way how).right right in
-    record { front = ps ++ qs; operator = (binary_way how).op; inputs = (n + length ps) ∷ ((n + length ps + length qs) ∷ []); other = binary_other how; are = λ x. refl }
-tree_ends sources mini_batch n (Many inputs) = record { front = pieces_of_all sources mini_batch n inputs; operator = op.Union; inputs = roots_of sources mini_batch n inputs; other = refl; are = λ x. refl }
-
-nodes_end : (ps : List Piece) (p : Piece) → nodes_in (ps ++ p ∷ []) ≡ nodes_in ps ++ p.node ∷ []
-nodes_end ps p = map-append (λ (q : Piece). q.node) ps (p ∷ [])
-
-edges_end : (ps : List Piece) (p : Piece) → edges_in (ps ++ p ∷ []) ≡ edges_in ps ++ p.edge ∷ []
-edges_end ps p = map-append (λ (q : Piece). q.edge) ps (p ∷ [])
-
-module _ (sources : List TableDef) (mini_batch : ℕ) (rel : Rel) (key : List ℕ) where
+module _ (sources : List TableDef) (b : Bundles) (rel : Rel) (key : List ℕ) where
   abbrev plain : List Piece
-  plain = pieces_of sources mini_batch 0 Forward rel
+  plain = pieces_of sources b 0 Forward rel
 
   abbrev by_key : List Piece
-  by_key = pieces_of sources mini_batch 0 (Hash key) rel
+  by_key = pieces_of sources b 0 (Hash key) rel
 
-  ends : EndsAsAsked (λ x. pieces_of sources mini_batch 0 x rel)
-  ends = tree_ends sources mini_batch 0 rel
+  same : nodes_in plain ≡ nodes_in by_key
+  same = same_nodes sources b 0 rel Forward (Hash key)
 
-  same_nodes : nodes_in plain ≡ nodes_in by_key
-  same_nodes =
-      ap nodes_in (ends.are Forward) ∙ nodes_end ends.front (full_piece ends.operator ends.inputs Forward)
-      ∙ sym (ap nodes_in (ends.are (Hash key)) ∙ nodes_end ends.front (full_piece ends.operator ends.inputs (Hash key)))
-
-  other_edges : hash_last key (edges_in plain) ≡ edges_in by_key
-  other_edges =
-      ap (λ ps. hash_last key (edges_in ps)) (ends.are Forward) ∙ ap (hash_last key) (edges_end ends.front (full_piece ends.operator ends.inputs Forward))
-      ∙ hashed key (edges_in ends.front) (edge_of Forward (kinds_of retract) Both)
-      ∙ sym (ap edges_in (ends.are (Hash key)) ∙ edges_end ends.front (full_piece ends.operator ends.inputs (Hash key)))
+  hashed_edges : send_last (Hash key) (edges_in plain) ≡ edges_in by_key
+  hashed_edges = other_edges sources b 0 rel Forward (Hash key) []
 
   same_count : length plain ≡ length by_key
-  same_count = sym (length-map plain (λ (p : Piece). p.node)) ∙ ap length same_nodes ∙ length-map by_key (λ (p : Piece). p.node)
+  same_count = sym (length-map plain (λ (p : Piece). p.node)) ∙ ap length same ∙ length-map by_key (λ (p : Piece). p.node)
 
   -- ---- a plan
 
@@ -106,19 +53,19 @@ module _ (sources : List TableDef) (mini_batch : ℕ) (rel : Rel) (key : List �
   topped_nodes : nodes_in (with_sink topped) ≡ nodes_in by_key ++ (node_of (op.Materialize key) ((0 + length by_key) ∷ []) ∷ (node_of op.Sink (length topped ∷ []) ∷ []))
   topped_nodes =
       nodes_end topped (piece op.Sink (length topped ∷ []) Forward (kinds_of retract) Absent)
-      ∙ ap (λ (ns : List Node). ns ++ node_of op.Sink (length topped ∷ []) ∷ []) (nodes_end by_key (full_piece (op.Materialize key) ((0 + length by_key) ∷ []) Forward))
+      ∙ ap (λ (ns : List Node). ns ++ node_of op.Sink (length topped ∷ []) ∷ []) (nodes_end by_key (full_piece (op.Materialize key) ((0 + length by_key) ∷ []) Forward (kinds_of (upsert key))))
       ∙ append_assoc (nodes_in by_key) (node_of (op.Materialize key) ((0 + length by_key) ∷ []) ∷ []) (node_of op.Sink (length topped ∷ []) ∷ [])
 
-  topped_edges : edges_in (with_sink topped) ≡ edges_in by_key ++ (edge_of Forward (kinds_of retract) Both ∷ (edge_of Forward (kinds_of retract) Absent ∷ []))
+  topped_edges : edges_in (with_sink topped) ≡ edges_in by_key ++ (edge_of Forward (kinds_of (upsert key)) Both ∷ (edge_of Forward (kinds_of retract) Absent ∷ []))
   topped_edges =
       edges_end topped (piece op.Sink (length topped ∷ []) Forward (kinds_of retract) Absent)
-      ∙ ap (λ (es : List Edge). es ++ edge_of Forward (kinds_of retract) Absent ∷ []) (edges_end by_key (full_piece (op.Materialize key) ((0 + length by_key) ∷ []) Forward))
-      ∙ append_assoc (edges_in by_key) (edge_of Forward (kinds_of retract) Both ∷ []) (edge_of Forward (kinds_of retract) Absent ∷ [])
+      ∙ ap (λ (es : List Edge). es ++ edge_of Forward (kinds_of retract) Absent ∷ []) (edges_end by_key (full_piece (op.Materialize key) ((0 + length by_key) ∷ []) Forward (kinds_of (upsert key))))
+      ∙ append_assoc (edges_in by_key) (edge_of Forward (kinds_of (upsert key)) Both ∷ []) (edge_of Forward (kinds_of retract) Absent ∷ [])
 
-pub laid_with : (key : List ℕ) (laid : Plan) (rel : Rel) → IsLaidWith bare laid rel → IsLaidWith (shown key) (topped_plan (shown key) laid) rel
-laid_with key laid rel is =
-    let ps = plain laid.sources laid.mini_batch rel key in
-    let qs = by_key laid.sources laid.mini_batch rel key in
+pub laid_with : (key : List ℕ) (laid : Plan) (rel : Rel) (two_phase : Bool) → IsLaidWith two_phase bare laid rel → IsLaidWith two_phase (shown key) (topped_plan (shown key) laid) rel
+laid_with key laid rel two_phase is =
+    let ps = plain laid.sources (bundles_in laid two_phase) rel key in
+    let qs = by_key laid.sources (bundles_in laid two_phase) rel key in
     let tree : List Node = all_but_last laid.nodes in
     let nodes : map node_as_seen tree ≡ nodes_in ps =
     mapped node_as_seen laid.nodes ∙ ap (λ (p : Plan). all_but_last p.nodes) is
@@ -127,16 +74,16 @@ laid_with key laid rel is =
     ap (λ (p : Plan). all_but_last p.edges) is
     ∙ ap all_but_last (edges_end ps (piece op.Sink (length ps ∷ []) Forward (kinds_of retract) Absent)) ∙ all_of (edges_in ps) (edge_of Forward (kinds_of retract) Absent) in
     let count : length tree ≡ length qs =
-    sym (length-map tree node_as_seen) ∙ ap length nodes ∙ length-map ps (λ (p : Piece). p.node) ∙ same_count laid.sources laid.mini_batch rel key in
-    let longer : length (topped laid.sources laid.mini_batch rel key) ≡ length qs + 1 = length-append qs (full_piece (op.Materialize key) ((0 + length qs) ∷ []) Forward ∷ []) in
+    sym (length-map tree node_as_seen) ∙ ap length nodes ∙ length-map ps (λ (p : Piece). p.node) ∙ same_count laid.sources (bundles_in laid two_phase) rel key in
+    let longer : length (topped laid.sources (bundles_in laid two_phase) rel key) ≡ length qs + 1 = length-append qs (full_piece (op.Materialize key) ((0 + length qs) ∷ []) Forward (kinds_of (upsert key)) ∷ []) in
     let root : length tree ≡ 0 + length qs = omega (arith, count) in
-    let last : length tree + 1 ≡ length (topped laid.sources laid.mini_batch rel key) = omega (arith, count, longer) in
-    let seen : map node_as_seen tree ≡ nodes_in qs = nodes ∙ same_nodes laid.sources laid.mini_batch rel key in
-    let all_nodes : map node_as_seen (shown_nodes key tree) ≡ nodes_in (with_sink (topped laid.sources laid.mini_batch rel key)) =
+    let last : length tree + 1 ≡ length (topped laid.sources (bundles_in laid two_phase) rel key) = omega (arith, count, longer) in
+    let seen : map node_as_seen tree ≡ nodes_in qs = nodes ∙ same laid.sources (bundles_in laid two_phase) rel key in
+    let all_nodes : map node_as_seen (shown_nodes key tree) ≡ nodes_in (with_sink (topped laid.sources (bundles_in laid two_phase) rel key)) =
     map-append node_as_seen tree (node_of (op.Materialize key) (length tree ∷ []) ∷ (node_of op.Sink ((length tree + 1) ∷ []) ∷ []))
-    ∙ (λ i. seen i ++ (node_of (op.Materialize key) (root i ∷ []) ∷ (node_of op.Sink (last i ∷ []) ∷ []))) ∙ sym (topped_nodes laid.sources laid.mini_batch rel key) in
-    let all_edges : shown_edges (hash_last key (all_but_last laid.edges)) ≡ edges_in (with_sink (topped laid.sources laid.mini_batch rel key)) =
-    ap (λ (es : List Edge). shown_edges (hash_last key es)) edges ∙ ap shown_edges (other_edges laid.sources laid.mini_batch rel key) ∙ sym (topped_edges laid.sources laid.mini_batch rel key) in
+    ∙ (λ i. seen i ++ (node_of (op.Materialize key) (root i ∷ []) ∷ (node_of op.Sink (last i ∷ []) ∷ []))) ∙ sym (topped_nodes laid.sources (bundles_in laid two_phase) rel key) in
+    let all_edges : shown_edges key (send_last (Hash key) (all_but_last laid.edges)) ≡ edges_in (with_sink (topped laid.sources (bundles_in laid two_phase) rel key)) =
+    ap (λ (es : List Edge). shown_edges key (send_last (Hash key) es)) edges ∙ ap (shown_edges key) (hashed_edges laid.sources (bundles_in laid two_phase) rel key) ∙ sym (topped_edges laid.sources (bundles_in laid two_phase) rel key) in
     λ i. record { sources = laid.sources; sink = laid.sink; nodes = all_nodes i; edges = all_edges i; parallelism = laid.parallelism; mini_batch = laid.mini_batch }
 
 -- what stands before the sink is put into a plan as it is seen
@@ -153,7 +100,7 @@ topped_seen (shown key) plan =
       sources = plan.sources;
       sink = plan.sink;
       nodes = nodes i;
-      edges = shown_edges (hash_last key (all_but_last plan.edges));
+      edges = shown_edges key (send_last (Hash key) (all_but_last plan.edges));
       parallelism = plan.parallelism;
       mini_batch = plan.mini_batch;
     }
@@ -168,15 +115,15 @@ some_same : {A : Type 0} (x y : A) → Some x ≡ Some y → x ≡ y
 some_same x y e = cc
 
 -- a tree's root is no materializer
-pub root_other : (laid : Plan) (rel : Rel) → IsLaidWith bare laid rel → (n : ℕ) (node : Node) → length laid.nodes ≡ suc (suc n) → slice_get laid.nodes n ≡ Some node → materializes node.op ≡ false
-root_other laid rel is n node many e =
-    let ps = pieces_of laid.sources laid.mini_batch 0 Forward rel in
-    let last = tree_ends laid.sources laid.mini_batch 0 rel in
+pub root_other : (laid : Plan) (rel : Rel) (two_phase : Bool) → IsLaidWith two_phase bare laid rel → (n : ℕ) (node : Node) → length laid.nodes ≡ suc (suc n) → slice_get laid.nodes n ≡ Some node → materializes node.op ≡ false
+root_other laid rel two_phase is n node many e =
+    let ps = pieces_of laid.sources (bundles_in laid two_phase) 0 Forward rel in
+    let last = tree_ends laid.sources (bundles_in laid two_phase) 0 rel in
     let own = node_of last.operator last.inputs in
     let sink = node_of op.Sink (length ps ∷ []) in
     let nodes : map node_as_seen laid.nodes ≡ nodes_in last.front ++ (own ∷ (sink ∷ [])) =
     ap (λ (p : Plan). p.nodes) is ∙ nodes_end ps (piece op.Sink (length ps ∷ []) Forward (kinds_of retract) Absent)
-    ∙ ap (λ (ns : List Node). ns ++ sink ∷ []) (ap nodes_in (last.are Forward) ∙ nodes_end last.front (full_piece last.operator last.inputs Forward)) ∙ append_assoc (nodes_in last.front) (own ∷ []) (sink ∷ []) in
+    ∙ ap (λ (ns : List Node). ns ++ sink ∷ []) (ap nodes_in (last.are Forward) ∙ nodes_end last.front (full_piece last.operator last.inputs Forward last.kinds)) ∙ append_assoc (nodes_in last.front) (own ∷ []) (sink ∷ []) in
     let count : length laid.nodes ≡ length (nodes_in last.front) + 2 =
     sym (length-map laid.nodes node_as_seen) ∙ ap length nodes ∙ length-append (nodes_in last.front) (own ∷ (sink ∷ [])) in
     let place : n ≡ length (nodes_in last.front) + 0 = omega (arith, many, count) in
@@ -188,8 +135,8 @@ root_other laid rel is n node many e =
 -- ---- edges
 
 -- those between the nodes of a tree go as before
-pub edges_ahead : (key : List ℕ) (es more rest : List Edge) (v : ℕ) → 0 < v → v < length es → numbered (es ++ more) v ≡ numbered (hash_last key es ++ rest) v
+pub edges_ahead : (key : List ℕ) (es more rest : List Edge) (v : ℕ) → 0 < v → v < length es → numbered (es ++ more) v ≡ numbered (send_last (Hash key) es ++ rest) v
 edges_ahead key es more rest zero low l = absurd (omega arith)
 edges_ahead key es more rest (suc n) low l =
-    let many = hashed_many key es in
-    in_front es more n (omega arith) ∙ sym (in_front (hash_last key es) rest n (omega (arith, many)) ∙ hashed_ahead key es n l)
+    let many = hashed_many (Hash key) es in
+    in_front es more n (omega arith) ∙ sym (in_front (send_last (Hash key) es) rest n (omega (arith, many)) ∙ hashed_ahead (Hash key) es n l)

@@ -1,6 +1,7 @@
 -- Answers with short texts: one behind the other, and those that replace a row by another.
 use Rattle.std.proofs.Common.{◌≡◌, ℕ, zero, suc, ◌==◌, ◌≤◌, Bool, true, false, cond, List, [], ◌∷◌, ◌++◌, length, take, Option, Some, None, Ok, Err, refl, arith}
 use Rattle.std.specs.List.{AllByRecursion, find}
+use Rattle.std.proofs.lemmas.Bool.{eqb-true}
 use Rattle.ct_value.specs.declared.row.Row.{Row}
 use Rattle.ct_change.specs.declared.change.Change.{Change}
 use Rattle.ct_change.specs.Changelog.{Mode, append, retract, upsert, same_row}
@@ -9,16 +10,19 @@ use Rattle.ct_change.specs.Emission.{update, emission}
 use Rattle.ct_change.specs.KeyRows.{is_among, keyed_from, key_row, row_told}
 use Rattle.op_rules.specs.History.{Arrival, at_port}
 use Rattle.op_rules.specs.Rules.{Answer, appended}
-use Rattle.op_rules.proofs.laws.Histories.{all-append}
+use Rattle.op_rules.proofs.laws.Histories.{all-append, all-each}
 use Rattle.range_rules.specs.Tame.{is_short}
-use Rattle.range_rules.specs.Ranges.{IsShortRow, IsShort, ArrivesShort, IsShortAnswer}
+use Rattle.range_rules.specs.Ranges.{IsShortRow, IsShort, ArrivesShort, IsAnswerOf, IsShortAnswer}
 
 -- ---- one behind the other
 
+pub appended_all : (P : Change → Type 0) (a b : Answer) → IsAnswerOf P a → IsAnswerOf P b → IsAnswerOf P (appended a b)
+appended_all P (Ok changes) (Ok others) h k = all-append P changes others h k
+appended_all P (Ok changes) (Err row) h k = absurd k
+appended_all P (Err row) b h k = absurd h
+
 pub appended_short : (a b : Answer) → IsShortAnswer a → IsShortAnswer b → IsShortAnswer (appended a b)
-appended_short (Ok changes) (Ok others) h k = all-append IsShort changes others h k
-appended_short (Ok changes) (Err row) h k = absurd k
-appended_short (Err row) b h k = absurd h
+appended_short a b h k = appended_all IsShort a b h k
 
 pub all_if : (P : Change → Type 0) (b : Bool) (changes others : List Change) → AllByRecursion P changes → AllByRecursion P others → AllByRecursion P (cond b changes others)
 all_if P true changes others h k = h
@@ -66,13 +70,16 @@ found_short test (row ∷ rows) h = found_here (test row) row (find test rows) h
 
 -- ---- what came to a port
 
-arrived : (b : Bool) (change : Change) (changes : List Change) → IsShort change → AllByRecursion IsShort changes → AllByRecursion IsShort (cond b (change ∷ changes) changes)
-arrived true change changes h k = (h, k)
-arrived false change changes h k = k
+pub at_port_all : (P : Change → Type 0) (port : ℕ) (arrivals : List Arrival) → AllByRecursion (λ a. a.port ≡ port → P a.change) arrivals → AllByRecursion P (at_port port arrivals)
+at_port_all P port [] h = tt
+at_port_all P port (a ∷ others) h =
+    elim (a.port == port) as (λ b. (a.port == port) ≡ b → AllByRecursion P (cond b (a.change ∷ at_port port others) (at_port port others))) [
+      | true ↦ λ e. (h.0 (eqb-true a.port port e), at_port_all P port others h.1)
+      | false ↦ λ e. at_port_all P port others h.1
+    ] refl
 
 pub at_port_short : (port : ℕ) (arrivals : List Arrival) → AllByRecursion ArrivesShort arrivals → AllByRecursion IsShort (at_port port arrivals)
-at_port_short port [] h = tt
-at_port_short port (a ∷ others) h = arrived (a.port == port) a.change (at_port port others) h.0 (at_port_short port others h.1)
+at_port_short port arrivals h = at_port_all IsShort port arrivals (all-each ArrivesShort (λ a. a.port ≡ port → IsShort a.change) (λ a k e. k) arrivals h)
 
 pub at_port_few : (port : ℕ) (arrivals : List Arrival) → length (at_port port arrivals) ≤ length arrivals
 at_port_few port [] = omega arith

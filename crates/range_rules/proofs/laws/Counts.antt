@@ -38,7 +38,7 @@ one_or_none true = omega arith
 one_or_none false = omega arith
 
 -- those that aren't NULL
-known_few : (values : Values) → size (known values) ≤ size values
+pub known_few : (values : Values) → size (known values) ≤ size values
 known_few values =
     let e : size (known values) ≡ total (λ value. cond (not (is_null value)) 1 0) values = total-restrict value_total value_exact (λ _. 1) (λ value. not (is_null value)) values in
     let l = total-le (λ value. cond (not (is_null value)) 1 0) (λ value. one_or_none (not (is_null value))) values in
@@ -66,16 +66,16 @@ count_gives n h =
     let range : in_range BigInt (pos n) ≡ true = within_pos (2 ^ 63) n (omega arith) in
     subst (λ b. Gives (cond b (Some (Num (pos n))) None)) (sym range) refl
 
-first_short : (xs : List Value) → AllByRecursion IsShortValue xs → is_short (first_value xs) ≡ true
+pub first_short : (xs : List Value) → AllByRecursion IsShortValue xs → is_short (first_value xs) ≡ true
 first_short [] h = refl
 first_short (x ∷ xs) h = h.0
 
-last_short : (xs : List Value) → AllByRecursion IsShortValue xs → is_short (last_value xs) ≡ true
+pub last_short : (xs : List Value) → AllByRecursion IsShortValue xs → is_short (last_value xs) ≡ true
 last_short [] h = refl
 last_short (x ∷ []) h = h.0
 last_short (x ∷ y ∷ xs) h = last_short (y ∷ xs) h.1
 
-known_short : (values : Values) → Each IsShortValue values → Each IsShortValue (known values)
+pub known_short : (values : Values) → Each IsShortValue values → Each IsShortValue (known values)
 known_short values h =
     all-each (λ value. IsShortValue value × (not (is_null value) ≡ true)) IsShortValue (λ value k. k.0) (items (known values))
     (each-restrict value_total value_exact IsShortValue (λ value. not (is_null value)) values h)
@@ -95,7 +95,7 @@ argument_short : (arg : Option ℕ) (row : Row) → IsShortRow row → is_short 
 argument_short None row short = refl
 argument_short (Some column) row short = cell_short row column short
 
-values_short : (n : ℕ) (agg : Agg) (rows : Rows) → AreShort n rows → Each IsShortValue (values_of agg rows) × (size (values_of agg rows) ≤ n)
+pub values_short : (n : ℕ) (agg : Agg) (rows : Rows) → AreShort n rows → Each IsShortValue (values_of agg rows) × (size (values_of agg rows) ≤ n)
 values_short n agg rows h =
     let k = restrict_short n (passes agg.filter) rows h in
     let e : size (values_of agg rows) ≡ total (λ _. 1) (restrict (passes agg.filter) rows) = total-mapped value_total value_exact row_total row_exact (λ _. 1) (argument agg.arg) (restrict (passes agg.filter) rows) in (

@@ -41,7 +41,7 @@ none_short = record { each = each-none row_total row_exact IsShortRow; few = let
 pub more_short : (n m : ℕ) (rows : Rows) → n ≤ m → AreShort n rows → AreShort m rows
 more_short n m rows l h = record { each = h.each; few = let f = h.few in omega arith }
 
-add_short : (n : ℕ) (rows : Rows) (row : Row) → IsShortRow row → AreShort n rows → AreShort (n + 1) (add rows row)
+pub add_short : (n : ℕ) (rows : Rows) (row : Row) → IsShortRow row → AreShort n rows → AreShort (n + 1) (add rows row)
 add_short n rows row short h = record {
   each = each-add row_total row_exact IsShortRow rows row short h.each;
   few = let e = total-add row_total (λ _. 1) rows row in let f = h.few in omega arith;

@@ -1,36 +1,46 @@
--- Each node of a plan that calculates nothing stays in range.
-use Rattle.std.specs.Prelude.{◌≡◌, ℕ, List, map, slice_get, Option, option_map}
-use Rattle.std.proofs.Common.{zero, suc, true, [], ◌∷◌, refl, sym, ap, subst, ◌∙◌, Some, None, Ok}
-use Rattle.std.specs.List.{list_all}
+-- Each node of a plan that calculates nothing stays in range, between what its inputs send and what it sends.
+use Rattle.std.specs.Prelude.{◌≡◌, ℕ, ◌+◌, ◌*◌, ◌<◌, ◌≤◌, ◌++◌, Bool, cond, List, length, map, slice_get, slice_index_or, Option, option_map}
+use Rattle.std.proofs.Common.{zero, suc, true, [], ◌∷◌, refl, sym, ap, subst, ◌∙◌, arith, Some, None}
+use Rattle.std.specs.List.{AllByRecursion, list_all}
 use Rattle.std.proofs.lemmas.Bool.{and_parts}
+use Rattle.ct_value.specs.declared.ty.ColTy.{ColTy}
+use Rattle.ct_change.specs.Changelog.{Mode}
+use Rattle.ct_change.specs.declared.change.Change.{Change}
 use Rattle.ct_expr.specs.View.{expr_view}
+use Rattle.rel_algebra.specs.declared.agg.Agg.{Agg}
 use Rattle.emission_rules.specs.Joining.{joins, matched}
+use Rattle.phase_rules.specs.LocalGrouping.{LocalGrouping}
 use Rattle.phys_plan.specs.declared.node.Op.{Op}
 use Rattle.phys_plan.specs.declared.node.Op.TheVariants as op
 use Rattle.phys_plan.specs.declared.node.Node.{Node}
 use Rattle.phys_plan.specs.declared.plan.Plan.{Plan}
-use Rattle.ct_value.specs.declared.ty.ColTy.{ColTy}
-use Rattle.ct_change.specs.Changelog.{Mode}
 use Rattle.phys_plan.specs.Reading.{first_input, numbered}
-use Rattle.plan_rules.specs.Behaviours.{bundled_rule}
+use Rattle.op_rules.specs.History.{Arrival, arrival}
+use Rattle.op_rules.specs.Ports.{ReadyArrives}
+use Rattle.op_rules.specs.Rules.{Rule}
+use Rattle.op_rules.specs.Tasks.{IsReady}
+use Rattle.op_rules.proofs.laws.Histories.{all-each}
+use Rattle.stream_model.specs.Machine.{is_number, size_of}
+use Rattle.stream_model.specs.Network.{Feed, IsWired, task}
+use Rattle.plan_rules.specs.Around.{Around, mode_read, filter_of, project_of, union_of, normalize_of, grouping_of, local_of, merging_of, joining_of, ranking_of, sink_of}
+use Rattle.plan_rules.specs.Behaviours.{Behaviour, BundlesWell, Suits, TakesBy, behaviour, bundled_rule, doing_of}
 use Rattle.plan_rules.specs.Columns.{columns_at}
-use Rattle.plan_rules.specs.Phases.{local_by}
-use Rattle.plan_rules.specs.Plans.{kinds_in, local_in, update_in}
-use Rattle.plan_rules.specs.Around.{Around, mode_read, filter_of, project_of, union_of, normalize_of, grouping_of, joining_of, ranking_of, sink_of}
-use Rattle.plan_rules.specs.Doings.{around_of, doing_by, doing_in, network}
+use Rattle.plan_rules.specs.Doings.{around_of, doing_in, network}
+use Rattle.plan_rules.specs.Phases.{local_by, sends_parts}
+use Rattle.plan_rules.specs.Plans.{bundle_in, bundle_of, inputs_in, kinds_in, local_in, scan_in, scan_of, update_in}
 use Rattle.sound_plans.proofs.laws.Lists.{the_same}
-use Rattle.range_rules.specs.Ranges.{StaysInRange}
+use Rattle.range_rules.specs.Tame.{only_counts}
+use Rattle.range_rules.specs.Ranges.{IsShort, ArrivesShort, IsAnswerOf, RuleStaysInRange, GoesShort, ComesShort, StaysBetween}
 use Rattle.range_rules.proofs.laws.Rows.{filters_stay, projects_stay, unions_stay, normalizes_stay, sinks_stay}
 use Rattle.range_rules.proofs.laws.Groups.{groups_stay}
 use Rattle.range_rules.proofs.laws.Joins.{joins_stay}
+use Rattle.range_rules.proofs.laws.LocalGroups.{local_groups_stay}
 use Rattle.range_rules.proofs.laws.Materializes.{materializes_stay}
+use Rattle.range_rules.proofs.laws.MergingGroups.{merging_groups_stay}
 use Rattle.range_rules.proofs.laws.Ranks.{topns_stay}
 use Rattle.range_rules.proofs.laws.SetOps.{set_operations_stay}
 use Rattle.run_laws.specs.Runs.{is_tame_op, is_tame_plan}
-
--- nothing is sent
-idles : StaysInRange (λ subtask. []) (λ before piece. Ok [])
-idles = record { opens = λ subtask. tt; answers = λ before piece h k few. tt }
+use Rattle.run_laws.proofs.laws.Steps.{StayInRange, piece_size, some_size}
 
 -- a node among those that calculate nothing
 tame_at : (nodes : List Node) → list_all (λ node. is_tame_op node.op) nodes ≡ true → (n : ℕ) (node : Node) → slice_get nodes n ≡ Some node → is_tame_op node.op ≡ true
@@ -38,43 +48,193 @@ tame_at [] all n node e = absurd (cc)
 tame_at (first ∷ nodes) all zero node e = ap (λ (x : Node). is_tame_op x.op) (sym (the_same first node e)) ∙ (and_parts _ _ all).0
 tame_at (first ∷ nodes) all (suc n) node e = tame_at nodes (and_parts _ _ all).1 n node e
 
-does : (o : Op) (around : Around) → is_tame_op o ≡ true → around.partial ≡ None → StaysInRange (doing_by o around).opening (doing_by o around).emits
-does (op.Filter cond) around tame rows = filters_stay (filter_of (expr_view cond)) tame
-does (op.Project items) around tame rows = projects_stay (project_of (map expr_view items) around) tame
-does op.Union around tame rows = unions_stay (union_of around)
-does (op.Normalize key) around tame rows = normalizes_stay (normalize_of key around)
-does (op.Group keys aggs) around tame rows = groups_stay (grouping_of keys aggs around) tame
-does (op.BatchGroup keys aggs) around tame rows =
-    subst (λ partial. StaysInRange (bundled_rule keys aggs around partial).opening (bundled_rule keys aggs around partial).emits) (sym rows) (groups_stay (grouping_of keys aggs around) tame)
-does (op.LocalGroup keys aggs) around tame rows = absurd (cc)
-does (op.Join kind on rest) around tame rows = joins_stay (joining_of (joins kind) on (option_map expr_view rest) around) tame
-does (op.Semi anti on rest) around tame rows = joins_stay (joining_of (matched anti) on (option_map expr_view rest) around) tame
-does (op.SetOp except all columns) around tame rows = set_operations_stay (record { except = except; all = all })
-does (op.TopN partition order bound ranked) around tame rows = topns_stay (ranking_of partition order bound ranked around)
-does (op.Materialize key) around tame rows = materializes_stay key
-does op.Sink around tame rows = sinks_stay (sink_of around)
-does _ around tame rows = idles
+-- ---- by operator
 
--- it sends no partial rows
-sends_rows : (columns : ℕ → List ColTy) (plan : Plan) (o : Option Node) → ((node : Node) → o ≡ Some node → is_tame_op node.op ≡ true) → local_in columns plan o ≡ None
-sends_rows columns plan None tame = refl
-sends_rows columns plan (Some node) tame =
-    none node.op (tame node refl) (columns (first_input node.inputs)) (mode_read (kinds_in (numbered plan.edges (first_input node.inputs))) (update_in (numbered plan.edges (first_input node.inputs))))
-  where
-    none : (o : Op) → is_tame_op o ≡ true → (types : List ColTy) (mode : Mode) → local_by o types mode ≡ None
-    none (op.LocalGroup keys aggs) t types mode = absurd (cc)
-    none _ t types mode = refl
+-- what comes to a node's rule; to one without a rule anything
+abbrev ComesBy : ℕ → Option LocalGrouping → Option Behaviour → Arrival → Type 0
+ComesBy most partial None a = Unit {0}
+ComesBy most partial (Some b) a = ComesShort most partial b.rule a
 
-module _ (plan : Plan) (tame : is_tame_plan plan ≡ true) where
-  numbered_tame : (v : ℕ) (node : Node) → numbered plan.nodes v ≡ Some node → is_tame_op node.op ≡ true
-  numbered_tame zero node e = absurd (cc)
-  numbered_tame (suc n) node e = tame_at plan.nodes tame n node e
+-- all that partial rows sum up can be counted, and their calls count or choose
+record AreCounted (most limit : ℕ) (l : LocalGrouping) : Type 0 where
+  few : limit * most < 9223372036854775808
+  tame : list_all (λ agg. only_counts agg.call) l.aggs ≡ true
 
-  does_in : (v : ℕ) (o : Option Node) → ((node : Node) → o ≡ Some node → is_tame_op node.op ≡ true) → StaysInRange (doing_in plan v o).opening (doing_in plan v o).emits
-  does_in v None own = idles
-  does_in v (Some node) own =
-      does node.op (around_of plan v node.inputs) (own node refl)
-      (sends_rows (columns_at plan.sources plan.nodes) plan (numbered plan.nodes (first_input node.inputs)) (numbered_tame (first_input node.inputs)))
+abbrev all_count : Option LocalGrouping → Bool
+all_count None = true
+all_count (Some l) = list_all (λ agg. only_counts agg.call) l.aggs
 
-  pub nodes_stay : (v : ℕ) → StaysInRange ((network plan).opening v) ((network plan).emits v)
-  nodes_stay v = does_in v (numbered plan.nodes v) (numbered_tame v)
+module _ (most limit : ℕ) (small : limit < 9223372036854775808) where
+  abbrev StaysBy : Option LocalGrouping → Option LocalGrouping → Option Behaviour → Type 0
+  StaysBy partial own None = Unit {0}
+  StaysBy partial own (Some b) = StaysBetween most limit partial own b.rule
+
+  -- a rule over rows
+  rows : (rule : Rule) (partial : Option LocalGrouping) → RuleStaysInRange rule → StaysBetween most limit partial None rule
+  rows rule partial h = record {
+    opens = h.opens;
+    answers = λ before piece c d few within.
+        h.answers before piece (all-each (ComesShort most partial rule) ArrivesShort (λ a k. k.short) before c) (all-each (ComesShort most partial rule) ArrivesShort (λ a k. k.short) piece d) (omega (arith, within, small));
+  }
+
+  bundled : (keys : ℕ) (aggs : List Agg) (around : Around) (partial : Option LocalGrouping) → list_all (λ agg. only_counts agg.call) aggs ≡ true → BundlesWell keys aggs around partial
+      → ((l : LocalGrouping) → partial ≡ Some l → AreCounted most limit l) → StaysBetween most limit partial None (bundled_rule keys aggs around partial)
+  bundled keys aggs around None tame suits counted = rows (bundled_rule keys aggs around None) None (groups_stay (grouping_of keys aggs around) tame)
+  bundled keys aggs around (Some l) tame suits counted = let c = counted l refl in merging_groups_stay (merging_of l around) suits.0 c.tame most limit c.few
+
+  does : (o : Op) (around : Around) → is_tame_op o ≡ true → Suits o around → ((l : LocalGrouping) → around.partial ≡ Some l → AreCounted most limit l)
+      → StaysBy around.partial (local_by o around.columns (mode_read around.kinds around.input)) (behaviour o around)
+  does (op.Scan source) around tame suits counted = tt
+  does (op.Filter cond) around tame suits counted = rows _ around.partial (filters_stay (filter_of (expr_view cond)) tame)
+  does (op.Project items) around tame suits counted = rows _ around.partial (projects_stay (project_of (map expr_view items) around) tame)
+  does op.Union around tame suits counted = rows _ around.partial (unions_stay (union_of around))
+  does (op.Normalize key) around tame suits counted = rows _ around.partial (normalizes_stay (normalize_of key around))
+  does (op.Group keys aggs) around tame suits counted = rows _ around.partial (groups_stay (grouping_of keys aggs around) tame)
+  does (op.BatchGroup keys aggs) around tame suits counted = bundled keys aggs around around.partial tame suits counted
+  does (op.LocalGroup keys aggs) around tame suits counted = local_groups_stay (local_of keys aggs around) suits.0 tame most limit around.partial
+  does (op.Join kind on rest) around tame suits counted = rows _ around.partial (joins_stay (joining_of (joins kind) on (option_map expr_view rest) around) tame)
+  does (op.Semi anti on rest) around tame suits counted = rows _ around.partial (joins_stay (joining_of (matched anti) on (option_map expr_view rest) around) tame)
+  does (op.SetOp except all columns) around tame suits counted = rows _ around.partial (set_operations_stay (record { except = except; all = all }))
+  does (op.TopN partition order bound ranked) around tame suits counted = rows _ around.partial (topns_stay (ranking_of partition order bound ranked around))
+  does (op.Materialize key) around tame suits counted = rows _ around.partial (materializes_stay key)
+  does op.Sink around tame suits counted = rows _ around.partial (sinks_stay (sink_of around))
+  does (op.MultiJoin on) around tame suits counted = tt
+
+  -- of what a node does
+  opens_by : (partial own : Option LocalGrouping) (b : Option Behaviour) → StaysBy partial own b → (subtask : ℕ) → AllByRecursion (GoesShort most own) ((doing_of b).opening subtask)
+  opens_by partial own None stays subtask = tt
+  opens_by partial own (Some b) stays subtask = stays.opens subtask
+
+  answers_by : (partial own : Option LocalGrouping) (b : Option Behaviour) → StaysBy partial own b → (before piece : List Arrival) → AllByRecursion (ComesBy most partial b) before → AllByRecursion (ComesBy most partial b) piece
+      → length piece ≤ most → length before + length piece ≤ limit → IsAnswerOf (GoesShort most own) ((doing_of b).emits before piece)
+  answers_by partial own None stays before piece h k few within = tt
+  answers_by partial own (Some b) stays before piece h k few within = stays.answers before piece h k few within
+
+-- a scan sends rows
+scan_sends : (most : ℕ) (o : Op) (columns : List ColTy) (mode : Mode) (table : ℕ) (change : Change) → is_number table (scan_of o) ≡ true → IsShort change → GoesShort most (local_by o columns mode) change
+scan_sends most (op.Scan source) columns mode table change is short = short
+scan_sends most _ columns mode table change is short = absurd (cc)
+
+-- an operator with a rule scans no table
+no_scan : (o : Op) (around : Around) (b : Behaviour) → behaviour o around ≡ Some b → scan_of o ≡ None
+no_scan (op.Scan source) around b is = absurd (cc)
+no_scan _ around b is = refl
+
+-- bundles are as large as the plan's, or pieces are single changes
+bundle_fits : (size : ℕ) (o : Op) → piece_size (size_of (bundle_of size o)) ≤ piece_size size
+bundle_fits size (op.BatchGroup keys aggs) = omega arith
+bundle_fits size (op.LocalGroup keys aggs) = omega arith
+bundle_fits size _ = some_size size
+
+-- the first port is the first input's
+first_port : (inputs : List ℕ) (e : ℕ) → slice_index_or inputs 0 0 ≡ e → first_input inputs ≡ e
+first_port [] e is = is
+first_port (input ∷ inputs) e is = is
+
+-- ---- a plan
+
+module _ (plan : Plan) where
+  abbrev most : ℕ
+  most = piece_size plan.mini_batch
+
+  abbrev local_at : Option Node → Option LocalGrouping
+  local_at o = local_in (columns_at plan.sources plan.nodes) plan o
+
+  abbrev does_at : ℕ → Node → Option Behaviour
+  does_at v node = behaviour node.op (around_of plan v node.inputs)
+
+  -- what a node sends, and what comes to it
+  abbrev pub Sends : ℕ → Change → Type 0
+  Sends v change = GoesShort most (local_at (numbered plan.nodes v)) change
+
+  abbrev ComesAt : ℕ → Option Node → Arrival → Type 0
+  ComesAt v None a = Unit {0}
+  ComesAt v (Some node) a = ComesBy most (around_of plan v node.inputs).partial (does_at v node) a
+
+  abbrev pub Comes : ℕ → Arrival → Type 0
+  Comes v a = ComesAt v (numbered plan.nodes v) a
+
+  module _ (tame : is_tame_plan plan ≡ true) (limit : ℕ) (small : limit < 9223372036854775808)
+      (parts_small : (v : ℕ) (node : Node) → numbered plan.nodes v ≡ Some node → sends_parts node.op ≡ true → limit * plan.mini_batch < 9223372036854775808)
+      (wired : IsWired (network plan))
+      (take : (v : ℕ) (node : Node) → numbered plan.nodes v ≡ Some node → scan_of node.op ≡ None → TakesBy (does_at v node) (task (network plan) v))
+      (suit : (v : ℕ) (node : Node) → numbered plan.nodes v ≡ Some node → Suits node.op (around_of plan v node.inputs)) (ready : ReadyArrives) where
+    numbered_tame : (v : ℕ) (node : Node) → numbered plan.nodes v ≡ Some node → is_tame_op node.op ≡ true
+    numbered_tame zero node e = absurd (cc)
+    numbered_tame (suc n) node e = tame_at plan.nodes tame n node e
+
+    sized : (size : ℕ) → limit * size < 9223372036854775808 → limit * piece_size size < 9223372036854775808
+    sized zero few = omega (arith, small)
+    sized (suc size) few = few
+
+    -- what the partial rows of a node sum up
+    counted : (v : ℕ) (o : Option Node) → numbered plan.nodes v ≡ o → (l : LocalGrouping) → local_at o ≡ Some l → AreCounted most limit l
+    counted v None there l e = absurd (cc)
+    counted v (Some node) there l e =
+        by_op node.op (numbered_tame v node there) (parts_small v node there) (columns_at plan.sources plan.nodes (first_input node.inputs))
+        (mode_read (kinds_in (numbered plan.edges (first_input node.inputs))) (update_in (numbered plan.edges (first_input node.inputs)))) e
+      where
+        by_op : (o : Op) → is_tame_op o ≡ true → (sends_parts o ≡ true → limit * plan.mini_batch < 9223372036854775808) → (columns : List ColTy) (mode : Mode) → local_by o columns mode ≡ Some l → AreCounted most limit l
+        by_op (op.LocalGroup keys aggs) counts few columns mode is =
+            record { few = sized plan.mini_batch (few refl); tame = ap (λ (o : Option LocalGrouping). all_count o) (sym is) ∙ counts }
+        by_op _ counts few columns mode is = absurd (cc)
+
+    node_stays : (v : ℕ) (node : Node) → numbered plan.nodes v ≡ Some node → StaysBy most limit small (around_of plan v node.inputs).partial (local_at (Some node)) (does_at v node)
+    node_stays v node there =
+        does most limit small node.op (around_of plan v node.inputs) (numbered_tame v node there) (suit v node there)
+        (λ l e. counted (first_input node.inputs) (numbered plan.nodes (first_input node.inputs)) refl l e)
+
+    opens : (v i : ℕ) (o : Option Node) → numbered plan.nodes v ≡ o → AllByRecursion (GoesShort most (local_at o)) ((doing_in plan v o).opening i)
+    opens v i None there = tt
+    opens v i (Some node) there = opens_by most limit small (around_of plan v node.inputs).partial (local_at (Some node)) (does_at v node) (node_stays v node there) i
+
+    scans : (table e : ℕ) (change : Change) (o : Option Node) → is_number table (scan_in o) ≡ true → IsShort change → GoesShort most (local_at o) change
+    scans table e change None is short = short
+    scans table e change (Some node) is short =
+        scan_sends most node.op (columns_at plan.sources plan.nodes (first_input node.inputs))
+        (mode_read (kinds_in (numbered plan.edges (first_input node.inputs))) (update_in (numbered plan.edges (first_input node.inputs)))) table change is short
+
+    -- a change that its first input sends, or another
+    comes_by : (v e port i j : ℕ) (node : Node) → numbered plan.nodes v ≡ Some node → (port ≡ 0 → first_input node.inputs ≡ e) → (b : Option Behaviour) → does_at v node ≡ b → (before : List Arrival) (change : Change)
+        → IsReady (task (network plan) v) j (before ++ arrival port i change ∷ []) → Sends e change → IsShort change → ComesBy most (around_of plan v node.inputs).partial b (arrival port i change)
+    comes_by v e port i j node there first None is before change may sends short = tt
+    comes_by v e port i j node there first (Some b) is before change may sends short =
+        let takes : TakesBy (Some b) (task (network plan) v) = subst (λ x. TakesBy x (task (network plan) v)) is (take v node there (no_scan node.op (around_of plan v node.inputs) b is)) in
+        record {
+          short = short;
+          sent = λ at_first. subst (λ w. GoesShort most (local_at (numbered plan.nodes w)) change) (sym (first at_first)) sends;
+          fits = (ready b.rule (task (network plan) v) takes j before (arrival port i change) may).fits;
+        }
+
+    is_short : (o : Option LocalGrouping) (change : Change) → GoesShort most o change → IsShort change
+    is_short None change h = h
+    is_short (Some l) change h = h.short
+
+    arrives : (e : ℕ) (feed : Feed) → (network plan).fed e ≡ Some feed → (i j : ℕ) (before : List Arrival) (change : Change) → IsReady (task (network plan) feed.node) j (before ++ arrival feed.port i change ∷ [])
+        → Sends e change → (o : Option Node) → numbered plan.nodes feed.node ≡ o → ComesAt feed.node o (arrival feed.port i change)
+    arrives e feed fed i j before change may sends None there = tt
+    arrives e feed fed i j before change may sends (Some node) there =
+        comes_by feed.node e feed.port i j node there first (does_at feed.node node) refl before change may sends (is_short (local_at (numbered plan.nodes e)) change sends)
+      where
+        first : feed.port ≡ 0 → first_input node.inputs ≡ e
+        first at_first =
+            first_port node.inputs e
+            (ap (λ port. slice_index_or node.inputs port 0) (sym at_first) ∙ ap (λ o. slice_index_or (inputs_in o) feed.port 0) (sym there) ∙ (wired.feeds_port e feed fed).1)
+
+    answers : (v : ℕ) (o : Option Node) → numbered plan.nodes v ≡ o → (before piece : List Arrival) → AllByRecursion (ComesAt v o) before → AllByRecursion (ComesAt v o) piece → length piece ≤ most → length before + length piece ≤ limit
+        → IsAnswerOf (GoesShort most (local_at o)) ((doing_in plan v o).emits before piece)
+    answers v None there before piece h k few within = tt
+    answers v (Some node) there before piece h k few within =
+        answers_by most limit small (around_of plan v node.inputs).partial (local_at (Some node)) (does_at v node) (node_stays v node there) before piece h k few within
+
+    piece_fits : (o : Option Node) → piece_size (size_of (bundle_in plan.mini_batch o)) ≤ most
+    piece_fits None = some_size plan.mini_batch
+    piece_fits (Some node) = bundle_fits plan.mini_batch node.op
+
+    pub nodes_stay : StayInRange (network plan) limit Sends Comes
+    nodes_stay = record {
+      opens = λ v i. opens v i (numbered plan.nodes v) refl;
+      scans = λ table e change is short. scans table e change (numbered plan.nodes e) is short;
+      arrives = λ e feed fed i j before change may sends. arrives e feed fed i j before change may sends (numbered plan.nodes feed.node) refl;
+      answers = λ v before piece h k few within. answers v (numbered plan.nodes v) refl before piece h k (let f = piece_fits (numbered plan.nodes v) in omega (arith, few, f)) within;
+    }

@@ -1,13 +1,16 @@
 -- The plan of a tree that calculates nothing calculates nothing, whatever is inferred of it.
-use Rattle.std.specs.Prelude.{◌≡◌, ℕ, ◌+◌, ◌≤◌, ◌&&◌, List, slice_get, Option, unwrap_or}
-use Rattle.std.proofs.Common.{zero, suc, true, [], ◌∷◌, refl, sym, ap, subst, ◌∙◌, arith, Some, None, inl, inr}
+use Rattle.std.specs.Prelude.{◌≡◌, ℕ, ◌+◌, ◌≤◌, Bool, ◌&&◌, cond, List, slice_get, Option, unwrap_or}
+use Rattle.std.proofs.Common.{zero, suc, true, false, [], ◌∷◌, refl, sym, ap, subst, ◌∙◌, arith, Some, None, inl, inr}
 use Rattle.std.specs.List.{list_all}
 use Rattle.std.proofs.lemmas.Bool.{and_parts, and_from}
 use Rattle.ct_change.specs.declared.kind.Declared.{Declared}
 use Rattle.ct_change.specs.declared.kind.Declared.TheVariants.{Append, Retract, Upsert}
+use Rattle.ct_change.specs.declared.kind.KindSet.{KindSet}
+use Rattle.ct_change.specs.Changelog.{kinds_of, upsert}
 use Rattle.ct_catalog.specs.declared.table.TableDef.{TableDef}
-use Rattle.range_rules.specs.Tame.{is_tame_rel, are_tame_rels}
-use Rattle.rel_algebra.specs.Rel.{Rel, Rels, Scan, One, Two, Many, no_rels, rel_and}
+use Rattle.mode_infer.specs.Kinds.{inserts}
+use Rattle.range_rules.specs.Tame.{is_tame_rel, are_tame_rels, is_tame_unary}
+use Rattle.rel_algebra.specs.Rel.{Unary, filter_by, project_on, group_by, rank_in, Rel, Rels, Scan, One, Two, Many, no_rels, rel_and}
 use Rattle.phys_plan.specs.declared.edge.Exchange.{Exchange}
 use Rattle.phys_plan.specs.declared.edge.Exchange.TheVariants.{Forward}
 use Rattle.phys_plan.specs.declared.node.KeyInfo.{KeyInfo}
@@ -17,7 +20,10 @@ use Rattle.phys_plan.specs.declared.node.Node.{Node}
 use Rattle.phys_plan.specs.declared.plan.Plan.{Plan}
 use Rattle.upsert_keys.specs.Keys.{keyed_from}
 use Rattle.phys_plan.specs.Reading.{numbered}
-use Rattle.laid_plans.proofs.laws.LaidTrees.{IsUnary, IsBinary, HasNode, ScanLaid, SourceLaid, IsLaid, AreLaid, TopLaid}
+use Rattle.laid_plans.proofs.laws.LaidTrees.{IsUnary, IsBinary, HasNode, IsOver, ScanLaid, SourceLaid, OneLaid, IsLaid, AreLaid, TopLaid}
+use Rattle.plan_rules.specs.Phases.{Bundles, in_phases, local_below}
+use Rattle.plan_rules.specs.TreeKinds.{tree_kinds}
+use Rattle.laid_plans.specs.Shapes.{bundles_in}
 use Rattle.plan_rules.specs.Pieces.{Top, bare, shown, asks_of}
 use Rattle.plan_rules.specs.Roles.{unary_way, binary_way}
 use Rattle.plan_check.specs.Sound.{inferred_of}
@@ -31,6 +37,20 @@ use Rattle.run_laws.specs.Runs.{is_tame_op, is_tame_role, TreesHaveTamePlans}
 
 is_op : (own : Op) → is_tame_op own ≡ true → (o : Op) → o ≡ own → is_tame_op o ≡ true
 is_op own tame o e = ap is_tame_op e ∙ tame
+
+-- a local group counts or chooses as the group above it
+local_tame : (how : Unary) → is_tame_unary how ≡ true → (b : Bundles) (kinds : KindSet) (o : Op) → local_below b how kinds ≡ Some o → is_tame_op o ≡ true
+local_tame (group_by keys aggs) tame b kinds o e = go (in_phases b keys aggs kinds) e
+  where
+    the_same_op : Some (op.LocalGroup keys aggs) ≡ Some o → op.LocalGroup keys aggs ≡ o
+    the_same_op is = cc (is)
+
+    go : (c : Bool) → cond c (Some (op.LocalGroup keys aggs)) None ≡ Some o → is_tame_op o ≡ true
+    go true is = ap is_tame_op (sym (the_same_op is)) ∙ tame
+    go false is = absurd (cc)
+local_tame (filter_by condition) tame b kinds o e = absurd (cc)
+local_tame (project_on items) tame b kinds o e = absurd (cc)
+local_tame (rank_in partition order bound ranked) tame b kinds o e = absurd (cc)
 
 -- ---- nodes
 
@@ -62,36 +82,48 @@ module _ (plan : Plan) where
       (at_node root (λ o. o ≡ op.Normalize key) ((n + 1) ∷ []) laid.3 (is_op (op.Normalize key) refl))
 
   source_tame : (n : ℕ) (x : Exchange) (source : ℕ) (o : Option TableDef) (root : ℕ) → TameUpTo n → SourceLaid plan n x source o root → TameUpTo root
-  source_tame n x source None root before laid = scan_tame n x source Append [] root before laid
+  source_tame n x source None root before laid = more n root before laid.0 (at_node root (λ o. o ≡ op.Scan source) [] laid.1 (is_op (op.Scan source) refl))
   source_tame n x source (Some table) root before laid = scan_tame n x source table.mode (unwrap_or table.key []) root before laid
 
+  -- a node behind its only input
+  over_tame : (below root : ℕ) (IsOp : Op → Type 0) (x : Exchange) (kinds : KindSet) → TameUpTo below → ((o : Op) → IsOp o → is_tame_op o ≡ true) → IsOver plan below IsOp root x kinds → TameUpTo root
+  over_tame below root IsOp x kinds before tame laid = more below root before laid.0 (at_node root IsOp (below ∷ []) laid.1 tame)
+
+  one_tame : (how : Unary) → is_tame_unary how ≡ true → (n : ℕ) (Laid : Exchange → ℕ → Type 0) → ((asks : Exchange) (below : ℕ) → Laid asks below → TameUpTo below)
+      → (local : Option Op) → ((o : Op) → local ≡ Some o → is_tame_op o ≡ true) → (x : Exchange) (kinds : KindSet) (root : ℕ) → OneLaid plan how local Laid x kinds root → TameUpTo root
+  one_tame how tame n Laid under None locals x kinds root laid =
+      over_tame laid.0 root (IsUnary plan.mini_batch how) x kinds (under (unary_way how).asks laid.0 laid.1) (λ o is. ap is_tame_role (unary_fits plan how o is).told ∙ tame) laid.2
+  one_tame how tame n Laid under (Some local) locals x kinds root laid =
+      over_tame laid.1 root (IsUnary plan.mini_batch how) x kinds
+      (over_tame laid.0 laid.1 (λ o. o ≡ local) (unary_way how).asks inserts (under Forward laid.0 laid.2) (is_op local (locals local refl)) laid.3)
+      (λ o is. ap is_tame_role (unary_fits plan how o is).told ∙ tame) laid.4
+
   mutual
-    tree_tame : (rel : Rel) → is_tame_rel rel ≡ true → (n : ℕ) (x : Exchange) (root : ℕ) → TameUpTo n → IsLaid plan n x rel root → TameUpTo root
-    tree_tame (Scan source) tame n x root before laid = source_tame n x source (slice_get plan.sources source) root before laid
-    tree_tame (One how input) tame n x root before laid =
+    tree_tame : (two_phase : Bool) (rel : Rel) → is_tame_rel rel ≡ true → (n : ℕ) (x : Exchange) (root : ℕ) → TameUpTo n → IsLaid plan two_phase n x rel root → TameUpTo root
+    tree_tame two_phase (Scan source) tame n x root before laid = source_tame n x source (slice_get plan.sources source) root before laid
+    tree_tame two_phase (One how input) tame n x root before laid =
         let p = and_parts _ _ tame in
-        more laid.0 root (tree_tame input p.0 n (unary_way how).asks laid.0 before laid.1) laid.2
-        (at_node root (IsUnary plan.mini_batch how) (laid.0 ∷ []) laid.3 (λ o is. ap is_tame_role (unary_fits plan how o is).told ∙ p.1))
-    tree_tame (Two how left right) tame n x root before laid =
+        one_tame how p.1 n (λ asks below. IsLaid plan two_phase n asks input below) (λ asks below under. tree_tame two_phase input p.0 n asks below before under)
+        (local_below (bundles_in plan two_phase) how (tree_kinds plan.sources input)) (λ o is. local_tame how p.1 (bundles_in plan two_phase) (tree_kinds plan.sources input) o is) x (tree_kinds plan.sources (One how input)) root laid
+    tree_tame two_phase (Two how left right) tame n x root before laid =
         let p = and_parts _ _ tame in
         let q = and_parts _ _ p.1 in
-        let first = tree_tame left p.0 n (binary_way how).left laid.0 before laid.2 in
-        more laid.1 root (tree_tame right q.0 laid.0 (binary_way how).right laid.1 first laid.3) laid.4
+        let first = tree_tame two_phase left p.0 n (binary_way how).left laid.0 before laid.2 in
+        more laid.1 root (tree_tame two_phase right q.0 laid.0 (binary_way how).right laid.1 first laid.3) laid.4
         (at_node root (IsBinary how) (laid.0 ∷ (laid.1 ∷ [])) laid.5 (λ o is. ap is_tame_role (binary_fits plan how o is).told ∙ q.1))
-    tree_tame (Many inputs) tame n x root before laid =
-        more laid.1 root (trees_tame inputs tame n laid.0 laid.1 before laid.2) laid.3 (at_node root (λ o. o ≡ op.Union) laid.0 laid.4 (is_op op.Union refl))
+    tree_tame two_phase (Many inputs) tame n x root before laid =
+        more laid.1 root (trees_tame two_phase inputs tame n laid.0 laid.1 before laid.2) laid.3 (at_node root (λ o. o ≡ op.Union) laid.0 laid.4 (is_op op.Union refl))
 
-    trees_tame : (inputs : Rels) → are_tame_rels inputs ≡ true → (n : ℕ) (roots : List ℕ) (last : ℕ) → TameUpTo n → AreLaid plan n inputs roots last → TameUpTo last
-    trees_tame no_rels tame n roots last before laid = subst TameUpTo (sym laid.1) before
-    trees_tame (rel_and input inputs) tame n roots last before laid =
+    trees_tame : (two_phase : Bool) (inputs : Rels) → are_tame_rels inputs ≡ true → (n : ℕ) (roots : List ℕ) (last : ℕ) → TameUpTo n → AreLaid plan two_phase n inputs roots last → TameUpTo last
+    trees_tame two_phase no_rels tame n roots last before laid = subst TameUpTo (sym laid.1) before
+    trees_tame two_phase (rel_and input inputs) tame n roots last before laid =
         let p = and_parts _ _ tame in
-        trees_tame inputs p.1 laid.0 laid.1 last (tree_tame input p.0 n Forward laid.0 before laid.2) laid.3
+        trees_tame two_phase inputs p.1 laid.0 laid.1 last (tree_tame two_phase input p.0 n Forward laid.0 before laid.2) laid.3
 
   -- what stands before the sink
   topped_tame : (top : Top) (below root : ℕ) → TameUpTo below → TopLaid plan top below root → TameUpTo root
   topped_tame bare below root before between = subst TameUpTo (sym between) before
-  topped_tame (shown key) below root before between =
-      more below root before between.0 (at_node root (λ o. o ≡ op.Materialize key) (below ∷ []) between.1 (is_op (op.Materialize key) refl))
+  topped_tame (shown key) below root before between = over_tame below root (λ o. o ≡ op.Materialize key) Forward (kinds_of (upsert key)) before (is_op (op.Materialize key) refl) between
 
 -- ---- the plan
 
@@ -107,7 +139,7 @@ keeps table v (node ∷ nodes) = ap (λ b. is_tame_op node.op && b) (keeps table
 pub trees_have_tame_plans : TreesHaveTamePlans
 trees_have_tame_plans plan rel is tame =
     let out = lays_out plan rel is in
-    let tree = tree_tame plan rel tame 0 (asks_of is.top) out.below (no_nodes plan) out.laid in
+    let tree = tree_tame plan is.two_phase rel tame 0 (asks_of is.top) out.below (no_nodes plan) out.laid in
     let under = topped_tame plan is.top out.below out.root tree out.topped in
     let all = more plan out.root (out.root + 1) under refl (at_node plan (out.root + 1) (λ o. o ≡ op.Sink) (out.root ∷ []) out.sink_node (is_op op.Sink refl)) in
     let count = out.nodes in

@@ -9,7 +9,7 @@ use Rattle.job_run.proofs.InRange.{stays_in_range}
 use Rattle.job_run.proofs.requests.run.Goals as goal
 use Rattle.job_batch.proofs.laws.Theorems.{accepted_queries_keep_their_answers}
 use Rattle.job_judgement.proofs.laws.Theorems.{accepted_is_bound}
-use Rattle.job_plan.proofs.laws.Theorems.{runnable_scripts_are_planned}
+use Rattle.job_plan.proofs.laws.Theorems.{scripts_are_planned}
 use Rattle.laid_plans.proofs.laws.Theorems.{inferred_plans_answer}
 use Rattle.source_lines.proofs.laws.Theorems.{taken_files_fit}
 use Rattle.sql_grammar.proofs.laws.Theorems.{text_is_script}
@@ -26,7 +26,7 @@ laws = record {
   ends_quiet = runs_end_quiet;
   rows = runs_print_rows;
   sinks = sinks_take_columns;
-  can = runnable_scripts_are_planned;
+  can = scripts_are_planned;
   answers = inferred_plans_answer;
   agree = accepted_queries_keep_their_answers;
   fit = taken_files_fit;
@@ -48,5 +48,5 @@ returns-clause-headline g c = λ done h is.
 
 pub returns-clause-range : goal.returns-clause-range
 returns-clause-range g c = λ h is none node subtask row columns out.
-    stays_in_range accepted_is_bound inserts_are_tame runnable_scripts_are_planned trees_have_tame_plans runs_stay_in_range text_is_script h node subtask row columns c.args.words.now none
+    stays_in_range accepted_is_bound inserts_are_tame scripts_are_planned trees_have_tame_plans runs_stay_in_range text_is_script h node subtask row columns c.args.words.now none
     (subst (IsCaused _ (outcome c.args.words.now) _ _) out c.run_asked.ensures.runs.cause h is)

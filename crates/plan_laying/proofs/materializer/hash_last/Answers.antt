@@ -8,5 +8,5 @@ pub returns : goal.returns
 returns c =
     let rest = c.pop.new.self in
     let edge = c.in-Some.edge in
-    hashed_at_end c.args.key.now c.args.edges rest c.push.new.self c.pop.result edge c.in-Some.is c.pop.ensures.last
+    hashed_at_end (Hash c.args.key.now) c.args.edges rest c.push.new.self c.pop.result edge c.in-Some.is c.pop.ensures.last
     (c.in_ok-push.ensures.ok ∙ ap (λ key. rest ++ edge_of (Hash key) edge.kinds edge.update ∷ []) c.in_ok-dup.ensures)

@@ -31,4 +31,4 @@ abbrev pub invariant-lay-up : goal.invariant-lay-up
 invariant-lay-up l = Upward l.fn.self l.self l.root l.fn.exchange (rel_view l.fn.rel) (map asked_view l.way)
 
 abbrev pub invariant-lay_all-loop-input : goal.invariant-lay_all-loop-input
-invariant-lay_all-loop-input l = LaysAll l.fn.self l.self (rels (rels_view (take l.input-index l.inputs))) l.roots
+invariant-lay_all-loop-input l = LaysAll l.fn.self l.self (rels (rels_view (take l.input-index l.inputs))) l.roots l.flows

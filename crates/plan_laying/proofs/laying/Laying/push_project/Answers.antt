@@ -8,4 +8,4 @@ use Rattle.plan_laying.proofs.laying.Laying.push_project.Goals as goal
 pub returns-clause-pushed : goal.returns-clause-pushed
 returns-clause-pushed c =
     let own = c.in_ok-items.items in
-    pushed_as _ _ _ (op.Project own) _ _ _ (ap op.Project (each_as_seen own ∙ ap (map expr_of) c.in_ok-items.ensures)) c.push_over.ensures.pushed
+    pushed_as _ _ _ (op.Project own) _ _ _ _ (ap op.Project (each_as_seen own ∙ ap (map expr_of) c.in_ok-items.ensures)) c.push_over.ensures.pushed

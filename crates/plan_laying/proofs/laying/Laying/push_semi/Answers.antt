@@ -10,4 +10,4 @@ returns-clause-pushed c =
     let o = op.Semi c.args.anti c.in_ok-on.on c.in_ok-rest.rest in
     let pairs = c.in_ok-on.ensures in
     let rest = rest_as_seen c.in_ok-rest.rest ∙ ap (option_map expr_of) c.in_ok-rest.ensures in
-    pushed_as _ _ _ o _ _ _ (λ i. op.Semi c.args.anti (pairs i) (rest i)) c.push_both.ensures.pushed
+    pushed_as _ _ _ o _ _ _ _ (λ i. op.Semi c.args.anti (pairs i) (rest i)) c.push_both.ensures.pushed
