@@ -5,5 +5,5 @@
 //! prefix of what it sent stands for rows of its input (`specs/LocalFits`, `proofs/laws/LocalFacts`); what a merging group emits for
 //! partial rows (`specs/Merging`), and that it meets the facts of nodes with the batch answer of the group in one phase
 //! (`specs/MergeFits`, `proofs/laws/MergeFacts`). It stands on the partials of `agg_fns` and on the rule of groups of `emission_rules`,
-//! and has no code. No plan has a local group yet.
+//! and has no code.
 #![tactic(auto)]
