@@ -15,7 +15,9 @@ use Rattle.ct_field.specs.Typed.{row_fits}
 use Rattle.ct_change.specs.declared.kind.Kind.TheVariants.{I}
 use Rattle.ct_change.specs.declared.change.Change.{Change}
 use Rattle.ct_change.specs.Changelog.{Mode, append, retract, upsert, Rows, same_row, adds, has, admits, AreOf, additions, removals, HasKey, Means}
-use Rattle.ct_change.proofs.laws.Meanings.{means_come}
+use Rattle.ct_change.proofs.laws.Meanings.{means_come, same_row-true}
+use Rattle.rel_algebra.specs.GroupedCounts.{in_group}
+use Rattle.std.proofs.lemmas.List.Elements.{filter-append}
 use Rattle.rel_algebra.specs.declared.agg.Agg.{Agg}
 use Rattle.rel_algebra.specs.declared.agg.AggCall.{AggCall}
 use Rattle.rel_algebra.specs.declared.agg.AggCall.TheVariants.{CountAll, Count, CountDistinct, Sum, Min, Max, Avg}
@@ -37,8 +39,9 @@ use Rattle.emission_rules.specs.GroupFits.{first_columns}
 use Rattle.emission_rules.specs.Grouping.{answers, groups_of}
 use Rattle.phase_rules.specs.LocalGrouping.{LocalGrouping, amounts, worth_of_values, parts, parts_of_calls, reached_at, are_silent, fit_after, rows_come, rows_gone, members_of, partial_row, local_answer, local_emits, partials_of}
 use Rattle.phase_rules.specs.LocalFits.{IsOfBags, LocalFits, local_task, LocalGroupsStand, LocalGroupsTake}
+use Rattle.phase_rules.specs.LocalPrefixes.{LocalPrefixesStand, StandsForPieces}
 use Rattle.phase_rules.proofs.laws.LocalTold.{comes_in, wide_of, IsTaken, each_piece}
-use Rattle.phase_rules.proofs.laws.LocalSums.{rows_by, added, taken_away, nothing_goes, pieces_worth, told_groups, named_groups, sum-append}
+use Rattle.phase_rules.proofs.laws.LocalSums.{rows_by, added, taken_away, front_of, nothing_goes, pieces_worth, told_groups, named_groups, sum-append}
 
 -- ---- worths
 
@@ -352,6 +355,99 @@ module _ (many : ℕ) (l : LocalGrouping) (from to : Edge) (fits : LocalFits man
       told_is : sum_of p g told ≡ cond (list_any (same_row k) groups) w nothing
       told_is = told_groups l g changes groups told distinct named all
 
+  -- ---- the partial rows of one group
+
+  abbrev answer_of : List Change → Row → Answer
+  answer_of changes key = local_answer l.aggs key (members_of l.keys key changes)
+
+  -- what is told of some groups, and behind them of others
+  apart : (changes : List Change) (first others : List Row) (told : List Change) → answers (answer_of changes) (first ++ others) ≡ Ok told
+      → (few rest : List Change) × (answers (answer_of changes) first ≡ Ok few) × (answers (answer_of changes) others ≡ Ok rest) × (told ≡ few ++ rest)
+  apart changes [] others told e = ([], told, refl, e, refl)
+  apart changes (key ∷ first) others told e =
+      let both = both-appended (answer_of changes key) (answers (answer_of changes) (first ++ others)) told e in
+      let more = apart changes first others both.back both.is_back in (
+        both.front ++ more.0,
+        more.1,
+        (λ t. appended (both.is_front t) (more.2 t)),
+        more.3,
+        both.whole ∙ ap (λ b. both.front ++ b) more.4 ∙ sym (append_assoc both.front more.0 more.1),
+      )
+
+  -- another group's partial row isn't of this one
+  not_own : (k key : Row) (changes : List Change) → length key ≡ l.keys → same_row k key ≡ false → (fit silent : Bool) (front : List Change)
+      → (let r : Answer = cond fit (Ok (cond silent [] (record { kind = I; row = partial_row l.aggs key changes } ∷ []))) (Err key) in r ≡ Ok front) → members_of l.keys k front ≡ []
+  not_own k key changes long differs true true front q = ap (members_of l.keys k) (ok-same [] front q)
+  not_own k key changes long differs true false front q =
+      ap (members_of l.keys k) (ok-same _ front q)
+      ∙ ap (λ (b : Bool). cond b (record { kind = I; row = partial_row l.aggs key changes } ∷ []) [])
+      (ap (λ n. same_row k (take n (partial_row l.aggs key changes))) (sym long) ∙ ap (same_row k) (front_of key (amounts l.aggs (rows_come changes) (rows_gone changes))) ∙ differs)
+  not_own k key changes long differs false silent front q = absurd (cc)
+
+  or_parts : (a b : Bool) → (a || b) ≡ false → (a ≡ false) × (b ≡ false)
+  or_parts true b e = absurd (cc)
+  or_parts false b e = (refl, e)
+
+  none_own : (k : Row) (changes : List Change) (groups : List Row) → AllByRecursion (λ key. length key ≡ l.keys) groups → list_any (same_row k) groups ≡ false → (told : List Change)
+      → answers (answer_of changes) groups ≡ Ok told → members_of l.keys k told ≡ []
+  none_own k changes [] named none told e = ap (members_of l.keys k) (ok-same [] told e)
+  none_own k changes (key ∷ groups) named none told e =
+      let both = both-appended (answer_of changes key) (answers (answer_of changes) groups) told e in
+      let others = or_parts (same_row k key) (list_any (same_row k) groups) none in
+      let mine = members_of l.keys key changes in
+      ap (members_of l.keys k) both.whole ∙ filter-append (λ change. in_group l.keys k change.row) both.front both.back
+      ∙ ap (λ xs. xs ++ members_of l.keys k both.back) (not_own k key mine named.0 others.0 (fit_after l.aggs [] mine) (are_silent l.aggs (rows_come mine) (rows_gone mine)) both.front both.is_front)
+      ∙ none_own k changes groups named.1 others.1 both.back both.is_back
+
+  -- a group among the first isn't among the others
+  once : (k : Row) (first others : List Row) → IsDistinct same_row (first ++ others) → list_any (same_row k) first ≡ true → list_any (same_row k) others ≡ false
+  unfolding IsDistinct
+  once k [] others d e = absurd (false≢true e)
+  once k (x ∷ first) others d e =
+      elim (same_row k x) as (λ b. same_row k x ≡ b → (b || list_any (same_row k) first) ≡ true → list_any (same_row k) others ≡ false) [
+        | true ↦ λ same h. ap (λ row. list_any (same_row row) others) (same_row-true k x same) ∙ differs x others (all-back (λ y. same_row x y ≡ false) first others d.0)
+        | false ↦ λ same h. once k first others d.1 h
+      ] refl e
+    where
+      differs : (x : Row) (ys : List Row) → AllByRecursion (λ y. same_row x y ≡ false) ys → list_any (same_row x) ys ≡ false
+      differs x [] h = refl
+      differs x (y ∷ ys) h = ap (λ b. b || list_any (same_row x) ys) h.0 ∙ differs x ys h.1
+
+  -- a front of what is told of a piece tells a group as the whole does, or not at all
+  module _ (g : Row) (changes : List Change) (first others : List Row) (split : groups_of l.keys changes ≡ first ++ others) (wide_here : AreWide changes) (told few : List Change)
+      (all : local_emits l changes ≡ Ok told) (some : answers (answer_of changes) first ≡ Ok few) where
+    abbrev own_key : Row
+    own_key = project (first_columns l.keys) g
+
+    abbrev own_worth : Worth
+    own_worth = worth_of_values (parts l.aggs) (amounts l.aggs (bag_of (rows_by added (members_of l.keys own_key changes))) (bag_of (rows_by taken_away (members_of l.keys own_key changes))))
+
+    all_distinct : IsDistinct same_row (first ++ others)
+    all_distinct = subst (IsDistinct same_row) split (distinct-first_seen (map (λ change. take l.keys change.row) changes))
+
+    all_named : AllByRecursion (λ key. length key ≡ l.keys) (first ++ others)
+    all_named = subst (AllByRecursion (λ key. length key ≡ l.keys)) split (named_groups l g changes wide_here)
+
+    few_worth : sum_of p g few ≡ cond (list_any (same_row own_key) first) own_worth nothing
+    few_worth = told_groups l g changes first few (distinct-front first others all_distinct) (all-front (λ key. length key ≡ l.keys) first others all_named) some
+
+    told_worth : sum_of p g told ≡ cond (list_any (same_row own_key) (first ++ others)) own_worth nothing
+    told_worth = told_groups l g changes (first ++ others) told all_distinct all_named (subst (λ keys. answers (answer_of changes) keys ≡ Ok told) split all)
+
+    told_first : list_any (same_row own_key) first ≡ true → (members_of l.keys own_key few ≡ members_of l.keys own_key told) × (sum_of p g few ≡ sum_of p g told)
+    told_first e =
+        let halves = apart changes first others told (subst (λ keys. answers (answer_of changes) keys ≡ Ok told) split all) in
+        let rest = none_own own_key changes others (all-back (λ key. length key ≡ l.keys) first others all_named) (once own_key first others all_distinct e) halves.1 halves.3 in
+        let few_same : few ≡ halves.0 = ok-same halves.0 few (sym halves.2 ∙ some) in (
+          ap (members_of l.keys own_key) few_same
+              ∙ sym (ap (members_of l.keys own_key) halves.4 ∙ filter-append (λ change. in_group l.keys own_key change.row) halves.0 halves.1
+              ∙ ap (λ xs. members_of l.keys own_key halves.0 ++ xs) rest ∙ append-nil (members_of l.keys own_key halves.0)),
+          few_worth ∙ ap (λ b. cond b own_worth nothing) (e ∙ sym (any-front (same_row own_key) first others e)) ∙ sym told_worth,
+        )
+
+    told_later : list_any (same_row own_key) first ≡ false → (members_of l.keys own_key few ≡ []) × (sum_of p g few ≡ nothing)
+    told_later e = (none_own own_key changes first (all-front (λ key. length key ≡ l.keys) first others all_named) e few some, few_worth ∙ ap (λ b. cond b own_worth nothing) e)
+
   along_more : (before : List Arrival) (front : List (List Arrival)) (piece : List Arrival) (sent told : List Change) → along emits before front ≡ Ok sent → local_emits l (at_port 0 piece) ≡ Ok told
       → along emits before (front ++ piece ∷ []) ≡ Ok (sent ++ told)
   along_more before [] piece sent told e h =
@@ -416,6 +512,13 @@ module _ (many : ℕ) (l : LocalGrouping) (from to : Edge) (fits : LocalFits man
           },
         )
 
+    wide_piece : (n : ℕ) (i : InPiece [] pieces (take n sent)) → AreWide (at_port 0 i.piece)
+    wide_piece n i =
+        let split : joined pieces ≡ joined i.front ++ (i.piece ++ joined i.others) = ap joined i.is ∙ joined-append i.front (i.piece ∷ i.others) in
+        let both = subst Typed (ap (at_port 0) split ∙ at_port-append 0 (joined i.front) (i.piece ++ joined i.others)) typed in
+        let back = all-back (λ change. types_fit l.columns change.row ≡ true) (at_port 0 (joined i.front)) (at_port 0 (i.piece ++ joined i.others)) both in
+        wide (at_port 0 i.piece) (all-front (λ change. types_fit l.columns change.row ≡ true) (at_port 0 i.piece) (at_port 0 (joined i.others)) (subst Typed (at_port-append 0 i.piece (joined i.others)) back))
+
     front_reads : (n : ℕ) → (rows : Rows) × StandFor p (take n sent) rows
     front_reads n =
         elim (front_in [] pieces sent told_along n) [
@@ -429,17 +532,57 @@ module _ (many : ℕ) (l : LocalGrouping) (from to : Edge) (fits : LocalFits man
                   holds = mixed_hold groups.0 old.0 new.0 old.1.holds new.1.holds;
                   worth = λ g.
                       ap (sum_of p g) i.front_is
-                      ∙ front_worth (at_port 0 i.piece) groups.0 groups.1 (wide_piece i) groups.2 i.sent i.told (take i.count i.told) i.told_is groups.3 old.0 new.0 old.1.worth new.1.worth g;
+                      ∙ front_worth (at_port 0 i.piece) groups.0 groups.1 (wide_piece n i) groups.2 i.sent i.told (take i.count i.told) i.told_is groups.3 old.0 new.0 old.1.worth new.1.worth g;
                 },
               )
         ]
+
+    -- ---- for which part of what was folded a prefix stands
+
+    front_pieces : (front others : List (List Arrival)) → pieces ≡ front ++ others → (told prefix : List Change) → along emits [] front ≡ Ok told → (g : Row)
+        → members_of l.keys (project (first_columns l.keys) g) prefix ≡ members_of l.keys (project (first_columns l.keys) g) told → sum_of p g prefix ≡ sum_of p g told → StandsForPieces l pieces prefix g
+    front_pieces front others is told prefix along_is g same worth =
+        let split : joined pieces ≡ joined front ++ joined others = ap joined is ∙ joined-append front others in
+        let rows = rows_at (joined front) (joined others) split in
+        record {
+          folded = front;
+          others = others;
+          is_front = is;
+          told = told;
+          told_is = along_is;
+          same = same;
+          rows = rows.0;
+          leave = rows.1;
+          worth = worth ∙ stands front told (typed_front (joined front) (joined others) split) (suits_front (joined front) (joined others) split) along_is rows.0 rows.1 g;
+        }
+
+    pub prefix_pieces : (n : ℕ) (g : Row) → StandsForPieces l pieces (take n sent) g
+    prefix_pieces n g =
+        elim (front_in [] pieces sent told_along n) [
+          | inl all ↦ front_pieces pieces [] (sym (append-nil pieces)) sent (take n sent) told_along g (ap (members_of l.keys (project (first_columns l.keys) g)) all) (ap (sum_of p g) all)
+          | inr i ↦ in_piece i (some_groups (at_port 0 i.piece) (groups_of l.keys (at_port 0 i.piece)) i.told i.told_is i.count)
+        ]
       where
-        wide_piece : (i : InPiece [] pieces (take n sent)) → AreWide (at_port 0 i.piece)
-        wide_piece i =
-            let split : joined pieces ≡ joined i.front ++ (i.piece ++ joined i.others) = ap joined i.is ∙ joined-append i.front (i.piece ∷ i.others) in
-            let both = subst Typed (ap (at_port 0) split ∙ at_port-append 0 (joined i.front) (i.piece ++ joined i.others)) typed in
-            let back = all-back (λ change. types_fit l.columns change.row ≡ true) (at_port 0 (joined i.front)) (at_port 0 (i.piece ++ joined i.others)) both in
-            wide (at_port 0 i.piece) (all-front (λ change. types_fit l.columns change.row ≡ true) (at_port 0 i.piece) (at_port 0 (joined i.others)) (subst Typed (at_port-append 0 i.piece (joined i.others)) back))
+        in_piece : (i : InPiece [] pieces (take n sent))
+            → (first : List Row) × (others : List Row) × (groups_of l.keys (at_port 0 i.piece) ≡ first ++ others) × (answers (answer_of (at_port 0 i.piece)) first ≡ Ok (take i.count i.told)) → StandsForPieces l pieces (take n sent) g
+        in_piece i groups =
+            let few = take i.count i.told in
+            let first = told_first g (at_port 0 i.piece) groups.0 groups.1 groups.2 (wide_piece n i) i.told few i.told_is groups.3 in
+            let later = told_later g (at_port 0 i.piece) groups.0 groups.1 groups.2 (wide_piece n i) i.told few i.told_is groups.3 in
+            elim (list_any (same_row (project (first_columns l.keys) g)) groups.0) as (λ b. list_any (same_row (project (first_columns l.keys) g)) groups.0 ≡ b → StandsForPieces l pieces (take n sent) g) [
+              | true ↦ λ e.
+                  let t = first e in
+                  front_pieces (i.front ++ i.piece ∷ []) i.others (i.is ∙ sym (append_assoc i.front (i.piece ∷ []) i.others)) (i.sent ++ i.told) (take n sent) (along_more [] i.front i.piece i.sent i.told i.sent_is i.told_is) g
+                  (ap (members_of l.keys (project (first_columns l.keys) g)) i.front_is ∙ filter-append (λ change. in_group l.keys (project (first_columns l.keys) g) change.row) i.sent few
+                  ∙ ap (λ xs. members_of l.keys (project (first_columns l.keys) g) i.sent ++ xs) t.0 ∙ sym (filter-append (λ change. in_group l.keys (project (first_columns l.keys) g) change.row) i.sent i.told))
+                  (ap (sum_of p g) i.front_is ∙ sum-append l g i.sent few ∙ ap (plus (sum_of p g i.sent)) t.1 ∙ sym (sum-append l g i.sent i.told))
+              | false ↦ λ e.
+                  let t = later e in
+                  front_pieces i.front (i.piece ∷ i.others) i.is i.sent (take n sent) i.sent_is g
+                  (ap (members_of l.keys (project (first_columns l.keys) g)) i.front_is ∙ filter-append (λ change. in_group l.keys (project (first_columns l.keys) g) change.row) i.sent few
+                  ∙ ap (λ xs. members_of l.keys (project (first_columns l.keys) g) i.sent ++ xs) t.0 ∙ append-nil (members_of l.keys (project (first_columns l.keys) g) i.sent))
+                  (ap (sum_of p g) i.front_is ∙ sum-append l g i.sent few ∙ ap (plus (sum_of p g i.sent)) t.1 ∙ plus_nothing (sum_of p g i.sent))
+            ] refl
 
     pub prefix : (n : ℕ) → (rows : Rows) × ReadsAs to.meaning (take n sent) rows
     prefix n = let r = front_reads n in (r.0, subst (λ m. ReadsAs m (take n sent) r.0) (sym fits.writes) r.1)
@@ -468,6 +611,9 @@ module _ (many : ℕ) (l : LocalGrouping) (from to : Edge) (fits : LocalFits man
     answer_types = λ whole answer e settled row there. fits.out_holds row ((settled 0 (omega arith)).types row (subst (λ (r : Rows). 0 < copies r row) (sym (some_is (whole 0) answer e)) there));
     unique_keys = λ whole answer e settled key has_key. subst (λ (r : Rows). IsUnique key (copies r)) (some_is (whole 0) answer e) ((settled 0 (omega arith)).keys key (inl (fits.unique key has_key)));
   }
+
+pub local_prefixes_stand : LocalPrefixesStand
+local_prefixes_stand many l from to fits j pieces sent e n group = prefix_pieces many l from to fits j pieces sent e n group
 
 pub local_groups_stand : LocalGroupsStand
 local_groups_stand many l from to fits = local_facts many l from to fits
