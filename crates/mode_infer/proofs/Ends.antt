@@ -8,7 +8,8 @@ use Rattle.phys_plan.specs.declared.node.Node.{Node}
 use Rattle.phys_plan.specs.Reading.{wires}
 use Rattle.mode_infer.specs.declared.kinds.Flow.{Flow}
 use Rattle.mode_infer.specs.declared.modes.EdgeMode.{EdgeMode}
-use Rattle.mode_infer.specs.Updates.{is_input, port_of, takes, takes_after}
+use Rattle.mode_infer.specs.Kinds.{takes}
+use Rattle.mode_infer.specs.Updates.{is_input, port_of, takes_after}
 use Rattle.mode_infer.specs.Modes.{modes_of, all_modes}
 
 -- where one of the lists is at its end

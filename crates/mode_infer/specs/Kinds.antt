@@ -1,6 +1,6 @@
 -- What nodes send, and what operators ask of their inputs: the kinds of each node's output, read from the inputs up; by which columns an
--- operator asks for its inputs, and whether it needs the old rows.
-use Rattle.std.specs.Prelude.{ℕ, zero, suc, ◌==◌, Bool, true, false, cond, not, ◌&&◌, ◌||◌, List, [], ◌∷◌, fold, map, slice_get, Option, None, Some}
+-- operator asks for its inputs, and whether it needs the old rows; its update key, who takes new rows alone, and how an edge tells updates.
+use Rattle.std.specs.Prelude.{ℕ, zero, suc, ◌==◌, Bool, true, false, cond, not, ◌&&◌, ◌||◌, List, [], ◌∷◌, ◌++◌, fold, map, slice_get, Option, None, Some, option_and_then}
 use Rattle.std.specs.List.{list_any}
 use Rattle.ct_change.specs.declared.kind.KindSet.{KindSet}
 use Rattle.ct_change.specs.Changelog as changelog
@@ -12,10 +12,15 @@ use Rattle.rel_algebra.specs.declared.join.Pair.{Pair}
 use Rattle.phys_plan.specs.declared.node.Op.{Op}
 use Rattle.phys_plan.specs.declared.node.Op.TheVariants as op
 use Rattle.phys_plan.specs.Reading.{Wire, read_up}
-use Rattle.phys_plan.specs.Columns.{left_columns, right_columns}
-use Rattle.column_sets.specs.Places.{first_columns}
+use Rattle.phys_plan.specs.Columns.{left_columns, plain_columns, right_columns}
+use Rattle.column_sets.specs.Places.{first_columns, image}
 use Rattle.mode_infer.specs.declared.kinds.Flow.{Flow}
-use Rattle.ct_change.specs.Kinds.{has_more_than_inserts}
+use Rattle.ct_change.specs.Kinds.{has_more_than_inserts, is_upsert}
+use Rattle.ct_change.specs.declared.kind.Declared.{Declared}
+use Rattle.ct_change.specs.declared.kind.Declared.TheVariants.{Append, Retract, Upsert}
+use Rattle.ct_change.specs.declared.update.Update.{Update}
+use Rattle.ct_change.specs.declared.update.Update.TheVariants.{Absent, After, Both}
+use Rattle.column_sets.specs.Sets.{is_within, same_set, set_of}
 
 -- ---- sets of kinds
 
@@ -188,3 +193,110 @@ needs_old_rows op.Sink = false
 needs_old_rows (op.LocalGroup keys aggs) = true
 needs_old_rows (op.MultiJoin on) = false
 needs_old_rows (op.SetOp except all columns) = true
+
+-- ---- update keys
+
+-- without aggregates a group's row never changes
+abbrev pub group_key : ℕ → List Agg → Option (List ℕ)
+group_key keys [] = None
+group_key keys (agg ∷ aggs) = Some (first_columns keys)
+
+-- with the rank, which is the column behind the input's, the row at a rank; the only row of a partition
+abbrev pub top_key : Bool → List ℕ → ℕ → ℕ → Option (List ℕ)
+top_key ranked partition bound width = cond ranked (Some (set_of (partition ++ width ∷ []))) (cond (bound == 1) (Some (set_of partition)) None)
+
+abbrev pub project_key : List (Option ℕ) → List (Option (List ℕ)) → Option (List ℕ)
+project_key items (key ∷ []) = option_and_then (image items) key
+project_key items _ = None
+
+-- the update key of a node, from those of its inputs, of which the first has so many columns
+abbrev pub update_key_of : ℕ → Op → List (Option (List ℕ)) → Option (List ℕ)
+update_key_of width (op.Scan source) inputs = None
+update_key_of width (op.Filter cond) inputs = None
+update_key_of width (op.Project items) inputs = project_key (plain_columns items) inputs
+update_key_of width op.Union inputs = None
+update_key_of width (op.Normalize key) inputs = Some (set_of key)
+update_key_of width (op.Group keys aggs) inputs = group_key keys aggs
+update_key_of width (op.BatchGroup keys aggs) inputs = group_key keys aggs
+update_key_of width (op.Join kind on rest) inputs = None
+update_key_of width (op.Semi anti on rest) inputs = None
+update_key_of width (op.TopN partition order bound ranked) inputs = top_key ranked partition bound width
+update_key_of width (op.Materialize key) inputs = None
+update_key_of width op.Sink inputs = None
+update_key_of width (op.LocalGroup keys aggs) inputs = None
+update_key_of width (op.MultiJoin on) inputs = None
+update_key_of width (op.SetOp except all columns) inputs = None
+
+-- ---- who takes new rows alone
+
+abbrev pub same_key : Option (List ℕ) → List ℕ → Bool
+same_key None key = false
+same_key (Some other) key = same_set other key
+
+-- an upsert sink by its own key
+abbrev pub sink_takes : TableDef → List ℕ → Bool
+sink_takes sink key = is_upsert sink.mode && same_key sink.key key
+
+abbrev pub is_after : Update → Option (List ℕ) → Bool
+is_after (After key) image = same_key image key
+is_after Absent image = false
+is_after Both image = false
+
+-- whether an operator takes new rows alone by this key at a port, where its own edge tells updates so: where rows of one key come to
+-- one subtask, which knows the row before; an upsert sink by its key; and a Project that hands them on
+abbrev pub takes : TableDef → Op → ℕ → Update → List ℕ → Bool
+takes sink (op.Scan source) port update key = false
+takes sink (op.Filter cond) port update key = false
+takes sink (op.Project items) port update key = is_after update (image (plain_columns items) key)
+takes sink op.Union port update key = false
+takes sink (op.Normalize by) port update key = false
+takes sink (op.Group keys aggs) port update key = false
+takes sink (op.BatchGroup keys aggs) port update key = false
+takes sink (op.Join kind on rest) port update key = is_within (side_columns on port) key
+takes sink (op.Semi anti on rest) port update key = is_within (side_columns on port) key
+takes sink (op.TopN partition order bound ranked) port update key = is_within partition key
+takes sink (op.Materialize shown) port update key = false
+takes sink op.Sink port update key = sink_takes sink key
+takes sink (op.LocalGroup keys aggs) port update key = false
+takes sink (op.MultiJoin on) port update key = is_within (chain_columns on port) key
+takes sink (op.SetOp except all columns) port update key = false
+
+-- ---- how they tell updates
+
+-- with the old rows, where there are updates
+abbrev pub in_full : KindSet → Update
+in_full kinds = cond kinds.ua Both Absent
+
+-- the new rows alone, where there are updates, the node has an update key and its consumer takes them so
+abbrev pub told : KindSet → Option (List ℕ) → Bool → Update
+told kinds None taken = in_full kinds
+told kinds (Some key) taken = cond (kinds.ua && taken) (After key) (in_full kinds)
+
+-- an upsert table tells new rows alone by its key
+abbrev pub table_update : Declared → Option (List ℕ) → KindSet → Update
+table_update Append key kinds = in_full kinds
+table_update Retract key kinds = in_full kinds
+table_update Upsert None kinds = in_full kinds
+table_update Upsert (Some key) kinds = After key
+
+abbrev pub scan_update : Option TableDef → KindSet → Update
+scan_update None kinds = in_full kinds
+scan_update (Some table) kinds = table_update table.mode table.key kinds
+
+-- how the edge of a node tells updates, by the kinds and the update key of the node and whether its consumer takes new rows alone
+abbrev pub update_of : List TableDef → Op → KindSet → Option (List ℕ) → Bool → Update
+update_of sources (op.Scan source) kinds key taken = scan_update (slice_get sources source) kinds
+update_of sources (op.Filter cond) kinds key taken = told kinds key taken
+update_of sources (op.Project items) kinds key taken = told kinds key taken
+update_of sources op.Union kinds key taken = told kinds key taken
+update_of sources (op.Normalize by) kinds key taken = told kinds key taken
+update_of sources (op.Group keys aggs) kinds key taken = told kinds key taken
+update_of sources (op.BatchGroup keys aggs) kinds key taken = told kinds key taken
+update_of sources (op.Join kind on rest) kinds key taken = told kinds key taken
+update_of sources (op.Semi anti on rest) kinds key taken = told kinds key taken
+update_of sources (op.TopN partition order bound ranked) kinds key taken = told kinds key taken
+update_of sources (op.Materialize shown) kinds key taken = After shown
+update_of sources op.Sink kinds key taken = Absent
+update_of sources (op.LocalGroup keys aggs) kinds key taken = told kinds key taken
+update_of sources (op.MultiJoin on) kinds key taken = told kinds key taken
+update_of sources (op.SetOp except all columns) kinds key taken = told kinds key taken

@@ -1,21 +1,13 @@
-//! Who takes new rows alone.
+//! Who takes an edge, and whether it takes new rows alone.
 ghost use Rattle.std.specs.Prelude.{◌≡◌, option_copied, IfOk};
 ghost use Rattle.phys_plan.specs.Reading.{wires};
-ghost use Rattle.phys_plan.specs.Columns as c;
-ghost use Rattle.column_sets.specs.Places as p;
-ghost use Rattle.mode_infer.specs.Kinds as k;
 ghost use Rattle.mode_infer.specs.Updates as u;
-ghost use Rattle.ct_change.specs.Kinds.{is_upsert};
-ghost use Rattle.column_sets.specs.Sets as s;
 
-use crate::operators::{chain_columns, side_columns};
-use column_sets::{image, is_within, same_set};
+use crate::operators::takes;
 use ct_catalog::TableDef;
-use ct_change::{Declared, Update};
-use ct_expr::Exprs;
+use ct_change::Update;
 use ct_value::{Cols, Memory};
-use phys_plan::{Node, Op, PairLists, plain_columns};
-use rel_algebra::Pairs;
+use phys_plan::Node;
 use std::alloc::Global;
 
 /// Whether the edge of a number may tell new rows alone by a key, if there is one: whether the first of the nodes behind it that has it
@@ -75,87 +67,4 @@ pub fn port_of(number: u32, inputs: &[u32]) -> usize
         }
     }
     inputs.len()
-}
-
-/// Whether an operator takes the new rows of updates alone at a port, which are keyed by these columns, where its own edge tells updates
-/// so: a join, a semi join and a Top-N where rows of one key come to one subtask, an upsert sink by its own key, and a Project that hands
-/// them on by the key's image.
-pub fn takes(
-    alloc: Global,
-    sink: &TableDef,
-    op: &Op,
-    port: usize,
-    update: &Update,
-    key: &Cols,
-) -> Result<bool, Memory>
-    ensures { IfOk result (λ taken. taken ≡ u.takes sink.now op.now port update.now key.now) }
-{
-    match op {
-        Op::Project { items } => project_takes(alloc, items, update, key),
-        Op::Join { on, .. } => side_takes(alloc, on, port, key),
-        Op::Semi { on, .. } => side_takes(alloc, on, port, key),
-        Op::TopN { partition, .. } => Ok(is_within(partition, key)),
-        Op::Sink => Ok(sink_takes(sink, key)),
-        Op::MultiJoin { on } => chain_takes(alloc, on, port, key),
-        _ => Ok(false),
-    }
-}
-
-fn side_takes(alloc: Global, on: &Pairs, port: usize, key: &Cols) -> Result<bool, Memory>
-    ensures { IfOk result (λ taken. taken ≡ s.is_within (k.side_columns on.now port) key.now) }
-{
-    let cols = side_columns(alloc, on, port)?;
-    Ok(is_within(&cols, key))
-}
-
-fn chain_takes(alloc: Global, on: &PairLists, port: usize, key: &Cols) -> Result<bool, Memory>
-    ensures { IfOk result (λ taken. taken ≡ s.is_within (k.chain_columns on.now port) key.now) }
-{
-    let cols = chain_columns(alloc, on.as_slice(), port)?;
-    Ok(is_within(&cols, key))
-}
-
-// A Project hands new rows alone on where its own edge tells them by the key's image.
-fn project_takes(alloc: Global, items: &Exprs, update: &Update, key: &Cols) -> Result<bool, Memory>
-    ensures { IfOk result (λ taken. taken ≡ u.is_after update.now (p.image (c.plain_columns items.now) key.now)) }
-{
-    let items = plain_columns(alloc, items.as_slice())?;
-    let image = image(alloc, items.as_slice(), key)?;
-    Ok(is_after(update, image.as_ref()))
-}
-
-fn is_after(update: &Update, image: Option<&Cols>) -> bool
-    ensures { result ≡ u.is_after update.now (option_copied image.entry) }
-{
-    match update {
-        Update::After(key) => same_key(image, key),
-        Update::Absent => false,
-        Update::Both => false,
-    }
-}
-
-fn same_key(other: Option<&Cols>, key: &Cols) -> bool
-    ensures { result ≡ u.same_key (option_copied other.entry) key.now }
-{
-    match other {
-        None => false,
-        Some(other) => same_set(other, key),
-    }
-}
-
-// An upsert sink takes them by its own key.
-fn sink_takes(sink: &TableDef, key: &Cols) -> bool
-    ensures { result ≡ u.sink_takes sink.now key.now }
-{
-    is_upsert(sink.mode) && same_key(sink.key.as_ref(), key)
-}
-
-fn is_upsert(mode: Declared) -> bool
-    ensures { result ≡ is_upsert mode }
-{
-    match mode {
-        Declared::Append => false,
-        Declared::Retract => false,
-        Declared::Upsert => true,
-    }
 }

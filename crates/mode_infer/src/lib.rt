@@ -12,8 +12,8 @@ mod operators;
 mod row_keys;
 mod updates;
 
-pub use consumers::{is_input, port_of, takes};
+pub use consumers::{is_input, port_of};
 pub use kinds::{Flow, flows, plain};
 pub use modes::{EdgeMode, infer_modes, set_modes};
-pub use operators::{asked, flow_of, needs_old_rows};
+pub use operators::{asked, flow_of, needs_old_rows, takes};
 pub use row_keys::update_keys;

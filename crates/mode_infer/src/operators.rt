@@ -1,15 +1,20 @@
-//! What an operator sends, and what it asks of its inputs.
+//! What an operator sends, what it asks of its inputs, and whether it takes new rows alone.
 ghost use Rattle.std.specs.Prelude.{◌≡◌, map, option_copied, IfOk};
+ghost use Rattle.ct_change.specs.Kinds.{is_upsert};
+ghost use Rattle.column_sets.specs.Places as p;
+ghost use Rattle.column_sets.specs.Sets as s;
+ghost use Rattle.phys_plan.specs.Columns as c;
 ghost use Rattle.mode_infer.specs.Kinds as k;
 
 use crate::kinds::{
     Flow, any_has_more, any_kinds, either, has_more_than_inserts, kind_set, plain, with_old,
 };
-use column_sets::first_columns;
+use column_sets::{first_columns, image, is_within, same_set};
 use ct_catalog::TableDef;
-use ct_change::{Declared, KindSet};
+use ct_change::{Declared, KindSet, Update};
+use ct_expr::Exprs;
 use ct_value::{Cols, Memory};
-use phys_plan::{Op, left_columns, right_columns};
+use phys_plan::{Op, PairLists, left_columns, plain_columns, right_columns};
 use rel_algebra::{Agg, JoinKind, Pairs};
 use std::alloc::Global;
 
@@ -63,6 +68,30 @@ pub fn needs_old_rows(op: &Op) -> bool
         Op::Filter { .. } | Op::Union | Op::Group { .. } => true,
         Op::BatchGroup { .. } | Op::LocalGroup { .. } | Op::SetOp { .. } => true,
         _ => false,
+    }
+}
+
+/// Whether an operator takes the new rows of updates alone at a port, which are keyed by these columns, where its own edge tells updates
+/// so: a join, a semi join and a Top-N where rows of one key come to one subtask, an upsert sink by its own key, and a Project that hands
+/// them on by the key's image.
+pub fn takes(
+    alloc: Global,
+    sink: &TableDef,
+    op: &Op,
+    port: usize,
+    update: &Update,
+    key: &Cols,
+) -> Result<bool, Memory>
+    ensures { IfOk result (λ taken. taken ≡ k.takes sink.now op.now port update.now key.now) }
+{
+    match op {
+        Op::Project { items } => project_takes(alloc, items, update, key),
+        Op::Join { on, .. } => side_takes(alloc, on, port, key),
+        Op::Semi { on, .. } => side_takes(alloc, on, port, key),
+        Op::TopN { partition, .. } => Ok(is_within(partition, key)),
+        Op::Sink => Ok(sink_takes(sink, key)),
+        Op::MultiJoin { on } => chain_takes(alloc, on, port, key),
+        _ => Ok(false),
     }
 }
 
@@ -229,10 +258,71 @@ fn set_kinds(except: bool, left: KindSet, right: KindSet) -> KindSet
     )
 }
 
+// ---- new rows alone
+
+fn side_takes(alloc: Global, on: &Pairs, port: usize, key: &Cols) -> Result<bool, Memory>
+    ensures { IfOk result (λ taken. taken ≡ s.is_within (k.side_columns on.now port) key.now) }
+{
+    let cols = side_columns(alloc, on, port)?;
+    Ok(is_within(&cols, key))
+}
+
+fn chain_takes(alloc: Global, on: &PairLists, port: usize, key: &Cols) -> Result<bool, Memory>
+    ensures { IfOk result (λ taken. taken ≡ s.is_within (k.chain_columns on.now port) key.now) }
+{
+    let cols = chain_columns(alloc, on.as_slice(), port)?;
+    Ok(is_within(&cols, key))
+}
+
+// A Project hands new rows alone on where its own edge tells them by the key's image.
+fn project_takes(alloc: Global, items: &Exprs, update: &Update, key: &Cols) -> Result<bool, Memory>
+    ensures { IfOk result (λ taken. taken ≡ k.is_after update.now (p.image (c.plain_columns items.now) key.now)) }
+{
+    let items = plain_columns(alloc, items.as_slice())?;
+    let image = image(alloc, items.as_slice(), key)?;
+    Ok(is_after(update, image.as_ref()))
+}
+
+fn is_after(update: &Update, image: Option<&Cols>) -> bool
+    ensures { result ≡ k.is_after update.now (option_copied image.entry) }
+{
+    match update {
+        Update::After(key) => same_key(image, key),
+        Update::Absent => false,
+        Update::Both => false,
+    }
+}
+
+fn same_key(other: Option<&Cols>, key: &Cols) -> bool
+    ensures { result ≡ k.same_key (option_copied other.entry) key.now }
+{
+    match other {
+        None => false,
+        Some(other) => same_set(other, key),
+    }
+}
+
+// An upsert sink takes them by its own key.
+fn sink_takes(sink: &TableDef, key: &Cols) -> bool
+    ensures { result ≡ k.sink_takes sink.now key.now }
+{
+    is_upsert(sink.mode) && same_key(sink.key.as_ref(), key)
+}
+
+fn is_upsert(mode: Declared) -> bool
+    ensures { result ≡ is_upsert mode }
+{
+    match mode {
+        Declared::Append => false,
+        Declared::Retract => false,
+        Declared::Upsert => true,
+    }
+}
+
 // ---- columns
 
-/// The columns of one side of pairs, of which port 0 is the left one.
-pub(crate) fn side_columns(alloc: Global, on: &Pairs, port: usize) -> Result<Cols, Memory>
+// The columns of one side of pairs, of which port 0 is the left one.
+fn side_columns(alloc: Global, on: &Pairs, port: usize) -> Result<Cols, Memory>
     ensures { IfOk result (λ cols. cols ≡ k.side_columns on.now port) }
 {
     if port == 0 {
@@ -242,8 +332,8 @@ pub(crate) fn side_columns(alloc: Global, on: &Pairs, port: usize) -> Result<Col
     }
 }
 
-/// The columns by which one of several inputs is joined.
-pub(crate) fn chain_columns(alloc: Global, on: &[Pairs], port: usize) -> Result<Cols, Memory>
+// The columns by which one of several inputs is joined.
+fn chain_columns(alloc: Global, on: &[Pairs], port: usize) -> Result<Cols, Memory>
     ensures { IfOk result (λ cols. cols ≡ k.chain_columns on.now port) }
 {
     if port == 0 {

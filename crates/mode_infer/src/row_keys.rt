@@ -4,6 +4,7 @@ ghost use Rattle.column_sets.specs.Sets as s;
 ghost use Rattle.column_sets.specs.Places as p;
 ghost use Rattle.phys_plan.specs.Reading.{at, wires};
 ghost use Rattle.phys_plan.specs.Columns as c;
+ghost use Rattle.mode_infer.specs.Kinds as k;
 ghost use Rattle.mode_infer.specs.UpdateKeys as u;
 
 use column_sets::{first_columns, image, set_of};
@@ -68,7 +69,7 @@ fn update_key_of(
     done: &[Option<Cols>],
     inputs: &[u32],
 ) -> Result<Option<Cols>, Memory>
-    ensures { IfOk result (λ key. key ≡ u.update_key_of width op.now (map (at None done.now) inputs.now)) }
+    ensures { IfOk result (λ key. key ≡ k.update_key_of width op.now (map (at None done.now) inputs.now)) }
 {
     match op {
         Op::Project { items } => project_key(alloc, items, done, inputs),
@@ -91,7 +92,7 @@ fn project_key(
     done: &[Option<Cols>],
     inputs: &[u32],
 ) -> Result<Option<Cols>, Memory>
-    ensures { IfOk result (λ key. key ≡ u.project_key (c.plain_columns items.now) (map (at None done.now) inputs.now)) }
+    ensures { IfOk result (λ key. key ≡ k.project_key (c.plain_columns items.now) (map (at None done.now) inputs.now)) }
 {
     let items = plain_columns(alloc, items.as_slice())?;
     match inputs {
@@ -115,7 +116,7 @@ fn image_of(
 }
 
 fn group_key(alloc: Global, keys: u32, aggs: &[Agg]) -> Result<Option<Cols>, Memory>
-    ensures { IfOk result (λ key. key ≡ u.group_key keys aggs.now) }
+    ensures { IfOk result (λ key. key ≡ k.group_key keys aggs.now) }
 {
     match aggs {
         [] => Ok(None),
@@ -130,7 +131,7 @@ fn top_key(
     bound: u32,
     width: usize,
 ) -> Result<Option<Cols>, Memory>
-    ensures { IfOk result (λ key. key ≡ u.top_key ranked partition.now bound width) }
+    ensures { IfOk result (λ key. key ≡ k.top_key ranked partition.now bound width) }
 {
     if ranked {
         return Ok(Some(with_rank(alloc, partition, width)?));

@@ -2,6 +2,7 @@
 ghost use Rattle.std.specs.Prelude.{◌≡◌, None, Some, length, option_copied, IfOk};
 ghost use Rattle.phys_plan.specs.Reading.{at, wires};
 ghost use Rattle.mode_infer.specs.Kinds.{no_flow};
+ghost use Rattle.mode_infer.specs.Kinds as k;
 ghost use Rattle.mode_infer.specs.Updates as u;
 
 use crate::consumers::is_taken;
@@ -67,7 +68,7 @@ fn update_at(
     later: &[Node],
     behind: &[Update],
 ) -> Result<Update, Memory>
-    ensures { IfOk result (λ update. update ≡ u.update_of sources.now node.now.op (at no_flow flows.now number).sent (at None keys.now number) (u.is_taken sink.now (at None keys.now number) number (wires later.now) behind.now)) }
+    ensures { IfOk result (λ update. update ≡ k.update_of sources.now node.now.op (at no_flow flows.now number).sent (at None keys.now number) (u.is_taken sink.now (at None keys.now number) number (wires later.now) behind.now)) }
 {
     let Ok(number) = u32::try_from(number) else {
         return Err(Memory);
@@ -84,7 +85,7 @@ fn update_of(
     key: Option<&Cols>,
     taken: bool,
 ) -> Result<Update, Memory>
-    ensures { IfOk result (λ update. update ≡ u.update_of sources.now op.now kinds (option_copied key.entry) taken) }
+    ensures { IfOk result (λ update. update ≡ k.update_of sources.now op.now kinds (option_copied key.entry) taken) }
 {
     match op {
         Op::Scan { source } => scan_update(sources.get(*source as usize), kinds),
@@ -95,7 +96,7 @@ fn update_of(
 }
 
 fn scan_update(table: Option<&TableDef>, kinds: KindSet) -> Result<Update, Memory>
-    ensures { IfOk result (λ update. update ≡ u.scan_update (option_copied table.entry) kinds) }
+    ensures { IfOk result (λ update. update ≡ k.scan_update (option_copied table.entry) kinds) }
 {
     match table {
         None => Ok(in_full(kinds)),
@@ -105,7 +106,7 @@ fn scan_update(table: Option<&TableDef>, kinds: KindSet) -> Result<Update, Memor
 
 // An upsert table tells new rows alone by its key.
 fn table_update(table: &TableDef, kinds: KindSet) -> Result<Update, Memory>
-    ensures { IfOk result (λ update. update ≡ u.table_update table.now.mode table.now.key kinds) }
+    ensures { IfOk result (λ update. update ≡ k.table_update table.now.mode table.now.key kinds) }
 {
     match table.mode {
         Declared::Append => Ok(in_full(kinds)),
@@ -119,7 +120,7 @@ fn table_update(table: &TableDef, kinds: KindSet) -> Result<Update, Memory>
 
 // New rows alone, where the node has an update key and its consumer takes them so.
 fn told(kinds: KindSet, key: Option<&Cols>, taken: bool) -> Result<Update, Memory>
-    ensures { IfOk result (λ update. update ≡ u.told kinds (option_copied key.entry) taken) }
+    ensures { IfOk result (λ update. update ≡ k.told kinds (option_copied key.entry) taken) }
 {
     match key {
         None => Ok(in_full(kinds)),
@@ -128,7 +129,7 @@ fn told(kinds: KindSet, key: Option<&Cols>, taken: bool) -> Result<Update, Memor
 }
 
 fn told_by(kinds: KindSet, key: &Cols, taken: bool) -> Result<Update, Memory>
-    ensures { IfOk result (λ update. update ≡ u.told kinds (Some key.now) taken) }
+    ensures { IfOk result (λ update. update ≡ k.told kinds (Some key.now) taken) }
 {
     if kinds.ua && taken {
         Ok(Update::After(key.dup()?))
@@ -139,7 +140,7 @@ fn told_by(kinds: KindSet, key: &Cols, taken: bool) -> Result<Update, Memory>
 
 // With the old rows, where there are updates.
 fn in_full(kinds: KindSet) -> Update
-    ensures { result ≡ u.in_full kinds }
+    ensures { result ≡ k.in_full kinds }
 {
     if kinds.ua {
         Update::Both

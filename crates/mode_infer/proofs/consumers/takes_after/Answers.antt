@@ -1,7 +1,8 @@
 use Rattle.std.proofs.Common.{◌≡◌, ◌+◌, false, cond, drop, get_or, sym, ap, ◌∙◌, arith}
 use Rattle.ct_change.specs.declared.update.Update.TheVariants.{Absent}
 use Rattle.phys_plan.specs.Reading.{wires}
-use Rattle.mode_infer.specs.Updates.{is_input, port_of, takes, takes_after}
+use Rattle.mode_infer.specs.Kinds.{takes}
+use Rattle.mode_infer.specs.Updates.{is_input, port_of, takes_after}
 use Rattle.mode_infer.proofs.Ends.{taken_more}
 use Rattle.mode_infer.proofs.consumers.takes_after.Goals as goal
 
