@@ -26,15 +26,7 @@ pub fn push_conjuncts<'a>(found: &mut Conjuncts<'a>, tree: &'a Tree) -> Result<(
     match tree {
         Tree::And(trees) => push_all(found, trees),
         Tree::Paren(value) => push_conjuncts(found, value),
-        Tree::Or(_) | Tree::Not(_) | Tree::Exists(_) => push_one(found, tree),
-        Tree::Compare { .. } | Tree::IsNull { .. } => push_one(found, tree),
-        Tree::Between { .. } | Tree::InList { .. } => push_one(found, tree),
-        Tree::InQuery { .. } | Tree::Like { .. } => push_one(found, tree),
-        Tree::Sum { .. } | Tree::Product { .. } => push_one(found, tree),
-        Tree::Sign { .. } | Tree::Number(_) | Tree::Str(_) => push_one(found, tree),
-        Tree::Bool(_) | Tree::Null | Tree::Name { .. } => push_one(found, tree),
-        Tree::Call { .. } | Tree::Cast { .. } => push_one(found, tree),
-        Tree::Sub(_) | Tree::Case { .. } => push_one(found, tree),
+        _ => push_one(found, tree),
     }
 }
 

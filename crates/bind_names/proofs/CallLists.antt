@@ -1,32 +1,49 @@
 -- The calls of nodes and of lists.
-use Rattle.std.proofs.Common.{◌≡◌, ℕ, ◌+◌, ◌<◌, ◌≤◌, List, [], ◌∷◌, ◌++◌, Option, Some, None, refl, ap, sym, ◌∙◌, drop, get_or, length, append_assoc}
+use Rattle.std.proofs.Common.{◌≡◌, ℕ, ◌+◌, ◌<◌, ◌≤◌, List, [], ◌∷◌, ◌++◌, Option, Some, None, refl, ap, sym, ◌∙◌, drop, get_or, length, append-nil, append_assoc}
 use Rattle.std.specs.Borrow.{Bor}
 use Rattle.std.specs.Prelude.{option_copied, option_map, slice_get}
 use Rattle.std.proofs.lemmas.List.{at_drop_more}
 use Rattle.rel_algebra.specs.declared.agg.AggCall.{AggCall}
-use Rattle.sql_syntax.specs.declared.tree.Args.TheViews.{out-Over}
-use Rattle.sql_syntax.specs.declared.tree.Over.{Over}
-use Rattle.sql_syntax.specs.declared.tree.Sort.{Sort}
-use Rattle.sql_syntax.specs.declared.tree.SumTail.{SumTail}
-use Rattle.sql_syntax.specs.declared.tree.ProductTail.{ProductTail}
 use Rattle.sql_syntax.specs.declared.tree.Tree.{Tree}
 use Rattle.sql_syntax.specs.declared.tree.TreeWhen.{TreeWhen}
 use Rattle.sql_syntax.specs.Tree as t
-use Rattle.sql_syntax.specs.View.{view, over_view, sorts_view, trees_view, sum_tails_view, product_tails_view, whens_view}
-use Rattle.sql_syntax.proofs.laws.Views.{over, sort, sum_tail, product_tail, tree_when}
-use Rattle.query_answer.specs.Calls.{Call, aggregate_of, call_of, call_or, calls, all_calls, sum_calls, product_calls, when_calls, args_calls, optional_calls, window_calls, sort_calls, first_tree}
+use Rattle.sql_syntax.specs.View.{view, trees_view, whens_view}
+use Rattle.sql_syntax.proofs.laws.Views.{tree_when}
+use Rattle.sql_syntax.specs.Walks.{parts}
+use Rattle.sql_syntax.proofs.laws.Walks.{by_parts, joined}
+use Rattle.query_answer.specs.Calls.{Call, aggregate_of, all_calls, call_at, call_of, call_or, calls, first_tree, own_calls, when_calls}
 use Rattle.query_answer.specs.Functions.{function_of}
 
-pub is_call : (name : List ℕ) (args : t.Args) (filter : t.OptionalTree) (over : t.OptionalOver) (c : AggCall) → aggregate_of (function_of name) over ≡ Some c
-    → calls (t.Call name args filter over) ≡ call_of c args filter ∷ []
-is_call name args filter over c e = ap (λ o. call_or (option_map (λ c. call_of c args filter) o) (args_calls args ++ (optional_calls filter ++ window_calls over))) e
+-- ---- the call that a node is
 
-pub is_no_call : (name : List ℕ) (args : t.Args) (filter : t.OptionalTree) (over : t.OptionalOver) → aggregate_of (function_of name) over ≡ None
-    → calls (t.Call name args filter over) ≡ args_calls args ++ (optional_calls filter ++ window_calls over)
-is_no_call name args filter over e = ap (λ o. call_or (option_map (λ c. call_of c args filter) o) (args_calls args ++ (optional_calls filter ++ window_calls over))) e
+pub is_aggregate : (name : List ℕ) (args : t.Args) (filter : t.OptionalTree) (over : t.OptionalOver) (c : AggCall) → aggregate_of (function_of name) over ≡ Some c
+    → call_at (t.Call name args filter over) ≡ Some (call_of c args filter)
+is_aggregate name args filter over c e = ap (option_map (λ c. call_of c args filter)) e
 
-pub window : (x : Over) → window_calls (t.some_over (over_view x)) ≡ all_calls (t.trees (trees_view (out-Over x).partition)) ++ sort_calls (t.sort_list (sorts_view (out-Over x).order))
-window x = ap (λ v. window_calls (t.some_over v)) (over x)
+pub is_no_aggregate : (name : List ℕ) (args : t.Args) (filter : t.OptionalTree) (over : t.OptionalOver) → aggregate_of (function_of name) over ≡ None
+    → call_at (t.Call name args filter over) ≡ None
+is_no_aggregate name args filter over e = ap (option_map (λ c. call_of c args filter)) e
+
+-- ---- the calls of what a walk has still to come to
+
+abbrev pub of_parts : List t.Tree → List Call
+of_parts = joined (List Call) [] (λ cs ds. cs ++ ds) own_calls
+
+by_own : (x : t.Tree) → calls x ≡ call_or (call_at x) (of_parts (parts x))
+by_own x = by_parts (List Call) [] (λ cs ds. cs ++ ds) own_calls (λ cs. refl) append-nil append_assoc x
+
+pub is_call : (x : t.Tree) (c : Call) → call_at x ≡ Some c → calls x ≡ c ∷ []
+is_call x c e = by_own x ∙ ap (λ o. call_or o (of_parts (parts x))) e
+
+-- where the node is no call, those of its parts are still to come
+pub begins : (found : List Call) (x : t.Tree) (all : List t.Tree) → all ≡ parts x → call_at x ≡ None → found ++ of_parts all ≡ found ++ calls x
+begins found x all e h = ap (λ ys. found ++ of_parts ys) e ∙ ap (λ cs. found ++ cs) (sym (by_own x ∙ ap (λ o. call_or o (of_parts (parts x))) h))
+
+pub goes_on : (found more whole : List Call) (x : t.Tree) (all rest : List t.Tree) → found ++ of_parts all ≡ whole → all ≡ x ∷ rest → more ≡ found ++ calls x → more ++ of_parts rest ≡ whole
+goes_on found more whole x all rest e h k = ap (λ cs. cs ++ of_parts rest) k ∙ append_assoc found (calls x) (of_parts rest) ∙ sym (ap (λ ys. found ++ of_parts ys) h) ∙ e
+
+pub ends : (found whole : List Call) (all : List t.Tree) → found ++ of_parts all ≡ whole → all ≡ [] → found ≡ whole
+ends found whole all e h = sym (append-nil found) ∙ sym (ap (λ ys. found ++ of_parts ys) h) ∙ e
 
 pub first_of : (xs : List Tree) → option_map view (slice_get xs 0) ≡ first_tree (t.trees (trees_view xs))
 first_of [] = refl
@@ -37,32 +54,8 @@ first_of (x ∷ xs) = refl
 abbrev pub of_trees : List Tree → List Call
 of_trees xs = all_calls (t.trees (trees_view xs))
 
-abbrev pub of_sums : List SumTail → List Call
-of_sums xs = sum_calls (t.sum_tails (sum_tails_view xs))
-
-abbrev pub of_products : List ProductTail → List Call
-of_products xs = product_calls (t.product_tails (product_tails_view xs))
-
 abbrev pub of_whens : List TreeWhen → List Call
 of_whens xs = when_calls (t.tree_whens (whens_view xs))
-
-abbrev pub of_sorts : List Sort → List Call
-of_sorts xs = sort_calls (t.sort_list (sorts_view xs))
-
-pub sorts_step : (xs : List Sort) (i : ℕ) (x : Sort) → i < length xs → x ≡ get_or xs i x → of_sorts (drop i xs) ≡ calls (view x.value) ++ of_sorts (drop (i + 1) xs)
-sorts_step xs i x l h =
-    at_drop_more of_sorts xs i x l ∙ ap (λ y. of_sorts (y ∷ drop (i + 1) xs)) (sym h)
-    ∙ ap (λ v. sort_calls (t.sort_and v (t.sort_list (sorts_view (drop (i + 1) xs))))) (sort x)
-
-pub sums_step : (xs : List SumTail) (i : ℕ) (x : SumTail) → i < length xs → x ≡ get_or xs i x → of_sums (drop i xs) ≡ calls (view x.value) ++ of_sums (drop (i + 1) xs)
-sums_step xs i x l h =
-    at_drop_more of_sums xs i x l ∙ ap (λ y. of_sums (y ∷ drop (i + 1) xs)) (sym h)
-    ∙ ap (λ v. sum_calls (t.sum_tail_and v (t.sum_tails (sum_tails_view (drop (i + 1) xs))))) (sum_tail x)
-
-pub products_step : (xs : List ProductTail) (i : ℕ) (x : ProductTail) → i < length xs → x ≡ get_or xs i x → of_products (drop i xs) ≡ calls (view x.value) ++ of_products (drop (i + 1) xs)
-products_step xs i x l h =
-    at_drop_more of_products xs i x l ∙ ap (λ y. of_products (y ∷ drop (i + 1) xs)) (sym h)
-    ∙ ap (λ v. product_calls (t.product_tail_and v (t.product_tails (product_tails_view (drop (i + 1) xs))))) (product_tail x)
 
 pub whens_step : (xs : List TreeWhen) (i : ℕ) (x : TreeWhen) → i < length xs → x ≡ get_or xs i x
     → of_whens (drop i xs) ≡ calls (view x.cond) ++ (calls (view x.result) ++ of_whens (drop (i + 1) xs))

@@ -3,5 +3,5 @@ pub mod Digits
 pub mod Finds
 pub mod Foreigns
 pub mod Forms
-pub mod Rests
+pub mod SoughtParts
 pub mod Stars

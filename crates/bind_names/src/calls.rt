@@ -1,15 +1,15 @@
 //! The aggregate calls of trees.
 ghost use Rattle.std.specs.Prelude.{◌≡◌, ◌++◌, ◌∷◌, [], map, option_map, OnOk};
-ghost use Rattle.sql_syntax.specs.View.{view, trees_view, args_view, over_view, sorts_view, sum_tails_view, product_tails_view, whens_view};
-ghost use Rattle.sql_syntax.specs.Tree.{optional_over, optional_tree, sort_list, trees as tree_list, sum_tails, product_tails, tree_whens};
-ghost use Rattle.query_answer.specs.Calls.{aggregate_of, agg_call, agg_arg, call_of, calls, all_calls, sum_calls, product_calls, when_calls, optional_calls, args_calls, window_calls, sort_calls};
+ghost use Rattle.sql_syntax.specs.View.{view, trees_view, args_view, over_view, whens_view};
+ghost use Rattle.sql_syntax.specs.Tree.{optional_over, optional_tree, trees as tree_list, tree_whens};
+ghost use Rattle.query_answer.specs.Calls.{aggregate_of, agg_call, agg_arg, call_at, call_of, calls, all_calls, when_calls, optional_calls, args_calls};
 ghost use Rattle.bind_names.specs.Calls.{call_view};
 
 use crate::functions::function_of;
 use ct_value::{List, Memory};
 use query_answer::Function;
 use rel_algebra::AggCall;
-use sql_syntax::{Args, Over, ProductTails, SortList, SumTails, Tree, TreeWhens, Trees};
+use sql_syntax::{Args, Over, Tree, TreeWhens, Trees, parts_of};
 
 /// An aggregate call as it is written, with its argument and its FILTER condition, where it has them.
 #[derive(Drop)]
@@ -55,91 +55,55 @@ fn agg_arg(args: &Args) -> Option<&Tree>
     }
 }
 
-/// Puts the aggregate calls of a tree behind those that were found.
-#[cycle(calls)]
-#[tactic(auto, using(crate::proofs::CallLists::is_call, crate::proofs::CallLists::is_no_call), unfolding(sql_syntax::specs::View::view, sql_syntax::specs::View::sum_view, sql_syntax::specs::View::product_view, sql_syntax::specs::View::when_view, sql_syntax::specs::View::args_view, sql_syntax::specs::View::over_view))]
-pub fn push_calls<'a>(found: &mut CallRefs<'a>, tree: &'a Tree) -> Result<(), Memory>
-    ensures { OnOk result (map call_view found.new ≡ map call_view found.old ++ calls (view tree.now)) }
+// An aggregate call, with its argument and its FILTER condition.
+fn call_of<'a>(call: AggCall, args: &'a Args, filter: &'a Option<Box<Tree>>) -> CallRef<'a>
+    ensures { call_view result ≡ call_of call (args_view args.now) (optional_tree (option_map (λ y. view y.value) filter.now)) }
+{
+    let filter = match filter {
+        Some(filter) => Some(&**filter),
+        None => None,
+    };
+    CallRef {
+        call: agg_call(call, args),
+        arg: agg_arg(args),
+        filter,
+    }
+}
+
+// The aggregate call that a whole node is.
+#[tactic(auto, using(crate::proofs::CallLists::is_aggregate, crate::proofs::CallLists::is_no_aggregate), unfolding(sql_syntax::specs::View::view, sql_syntax::specs::View::args_view, sql_syntax::specs::View::over_view))]
+fn call_at(tree: &Tree) -> Option<CallRef<'_>>
+    ensures { option_map call_view result ≡ call_at (view tree.now) }
 {
     match tree {
-        Tree::Or(trees) | Tree::And(trees) => push_all(found, trees),
-        Tree::Not(value) | Tree::Paren(value) => push_calls(found, value),
-        Tree::IsNull { value, .. } | Tree::Sign { value, .. } => push_calls(found, value),
-        Tree::InQuery { value, .. } | Tree::Cast { value, .. } => push_calls(found, value),
-        Tree::Compare { left, right, .. } => {
-            push_calls(found, left)?;
-            push_calls(found, right)
-        }
-        Tree::Like { value, pattern, .. } => {
-            push_calls(found, value)?;
-            push_calls(found, pattern)
-        }
-        Tree::Between {
-            value,
-            low,
-            high,
-            ..
-        } => {
-            push_calls(found, value)?;
-            push_calls(found, low)?;
-            push_calls(found, high)
-        }
-        Tree::InList { value, items, .. } => {
-            push_calls(found, value)?;
-            push_all(found, items)
-        }
-        Tree::Sum { first, rest } => {
-            push_calls(found, first)?;
-            push_sum(found, rest)
-        }
-        Tree::Product { first, rest } => {
-            push_calls(found, first)?;
-            push_product(found, rest)
-        }
         Tree::Call {
             name,
             args,
             filter,
             over,
         } => match aggregate_of(function_of(name), over) {
-            Some(call) => push_one(found, call, args, filter),
-            None => {
-                push_args(found, args)?;
-                push_optional(found, filter)?;
-                push_window(found, over)
-            }
+            Some(call) => Some(call_of(call, args, filter)),
+            None => None,
         },
-        Tree::Case { whens, otherwise } => {
-            push_whens(found, whens)?;
-            push_optional(found, otherwise)
-        }
-        Tree::Exists(_) | Tree::Sub(_) | Tree::Null | Tree::Name { .. } => Ok(()),
-        Tree::Number(_) | Tree::Str(_) | Tree::Bool(_) => Ok(()),
+        _ => None,
     }
 }
 
-// A call that is an aggregate.
-fn push_one<'a>(
-    found: &mut CallRefs<'a>,
-    call: AggCall,
-    args: &'a Args,
-    filter: &'a Option<Box<Tree>>,
-) -> Result<(), Memory>
-    ensures { OnOk result (map call_view found.new ≡ map call_view found.old ++ call_of call (args_view args.now) (optional_tree (option_map (λ y. view y.value) filter.now)) ∷ []) }
+/// Puts the aggregate calls of a tree behind those that were found.
+#[tactic(auto, using(crate::proofs::CallLists::is_call, crate::proofs::CallLists::begins, crate::proofs::CallLists::goes_on, crate::proofs::CallLists::ends, sql_syntax::proofs::laws::Walks::first_weighs, sql_syntax::proofs::laws::Walks::others_weigh, sql_syntax::proofs::laws::Walks::parts_weigh))]
+pub fn push_calls<'a>(found: &mut CallRefs<'a>, tree: &'a Tree) -> Result<(), Memory>
+    ensures { OnOk result (map call_view found.new ≡ map call_view found.old ++ calls (view tree.now)) }
 {
-    let filter = match filter {
-        Some(filter) => Some(&**filter),
-        None => None,
-    };
-    found.push(CallRef {
-        call: agg_call(call, args),
-        arg: agg_arg(args),
-        filter,
-    })
+    if let Some(call) = call_at(tree) {
+        return found.push(call);
+    }
+    for part in parts_of(tree) {
+        push_calls(found, part)?;
+    }
+    Ok(())
 }
 
 /// Puts the aggregate calls of trees behind those that were found.
-#[cycle(calls)]
 pub fn push_all<'a>(found: &mut CallRefs<'a>, trees: &'a Trees) -> Result<(), Memory>
     ensures { OnOk result (map call_view found.new ≡ map call_view found.old ++ all_calls (tree_list (trees_view trees.now))) }
 {
@@ -149,28 +113,7 @@ pub fn push_all<'a>(found: &mut CallRefs<'a>, trees: &'a Trees) -> Result<(), Me
     Ok(())
 }
 
-#[cycle(calls)]
-fn push_sum<'a>(found: &mut CallRefs<'a>, tails: &'a SumTails) -> Result<(), Memory>
-    ensures { OnOk result (map call_view found.new ≡ map call_view found.old ++ sum_calls (sum_tails (sum_tails_view tails.now))) }
-{
-    for tail in tails.as_slice() {
-        push_calls(found, &tail.value)?;
-    }
-    Ok(())
-}
-
-#[cycle(calls)]
-fn push_product<'a>(found: &mut CallRefs<'a>, tails: &'a ProductTails) -> Result<(), Memory>
-    ensures { OnOk result (map call_view found.new ≡ map call_view found.old ++ product_calls (product_tails (product_tails_view tails.now))) }
-{
-    for tail in tails.as_slice() {
-        push_calls(found, &tail.value)?;
-    }
-    Ok(())
-}
-
 /// Puts the aggregate calls of branches behind those that were found.
-#[cycle(calls)]
 pub fn push_whens<'a>(found: &mut CallRefs<'a>, whens: &'a TreeWhens) -> Result<(), Memory>
     ensures { OnOk result (map call_view found.new ≡ map call_view found.old ++ when_calls (tree_whens (whens_view whens.now))) }
 {
@@ -182,7 +125,6 @@ pub fn push_whens<'a>(found: &mut CallRefs<'a>, whens: &'a TreeWhens) -> Result<
 }
 
 /// Puts the aggregate calls of a condition of FILTER, if there is one, behind those that were found.
-#[cycle(calls)]
 pub fn push_optional<'a>(
     found: &mut CallRefs<'a>,
     tree: &'a Option<Box<Tree>>,
@@ -196,7 +138,6 @@ pub fn push_optional<'a>(
 }
 
 /// Puts the aggregate calls of arguments behind those that were found.
-#[cycle(calls)]
 #[tactic(auto, unfolding(sql_syntax::specs::View::args_view, sql_syntax::specs::View::view))]
 pub fn push_args<'a>(found: &mut CallRefs<'a>, args: &'a Args) -> Result<(), Memory>
     ensures { OnOk result (map call_view found.new ≡ map call_view found.old ++ args_calls (args_view args.now)) }
@@ -205,28 +146,4 @@ pub fn push_args<'a>(found: &mut CallRefs<'a>, args: &'a Args) -> Result<(), Mem
         Args::Empty | Args::Star => Ok(()),
         Args::List { values, .. } => push_all(found, values),
     }
-}
-
-// Of PARTITION BY, then of ORDER BY.
-#[cycle(calls)]
-fn push_window<'a>(found: &mut CallRefs<'a>, over: &'a Option<Over>) -> Result<(), Memory>
-    ensures { OnOk result (map call_view found.new ≡ map call_view found.old ++ window_calls (optional_over (option_map over_view over.now))) }
-{
-    match over {
-        None => Ok(()),
-        Some(over) => {
-            push_all(found, &over.partition)?;
-            push_sorts(found, &over.order)
-        }
-    }
-}
-
-#[cycle(calls)]
-fn push_sorts<'a>(found: &mut CallRefs<'a>, sorts: &'a SortList) -> Result<(), Memory>
-    ensures { OnOk result (map call_view found.new ≡ map call_view found.old ++ sort_calls (sort_list (sorts_view sorts.now))) }
-{
-    for sort in sorts.as_slice() {
-        push_calls(found, &sort.value)?;
-    }
-    Ok(())
 }

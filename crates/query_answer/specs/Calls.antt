@@ -4,6 +4,7 @@ use Rattle.rel_algebra.specs.declared.agg.AggCall.{AggCall}
 use Rattle.rel_algebra.specs.declared.agg.AggCall.TheVariants.{CountAll, Count, CountDistinct}
 use Rattle.sql_syntax.specs.Tree.{Tree}
 use Rattle.sql_syntax.specs.Tree as t
+use Rattle.sql_syntax.specs.Walks.{of_tree, of_trees, of_sums, of_products, of_whens, of_sorts, of_optional, of_args, of_over}
 use Rattle.query_answer.specs.declared.function.Function.{Function}
 use Rattle.query_answer.specs.declared.function.Function.TheVariants.{Aggregate}
 use Rattle.query_answer.specs.Functions.{function_of}
@@ -59,65 +60,37 @@ abbrev pub call_or : Option Call → List Call → List Call
 call_or None others = others
 call_or (Some call) others = call ∷ []
 
-abbrev mutual
-  pub calls : Tree → List Call
-  calls (t.Or xs) = all_calls xs
-  calls (t.And xs) = all_calls xs
-  calls (t.Not x) = calls x
-  calls (t.Exists q) = []
-  calls (t.Compare op x y) = calls x ++ calls y
-  calls (t.IsNull x negated) = calls x
-  calls (t.Between x low high negated) = calls x ++ (calls low ++ calls high)
-  calls (t.InList x xs negated) = calls x ++ all_calls xs
-  calls (t.InQuery x q negated) = calls x
-  calls (t.Like x y negated) = calls x ++ calls y
-  calls (t.Sum x xs) = calls x ++ sum_calls xs
-  calls (t.Product x xs) = calls x ++ product_calls xs
-  calls (t.Sign minus x) = calls x
-  calls (t.Number text) = []
-  calls (t.Str text) = []
-  calls (t.Truth truth) = []
-  calls t.Null = []
-  calls (t.Name of name quoted) = []
-  calls (t.Call name args filter over) = call_or (call_at (t.Call name args filter over)) (args_calls args ++ (optional_calls filter ++ window_calls over))
-  calls (t.Cast x ty) = calls x
-  calls (t.Paren x) = calls x
-  calls (t.Sub q) = []
-  calls (t.Case whens otherwise) = when_calls whens ++ optional_calls otherwise
+abbrev pub own_calls : Tree → List Call → List Call
+own_calls x below = call_or (call_at x) below
 
-  pub all_calls : t.Trees → List Call
-  all_calls t.no_trees = []
-  all_calls (t.tree_and x xs) = calls x ++ all_calls xs
+-- those within a query are the query's
+abbrev pub calls : Tree → List Call
+calls = of_tree (List Call) [] (λ cs ds. cs ++ ds) (λ cs ds. cs) own_calls
 
-  pub sum_calls : t.SumTails → List Call
-  sum_calls t.no_sum_tails = []
-  sum_calls (t.sum_tail_and (t.sum_tail_of word x) xs) = calls x ++ sum_calls xs
+abbrev pub all_calls : t.Trees → List Call
+all_calls = of_trees (List Call) [] (λ cs ds. cs ++ ds) (λ cs ds. cs) own_calls
 
-  pub product_calls : t.ProductTails → List Call
-  product_calls t.no_product_tails = []
-  product_calls (t.product_tail_and (t.product_tail_of word x) xs) = calls x ++ product_calls xs
+abbrev pub sum_calls : t.SumTails → List Call
+sum_calls = of_sums (List Call) [] (λ cs ds. cs ++ ds) (λ cs ds. cs) own_calls
 
-  pub when_calls : t.TreeWhens → List Call
-  when_calls t.no_tree_whens = []
-  when_calls (t.tree_when_and (t.tree_when_of c x) ws) = calls c ++ (calls x ++ when_calls ws)
+abbrev pub product_calls : t.ProductTails → List Call
+product_calls = of_products (List Call) [] (λ cs ds. cs ++ ds) (λ cs ds. cs) own_calls
 
-  pub optional_calls : t.OptionalTree → List Call
-  optional_calls t.no_tree = []
-  optional_calls (t.some_tree x) = calls x
+abbrev pub when_calls : t.TreeWhens → List Call
+when_calls = of_whens (List Call) [] (λ cs ds. cs ++ ds) (λ cs ds. cs) own_calls
 
-  pub args_calls : t.Args → List Call
-  args_calls t.Empty = []
-  args_calls t.Star = []
-  args_calls (t.Values distinct xs) = all_calls xs
+abbrev pub sort_calls : t.SortList → List Call
+sort_calls = of_sorts (List Call) [] (λ cs ds. cs ++ ds) (λ cs ds. cs) own_calls
 
-  -- PARTITION BY, then ORDER BY
-  pub window_calls : t.OptionalOver → List Call
-  window_calls t.no_over = []
-  window_calls (t.some_over (t.over_of partition order)) = all_calls partition ++ sort_calls order
+abbrev pub optional_calls : t.OptionalTree → List Call
+optional_calls = of_optional (List Call) [] (λ cs ds. cs ++ ds) (λ cs ds. cs) own_calls
 
-  pub sort_calls : t.SortList → List Call
-  sort_calls t.no_sorts = []
-  sort_calls (t.sort_and (t.sort_of x desc) xs) = calls x ++ sort_calls xs
+abbrev pub args_calls : t.Args → List Call
+args_calls = of_args (List Call) [] (λ cs ds. cs ++ ds) (λ cs ds. cs) own_calls
+
+-- PARTITION BY, then ORDER BY
+abbrev pub window_calls : t.OptionalOver → List Call
+window_calls = of_over (List Call) [] (λ cs ds. cs ++ ds) (λ cs ds. cs) own_calls
 
 abbrev pub with_tree : Option Tree → List Tree → List Tree
 with_tree None xs = xs
