@@ -1,5 +1,6 @@
 pub mod Ascii
 pub mod Bounded
+mod Decimals
 pub mod Digits
 pub mod Powers
 pub mod Texts

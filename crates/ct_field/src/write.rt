@@ -1,11 +1,15 @@
 //! The one text of a value.
-ghost use Rattle.std.specs.Prelude.{◌≡◌, ◌≤◌, ◌++◌, ◌∷◌, ◌^◌, [], IsTrue, IfOk, OnOk};
+ghost use Rattle.std.specs.Prelude.{◌≡◌, ◌≤◌, ◌++◌, ◌∷◌, ◌^◌, [], drop, IsTrue, IfOk, OnOk};
+ghost use Rattle.std.specs.Fmt.{decimal};
 ghost use Rattle.ct_field.specs.Numbers.{is_type};
 ghost use Rattle.ct_field.specs.Fields.{field_text, number_text, unsigned_text, last_digits, escaped, scale_of};
 
 use crate::number::power_of_ten;
 use ct_value::{Bytes, Memory, Text, TextFault, Ty, Value};
 use std::alloc::Global;
+
+// Room for the digits of each number of 64 bits, of which there are at most 20.
+const MOST_DIGITS: usize = 64;
 
 /// The field text of a value: no plus sign, no leading zeros, no -0, all decimals of the type, TRUE or FALSE, `\N` for
 /// NULL, and one more backslash in front of a text that begins with one. It may be longer than a field that is read.
@@ -82,14 +86,50 @@ fn push_unsigned(alloc: Global, text: &mut Bytes, scale: u32, number: u128) -> R
     requires { scale ≤ 38 }
     ensures { OnOk result (text.new ≡ text.old ++ unsigned_text scale number) }
 {
-    let whole = number / power_of_ten(scale);
-    let whole = format!(in alloc; "{whole}")?;
-    text.extend(whole.as_bytes())?;
     if scale == 0 {
-        return Ok(());
+        return push_decimal(alloc, text, number);
     }
+    push_decimal(alloc, text, number / power_of_ten(scale))?;
     text.push(b'.')?;
     push_last_digits(text, scale, number)
+}
+
+// Puts the decimal digits of a number behind a text. Where they fit into 64 bits, no memory is taken for them alone.
+fn push_decimal(alloc: Global, text: &mut Bytes, number: u128) -> Result<(), Memory>
+    ensures { OnOk result (text.new ≡ text.old ++ decimal number) }
+{
+    if number <= u64::MAX as u128 {
+        return push_digits(text, number as u64);
+    }
+    let digits = format!(in alloc; "{number}")?;
+    text.extend(digits.as_bytes())
+}
+
+fn push_digits(text: &mut Bytes, number: u64) -> Result<(), Memory>
+    ensures { OnOk result (text.new ≡ text.old ++ decimal number) }
+{
+    let mut digits = [0; MOST_DIGITS];
+    let start = write_digits(&mut digits, number);
+    let digits = &digits[..];
+    text.extend(&digits[start..])
+}
+
+// Writes the decimal digits of a number at the end of a buffer, and answers where they start.
+fn write_digits(digits: &mut [u8; MOST_DIGITS], number: u64) -> usize
+    ensures start { result ≤ 64 }
+    ensures written { drop result digits.new ≡ decimal number }
+{
+    let mut start = MOST_DIGITS;
+    let mut rest = number;
+    while start > 0 {
+        start -= 1;
+        digits[start] = b'0' + (rest % 10) as u8;
+        rest /= 10;
+        if rest == 0 {
+            break;
+        }
+    }
+    start
 }
 
 // Puts the last digits of a number, so many, behind a text.

@@ -1,7 +1,9 @@
 pub mod Bag
 pub mod Codes
 pub mod Hashed
+pub mod Leads
 pub mod Maps
 pub mod Order
 pub mod Rows
+pub mod Texts
 pub mod formers

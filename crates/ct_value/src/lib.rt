@@ -9,6 +9,8 @@
 mod bytes;
 mod codes;
 mod dup;
+mod each;
+mod lead;
 mod list;
 mod memory;
 mod row;

@@ -46,6 +46,13 @@ impl<T> List<T> {
         })
     }
 
+    // The list of a vector's items, which it keeps. It takes no memory.
+    pub(crate) fn from_vec(items: Vec<T>) -> List<T>
+        ensures { result ≡ items.items }
+    {
+        List { items }
+    }
+
     /// How many items there are.
     pub fn len(&self) -> usize
         ensures { result ≡ length self.now }
@@ -135,11 +142,12 @@ impl<T: Dup> List<T> {
     pub fn dup(&self) -> Result<List<T>, Memory>
         ensures { IfOk result (λ copy. copy ≡ self.now) }
     {
-        let mut copies = List::with_capacity(*self.items.allocator(), self.items.len())?;
+        let mut copies = Vec::with_capacity(*self.items.allocator(), self.items.len())?;
         for item in self.as_slice() {
-            copies.push(item.dup()?)?;
+            let copy = item.dup()?;
+            copies.push_reserved(copy);
         }
-        Ok(copies)
+        Ok(List::from_vec(copies))
     }
 }
 

@@ -3,6 +3,8 @@ ghost use Rattle.std.specs.Ordering.{eq_by_cmp};
 ghost use Rattle.std.specs.Cmp.{eq_by_cmp_equiv, partial_equiv_from_equiv, po};
 ghost use Rattle.std.proofs.Common.{refl};
 
+use crate::each::compare_each;
+use crate::lead::lead_of;
 use crate::{List, Memory, Value};
 use std::alloc::Global;
 use std::cmp::Ordering;
@@ -22,15 +24,20 @@ pub type Values = List<Value>;
 #[derive(Debug, Drop)]
 pub struct Row {
     values: Values,
+    // By it most rows are told apart with no look at their values.
+    lead: u64,
 }
 
 impl Model for Row {
-    ghost use Rattle.std.specs.Prelude.{List};
+    ghost use Rattle.std.specs.Prelude.{◌≡◌, List};
     ghost use Rattle.ct_value.specs.declared.value.Value.{Value as Cell};
+    ghost use Rattle.ct_value.specs.Leads.{row_lead};
 
     ghost Value = { List Cell };
 
     ghost view = { λ r. r.values };
+
+    ghost invariant = { λ r. r.lead ≡ row_lead r.values };
 }
 
 impl Row {
@@ -41,7 +48,8 @@ impl Row {
     pub fn from_values(values: Values) -> Row
         ensures { result ≡ values }
     {
-        Row { values }
+        let lead = lead_of(values.as_slice());
+        Row { values, lead }
     }
 
     /// How many values it has.
@@ -78,6 +86,7 @@ impl Row {
     {
         Ok(Row {
             values: self.values.dup()?,
+            lead: self.lead,
         })
     }
 
@@ -87,11 +96,12 @@ impl Row {
         ensures { IfOk result (λ row. row ≡ project cols.now self.now) }
     {
         let cells = self.values.as_slice();
-        let mut values = Values::with_capacity(self.values.alloc(), cols.len())?;
+        let mut values = Vec::with_capacity(self.values.alloc(), cols.len())?;
         for col in cols.as_slice() {
-            values.push(cells[*col as usize].dup()?)?;
+            let value = cells[*col as usize].dup()?;
+            values.push_reserved(value);
         }
-        Ok(Row { values })
+        Ok(Row::from_values(Values::from_vec(values)))
     }
 
     /// The first values, `count` of them, or all where there are fewer.
@@ -99,29 +109,30 @@ impl Row {
         ensures { IfOk result (λ row. row ≡ take count self.now) }
     {
         let end = self.values.len().min(count as usize);
-        let mut values = Values::with_capacity(self.values.alloc(), end)?;
+        let mut values = Vec::with_capacity(self.values.alloc(), end)?;
         for value in &self.values.as_slice()[..end] {
-            values.push(value.dup()?)?;
+            let copy = value.dup()?;
+            values.push_reserved(copy);
         }
-        Ok(Row { values })
+        Ok(Row::from_values(Values::from_vec(values)))
     }
 
     /// The row cut to its first values, `count` of them, or all where there are fewer. It takes no memory.
     pub fn into_prefix(self, count: u32) -> Row
         ensures { result ≡ take count self }
     {
-        let Row { mut values } = self;
+        let Row { mut values, .. } = self;
         values.truncate(count as usize);
-        Row { values }
+        Row::from_values(values)
     }
 
     /// The row with one more value behind the others.
     pub fn with(self, value: Value) -> Result<Row, Memory>
         ensures { IfOk result (λ row. row ≡ self ++ value ∷ []) }
     {
-        let Row { mut values } = self;
+        let Row { mut values, .. } = self;
         values.push(value)?;
-        Ok(Row { values })
+        Ok(Row::from_values(values))
     }
 
     /// The order of rows: value by value, and a row that begins a longer one before it. NULL stands before
@@ -129,7 +140,13 @@ impl Row {
     pub fn compare(&self, other: &Row) -> Ordering
         ensures { result ≡ row_cmp self.now other.now }
     {
-        self.values.as_slice().cmp(other.values.as_slice())
+        if self.lead < other.lead {
+            return Ordering::Less;
+        }
+        if other.lead < self.lead {
+            return Ordering::Greater;
+        }
+        compare_each(self.values.as_slice(), other.values.as_slice())
     }
 }
 

@@ -1,4 +1,4 @@
-ghost use Rattle.std.specs.Prelude.{◌≡◌, ◌↔◌, ◌++◌, Some, IfOk, IsErrOf, IsTrue};
+ghost use Rattle.std.specs.Prelude.{◌≡◌, ◌≤◌, ◌↔◌, ◌++◌, Some, length, string_bytes, IfOk, IsErrOf, IsTrue};
 ghost use Rattle.std.specs.Str.{IsUtf8, bytes_eq};
 ghost use Rattle.std.specs.Ordering.{nat_cmp, eq_by_cmp};
 ghost use Rattle.std.specs.Cmp.{eq_by_cmp_equiv, partial_equiv_from_equiv, po};
@@ -6,30 +6,47 @@ ghost use Rattle.std.specs.Cmp.Lexicographic.{slice_cmp, nat_list_cmp_total};
 ghost use Rattle.std.proofs.Common.{refl};
 
 use crate::Memory;
+use crate::each::compare_each;
 use std::alloc::{AllocError, Global};
 use std::cmp::Ordering;
 use std::convert::AsStr;
 use std::marker::Model;
 
+// So many bytes are compared one by one, and more by groups.
+const FEW_BYTES: usize = 16;
+
+// So many bytes lie in the text itself, which then takes no memory.
+const ROOM: usize = 22;
+
 /// A text in UTF-8, seen as the list of its bytes, by which texts are ordered.
 #[derive(Debug, Drop)]
 pub struct Text {
-    text: String,
+    held: Held,
+}
+
+// Where the bytes of a text lie.
+#[derive(Debug, Drop)]
+enum Held {
+    Near(u8, [u8; 22]),
+    Far(Box<String>),
 }
 
 impl Model for Text {
-    ghost use Rattle.std.specs.Prelude.{List, ℕ, string_bytes};
+    ghost use Rattle.std.specs.Prelude.{List, ℕ};
+    ghost use Rattle.ct_value.specs.Texts.{held_bytes, IsText};
 
     ghost Value = { List ℕ };
 
-    ghost view = { λ t. string_bytes t.text };
+    ghost view = { λ t. held_bytes t.held };
+
+    ghost invariant = { λ t. IsText t.held };
 }
 
 impl AsStr for Text {
     ghost text = { λ t. t };
 
     fn as_str(&self) -> &str {
-        self.text.as_str()
+        Text::as_str(self)
     }
 }
 
@@ -58,11 +75,12 @@ impl Text {
         ensures utf8 { IfOk result (λ _. IsUtf8 bytes.now) }
         ensures not_utf8 { IsErrOf result TextFault.NotUtf8 → ¬ (IsUtf8 bytes.now) }
     {
-        match str::from_utf8(bytes) {
-            Ok(text) => Ok(Text {
-                text: String::from_str(alloc, text)?,
-            }),
-            Err(_) => Err(TextFault::NotUtf8),
+        let Ok(text) = str::from_utf8(bytes) else {
+            return Err(TextFault::NotUtf8);
+        };
+        match Text::from_str(alloc, text) {
+            Ok(text) => Ok(text),
+            Err(Memory) => Err(TextFault::Memory),
         }
     }
 
@@ -70,9 +88,10 @@ impl Text {
     pub fn from_str(alloc: Global, text: &str) -> Result<Text, Memory>
         ensures { IfOk result (λ copy. copy ≡ text.now) }
     {
-        Ok(Text {
-            text: String::from_str(alloc, text)?,
-        })
+        if text.len() <= ROOM {
+            return Ok(near(text));
+        }
+        far(alloc, String::from_str(alloc, text)?)
     }
 
     /// One text behind the other.
@@ -81,7 +100,10 @@ impl Text {
     {
         let mut text = String::from_str(alloc, left.as_str())?;
         text.push_str(right.as_str())?;
-        Ok(Text { text })
+        if text.len() <= ROOM {
+            return Ok(near(text.as_str()));
+        }
+        far(alloc, text)
     }
 
     /// The bytes, which are UTF-8.
@@ -89,14 +111,20 @@ impl Text {
         ensures bytes { result.now ≡ self.now }
         ensures utf8 { IsUtf8 self.now }
     {
-        self.text.as_str().as_bytes()
+        match &self.held {
+            Held::Near(len, bytes) => &bytes[..*len as usize],
+            Held::Far(text) => text.as_str().as_bytes(),
+        }
     }
 
     /// The text as a `str`.
     pub fn as_str(&self) -> &str
         ensures { result.now ≡ self.now }
     {
-        self.text.as_str()
+        match &self.held {
+            Held::Near(len, bytes) => str::from_utf8(&bytes[..*len as usize]).unwrap_or(""),
+            Held::Far(text) => text.as_str(),
+        }
     }
 
     /// Whether these are its bytes.
@@ -111,9 +139,12 @@ impl Text {
     pub fn dup(&self) -> Result<Text, Memory>
         ensures { IfOk result (λ copy. copy ≡ self.now) }
     {
-        Ok(Text {
-            text: self.text.clone()?,
-        })
+        match &self.held {
+            Held::Near(len, bytes) => Ok(Text {
+                held: Held::Near(*len, *bytes),
+            }),
+            Held::Far(text) => far(*text.allocator(), text.as_ref().clone()?),
+        }
     }
 }
 
@@ -151,6 +182,38 @@ impl Ord for Text {
     ghost matches_eq = { λ a b. refl };
 
     fn cmp(&self, other: &Text) -> Ordering {
-        self.as_slice().cmp(other.as_slice())
+        compare_bytes(self.as_slice(), other.as_slice())
     }
+}
+
+// Never inlined, so that the comparison of values, which calls it, stays small where they are numbers.
+#[inline(never)]
+fn compare_bytes(left: &[u8], right: &[u8]) -> Ordering
+    ensures { result ≡ slice_cmp nat_cmp left.now right.now }
+{
+    if left.len().min(right.len()) <= FEW_BYTES {
+        return compare_each(left, right);
+    }
+    left.cmp(right)
+}
+
+// A short text, which takes no memory.
+fn near(text: &str) -> Text
+    requires { length text.now ≤ 22 }
+    ensures { result ≡ text.now }
+{
+    let mut bytes = [0; 22];
+    bytes[..text.len()].copy_from_slice(text.as_bytes());
+    Text {
+        held: Held::Near(text.len() as u8, bytes),
+    }
+}
+
+// A text whose bytes lie in memory of their own.
+fn far(alloc: Global, text: String) -> Result<Text, Memory>
+    ensures { IfOk result (λ made. made ≡ string_bytes text) }
+{
+    Ok(Text {
+        held: Held::Far(Box::new(alloc, text)?),
+    })
 }

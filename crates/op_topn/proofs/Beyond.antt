@@ -75,6 +75,13 @@ module _ (order : List SortCol) where
     | false ↦ λ s. refl
   ] refl
 
+  -- where a row is the first of others, none of them stands before it
+  pub heads-past : (row : Row) (rows : List Row) → heads row rows ≡ true → rows ≡ past order row rows
+  heads-past row [] e = absurd (false≢true e)
+  heads-past row (other ∷ others) e =
+      let tied : is_lt (rank_cmp order other row) ≡ false = ap (λ x. is_lt (rank_cmp order other x)) (same_row-true row other e) ∙ ap is_lt (tied_itself (rank_total order) other) in
+      sym (ap (λ b. cond b (past order row others) (other ∷ others)) tied)
+
   later_differ : (a b : Row) (rows : List Row) → is_lt (rank_cmp order a b) ≡ true → T (at_most_all (rank_cmp order) b rows) → AllByRecursion (λ row. same_row row a ≡ false) rows
   later_differ a b [] e h = tt
   later_differ a b (row ∷ rows) e h = (

@@ -1,13 +1,15 @@
 //! Rows kept in rank order.
-ghost use Rattle.std.specs.Prelude.{◌≡◌, ◌+◌, ◌<◌, ◌≤◌, ◌^◌, ◌++◌, ◌∷◌, [], List, length, replicate, take, IfOk, OnOk, IfSome, IfNone};
-ghost use Rattle.std.specs.BTreeMap.{get};
+ghost use Rattle.std.specs.Prelude.{◌≡◌, ◌+◌, ◌-◌, ◌<◌, ◌≤◌, ◌^◌, ◌++◌, ◌∷◌, [], List, Some, None, true, false, cond, length, replicate, take, IfOk, OnOk, IfSome, IfNone};
+ghost use Rattle.std.specs.BTreeMap.{IsOrdered, get, insert_entry, is_at};
+ghost use Rattle.std.specs.Map.{remove_entry};
+ghost use Rattle.std.specs.Ordering.{eq_by_cmp};
 ghost use Rattle.std.specs.Option.{unwrap_or};
 ghost use Rattle.ct_value.specs.Bag as bag;
 ghost use Rattle.ct_value.specs.declared.row.Row.{Row as Line};
 ghost use Rattle.ct_change.specs.Changelog.{Rows};
 ghost use Rattle.rel_algebra.specs.declared.sort.SortCol.{SortCol};
 ghost use Rattle.rel_algebra.specs.Ranks.{in_rank_order};
-ghost use Rattle.op_topn.specs.Keys.{key_cmp, rank_key, rows_in};
+ghost use Rattle.op_topn.specs.Keys.{Key, key_cmp, rank_key, rows_in};
 ghost use Rattle.op_topn.specs.RankedRows.{IsRanked, is_empty};
 
 use crate::key::RankKey;
@@ -15,7 +17,7 @@ use ct_change::Steps;
 use ct_value::{Memory, Row};
 use std::alloc::Global;
 use std::collections::BTreeMap;
-use std::collections::btree_map::Iter;
+use std::collections::btree_map::{Entry, Iter};
 use std::marker::Model;
 use std::sync::ledger::Ledger;
 
@@ -48,8 +50,7 @@ impl RankedRows {
         requires { unwrap_or (get key_cmp self.old.counts key) 0 + 1 < 2 ^ 64 }
         ensures { OnOk result ((order : List SortCol) (rows : Rows) → key ≡ rank_key order key.1 → IsRanked order self.old.counts rows → IsRanked order self.new.counts (bag.add rows key.1)) }
     {
-        let standing = self.counts.get(&key).copied().unwrap_or(0);
-        self.counts.insert(key, standing + 1)?;
+        count_one(&mut self.counts, key)?;
         Ok(())
     }
 
@@ -58,12 +59,7 @@ impl RankedRows {
         requires { 0 < unwrap_or (get key_cmp self.old.counts key) 0 }
         ensures { OnOk result ((order : List SortCol) (rows : Rows) → key ≡ rank_key order key.1 → IsRanked order self.old.counts rows → IsRanked order self.new.counts (bag.remove rows key.1)) }
     {
-        let standing = self.counts.get(&key).copied().unwrap_or(0);
-        if standing > 1 {
-            self.counts.insert(key, standing - 1)?;
-            return Ok(());
-        }
-        self.counts.remove(&key);
+        count_less(&mut self.counts, key)?;
         Ok(())
     }
 
@@ -80,6 +76,40 @@ impl RankedRows {
         let rows = first_rows(alloc, &self.counts, bound, steps)?;
         Ok(rows)
     }
+}
+
+// Counts a key once more, in one descent.
+fn count_one(counts: &mut BTreeMap<RankKey, u64>, key: RankKey) -> Result<(), Memory>
+    requires { unwrap_or (get key_cmp counts.old key) 0 + 1 < 2 ^ 64 }
+    ensures at { OnOk result ((other : Key) → get key_cmp counts.new other ≡ cond (eq_by_cmp key_cmp key other) (Some (unwrap_or (get key_cmp counts.old key) 0 + 1)) (get key_cmp counts.old other)) }
+    ensures entries { OnOk result (counts.new.entries ≡ insert_entry key_cmp counts.old.entries key (unwrap_or (get key_cmp counts.old key) 0 + 1)) }
+    ensures ordered { OnOk result (IsOrdered key_cmp counts.new) }
+{
+    *counts.entry(key)?.or_insert(0) += 1;
+    Ok(())
+}
+
+// Counts a key, which has to be there, once less, in one descent, and answers whether copies of it are left. The key goes with its
+// last one.
+fn count_less(counts: &mut BTreeMap<RankKey, u64>, key: RankKey) -> Result<bool, Memory>
+    requires { 0 < unwrap_or (get key_cmp counts.old key) 0 }
+    ensures many { IfOk result (λ are_left. are_left ≡ true → 1 < unwrap_or (get key_cmp counts.old key) 0) }
+    ensures left { IfOk result (λ are_left. are_left ≡ true → counts.new.entries ≡ insert_entry key_cmp counts.old.entries key (unwrap_or (get key_cmp counts.old key) 0 - 1)) }
+    ensures left_at { IfOk result (λ are_left. are_left ≡ true → (other : Key) → get key_cmp counts.new other ≡ cond (eq_by_cmp key_cmp key other) (Some (unwrap_or (get key_cmp counts.old key) 0 - 1)) (get key_cmp counts.old other)) }
+    ensures last { IfOk result (λ are_left. are_left ≡ false → (unwrap_or (get key_cmp counts.old key) 0 ≡ 1) × (counts.new.entries ≡ remove_entry (is_at (key_cmp key)) counts.old.entries)) }
+    ensures last_at { IfOk result (λ are_left. are_left ≡ false → (other : Key) → get key_cmp counts.new other ≡ cond (eq_by_cmp key_cmp key other) None (get key_cmp counts.old other)) }
+    ensures ordered { OnOk result (IsOrdered key_cmp counts.new) }
+{
+    let Entry::Occupied(spot) = counts.entry(key)? else {
+        return Ok(false);
+    };
+    let standing = *spot.get();
+    if standing > 1 {
+        *spot.into_mut() = standing - 1;
+        return Ok(true);
+    }
+    spot.remove();
+    Ok(false)
 }
 
 // The keys that are left to be handed out, each with its count, in rank order.
@@ -118,7 +148,7 @@ fn first_rows<L: Ledger>(
     ensures rows { IfOk result (λ rows. rows.items ≡ take bound (rows_in counts.now.entries)) }
     ensures cost { steps.new ≤ steps.old + bound }
 {
-    let mut rows: Vec<Row> = Vec::new(alloc);
+    let mut rows: Vec<Row> = Vec::with_capacity(alloc, bound.min(counts.len()))?;
     let mut left = KeysLeft {
         entries: counts.iter(),
     };

@@ -71,6 +71,10 @@ fn past(order: &Sorts, row: &Row, others: &[Row], from: usize) -> usize
     ensures rest { drop result others.now ≡ t.past order.now row.now (drop from others.now) }
     ensures within { result ≤ length others.now }
 {
+    // Most rows stay, and then the row itself is the next of the others.
+    if is_at(row, others, from) {
+        return from;
+    }
     let mut place = from;
     'skip: while place < others.len() {
         if !rank_compare(order, &others[place], row).is_lt() {

@@ -1,11 +1,11 @@
-ghost use Rattle.std.specs.Prelude.{◌≡◌, ◌+◌, ◌<◌, ◌^◌, ◌⊎◌, ◌≢◌, [], List, length, Some, None, true, OnOk, OnErr, IfOk, IsErrOf, option_copied};
+ghost use Rattle.std.specs.Prelude.{◌≡◌, ◌+◌, ◌<◌, ◌^◌, ◌⊎◌, ◌≢◌, [], List, length, Some, None, true, false, OnOk, OnErr, IfOk, IsErrOf, option_copied};
 ghost use Rattle.std.specs.FinMap as map;
 ghost use Rattle.ct_value.specs.Bag.{copies, none};
 ghost use Rattle.ct_value.specs.Rows.{project};
 ghost use Rattle.ct_value.specs.declared.codes.ChangeCode.{ChangeCode};
 ghost use Rattle.ct_value.specs.declared.row.Row.{Row};
 ghost use Rattle.ct_field.specs.Typed.{cell};
-ghost use Rattle.ct_change.specs.Changelog.{Rows, admits, apply, fold, retract};
+ghost use Rattle.ct_change.specs.Changelog.{Rows, adds, admits, apply, fold, retract};
 ghost use Rattle.ct_change.specs.declared.change.Change.{Change};
 ghost use Rattle.stream_model.specs.Tables.{refusal, row_refusal};
 ghost use Rattle.ct_catalog.specs.Columns.{table_mode};
@@ -114,11 +114,14 @@ fn take_keyed(table: &TableDef, rows: &mut KeyedRows, change: &Change) -> Result
     ensures err { OnErr result (rows.new ≡ rows.old) }
 {
     let key = key_row(table, &change.row)?;
-    if table.mode != Declared::Upsert {
-        check_key(rows, &key, change)?;
+    if table.mode == Declared::Upsert {
+        put(rows, key, change)?;
+        return Ok(());
     }
-    put(rows, key, change)?;
-    Ok(())
+    if change.kind.is_addition() {
+        return add_new(rows, key, change);
+    }
+    let_go(rows, &key, change)
 }
 
 // The values of a row in the table's key.
@@ -153,22 +156,34 @@ fn cell(row: &Row, column: u32) -> Result<Value, Memory>
     }
 }
 
-// Refuses a row that comes to a key that has one, and one that goes and doesn't stand.
-fn check_key(rows: &KeyedRows, key: &Row, change: &Change) -> Result<(), SourceFault>
-    ensures ok { OnOk result (keyed_refusal (map.get rows.now key.now) change.now ≡ None) }
-    ensures refused { (code : ChangeCode) → IsErrOf result (Refused code) → keyed_refusal (map.get rows.now key.now) change.now ≡ Some code }
+// Adds a row under its key, and refuses it where the key has one.
+fn add_new(rows: &mut KeyedRows, key: Row, change: &Change) -> Result<(), SourceFault>
+    requires { adds change.now.kind ≡ true }
+    ensures ok { OnOk result (rows.new ≡ keyed_after rows.old key change.now) }
+    ensures taken { OnOk result (keyed_refusal (map.get rows.old key) change.now ≡ None) }
+    ensures refused { (code : ChangeCode) → IsErrOf result (Refused code) → keyed_refusal (map.get rows.old key) change.now ≡ Some code }
+    ensures err { OnErr result (rows.new ≡ rows.old) }
 {
-    let old = rows.get(key);
-    if change.kind.is_addition() {
-        if old.is_some() {
-            return Err(SourceFault::Refused(ChangeCode::KeyPresent));
-        }
-        return Ok(());
+    if rows.set_new(key, change.row.dup()?)? {
+        Ok(())
+    } else {
+        Err(SourceFault::Refused(ChangeCode::KeyPresent))
     }
-    if is_row(old, &change.row) {
-        return Ok(());
+}
+
+// Lets a row under its key go, and refuses that where it doesn't stand.
+fn let_go(rows: &mut KeyedRows, key: &Row, change: &Change) -> Result<(), SourceFault>
+    requires { adds change.now.kind ≡ false }
+    ensures ok { OnOk result (rows.new ≡ keyed_after rows.old key.now change.now) }
+    ensures taken { OnOk result (keyed_refusal (map.get rows.old key.now) change.now ≡ None) }
+    ensures refused { (code : ChangeCode) → IsErrOf result (Refused code) → keyed_refusal (map.get rows.old key.now) change.now ≡ Some code }
+    ensures err { OnErr result (rows.new ≡ rows.old) }
+{
+    if !is_row(rows.get(key), &change.row) {
+        return Err(SourceFault::Refused(ChangeCode::RowAbsent));
     }
-    Err(SourceFault::Refused(ChangeCode::RowAbsent))
+    rows.remove(key);
+    Ok(())
 }
 
 fn is_row(old: Option<&Row>, row: &Row) -> bool

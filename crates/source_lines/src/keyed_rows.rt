@@ -1,5 +1,6 @@
-ghost use Rattle.std.specs.Prelude.{◌≡◌, ℕ, List, IfOk, OnOk, OnErr, option_copied};
-ghost use Rattle.std.specs.BTreeMap.{IsOrdered, values};
+ghost use Rattle.std.specs.Prelude.{◌≡◌, ℕ, List, Some, None, true, false, cond, IsSome, IfOk, OnOk, OnErr, option_copied};
+ghost use Rattle.std.specs.BTreeMap.{IsOrdered, get, values};
+ghost use Rattle.std.specs.Ordering.{eq_by_cmp};
 ghost use Rattle.std.specs.FinMap as map;
 ghost use Rattle.ct_value.specs.Bag.{copies, occurs};
 ghost use Rattle.ct_value.specs.Order.{row_cmp};
@@ -11,6 +12,7 @@ use ct_change::Bag;
 use ct_value::{Memory, Row};
 use std::alloc::Global;
 use std::collections::BTreeMap;
+use std::collections::btree_map::Entry;
 use std::marker::Model;
 
 /// The row of each key, found by key.
@@ -50,6 +52,16 @@ impl KeyedRows {
         Ok(())
     }
 
+    // Sets the row of a key that has none, and answers whether it had none. Where it has one, all is as before.
+    pub(crate) fn set_new(&mut self, key: Row, row: Row) -> Result<bool, Memory>
+        ensures set { IfOk result (λ is_new. is_new ≡ true → (map.get self.old key ≡ None) × (self.new ≡ map.insert self.old key row)) }
+        ensures there { IfOk result (λ is_new. is_new ≡ false → IsSome (map.get self.old key) × (self.new ≡ self.old)) }
+        ensures err { OnErr result (self.new ≡ self.old) }
+    {
+        let is_new = put_new(&mut self.rows, key, row)?;
+        Ok(is_new)
+    }
+
     // Lets the row of a key go. It takes no memory.
     pub(crate) fn remove(&mut self, key: &Row)
         ensures { self.new ≡ map.remove self.old key.now }
@@ -70,6 +82,23 @@ impl KeyedRows {
     {
         let KeyedRows { rows } = self;
         bag_of(alloc, rows)
+    }
+}
+
+// Puts a key with its row, where it isn't there, in one descent, and answers whether it wasn't.
+fn put_new(rows: &mut BTreeMap<Row, Row>, key: Row, row: Row) -> Result<bool, Memory>
+    ensures absent { IfOk result (λ is_new. is_new ≡ true → get row_cmp rows.old key ≡ None) }
+    ensures put { IfOk result (λ is_new. is_new ≡ true → (other : Line) → get row_cmp rows.new other ≡ cond (eq_by_cmp row_cmp key other) (Some row) (get row_cmp rows.old other)) }
+    ensures there { IfOk result (λ is_new. is_new ≡ false → IsSome (get row_cmp rows.old key)) }
+    ensures same { IfOk result (λ is_new. is_new ≡ false → rows.new.entries ≡ rows.old.entries) }
+    ensures err { OnErr result (rows.new.entries ≡ rows.old.entries) }
+{
+    match rows.entry(key)? {
+        Entry::Vacant(spot) => {
+            spot.insert(row);
+            Ok(true)
+        }
+        Entry::Occupied(_) => Ok(false),
     }
 }
 

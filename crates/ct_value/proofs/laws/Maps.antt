@@ -8,7 +8,7 @@ use Rattle.std.specs.BTreeMap.{BTreeMap, is_at}
 use Rattle.std.specs.Map.{lookup}
 use Rattle.ct_value.specs.Order.{row_cmp, row_total, row_exact}
 use Rattle.ct_value.specs.declared.row.Row.{Row}
-use Rattle.std.specs.FinMap.{FinMap, IsAntisymmetric, find, get, insert, remove, get-from_entries, get-insert, get-remove, same_map}
+use Rattle.std.specs.FinMap.{IsAntisymmetric, find, get, insert, remove, get-from_entries, get-insert, get-remove, same_map}
 use Rattle.ct_value.specs.Maps.{map_of, map_in}
 
 module _ {K X : Type 0} {R : K → K → Ordering} (total : IsTotalOrder R) (exact : IsAntisymmetric R) where
