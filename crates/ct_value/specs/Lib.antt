@@ -1,7 +1,7 @@
 pub mod Bag
 pub mod Codes
 pub mod Hashed
-pub mod Leads
+pub mod Abbreviations
 pub mod Maps
 pub mod Order
 pub mod Rows

@@ -6,11 +6,11 @@
 //! (`specs/Hashed`); a bag is known by its copies (`specs/Bag`). It stands on std alone.
 #![tactic(auto)]
 
+mod abbreviation;
 mod bytes;
 mod codes;
 mod dup;
 mod each;
-mod lead;
 mod list;
 mod memory;
 mod row;

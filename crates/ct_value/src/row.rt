@@ -3,8 +3,8 @@ ghost use Rattle.std.specs.Ordering.{eq_by_cmp};
 ghost use Rattle.std.specs.Cmp.{eq_by_cmp_equiv, partial_equiv_from_equiv, po};
 ghost use Rattle.std.proofs.Common.{refl};
 
+use crate::abbreviation::abbreviation_of;
 use crate::each::compare_each;
-use crate::lead::lead_of;
 use crate::{List, Memory, Value};
 use std::alloc::Global;
 use std::cmp::Ordering;
@@ -25,19 +25,19 @@ pub type Values = List<Value>;
 pub struct Row {
     values: Values,
     // By it most rows are told apart with no look at their values.
-    lead: u64,
+    abbreviation: u64,
 }
 
 impl Model for Row {
     ghost use Rattle.std.specs.Prelude.{◌≡◌, List};
     ghost use Rattle.ct_value.specs.declared.value.Value.{Value as Cell};
-    ghost use Rattle.ct_value.specs.Leads.{row_lead};
+    ghost use Rattle.ct_value.specs.Abbreviations.{row_abbreviation};
 
     ghost Value = { List Cell };
 
     ghost view = { λ r. r.values };
 
-    ghost invariant = { λ r. r.lead ≡ row_lead r.values };
+    ghost invariant = { λ r. r.abbreviation ≡ row_abbreviation r.values };
 }
 
 impl Row {
@@ -48,8 +48,11 @@ impl Row {
     pub fn from_values(values: Values) -> Row
         ensures { result ≡ values }
     {
-        let lead = lead_of(values.as_slice());
-        Row { values, lead }
+        let abbreviation = abbreviation_of(values.as_slice());
+        Row {
+            values,
+            abbreviation,
+        }
     }
 
     /// How many values it has.
@@ -86,7 +89,7 @@ impl Row {
     {
         Ok(Row {
             values: self.values.dup()?,
-            lead: self.lead,
+            abbreviation: self.abbreviation,
         })
     }
 
@@ -140,10 +143,10 @@ impl Row {
     pub fn compare(&self, other: &Row) -> Ordering
         ensures { result ≡ row_cmp self.now other.now }
     {
-        if self.lead < other.lead {
+        if self.abbreviation < other.abbreviation {
             return Ordering::Less;
         }
-        if other.lead < self.lead {
+        if other.abbreviation < self.abbreviation {
             return Ordering::Greater;
         }
         compare_each(self.values.as_slice(), other.values.as_slice())

@@ -3,6 +3,7 @@ ghost use Rattle.std.specs.Ordering.{eq_by_cmp};
 ghost use Rattle.std.specs.Cmp.{eq_by_cmp_equiv, partial_equiv_from_equiv, po};
 ghost use Rattle.std.proofs.Common.{refl};
 
+use crate::abbreviation::abbreviation_of_value;
 use crate::{Memory, Text};
 use std::cmp::Ordering;
 use std::hash::{Hash, Hasher};
@@ -28,6 +29,7 @@ pub enum CompareOp {
 }
 
 impl Value {
+    ghost use Rattle.ct_value.specs.Abbreviations.{value_abbreviation};
     ghost use Rattle.ct_value.specs.Order.{rank};
 
     /// An equal value.
@@ -40,6 +42,14 @@ impl Value {
             Value::Num(number) => Ok(Value::Num(*number)),
             Value::Text(text) => Ok(Value::Text(text.dup()?)),
         }
+    }
+
+    /// A number by which most values are told apart with no look at the rest of them: of two values that differ in it the one with
+    /// the less stands first (the abbreviated keys of sorts). It takes no memory.
+    pub fn abbreviation(&self) -> u64
+        ensures { result ≡ value_abbreviation self.now }
+    {
+        abbreviation_of_value(self)
     }
 
     // The place in the order of NULL, FALSE, TRUE, all numbers and all texts.
