@@ -65,32 +65,32 @@ own_calls x below = call_or (call_at x) below
 
 -- those within a query are the query's
 abbrev pub calls : Tree → List Call
-calls = of_tree (List Call) [] (λ cs ds. cs ++ ds) (λ cs ds. cs) own_calls
+calls = of_tree (List Call) [] (λ cs ds. cs ++ ds) own_calls
 
 abbrev pub all_calls : t.Trees → List Call
-all_calls = of_trees (List Call) [] (λ cs ds. cs ++ ds) (λ cs ds. cs) own_calls
+all_calls = of_trees (List Call) [] (λ cs ds. cs ++ ds) own_calls
 
 abbrev pub sum_calls : t.SumTails → List Call
-sum_calls = of_sums (List Call) [] (λ cs ds. cs ++ ds) (λ cs ds. cs) own_calls
+sum_calls = of_sums (List Call) [] (λ cs ds. cs ++ ds) own_calls
 
 abbrev pub product_calls : t.ProductTails → List Call
-product_calls = of_products (List Call) [] (λ cs ds. cs ++ ds) (λ cs ds. cs) own_calls
+product_calls = of_products (List Call) [] (λ cs ds. cs ++ ds) own_calls
 
 abbrev pub when_calls : t.TreeWhens → List Call
-when_calls = of_whens (List Call) [] (λ cs ds. cs ++ ds) (λ cs ds. cs) own_calls
+when_calls = of_whens (List Call) [] (λ cs ds. cs ++ ds) own_calls
 
 abbrev pub sort_calls : t.SortList → List Call
-sort_calls = of_sorts (List Call) [] (λ cs ds. cs ++ ds) (λ cs ds. cs) own_calls
+sort_calls = of_sorts (List Call) [] (λ cs ds. cs ++ ds) own_calls
 
 abbrev pub optional_calls : t.OptionalTree → List Call
-optional_calls = of_optional (List Call) [] (λ cs ds. cs ++ ds) (λ cs ds. cs) own_calls
+optional_calls = of_optional (List Call) [] (λ cs ds. cs ++ ds) own_calls
 
 abbrev pub args_calls : t.Args → List Call
-args_calls = of_args (List Call) [] (λ cs ds. cs ++ ds) (λ cs ds. cs) own_calls
+args_calls = of_args (List Call) [] (λ cs ds. cs ++ ds) own_calls
 
 -- PARTITION BY, then ORDER BY
 abbrev pub window_calls : t.OptionalOver → List Call
-window_calls = of_over (List Call) [] (λ cs ds. cs ++ ds) (λ cs ds. cs) own_calls
+window_calls = of_over (List Call) [] (λ cs ds. cs ++ ds) own_calls
 
 abbrev pub with_tree : Option Tree → List Tree → List Tree
 with_tree None xs = xs

@@ -28,7 +28,7 @@ module _ (test : Option Text → Text → Bool) where
   in_items = some_part_of_items (is_such test)
 
   abbrev pub in_item : t.Item → Bool
-  in_item = of_item Bool false (λ a b. a || b) (λ a b. a) (or_below (is_such test))
+  in_item = of_item Bool false (λ a b. a || b) (or_below (is_such test))
 
 -- such a name, where the sources of this FROM have no column of it
 abbrev pub unless_own : List TableDef → t.Source → t.JoinItems → (Option Text → Text → Bool) → Option Text → Text → Bool

@@ -64,21 +64,20 @@ parts (t.Paren x) = x ∷ []
 parts (t.Sub q) = []
 parts (t.Case whens otherwise) = when_parts whens ++ optional_parts otherwise
 
--- ---- a fold: `node` makes something of a tree and of what its parts come to, joined by `join` in the order in which they are written.
--- What a query within a tree comes to is put beside that by `beside`: `λ a b. a` leaves queries aside, and `join` takes them as parts.
+-- ---- a fold: `node` makes something of a tree and of what its parts come to, joined by `join` in the order in which they are written
 
-module _ (A : Type 0) (none : A) (join : A → A → A) (beside : A → A → A) (node : Tree → A → A) where
+module _ (A : Type 0) (none : A) (join : A → A → A) (node : Tree → A → A) where
   abbrev mutual
     pub of_tree : Tree → A
     of_tree (t.Or xs) = node (t.Or xs) (of_trees xs)
     of_tree (t.And xs) = node (t.And xs) (of_trees xs)
     of_tree (t.Not x) = node (t.Not x) (of_tree x)
-    of_tree (t.Exists q) = node (t.Exists q) (beside none (of_query q))
+    of_tree (t.Exists q) = node (t.Exists q) none
     of_tree (t.Compare op x y) = node (t.Compare op x y) (join (of_tree x) (of_tree y))
     of_tree (t.IsNull x negated) = node (t.IsNull x negated) (of_tree x)
     of_tree (t.Between x low high negated) = node (t.Between x low high negated) (join (of_tree x) (join (of_tree low) (of_tree high)))
     of_tree (t.InList x xs negated) = node (t.InList x xs negated) (join (of_tree x) (of_trees xs))
-    of_tree (t.InQuery x q negated) = node (t.InQuery x q negated) (beside (of_tree x) (of_query q))
+    of_tree (t.InQuery x q negated) = node (t.InQuery x q negated) (of_tree x)
     of_tree (t.Like x y negated) = node (t.Like x y negated) (join (of_tree x) (of_tree y))
     of_tree (t.Sum x xs) = node (t.Sum x xs) (join (of_tree x) (of_sums xs))
     of_tree (t.Product x xs) = node (t.Product x xs) (join (of_tree x) (of_products xs))
@@ -91,7 +90,7 @@ module _ (A : Type 0) (none : A) (join : A → A → A) (beside : A → A → A)
     of_tree (t.Call name args filter over) = node (t.Call name args filter over) (join (of_args args) (join (of_optional filter) (of_over over)))
     of_tree (t.Cast x ty) = node (t.Cast x ty) (of_tree x)
     of_tree (t.Paren x) = node (t.Paren x) (of_tree x)
-    of_tree (t.Sub q) = node (t.Sub q) (beside none (of_query q))
+    of_tree (t.Sub q) = node (t.Sub q) none
     of_tree (t.Case whens otherwise) = node (t.Case whens otherwise) (join (of_whens whens) (of_optional otherwise))
 
     pub of_trees : t.Trees → A
@@ -127,24 +126,6 @@ module _ (A : Type 0) (none : A) (join : A → A → A) (beside : A → A → A)
     of_over t.no_over = none
     of_over (t.some_over (t.over_of partition order)) = join (of_trees partition) (of_sorts order)
 
-    pub of_query : t.Query → A
-    of_query (t.query_of x xs order limit) = join (join (of_term x) (of_term_tails xs)) (of_sorts order)
-
-    pub of_term : t.Term → A
-    of_term (t.term_of x xs) = join (of_select x) (of_select_tails xs)
-
-    pub of_term_tails : t.TermTails → A
-    of_term_tails t.no_term_tails = none
-    of_term_tails (t.term_tail_and (t.term_tail_of word x) xs) = join (of_term x) (of_term_tails xs)
-
-    pub of_select_tails : t.SelectTails → A
-    of_select_tails t.no_select_tails = none
-    of_select_tails (t.select_tail_and (t.select_tail_of all x) xs) = join (of_select x) (of_select_tails xs)
-
-    pub of_select : t.Select → A
-    of_select (t.select_of distinct xs from js kept groups having) =
-        join (of_items xs) (join (of_source from) (join (of_joins js) (join (of_optional kept) (join (of_trees groups) (of_optional having)))))
-
     pub of_items : t.Items → A
     of_items t.no_items = none
     of_items (t.item_and x xs) = join (of_item x) (of_items xs)
@@ -154,17 +135,6 @@ module _ (A : Type 0) (none : A) (join : A → A → A) (beside : A → A → A)
     of_item (t.AllOf source) = none
     of_item (t.One x name) = of_tree x
 
-    pub of_source : t.Source → A
-    of_source (t.Table name alias) = none
-    of_source (t.FromQuery q alias) = of_query q
-
-    pub of_joins : t.JoinItems → A
-    of_joins t.no_joins = none
-    of_joins (t.join_and x xs) = join (of_join x) (of_joins xs)
-
-    pub of_join : t.JoinItem → A
-    of_join (t.join_of word source on) = join (of_source source) (of_tree on)
-
 -- ---- whether a tree passes a test, or one below it outside of the queries there
 
 module _ (test : Tree → Bool) where
@@ -172,18 +142,18 @@ module _ (test : Tree → Bool) where
   or_below x below = test x || below
 
   abbrev pub some_part : Tree → Bool
-  some_part = of_tree Bool false (λ a b. a || b) (λ a b. a) or_below
+  some_part = of_tree Bool false (λ a b. a || b) or_below
 
   -- one of these trees, or one below them
   abbrev pub some_part_of_trees : t.Trees → Bool
-  some_part_of_trees = of_trees Bool false (λ a b. a || b) (λ a b. a) or_below
+  some_part_of_trees = of_trees Bool false (λ a b. a || b) or_below
 
   abbrev pub some_part_of_optional : t.OptionalTree → Bool
-  some_part_of_optional = of_optional Bool false (λ a b. a || b) (λ a b. a) or_below
+  some_part_of_optional = of_optional Bool false (λ a b. a || b) or_below
 
   abbrev pub some_part_of_items : t.Items → Bool
-  some_part_of_items = of_items Bool false (λ a b. a || b) (λ a b. a) or_below
+  some_part_of_items = of_items Bool false (λ a b. a || b) or_below
 
 -- how many trees stand in a tree outside of the queries there, itself among them
 abbrev pub weight : Tree → ℕ
-weight = of_tree ℕ 0 (λ a b. a + b) (λ a b. a) (λ x below. suc below)
+weight = of_tree ℕ 0 (λ a b. a + b) (λ x below. suc below)

@@ -9,57 +9,57 @@ module _ (A : Type 0) (none : A) (join : A → A → A) (node : Tree → A → A
   -- what these trees come to
   abbrev pub joined : List Tree → A
   joined [] = none
-  joined (x ∷ xs) = join (w.of_tree A none join (λ a b. a) node x) (joined xs)
+  joined (x ∷ xs) = join (w.of_tree A none join node x) (joined xs)
 
 module _ (A : Type 0) (none : A) (join : A → A → A) (node : Tree → A → A) (left : (a : A) → join none a ≡ a) (right : (a : A) → join a none ≡ a) (assoc : (a b c : A) → join (join a b) c ≡ join a (join b c)) where
   both : (xs ys : List Tree) → joined A none join node (xs ++ ys) ≡ join (joined A none join node xs) (joined A none join node ys)
   both [] ys = sym (left (joined A none join node ys))
   both (x ∷ xs) ys =
-      ap (join (w.of_tree A none join (λ a b. a) node x)) (both xs ys)
-      ∙ sym (assoc (w.of_tree A none join (λ a b. a) node x) (joined A none join node xs) (joined A none join node ys))
+      ap (join (w.of_tree A none join node x)) (both xs ys)
+      ∙ sym (assoc (w.of_tree A none join node x) (joined A none join node xs) (joined A none join node ys))
 
-  of_listed : (xs : t.Trees) → w.of_trees A none join (λ a b. a) node xs ≡ joined A none join node (listed xs)
+  of_listed : (xs : t.Trees) → w.of_trees A none join node xs ≡ joined A none join node (listed xs)
   of_listed t.no_trees = refl
-  of_listed (t.tree_and x xs) = ap (join (w.of_tree A none join (λ a b. a) node x)) (of_listed xs)
+  of_listed (t.tree_and x xs) = ap (join (w.of_tree A none join node x)) (of_listed xs)
 
-  of_sums : (xs : t.SumTails) → w.of_sums A none join (λ a b. a) node xs ≡ joined A none join node (sum_parts xs)
+  of_sums : (xs : t.SumTails) → w.of_sums A none join node xs ≡ joined A none join node (sum_parts xs)
   of_sums t.no_sum_tails = refl
-  of_sums (t.sum_tail_and (t.sum_tail_of word x) xs) = ap (join (w.of_tree A none join (λ a b. a) node x)) (of_sums xs)
+  of_sums (t.sum_tail_and (t.sum_tail_of word x) xs) = ap (join (w.of_tree A none join node x)) (of_sums xs)
 
-  of_products : (xs : t.ProductTails) → w.of_products A none join (λ a b. a) node xs ≡ joined A none join node (product_parts xs)
+  of_products : (xs : t.ProductTails) → w.of_products A none join node xs ≡ joined A none join node (product_parts xs)
   of_products t.no_product_tails = refl
-  of_products (t.product_tail_and (t.product_tail_of word x) xs) = ap (join (w.of_tree A none join (λ a b. a) node x)) (of_products xs)
+  of_products (t.product_tail_and (t.product_tail_of word x) xs) = ap (join (w.of_tree A none join node x)) (of_products xs)
 
-  of_whens : (xs : t.TreeWhens) → w.of_whens A none join (λ a b. a) node xs ≡ joined A none join node (when_parts xs)
+  of_whens : (xs : t.TreeWhens) → w.of_whens A none join node xs ≡ joined A none join node (when_parts xs)
   of_whens t.no_tree_whens = refl
   of_whens (t.tree_when_and (t.tree_when_of c x) xs) =
-      ap (λ a. join (w.of_tree A none join (λ a b. a) node c) (join (w.of_tree A none join (λ a b. a) node x) a)) (of_whens xs)
+      ap (λ a. join (w.of_tree A none join node c) (join (w.of_tree A none join node x) a)) (of_whens xs)
 
-  of_sorts : (xs : t.SortList) → w.of_sorts A none join (λ a b. a) node xs ≡ joined A none join node (sort_parts xs)
+  of_sorts : (xs : t.SortList) → w.of_sorts A none join node xs ≡ joined A none join node (sort_parts xs)
   of_sorts t.no_sorts = refl
-  of_sorts (t.sort_and (t.sort_of x descending) xs) = ap (join (w.of_tree A none join (λ a b. a) node x)) (of_sorts xs)
+  of_sorts (t.sort_and (t.sort_of x descending) xs) = ap (join (w.of_tree A none join node x)) (of_sorts xs)
 
-  of_optional : (x : t.OptionalTree) → w.of_optional A none join (λ a b. a) node x ≡ joined A none join node (optional_parts x)
+  of_optional : (x : t.OptionalTree) → w.of_optional A none join node x ≡ joined A none join node (optional_parts x)
   of_optional t.no_tree = refl
-  of_optional (t.some_tree x) = sym (right (w.of_tree A none join (λ a b. a) node x))
+  of_optional (t.some_tree x) = sym (right (w.of_tree A none join node x))
 
-  of_args : (x : t.Args) → w.of_args A none join (λ a b. a) node x ≡ joined A none join node (args_parts x)
+  of_args : (x : t.Args) → w.of_args A none join node x ≡ joined A none join node (args_parts x)
   of_args t.Empty = refl
   of_args t.Star = refl
   of_args (t.Values distinct xs) = of_listed xs
 
-  of_over : (x : t.OptionalOver) → w.of_over A none join (λ a b. a) node x ≡ joined A none join node (over_parts x)
+  of_over : (x : t.OptionalOver) → w.of_over A none join node x ≡ joined A none join node (over_parts x)
   of_over t.no_over = refl
   of_over (t.some_over (t.over_of partition order)) = (λ j. join (of_listed partition j) (of_sorts order j)) ∙ sym (both (listed partition) (sort_parts order))
 
-  one : (x : Tree) → w.of_tree A none join (λ a b. a) node x ≡ joined A none join node (x ∷ [])
-  one x = sym (right (w.of_tree A none join (λ a b. a) node x))
+  one : (x : Tree) → w.of_tree A none join node x ≡ joined A none join node (x ∷ [])
+  one x = sym (right (w.of_tree A none join node x))
 
-  two : (x y : Tree) → join (w.of_tree A none join (λ a b. a) node x) (w.of_tree A none join (λ a b. a) node y) ≡ joined A none join node (x ∷ y ∷ [])
-  two x y = ap (join (w.of_tree A none join (λ a b. a) node x)) (one y)
+  two : (x y : Tree) → join (w.of_tree A none join node x) (w.of_tree A none join node y) ≡ joined A none join node (x ∷ y ∷ [])
+  two x y = ap (join (w.of_tree A none join node x)) (one y)
 
   -- a tree comes to what its node makes of what its parts come to
-  pub by_parts : (x : Tree) → w.of_tree A none join (λ a b. a) node x ≡ node x (joined A none join node (parts x))
+  pub by_parts : (x : Tree) → w.of_tree A none join node x ≡ node x (joined A none join node (parts x))
   unfolding parts
   by_parts (t.Or xs) = ap (node (t.Or xs)) (of_listed xs)
   by_parts (t.And xs) = ap (node (t.And xs)) (of_listed xs)
@@ -67,12 +67,12 @@ module _ (A : Type 0) (none : A) (join : A → A → A) (node : Tree → A → A
   by_parts (t.Exists q) = refl
   by_parts (t.Compare op x y) = ap (node (t.Compare op x y)) (two x y)
   by_parts (t.IsNull x negated) = ap (node (t.IsNull x negated)) (one x)
-  by_parts (t.Between x low high negated) = ap (λ a. node (t.Between x low high negated) (join (w.of_tree A none join (λ a b. a) node x) a)) (two low high)
-  by_parts (t.InList x xs negated) = ap (λ a. node (t.InList x xs negated) (join (w.of_tree A none join (λ a b. a) node x) a)) (of_listed xs)
+  by_parts (t.Between x low high negated) = ap (λ a. node (t.Between x low high negated) (join (w.of_tree A none join node x) a)) (two low high)
+  by_parts (t.InList x xs negated) = ap (λ a. node (t.InList x xs negated) (join (w.of_tree A none join node x) a)) (of_listed xs)
   by_parts (t.InQuery x q negated) = ap (node (t.InQuery x q negated)) (one x)
   by_parts (t.Like x y negated) = ap (node (t.Like x y negated)) (two x y)
-  by_parts (t.Sum x xs) = ap (λ a. node (t.Sum x xs) (join (w.of_tree A none join (λ a b. a) node x) a)) (of_sums xs)
-  by_parts (t.Product x xs) = ap (λ a. node (t.Product x xs) (join (w.of_tree A none join (λ a b. a) node x) a)) (of_products xs)
+  by_parts (t.Sum x xs) = ap (λ a. node (t.Sum x xs) (join (w.of_tree A none join node x) a)) (of_sums xs)
+  by_parts (t.Product x xs) = ap (λ a. node (t.Product x xs) (join (w.of_tree A none join node x) a)) (of_products xs)
   by_parts (t.Sign minus x) = ap (node (t.Sign minus x)) (one x)
   by_parts (t.Number text) = refl
   by_parts (t.Str text) = refl
