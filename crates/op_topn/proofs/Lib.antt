@@ -1,3 +1,5 @@
+pub mod Abbreviations
+pub mod Behind
 pub mod Beyond
 pub mod Cells
 pub mod FirstRows

@@ -1,5 +1,5 @@
 -- What a change makes of partitions, as the rule of Top-N says it.
-use Rattle.std.proofs.Common.{◌≡◌, ℕ, zero, suc, pos, ◌<◌, ◌≤◌, ◌+◌, ◌^◌, ◌++◌, Bool, true, false, cond, List, [], ◌∷◌, length, take, Option, Some, is_some, Ok, refl, sym, ap, subst, ◌∙◌, arith, length-append, append-nil, slice_index_or}
+use Rattle.std.proofs.Common.{◌≡◌, ℕ, zero, suc, pos, ◌<◌, ◌≤◌, ◌+◌, ◌^◌, ◌++◌, Bool, true, false, cond, List, [], ◌∷◌, length, take, Option, Some, None, is_some, Ok, refl, sym, ap, subst, ◌∙◌, arith, length-append, append-nil, slice_index_or}
 use Rattle.std.specs.List.{AllByRecursion}
 use Rattle.std.specs.BTreeMap.{BTreeMap, IsOrdered, IsEmpty, is_at}
 use Rattle.std.specs.Cmp.{eq_by_cmp_equiv}
@@ -27,11 +27,21 @@ use Rattle.emission_rules.proofs.laws.TopHistories.{length-take}
 use Rattle.emission_rules.proofs.laws.Places.{entry, key-entry, cell-behind, project-at}
 use Rattle.emission_rules.proofs.laws.Ranked.{all-first, all_after, other_members, cond-le}
 use Rattle.op_topn.specs.declared.rows.RankedRows.{RankedRows}
-use Rattle.op_topn.specs.Kept.{HasRow, KeptAt, AreKept, IsTurned}
+use Rattle.op_topn.specs.declared.partitions.Firsts.{Firsts}
+use Rattle.op_topn.specs.Kept.{HasRow, KeptAt, AreFirsts, AreKept, IsTurned}
 use Rattle.op_topn.specs.Tells.{shown_at, CanTellFrom, AreRanked}
 use Rattle.op_topn.specs.Tops.{IsHeld, MayTake}
+use Rattle.op_topn.proofs.Behind.{nothing_told}
 use Rattle.op_topn.proofs.Members.{gone_member, own_members}
 use Rattle.op_topn.proofs.Walks.{first_ranked}
+
+-- ---- first rows that are told, or stay
+
+pub some_firsts : (olds news : List Row) (told : Option Firsts) (firsts : Firsts) → told ≡ Some firsts → AreFirsts told olds news → (firsts.olds.items ≡ olds) × (firsts.news.items ≡ news)
+some_firsts olds news told firsts e are = subst (λ o. AreFirsts o olds news) e are
+
+pub same_firsts : (olds news : List Row) (told : Option Firsts) → told ≡ None → AreFirsts told olds news → news ≡ olds
+same_firsts olds news told e are = subst (λ o. AreFirsts o olds news) e are
 
 -- ---- each rank can be told
 
@@ -160,6 +170,9 @@ module _ (r : Ranking) (rows : Rows) (partitions : BTreeMap Row RankedRows) (hel
 
       pub told_at : told r olds news ≡ tells r rows change
       told_at = (λ i. told r (olds_at i) (news_at i))
+
+      pub nothing_at : news ≡ olds → [] ≡ tells r rows change
+      nothing_at same = sym (ap (told r olds) same ∙ nothing_told r olds) ∙ told_at
 
 -- ---- as a history's
 

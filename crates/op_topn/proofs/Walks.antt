@@ -66,11 +66,11 @@ both : (a b : Bool) → T a → T b → T (a && b)
 both true b p q = q
 both false b p q = p
 
-first_part : (a b : Bool) → T (a && b) → T a
+pub first_part : (a b : Bool) → T (a && b) → T a
 first_part true b p = tt
 first_part false b p = p
 
-second_part : (a b : Bool) → T (a && b) → T b
+pub second_part : (a b : Bool) → T (a && b) → T b
 second_part true b p = p
 second_part false b p = absurd p
 

@@ -1,10 +1,11 @@
 -- Rows with the values of their sort columns, which compare as the rows do in rank order.
-use Rattle.std.specs.Prelude.{ℕ, Bool, true, false, List, [], ◌∷◌, ◌++◌, map, replicate, Option}
+use Rattle.std.specs.Prelude.{ℕ, ◌-◌, ◌/◌, ◌^◌, Bool, true, false, List, [], ◌∷◌, ◌++◌, map, replicate, Option}
 use Rattle.std.specs.Option.{unwrap_or}
 use Rattle.std.specs.declared.cmp.Ordering.{Ordering}
 use Rattle.std.specs.Ordering.{then_cmp, on, flip_args, bool_cmp}
 use Rattle.std.specs.Cmp.{IsTotalOrder, on_total, then_total, back_total, bool_cmp_total}
 use Rattle.std.specs.Cmp.Lexicographic.{slice_cmp, lists_total}
+use Rattle.ct_value.specs.Abbreviations.{value_abbreviation}
 use Rattle.ct_value.specs.Order.{value_cmp, value_total, row_cmp, row_total}
 use Rattle.ct_value.specs.declared.row.Row.{Row}
 use Rattle.ct_value.specs.declared.value.Value.{Value}
@@ -41,6 +42,18 @@ key_cmp = then_cmp (on (λ k. k.0) (slice_cmp directed_cmp)) (on (λ k. k.1) row
 
 pub key_total : IsTotalOrder key_cmp
 key_total = then_total (on_total (λ k. k.0) (lists_total directed_total)) (on_total (λ k. k.1) row_total)
+
+-- ---- a number by which most keys are told apart: of two keys that differ in it the one with the less stands first
+
+-- the half of the value's, and the other way round from above where the column runs down
+abbrev pub directed_abbreviation : Directed → ℕ
+directed_abbreviation (Up value) = value_abbreviation value / 2
+directed_abbreviation (Down value) = 2 ^ 64 - 1 - value_abbreviation value / 2
+
+-- that of the first sort column
+abbrev pub first_abbreviation : List Directed → ℕ
+first_abbreviation [] = 0
+first_abbreviation (value ∷ values) = directed_abbreviation value
 
 -- the rows of keys with counts, each copy by itself
 abbrev pub rows_in : List (Key × ℕ) → List Row

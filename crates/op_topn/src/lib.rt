@@ -4,7 +4,7 @@
 //! tell it. It is proved once, from the contracts and laws of the modes of `ct_change`. Of each partition that has rows it keeps all
 //! of them, in rank order (`RankedRows`), so that a row that leaves the first ones is followed by the next. Keys compare as their
 //! rows do in the rank order of `rel_algebra`; a `RankedRows` stands for a bag of rows, also after one copy more or less, and hands
-//! out exactly the first ones in rank order, in one step each.
+//! out exactly the keys of the first ones in rank order, in one step each.
 #![tactic(auto)]
 
 mod compare;
@@ -18,6 +18,6 @@ mod topn;
 pub use compare::rank_compare;
 pub use key::{Directed, RankKey};
 pub use partitions::{Firsts, TopBy, turn_partition, turn_rows};
-pub use rows::RankedRows;
+pub use rows::{RankedRows, rows_of};
 pub use telling::told;
 pub use topn::TopN;

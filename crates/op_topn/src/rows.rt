@@ -1,5 +1,5 @@
 //! Rows kept in rank order.
-ghost use Rattle.std.specs.Prelude.{◌≡◌, ◌+◌, ◌-◌, ◌<◌, ◌≤◌, ◌^◌, ◌++◌, ◌∷◌, [], List, Some, None, true, false, cond, length, replicate, take, IfOk, OnOk, IfSome, IfNone};
+ghost use Rattle.std.specs.Prelude.{◌≡◌, ◌+◌, ◌-◌, ◌<◌, ◌≤◌, ◌^◌, ◌++◌, ◌∷◌, [], List, Some, None, true, false, cond, length, map, replicate, take, IfOk, OnOk, IfSome, IfNone};
 ghost use Rattle.std.specs.BTreeMap.{IsOrdered, get, insert_entry, is_at};
 ghost use Rattle.std.specs.Map.{remove_entry};
 ghost use Rattle.std.specs.Ordering.{eq_by_cmp};
@@ -63,19 +63,30 @@ impl RankedRows {
         Ok(())
     }
 
-    /// The first rows in rank order, each copy by itself, at most `bound`. Each is one step.
-    pub fn first<L: Ledger>(
+    /// The keys of the first rows in rank order, one for each copy, at most `bound`. Each is one step.
+    pub fn first_keys<L: Ledger>(
         &self,
         alloc: Global,
         bound: usize,
         steps: &mut Steps<L>,
-    ) -> Result<Vec<Row>, Memory>
-        ensures rows { IfOk result (λ first. (order : List SortCol) (rows : Rows) → IsRanked order self.now.counts rows → first.items ≡ take bound (in_rank_order order rows)) }
+    ) -> Result<Vec<&RankKey>, Memory>
+        ensures rows { IfOk result (λ keys. (order : List SortCol) (rows : Rows) → IsRanked order self.now.counts rows → map (λ key. key.now.1) keys.items ≡ take bound (in_rank_order order rows)) }
         ensures cost { steps.new ≤ steps.old + bound }
     {
-        let rows = first_rows(alloc, &self.counts, bound, steps)?;
-        Ok(rows)
+        let keys = first_keys(alloc, &self.counts, bound, steps)?;
+        Ok(keys)
     }
+}
+
+/// The rows of keys.
+pub fn rows_of(alloc: Global, keys: &[&RankKey]) -> Result<Vec<Row>, Memory>
+    ensures { IfOk result (λ rows. rows.items ≡ map (λ key. key.now.1) keys.now) }
+{
+    let mut rows: Vec<Row> = Vec::with_capacity(alloc, keys.len())?;
+    for key in keys {
+        rows.push(key.row().dup()?)?;
+    }
+    Ok(rows)
 }
 
 // Counts a key once more, in one descent.
@@ -138,65 +149,65 @@ impl<'a> KeysLeft<'a> {
     }
 }
 
-// The first rows in rank order, each copy by itself, at most `bound`.
-fn first_rows<L: Ledger>(
+// The keys of the first rows in rank order, one for each copy, at most `bound`.
+fn first_keys<'a, L: Ledger>(
     alloc: Global,
-    counts: &BTreeMap<RankKey, u64>,
+    counts: &'a BTreeMap<RankKey, u64>,
     bound: usize,
     steps: &mut Steps<L>,
-) -> Result<Vec<Row>, Memory>
-    ensures rows { IfOk result (λ rows. rows.items ≡ take bound (rows_in counts.now.entries)) }
+) -> Result<Vec<&'a RankKey>, Memory>
+    ensures rows { IfOk result (λ keys. map (λ key. key.now.1) keys.items ≡ take bound (rows_in counts.now.entries)) }
     ensures cost { steps.new ≤ steps.old + bound }
 {
-    let mut rows: Vec<Row> = Vec::with_capacity(alloc, bound.min(counts.len()))?;
+    let mut keys: Vec<&'a RankKey> = Vec::with_capacity(alloc, bound.min(counts.len()))?;
     let mut left = KeysLeft {
         entries: counts.iter(),
     };
     'walk: while let Some((key, count)) = left.next_key() {
-        push_some(&mut rows, key.row(), count, bound, steps)?;
-        if rows.len() >= bound {
-            return Ok(rows);
+        push_some(&mut keys, key, count, bound, steps)?;
+        if keys.len() >= bound {
+            return Ok(keys);
         }
     }
-    Ok(rows)
+    Ok(keys)
 }
 
-// Puts as many copies of a row behind the others as are wanted, `bound` rows in all.
-fn push_some<L: Ledger>(
-    rows: &mut Vec<Row>,
-    row: &Row,
+// Puts a key behind the others as often as its copies are wanted, `bound` keys in all.
+fn push_some<'a, L: Ledger>(
+    keys: &mut Vec<&'a RankKey>,
+    key: &'a RankKey,
     copies: u64,
     bound: usize,
     steps: &mut Steps<L>,
 ) -> Result<(), Memory>
-    requires { length rows.old.items ≤ bound }
-    ensures ok { OnOk result ((more : List Line) → take bound (rows.new.items ++ more) ≡ take bound (rows.old.items ++ (replicate copies row.now ++ more))) }
-    ensures short { length rows.new.items ≤ bound }
-    ensures told { length rows.old.items ≤ length rows.new.items }
-    ensures cost { steps.new + length rows.old.items ≤ steps.old + bound }
-    ensures cost_ok { OnOk result (steps.new + length rows.old.items ≤ steps.old + length rows.new.items) }
+    requires { length keys.old.items ≤ bound }
+    ensures ok { OnOk result ((more : List Line) → take bound (map (λ key. key.now.1) keys.new.items ++ more) ≡ take bound (map (λ key. key.now.1) keys.old.items ++ (replicate copies key.now.1 ++ more))) }
+    ensures short { length keys.new.items ≤ bound }
+    ensures told { length keys.old.items ≤ length keys.new.items }
+    ensures cost { steps.new + length keys.old.items ≤ steps.old + bound }
+    ensures cost_ok { OnOk result (steps.new + length keys.old.items ≤ steps.old + length keys.new.items) }
 {
-    let room = (bound - rows.len()) as u64;
-    push_copies(rows, row, room.min(copies), steps)?;
+    let room = (bound - keys.len()) as u64;
+    push_copies(keys, key, room.min(copies), steps)?;
     Ok(())
 }
 
-// Puts so many copies of a row behind the others.
-fn push_copies<L: Ledger>(
-    rows: &mut Vec<Row>,
-    row: &Row,
+// Puts a key behind the others so many times.
+fn push_copies<'a, L: Ledger>(
+    keys: &mut Vec<&'a RankKey>,
+    key: &'a RankKey,
     copies: u64,
     steps: &mut Steps<L>,
 ) -> Result<(), Memory>
-    ensures ok { OnOk result (rows.new.items ≡ rows.old.items ++ replicate copies row.now) }
-    ensures told { length rows.old.items ≤ length rows.new.items }
-    ensures short { length rows.new.items ≤ length rows.old.items + copies }
+    ensures ok { OnOk result (map (λ key. key.now.1) keys.new.items ≡ map (λ key. key.now.1) keys.old.items ++ replicate copies key.now.1) }
+    ensures told { length keys.old.items ≤ length keys.new.items }
+    ensures short { length keys.new.items ≤ length keys.old.items + copies }
     ensures cost { steps.new ≤ steps.old + copies }
     ensures cost_ok { OnOk result (steps.new ≡ steps.old + copies) }
 {
     'fill: for _copy in 0..copies {
         steps.tick();
-        rows.push(row.dup()?)?;
+        keys.push(key)?;
     }
     Ok(())
 }

@@ -80,8 +80,13 @@ impl<I: InMode, O: OutMode> TopN<I, O> {
         let diff = self.input.absorb(&mut self.rows, change)?;
         let (gone, come) = (row_of(diff.gone), row_of(diff.come));
         let firsts = turn_partition(&self.by, &mut self.partitions, key, gone, come, steps)?;
-        let sent = told(&self.by, &self.output, firsts)?;
-        Ok(sent)
+        match firsts {
+            None => Ok(Changes::new(self.by.alloc)),
+            Some(firsts) => {
+                let sent = told(&self.by, &self.output, firsts)?;
+                Ok(sent)
+            }
+        }
     }
 }
 

@@ -10,17 +10,11 @@ turn_rows-requires g c =
     let there = subst (IsRanked order c.new-kept.result.counts) (sym (empty_there order c.args.partitions.now r.0 r.1 c.args.key c.requires.absent)) (c.new-kept.ensures order) in
     (r.0 c.args.key, there, r.2, r.3)
 
-pub returns-clause-olds : goal.returns-clause-olds
-returns-clause-olds g c = λ of all.
+pub returns-clause-firsts : goal.returns-clause-firsts
+returns-clause-firsts g c = λ of all has.
     let order = c.args.by.now.order in
     let there = subst (IsRanked order c.new-kept.result.counts) (sym (empty_there order c.args.partitions.now of all c.args.key c.requires.absent)) (c.new-kept.ensures order) in
-    c.in_ok-firsts.ensures.olds (of c.args.key) there
-
-pub returns-clause-news : goal.returns-clause-news
-returns-clause-news g c = λ of all has.
-    let order = c.args.by.now.order in
-    let there = subst (IsRanked order c.new-kept.result.counts) (sym (empty_there order c.args.partitions.now of all c.args.key c.requires.absent)) (c.new-kept.ensures order) in
-    c.in_ok-firsts.ensures.news (of c.args.key) there has
+    c.in_ok-firsts.ensures.firsts (of c.args.key) there has
 
 pub returns-clause-kept : goal.returns-clause-kept
 returns-clause-kept g c = λ of after all has turned.

@@ -1,4 +1,4 @@
-use Rattle.std.proofs.Common.{◌≡◌, Option, true, false, OnOk, refl, sym, subst, ◌∙◌}
+use Rattle.std.proofs.Common.{Option, true, false, OnOk, refl, sym, subst, ◌∙◌}
 use Rattle.std.specs.Option.{IsSome}
 use Rattle.ct_value.specs.declared.row.Row.{Row}
 use Rattle.ct_change.specs.Changelog.{Rows}
@@ -23,6 +23,10 @@ pub turn_rows-requires : goal.turn_rows-requires
 turn_rows-requires g c =
     let r = c.requires.kept in
     (r.0 c.args.key, kept_there c.args.by.now.order c.args.partitions.now r.0 r.1 c.args.key c.in-Some.kept.now (sym c.in-Some.ensures.value), r.2, r.3)
+
+pub returns-clause-firsts : goal.returns-clause-firsts
+returns-clause-firsts g c = λ of all has.
+    c.in_ok-firsts.ensures.firsts (of c.args.key) (kept_there c.args.by.now.order c.args.partitions.now of all c.args.key c.in-Some.kept.now (sym c.in-Some.ensures.value)) has
 
 pub returns-clause-kept : goal.returns-clause-kept
 returns-clause-kept g c = λ of after all has turned.

@@ -1,9 +1,9 @@
-use Rattle.std.proofs.Common.{◌≡◌, ◌+◌, ◌++◌, length, replicate}
+use Rattle.std.proofs.Common.{◌≡◌, ◌+◌, ◌++◌, length, map, replicate}
 use Rattle.op_topn.proofs.rows.push_copies.Given as goal
 
 abbrev pub invariant-fill : goal.invariant-fill
 invariant-fill g l = record {
-  rows : l.rows.items ≡ l.fn.rows.items ++ replicate l._copy l.row;
-  long : length l.rows.items ≡ length l.fn.rows.items + l._copy;
+  rows : map (λ key. key.now.1) l.keys.items ≡ map (λ key. key.now.1) l.fn.keys.items ++ replicate l._copy l.key.1;
+  long : length l.keys.items ≡ length l.fn.keys.items + l._copy;
   cost : l.steps ≡ l.fn.steps + l._copy;
 }

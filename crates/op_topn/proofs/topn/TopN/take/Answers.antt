@@ -1,10 +1,10 @@
-use Rattle.std.proofs.Common.{length, ap, ◌∙◌}
+use Rattle.std.proofs.Common.{length, refl, ap, ◌∙◌}
 use Rattle.ct_change.specs.declared.change.Diff.{Diff}
 use Rattle.ct_change.specs.Changelog.{apply}
 use Rattle.ct_change.specs.Emission.{row_of}
 use Rattle.emission_rules.specs.Ranking.{members}
 use Rattle.op_topn.specs.Tops.{ranking}
-use Rattle.op_topn.proofs.Taken.{all_at, columns_there, has_at, room_at, turned_at, can_at, ranked_at, told_at, held_after}
+use Rattle.op_topn.proofs.Taken.{all_at, columns_there, has_at, room_at, turned_at, can_at, ranked_at, told_at, nothing_at, held_after, some_firsts, same_firsts}
 use Rattle.op_topn.proofs.topn.TopN.take.Goals as goal
 
 pub project-requires : goal.project-requires
@@ -39,9 +39,8 @@ told-requires-clause-can g c = λ by_rank.
     let gone = c.row_of-gone.ensures ∙ ap (λ (x : Diff). row_of x.gone) d in
     let come = c.row_of-come.ensures ∙ ap (λ (x : Diff). row_of x.come) d in
     let has = has_at top r.0 c.args.self.now.partitions r.1 c.args.change r.3 c.in_ok-key.key c.row_of-gone.result c.row_of-come.result c.in_ok-key.ensures gone come in
-    let olds = c.in_ok-firsts.ensures.olds (λ k. members top k r.0) r.3.is_held.kept in
-    let news = c.in_ok-firsts.ensures.news (λ k. members top k r.0) r.3.is_held.kept has in
-    can_at top r.0 c.args.self.now.partitions r.1 c.args.change r.3 c.in_ok-key.key c.row_of-gone.result c.row_of-come.result c.in_ok-key.ensures gone come c.in_ok-firsts.firsts.olds.items c.in_ok-firsts.firsts.news.items olds news
+    let are = some_firsts _ _ c.in_ok-firsts.firsts c.in-Some.firsts c.in-Some.is (c.in_ok-firsts.ensures.firsts (λ k. members top k r.0) r.3.is_held.kept has) in
+    can_at top r.0 c.args.self.now.partitions r.1 c.args.change r.3 c.in_ok-key.key c.row_of-gone.result c.row_of-come.result c.in_ok-key.ensures gone come c.in-Some.firsts.olds.items c.in-Some.firsts.news.items are.0 are.1
 
 pub told-requires-clause-ranked : goal.told-requires-clause-ranked
 told-requires-clause-ranked g c =
@@ -54,12 +53,11 @@ told-requires-clause-ranked g c =
     let gone = c.row_of-gone.ensures ∙ ap (λ (x : Diff). row_of x.gone) d in
     let come = c.row_of-come.ensures ∙ ap (λ (x : Diff). row_of x.come) d in
     let has = has_at top r.0 c.args.self.now.partitions r.1 c.args.change r.3 c.in_ok-key.key c.row_of-gone.result c.row_of-come.result c.in_ok-key.ensures gone come in
-    let olds = c.in_ok-firsts.ensures.olds (λ k. members top k r.0) r.3.is_held.kept in
-    let news = c.in_ok-firsts.ensures.news (λ k. members top k r.0) r.3.is_held.kept has in
-    ranked_at top r.0 c.args.self.now.partitions r.1 c.args.change r.3 c.in_ok-key.key c.row_of-gone.result c.row_of-come.result c.in_ok-key.ensures gone come c.in_ok-firsts.firsts.olds.items c.in_ok-firsts.firsts.news.items olds news
+    let are = some_firsts _ _ c.in_ok-firsts.firsts c.in-Some.firsts c.in-Some.is (c.in_ok-firsts.ensures.firsts (λ k. members top k r.0) r.3.is_held.kept has) in
+    ranked_at top r.0 c.args.self.now.partitions r.1 c.args.change r.3 c.in_ok-key.key c.row_of-gone.result c.row_of-come.result c.in_ok-key.ensures gone come c.in-Some.firsts.olds.items c.in-Some.firsts.news.items are.0 are.1
 
-pub returns-clause-sent : goal.returns-clause-sent
-returns-clause-sent g c = λ rows held stands m.
+pub returns-in-None-clause-sent : goal.returns-in-None-clause-sent
+returns-in-None-clause-sent g c = λ rows held stands m.
     let by = c.args.self.now.by in
     let input = g.I.ChangeMode.mode c.args.self.now.input in
     let output = g.O.ChangeMode.mode c.args.self.now.output in
@@ -68,12 +66,40 @@ returns-clause-sent g c = λ rows held stands m.
     let gone = c.row_of-gone.ensures ∙ ap (λ (x : Diff). row_of x.gone) d in
     let come = c.row_of-come.ensures ∙ ap (λ (x : Diff). row_of x.come) d in
     let has = has_at top rows c.args.self.now.partitions held c.args.change m c.in_ok-key.key c.row_of-gone.result c.row_of-come.result c.in_ok-key.ensures gone come in
-    let olds = c.in_ok-firsts.ensures.olds (λ k. members top k rows) m.is_held.kept in
-    let news = c.in_ok-firsts.ensures.news (λ k. members top k rows) m.is_held.kept has in
-    c.in_ok-sent.ensures input ∙ told_at top rows c.args.self.now.partitions held c.args.change m c.in_ok-key.key c.row_of-gone.result c.row_of-come.result c.in_ok-key.ensures gone come c.in_ok-firsts.firsts.olds.items c.in_ok-firsts.firsts.news.items olds news
+    let same = same_firsts _ _ c.in_ok-firsts.firsts c.in-None.is (c.in_ok-firsts.ensures.firsts (λ k. members top k rows) m.is_held.kept has) in
+    c.new.ensures ∙ nothing_at top rows c.args.self.now.partitions held c.args.change m c.in_ok-key.key c.row_of-gone.result c.row_of-come.result c.in_ok-key.ensures gone come _ _ refl refl same
 
-pub returns-clause-kept : goal.returns-clause-kept
-returns-clause-kept g c = λ rows held stands m.
+pub returns-in_ok-sent-in-Some-clause-sent : goal.returns-in_ok-sent-in-Some-clause-sent
+returns-in_ok-sent-in-Some-clause-sent g c = λ rows held stands m.
+    let by = c.args.self.now.by in
+    let input = g.I.ChangeMode.mode c.args.self.now.input in
+    let output = g.O.ChangeMode.mode c.args.self.now.output in
+    let top = ranking by input output in
+    let d = (c.in_ok-diff.ensures.ok rows stands m.may).0 in
+    let gone = c.row_of-gone.ensures ∙ ap (λ (x : Diff). row_of x.gone) d in
+    let come = c.row_of-come.ensures ∙ ap (λ (x : Diff). row_of x.come) d in
+    let has = has_at top rows c.args.self.now.partitions held c.args.change m c.in_ok-key.key c.row_of-gone.result c.row_of-come.result c.in_ok-key.ensures gone come in
+    let are = some_firsts _ _ c.in_ok-firsts.firsts c.in-Some.firsts c.in-Some.is (c.in_ok-firsts.ensures.firsts (λ k. members top k rows) m.is_held.kept has) in
+    c.in_ok-sent-in-Some.ensures input ∙ told_at top rows c.args.self.now.partitions held c.args.change m c.in_ok-key.key c.row_of-gone.result c.row_of-come.result c.in_ok-key.ensures gone come c.in-Some.firsts.olds.items c.in-Some.firsts.news.items are.0 are.1
+
+pub returns-in-None-clause-kept : goal.returns-in-None-clause-kept
+returns-in-None-clause-kept g c = λ rows held stands m.
+    let by = c.args.self.now.by in
+    let input = g.I.ChangeMode.mode c.args.self.now.input in
+    let output = g.O.ChangeMode.mode c.args.self.now.output in
+    let top = ranking by input output in
+    let d = (c.in_ok-diff.ensures.ok rows stands m.may).0 in
+    let gone = c.row_of-gone.ensures ∙ ap (λ (x : Diff). row_of x.gone) d in
+    let come = c.row_of-come.ensures ∙ ap (λ (x : Diff). row_of x.come) d in
+    let has = has_at top rows c.args.self.now.partitions held c.args.change m c.in_ok-key.key c.row_of-gone.result c.row_of-come.result c.in_ok-key.ensures gone come in
+    let turned = turned_at top rows c.args.self.now.partitions held c.args.change m c.in_ok-key.key c.row_of-gone.result c.row_of-come.result c.in_ok-key.ensures gone come in (
+      (c.in_ok-diff.ensures.ok rows stands m.may).1,
+      held_after top rows c.args.self.now.partitions held c.args.change m c.turn_partition.new.partitions
+          (c.in_ok-firsts.ensures.kept (λ k. members top k rows) (λ k. members top k (apply input rows c.args.change)) m.is_held.kept has turned),
+    )
+
+pub returns-in_ok-sent-in-Some-clause-kept : goal.returns-in_ok-sent-in-Some-clause-kept
+returns-in_ok-sent-in-Some-clause-kept g c = λ rows held stands m.
     let by = c.args.self.now.by in
     let input = g.I.ChangeMode.mode c.args.self.now.input in
     let output = g.O.ChangeMode.mode c.args.self.now.output in
