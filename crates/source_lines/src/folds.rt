@@ -18,7 +18,6 @@ use std::alloc::Global;
 /// The rows of a source as its changes are taken, one after another. A row that has a key is kept by it.
 #[derive(Drop)]
 pub struct SourceFold {
-    alloc: Global,
     table: TableDef,
     kept: Kept,
 }
@@ -30,7 +29,6 @@ impl SourceFold {
     {
         let kept = kept_for_rows(alloc, table);
         Ok(SourceFold {
-            alloc,
             table: table.dup()?,
             kept,
         })
@@ -52,11 +50,11 @@ impl SourceFold {
         requires { (table : TableDef) × (changes : List Change) × FoldStands table self changes }
         ensures { IfOk result (λ bag. (table : TableDef) (changes : List Change) → FoldStands table self changes → bag ≡ fold (table_mode table) changes) }
     {
-        let SourceFold { alloc, kept, .. } = self;
+        let SourceFold { kept, .. } = self;
         match kept {
             Kept::Nothing => unreachable!(),
             Kept::Rows(rows) => Ok(rows),
-            Kept::Keyed(rows) => rows.into_bag(alloc),
+            Kept::Keyed(rows) => rows.into_bag(),
         }
     }
 }

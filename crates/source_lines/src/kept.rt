@@ -113,7 +113,7 @@ fn take_keyed(table: &TableDef, rows: &mut KeyedRows, change: &Change) -> Result
     ensures refused { (code : ChangeCode) → IsErrOf result (Refused code) → (table.now.mode ≢ Declared.Upsert) × (keyed_refusal (map.get rows.old (project (key_of table.now) change.now.row)) change.now ≡ Some code) }
     ensures err { OnErr result (rows.new ≡ rows.old) }
 {
-    let key = key_row(table, &change.row)?;
+    let key = key_row(rows.alloc(), table, &change.row)?;
     if table.mode == Declared::Upsert {
         put(rows, key, change)?;
         return Ok(());
@@ -125,20 +125,20 @@ fn take_keyed(table: &TableDef, rows: &mut KeyedRows, change: &Change) -> Result
 }
 
 // The values of a row in the table's key.
-fn key_row(table: &TableDef, row: &Row) -> Result<Row, Memory>
+fn key_row(alloc: Global, table: &TableDef, row: &Row) -> Result<Row, Memory>
     ensures { IfOk result (λ key. key ≡ project (key_of table.now) row.now) }
 {
     match &table.key {
-        Some(cols) => project(cols, row),
+        Some(cols) => project(alloc, cols, row),
         None => row.prefix(0),
     }
 }
 
 // The values of a row in these columns, and NULL in one past its end.
-fn project(cols: &Cols, row: &Row) -> Result<Row, Memory>
+fn project(alloc: Global, cols: &Cols, row: &Row) -> Result<Row, Memory>
     ensures { IfOk result (λ key. key ≡ project cols.now row.now) }
 {
-    let mut values: Values = cols.beside();
+    let mut values = Values::with_capacity(alloc, cols.len())?;
     for col in cols.as_slice() {
         values.push(cell(row, *col)?)?;
     }

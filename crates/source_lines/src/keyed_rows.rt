@@ -18,6 +18,7 @@ use std::marker::Model;
 /// The row of each key, found by key.
 #[derive(Drop)]
 pub(crate) struct KeyedRows {
+    alloc: Global,
     rows: BTreeMap<Row, Row>,
 }
 
@@ -39,8 +40,14 @@ impl KeyedRows {
         ensures { result ≡ map.empty }
     {
         KeyedRows {
+            alloc,
             rows: BTreeMap::new(alloc),
         }
+    }
+
+    // The memory in which it keeps them.
+    pub(crate) fn alloc(&self) -> Global {
+        self.alloc
     }
 
     // Sets the row of a key.
@@ -77,10 +84,10 @@ impl KeyedRows {
     }
 
     // The bag of the rows.
-    pub(crate) fn into_bag(self, alloc: Global) -> Result<Bag, Memory>
+    pub(crate) fn into_bag(self) -> Result<Bag, Memory>
         ensures { IfOk result (λ bag. (columns : List ℕ) (rows : Rows) → AreLast columns self rows → bag ≡ rows) }
     {
-        let KeyedRows { rows } = self;
+        let KeyedRows { alloc, rows } = self;
         bag_of(alloc, rows)
     }
 }
