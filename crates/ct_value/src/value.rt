@@ -3,10 +3,11 @@ ghost use Rattle.std.specs.Ordering.{eq_by_cmp};
 ghost use Rattle.std.specs.Cmp.{eq_by_cmp_equiv, partial_equiv_from_equiv, po};
 ghost use Rattle.std.proofs.Common.{refl};
 
-use crate::abbreviation::abbreviation_of_value;
+use crate::abbreviation::abbreviation_of;
 use crate::{Memory, Text};
 use std::cmp::Ordering;
 use std::hash::{Hash, Hasher};
+use std::slice::from_ref;
 
 /// A value of a column. A number is unscaled: 12.50 of a type with two decimals is 1250.
 #[derive(Debug, Drop)]
@@ -49,7 +50,7 @@ impl Value {
     pub fn abbreviation(&self) -> u64
         ensures { result ≡ value_abbreviation self.now }
     {
-        abbreviation_of_value(self)
+        abbreviation_of(from_ref(self))
     }
 
     // The place in the order of NULL, FALSE, TRUE, all numbers and all texts.
