@@ -62,20 +62,20 @@ impl Kept {
             return Ok(None);
         }
         let key = with_room(*self.counters.allocator(), key, self.counters.len())?;
-        let row = results(&self.counters, key)?;
-        Ok(Some(row))
+        let values = results(&self.counters, key)?;
+        Ok(Some(Row::from_values(values)))
     }
 }
 
-// An equal row, with room for so many values behind it.
-fn with_room(alloc: Global, row: &Row, more: usize) -> Result<Row, Memory>
+// The values of a row, with room for so many behind them.
+fn with_room(alloc: Global, row: &Row, more: usize) -> Result<Values, Memory>
     ensures { IfOk result (λ copy. copy ≡ row.now) }
 {
     let mut values = Values::with_capacity(alloc, row.len().saturating_add(more))?;
     for value in row.as_slice() {
         values.push(value.dup()?)?;
     }
-    Ok(Row::from_values(values))
+    Ok(values)
 }
 
 // The number of rows without one that goes, and with one that comes.
@@ -133,17 +133,17 @@ fn shift_all(
 }
 
 // The key with the results of the counters behind it.
-fn results(counters: &[Counter], key: Row) -> Result<Row, AccFault>
+fn results(counters: &[Counter], key: Values) -> Result<Values, AccFault>
     requires { (columns : List ColTy) × (rows : Rows) × AllStand columns rows counters.now }
     ensures row { IfOk result (λ row. (columns : List ColTy) (rows : Rows) → AllStand columns rows counters.now → option_map (λ values. key ++ values) (agg_results columns (calls counters.now) rows) ≡ Some row) }
     ensures out { IfErr result (λ fault. fault ≡ Out → (columns : List ColTy) (rows : Rows) → AllStand columns rows counters.now → is_some (agg_results columns (calls counters.now) rows) ≡ false) }
 {
-    let mut row = key;
+    let mut values = key;
     for counter in counters {
         match counter.acc.result() {
-            Ok(value) => row = row.with(value)?,
+            Ok(value) => values.push(value)?,
             Err(fault) => return Err(fault),
         }
     }
-    Ok(row)
+    Ok(values)
 }

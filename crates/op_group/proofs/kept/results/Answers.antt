@@ -21,7 +21,7 @@ pub loop-counter-preserved : goal.loop-counter-preserved
 loop-counter-preserved c = λ columns rows all.
     let item = c.counter-item.result in
     let stands = subst (Stands columns rows) (sym c.counter-item.is) (item_of columns rows (Stands columns rows) c.loop-counter.counter-index c.args.counters.now c.counter-item.result (omega arith) all) in
-    result_more columns rows c.args.key c.loop-counter.row c.loop-counter.counter-index c.args.counters.now c.counter-item.result c.in-Ok.value (omega arith)
+    result_more columns rows c.args.key c.loop-counter.values c.loop-counter.counter-index c.args.counters.now c.counter-item.result c.in-Ok.value (omega arith)
     (λ counter is. ap (λ k. agg_result columns rows k.agg) (is ∙ sym c.counter-item.is) ∙ c.in-Ok.ensures.value item.agg.call (type_among columns item.agg) (values_of item.agg rows) stands)
     (c.loop-counter.invariant columns rows all)
-    ∙ ap Some (sym c.in_ok-row-in-Ok.ensures)
+    ∙ ap Some (sym c.in_ok-push-in-Ok.ensures.ok)
