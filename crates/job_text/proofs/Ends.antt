@@ -1,6 +1,6 @@
 -- How many records a text has, byte by byte.
 use Rattle.std.proofs.Common.{◌≡◌, ◌≤◌, ◌<◌, ◌+◌, ◌∙◌, ℕ, zero, suc, List, [], ◌∷◌, length, drop, take, get_or, ◌-◌, Option, Some, None, Bool, true, false, refl, sym, ap, arith, inl, inr}
-use Rattle.std.specs.Prelude.{cond, ◌==◌, if◌then◌else◌}
+use Rattle.std.specs.Prelude.{cond, not, ◌==◌, if◌then◌else◌}
 use Rattle.std.proofs.lemmas.Bool.{ne_eqb}
 use Rattle.std.proofs.lemmas.List.{drop_all, drop_more, take_rest}
 use Rattle.csv.specs.Machine.{Read, ends_at_end, is_end, next_record, step}
@@ -9,7 +9,7 @@ use Rattle.csv.specs.declared.parser.State.{State}
 use Rattle.csv.specs.declared.parser.State.TheVariants as st
 use Rattle.job_text.specs.declared.counting.Place.{Place}
 use Rattle.job_text.specs.declared.counting.Place.TheVariants.{RecordStart, BehindReturn, FieldStart, Plain, Quoted, BehindQuote}
-use Rattle.job_text.specs.Ends.{LeadsAs, ends_in, state_at}
+use Rattle.job_text.specs.Ends.{LeadsAs, ends_in, is_unmarked, state_at, state_behind}
 use Rattle.job_text.specs.Lines.{records_of}
 use Rattle.job_text.proofs.Reading.{next-cases, next-leaves, next-shorter, some-same, strip_bom-few}
 
@@ -130,3 +130,25 @@ above FieldStart c h n = let o = other c h in rw (o.quote, o.comma, o.back, o.fe
 above Plain c h n = let o = other c h in rw (o.comma, o.back, o.feed) (refl, refl)
 above Quoted c h n = absurd (n refl)
 above BehindQuote c h n = let o = other c h in rw (o.quote, o.comma, o.back, o.feed) (refl, refl)
+
+-- ---- where a file may be cut
+
+pub few_unmarked : (xs : List ℕ) → length xs < 3 → is_unmarked xs ≡ false
+few_unmarked [] short = refl
+few_unmarked (a ∷ []) short = refl
+few_unmarked (a ∷ b ∷ []) short = refl
+few_unmarked (a ∷ b ∷ c ∷ rest) short = absurd (omega arith)
+
+pub unmarked_of : (xs : List ℕ) → 3 ≤ length xs → is_unmarked xs ≡ not (is_bom (get_or xs 0 0) (get_or xs 1 0) (get_or xs 2 0))
+unmarked_of [] long = absurd (omega arith)
+unmarked_of (a ∷ []) long = absurd (omega arith)
+unmarked_of (a ∷ b ∷ []) long = absurd (omega arith)
+unmarked_of (a ∷ b ∷ c ∷ rest) long = refl
+
+pub state_more : (text : List ℕ) (i : ℕ) (s : State) → i < length text → state_behind s (drop i text) ≡ state_behind (step default_config s (get_or text i 0)).0 (drop (i + 1) text)
+unfolding state_behind
+state_more text i s inside = rw (drop_more text i 0 inside) refl
+
+pub state_all : (text : List ℕ) (s : State) → state_behind s (drop (length text) text) ≡ s
+unfolding state_behind
+state_all text s = rw (drop_all (length text) text (omega arith)) refl

@@ -1,3 +1,4 @@
+pub mod CutFiles
 pub mod Fitting
 pub mod Orders
 pub mod Records

@@ -3,7 +3,8 @@
 ghost use Rattle.std.specs.Prelude.{◌≡◌, ◌≤◌, ◌<◌, cond, false, length, IfOk};
 ghost use Rattle.csv.specs.Machine as csv;
 ghost use Rattle.csv.specs.Reading.{default_config, is_bom, strip_bom};
-ghost use Rattle.job_text.specs.Ends.{LeadsAs, state_at};
+ghost use Rattle.csv.specs.declared.parser.State.TheVariants.{StartRecord};
+ghost use Rattle.job_text.specs.Ends.{LeadsAs, is_start, is_unmarked, may_cut, state_at, state_behind};
 ghost use Rattle.job_text.specs.Lines.{records_of};
 
 use ct_value::Memory;
@@ -48,6 +49,50 @@ pub(crate) fn count_records(bytes: &[u8]) -> Result<u32, Memory>
         count += one_if(ends);
     }
     Ok(count + one_if(is_within(place)))
+}
+
+/// Whether a change file may be cut between `bytes` and `rest`: a record begins behind these bytes, and neither part begins with a byte
+/// order mark. Each part has three bytes at least. Then the file's records are those of its parts. It takes no memory.
+pub fn may_cut(bytes: &[u8], rest: &[u8]) -> bool
+    ensures { result ≡ may_cut bytes.now rest.now }
+{
+    is_unmarked(bytes) && is_unmarked(rest) && ends_lines(bytes)
+}
+
+// Whether there are three bytes, which are no byte order mark.
+#[tactic(auto, using(crate::proofs::Ends::unmarked_of, crate::proofs::Ends::few_unmarked))]
+fn is_unmarked(bytes: &[u8]) -> bool
+    ensures { result ≡ is_unmarked bytes.now }
+{
+    if bytes.len() < 3 {
+        return false;
+    }
+    !is_mark(bytes[0], bytes[1], bytes[2])
+}
+
+// Whether a record begins behind these bytes, before which one begins.
+#[tactic(auto, using(crate::proofs::Ends::state_more))]
+fn ends_lines(bytes: &[u8]) -> bool
+    ensures { result ≡ is_start (state_behind StartRecord bytes.now) }
+{
+    let mut place = Place::RecordStart;
+    for i in 0..bytes.len() {
+        place = place_behind(place, bytes[i]).0;
+    }
+    is_record_start(place)
+}
+
+fn is_record_start(place: Place) -> bool
+    ensures { result ≡ is_start (state_at place) }
+{
+    match place {
+        Place::RecordStart => true,
+        Place::BehindReturn
+        | Place::FieldStart
+        | Place::Plain
+        | Place::Quoted
+        | Place::BehindQuote => false,
+    }
 }
 
 // The bytes behind a byte order mark, if there is one.

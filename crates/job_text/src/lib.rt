@@ -18,6 +18,7 @@ mod promises;
 mod quoting;
 mod read;
 
+pub use counting::may_cut;
 pub use line::{Line, LineFault, key_columns, tells_key};
 pub use lines::{LineWriter, row_line, row_text};
 pub use made::make_lines;

@@ -2,7 +2,7 @@
 ghost use Rattle.std.specs.Prelude.{◌≡◌, ◌+◌, ◌++◌, ℕ, IfOk, OnOk};
 ghost use Rattle.job_text.specs.Made.{AreLast, made_line, made_lines, made_row, next_number};
 
-use ct_field::write_field;
+use ct_field::push_field;
 use ct_value::{Bytes, Memory, Ty, Value};
 use std::alloc::Global;
 
@@ -20,7 +20,7 @@ struct LastNumbers {
 pub fn make_lines(alloc: Global, seed: u64, count: u64) -> Result<Bytes, Memory>
     ensures { IfOk result (λ lines. lines ≡ made_lines seed count) }
 {
-    let mut lines = Vec::new(alloc);
+    let mut lines = Bytes::new(alloc);
     let mut numbers = LastNumbers {
         last: seed,
         second: seed,
@@ -31,7 +31,7 @@ pub fn make_lines(alloc: Global, seed: u64, count: u64) -> Result<Bytes, Memory>
         push_line(alloc, &mut lines, k + 1, numbers)?;
         numbers = behind(numbers);
     }
-    Ok(Bytes::from_vec(lines))
+    Ok(lines)
 }
 
 // The last numbers when one line more is made.
@@ -58,32 +58,31 @@ fn next_number(number: u64) -> u64
 // Puts the line of a number behind those of which these are the last numbers.
 fn push_line(
     alloc: Global,
-    lines: &mut Vec<u8>,
+    lines: &mut Bytes,
     number: u64,
     before: LastNumbers,
 ) -> Result<(), Memory>
     ensures { OnOk result ((seed k : ℕ) → number ≡ k + 1 → AreLast seed k before.last before.second before.third before.fourth
-        → lines.new.items ≡ lines.old.items ++ made_line seed number) }
+        → lines.new ≡ lines.old ++ made_line seed number) }
 {
     if number % 5 == 0 {
-        lines.extend_from_slice(b"t,-D,")?;
+        lines.extend(b"t,-D,")?;
         push_row(alloc, lines, before.fourth)
     } else {
-        lines.extend_from_slice(b"t,+I,")?;
+        lines.extend(b"t,+I,")?;
         push_row(alloc, lines, next_number(before.last))
     }
 }
 
 // Puts the row that a number makes.
-fn push_row(alloc: Global, lines: &mut Vec<u8>, number: u64) -> Result<(), Memory>
-    ensures { OnOk result (lines.new.items ≡ lines.old.items ++ made_row number) }
+fn push_row(alloc: Global, lines: &mut Bytes, number: u64) -> Result<(), Memory>
+    ensures { OnOk result (lines.new ≡ lines.old ++ made_row number) }
 {
-    let word = number / 8589934592 % 1000;
-    let value = i128::from(number / 8796093022208 % 2001) - 1000;
-    let word = format!(in alloc; "w{word},")?;
-    lines.extend_from_slice(word.as_bytes())?;
-    let value = write_field(alloc, Ty::Int, &Value::Num(value))?;
-    lines.extend_from_slice(value.as_slice())?;
-    lines.push(b'\n')?;
-    Ok(())
+    let word = Value::Num(i128::from(number / 8589934592 % 1000));
+    let value = Value::Num(i128::from(number / 8796093022208 % 2001) - 1000);
+    lines.push(b'w')?;
+    push_field(alloc, lines, Ty::BigInt, &word)?;
+    lines.push(b',')?;
+    push_field(alloc, lines, Ty::Int, &value)?;
+    lines.push(b'\n')
 }

@@ -81,13 +81,26 @@ impl ChangeLines {
         requires { length bytes ≤ 67108864 }
         ensures { IfOk result (λ lines. lines ≡ record { feed = feed; read = 0; records = records_of bytes }) }
     {
+        ChangeLines::behind(alloc, bytes, feed, 0)
+    }
+
+    /// The lines of a part of such a file, before which so many lines were read.
+    pub fn behind(
+        alloc: Global,
+        bytes: Bytes,
+        feed: Option<u32>,
+        read: u32,
+    ) -> Result<ChangeLines, Memory>
+        requires { read + length bytes ≤ 67108864 }
+        ensures { IfOk result (λ lines. lines ≡ record { feed = feed; read = read; records = records_of bytes }) }
+    {
         let left = count_records(bytes.as_slice())?;
         Ok(ChangeLines {
             alloc,
             reader: reader_of(alloc, Cursor::new(FileBytes { bytes })),
             fields: ByteRecord::new(alloc),
             feed,
-            read: 0,
+            read,
             left,
         })
     }

@@ -1,6 +1,6 @@
 use Rattle.std.proofs.Common.{◌≡◌, arith, length, rules}
 use Rattle.job_text.proofs.Reading.{few_records}
-use Rattle.job_text.proofs.read.ChangeLines.new.Goals as goal
+use Rattle.job_text.proofs.read.ChangeLines.behind.Goals as goal
 
 pub invariant_of-result : goal.invariant_of-result
 invariant_of-result c =
