@@ -1,5 +1,5 @@
 -- The lines taken before the rows are answered.
-use Rattle.std.proofs.Common.{◌≡◌, ℕ, List, Option, Result, Ok, Err, IfOk, IfErr, sym, ap, subst, ◌∙◌}
+use Rattle.std.proofs.Common.{◌≡◌, ℕ, List, Option, Ok, Err, sym, ap, subst, ◌∙◌}
 use Rattle.ct_change.specs.Changelog.{Rows}
 use Rattle.ct_catalog.specs.declared.table.TableDef.{TableDef}
 use Rattle.source_lines.specs.Fitting.{RowsFit}
@@ -7,11 +7,9 @@ use Rattle.ct_value.specs.declared.codes.ChangeCode.{ChangeCode}
 use Rattle.source_lines.specs.Taken.{Taken, rows_of, taken_of}
 use Rattle.source_lines.specs.declared.supply.ChangeFiles.{ChangeFiles}
 use Rattle.job_ending.specs.declared.ending.Ending.TheVariants.{Change}
-use Rattle.job_ending.specs.declared.halt.Halt.{Halt}
-use Rattle.job_ending.specs.Outcome.{Outcome, ends}
-use Rattle.job_ending.specs.Runs.{IsBefore}
+use Rattle.job_ending.specs.Outcome.{ends}
 use Rattle.job_judgement.specs.Judgement.{Accepted}
-use Rattle.job_batch.specs.Batch.{after_lines, done, over_tables, sink_types, with_changes, with_rows}
+use Rattle.job_batch.specs.Batch.{after_lines, over_tables, with_changes, with_rows}
 
 -- these rows are those that the first lines leave
 abbrev pub AreTaken : List TableDef → Option ℕ → ChangeFiles → List Rows → Type 0
@@ -21,17 +19,9 @@ pub taken_fit : ((sources : List TableDef) (first : Option ℕ) (files : ChangeF
     → (sources : List TableDef) (first : Option ℕ) (files : ChangeFiles) (bags : List Rows) → AreTaken sources first files bags → RowsFit sources bags
 taken_fit fit sources first files bags are = subst (λ (b : List Rows). RowsFit sources b) (sym are.2) (fit sources first files are.0 are.1)
 
-module _ (script : Accepted) (first : Option ℕ) (files : ChangeFiles) (bags : List Rows) (are : AreTaken script.inserted.sources first files bags) where
-  same_over : with_changes script first files ≡ over_tables script (with_rows script.inserted.sources bags)
-  same_over = ap (after_lines script) are.1 ∙ ap (λ (b : List Rows). over_tables script (with_rows script.inserted.sources b)) (sym are.2)
-
-  pub ok_taken : (r : Result Rows Halt) → IfOk r (λ rows. over_tables script (with_rows script.inserted.sources bags) ≡ done (sink_types script) rows) → IfOk r (λ rows. with_changes script first files ≡ done (sink_types script) rows)
-  ok_taken (Ok rows) is = same_over ∙ is
-  ok_taken (Err halt) is = tt
-
-  pub halt_taken : (r : Result Rows Halt) → IfErr r (λ halt. IsBefore halt (over_tables script (with_rows script.inserted.sources bags))) → IfErr r (λ halt. IsBefore halt (with_changes script first files))
-  halt_taken (Ok rows) is = tt
-  halt_taken (Err halt) is = subst (λ (o : Outcome). IsBefore halt o) (sym same_over) is
+pub same_over : (script : Accepted) (first : Option ℕ) (files : ChangeFiles) (bags : List Rows) → AreTaken script.inserted.sources first files bags
+    → with_changes script first files ≡ over_tables script (with_rows script.inserted.sources bags)
+same_over script first files bags are = ap (after_lines script) are.1 ∙ ap (λ (b : List Rows). over_tables script (with_rows script.inserted.sources b)) (sym are.2)
 
 -- a line is refused
 pub refused_line : (script : Accepted) (first : Option ℕ) (files : ChangeFiles) (code : ChangeCode) (line table : ℕ)

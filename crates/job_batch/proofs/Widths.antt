@@ -1,5 +1,5 @@
 -- The rows of an answer have as many values as the sink has columns, whose types exist.
-use Rattle.std.proofs.Common.{◌≡◌, ℕ, suc, Bool, true, false, not, ◌&&◌, ◌||◌, List, [], ◌∷◌, ◌++◌, map, length, Option, Some, None, Ok, Err, cond, refl, sym, ap, subst, ◌∙◌, IsTrue, arith}
+use Rattle.std.proofs.Common.{◌≡◌, ℕ, suc, Bool, true, false, not, ◌&&◌, ◌||◌, List, [], ◌∷◌, ◌++◌, map, length, Option, Some, None, Ok, Err, cond, refl, ap, subst, ◌∙◌, IsTrue}
 use Rattle.std.specs.List.{AllByRecursion, find}
 use Rattle.ct_value.specs.Bag.{items}
 use Rattle.ct_value.specs.declared.codes.ScriptCode.TheVariants.{SinkShape, UnknownTable}

@@ -1,5 +1,5 @@
 //! The rows of a batch answer.
-ghost use Rattle.std.specs.Prelude.{◌≡◌, [], length, map, IfOk, IfErr, IsErrOf};
+ghost use Rattle.std.specs.Prelude.{◌≡◌, [], length, map, Ok, IfOk, IfErr, IsErrOf};
 ghost use Rattle.ct_catalog.specs.Columns.{column_types};
 ghost use Rattle.job_ending.specs.Endings.{IsPrintable};
 ghost use Rattle.job_ending.specs.Outcome.{ends};
@@ -9,6 +9,7 @@ ghost use Rattle.job_judgement.specs.Judged.{IsJudged};
 ghost use Rattle.job_judgement.specs.Views.{accepted_view};
 ghost use Rattle.source_lines.specs.Fitting.{RowsFit};
 ghost use Rattle.source_lines.specs.Supply.{AreWithin};
+ghost use Rattle.source_lines.specs.Taken.{Taken, rows_of, taken_of};
 ghost use Rattle.job_batch.specs.Batch.{done, over_tables, sink_types, with_changes, with_rows};
 ghost use Rattle.job_batch.specs.Runs.{AreWide};
 
@@ -22,30 +23,28 @@ use job_judgement::Accepted;
 use source_lines::{Bags, ChangeFiles, TakeFault, bags_of};
 use std::alloc::Global;
 
-/// The rows of the answer of an accepted script over the first lines of each change file, or over all.
+/// The rows that the first lines of each change file, or all, leave in the sources of an accepted script.
 #[tactic(auto, using(crate::proofs::Taken::refused_line))]
-pub(crate) fn answer_rows(
+pub(crate) fn tables_of(
     alloc: Global,
     script: &Accepted,
     first: Option<u64>,
     files: ChangeFiles,
-) -> Result<Bag, Halt>
-    requires judged { IsJudged (accepted_view script.now) }
-    requires within { AreWithin files }
-    ensures ok { IfOk result (λ rows. with_changes (accepted_view script.now) first files ≡ done (sink_types (accepted_view script.now)) rows) }
-    ensures wide { IfOk result (λ rows. AreWide (length (sink_types (accepted_view script.now))) rows) }
+) -> Result<Bags, Halt>
+    requires { AreWithin files }
+    ensures ok { IfOk result (λ bags. (taken : Taken) × (taken_of script.now.inserted.sources first files ≡ Ok taken) × (bags ≡ rows_of script.now.inserted.sources taken)) }
     ensures halts { IfErr result (λ halt. IsBefore halt (with_changes (accepted_view script.now) first files)) }
     ensures printable { IfErr result (λ halt. IsPrintable (ending_of_halt halt)) }
 {
     match bags_of(alloc, files, &script.inserted.sources, first) {
-        Ok(tables) => answer_over(alloc, script, &tables),
+        Ok(tables) => Ok(tables),
         Err(TakeFault::Refused { code, line, table }) => Err(Halt::Change { code, line, table }),
         Err(TakeFault::Memory) => Err(Halt::Memory),
     }
 }
 
-// The rows of the answer over the rows of the sources, or the halt where that is out of range.
-fn answer_over(alloc: Global, script: &Accepted, tables: &Bags) -> Result<Bag, Halt>
+/// The rows of the answer over the rows of the sources, or the halt where that is out of range.
+pub(crate) fn answer_over(alloc: Global, script: &Accepted, tables: &Bags) -> Result<Bag, Halt>
     requires judged { IsJudged (accepted_view script.now) }
     requires fit { RowsFit script.now.inserted.sources tables.now }
     ensures ok { IfOk result (λ rows. over_tables (accepted_view script.now) (with_rows script.now.inserted.sources tables.now) ≡ done (sink_types (accepted_view script.now)) rows) }

@@ -5,11 +5,12 @@ ghost use Rattle.job_ending.specs.Endings.{IsPrintable};
 ghost use Rattle.job_ending.specs.Runs.{RunsThere, ending_of};
 ghost use Rattle.job_judgement.specs.Judged.{IsJudged};
 ghost use Rattle.job_judgement.specs.Views.{accepted_view};
+ghost use Rattle.source_lines.specs.Fitting.{RowsFit};
 ghost use Rattle.source_lines.specs.Supply.{AreWithin};
-ghost use Rattle.job_batch.specs.Batch.{done, sink_types, with_changes};
+ghost use Rattle.job_batch.specs.Batch.{done, over_tables, sink_types, with_changes, with_rows};
 ghost use Rattle.job_batch.specs.Runs.{AreWide};
 
-use crate::answers::answer_rows;
+use crate::answers::{answer_over, tables_of};
 use crate::lines::{PutFault, put_rows};
 use ct_catalog::ColDef;
 use ct_change::Bag;
@@ -17,7 +18,7 @@ use ct_io::Sink;
 use ct_value::Ty;
 use job_ending::Halt;
 use job_judgement::Accepted;
-use source_lines::ChangeFiles;
+use source_lines::{Bags, ChangeFiles};
 use std::alloc::{AllocError, Global};
 use std::marker::Brand;
 use std::sync::ledger::Blank;
@@ -36,7 +37,23 @@ pub fn batch<K: Sink>(
     ensures runs { RunsThere (with_changes (accepted_view script.now) first files) (Rose (K.faults out.old) (K.faults out.new)) (K.written out.old) (K.written out.new) result }
     ensures printable { IsPrintable (ending_of result) }
 {
-    let rows = answer_rows(alloc, script, first, files)?;
+    let tables = tables_of(alloc, script, first, files)?;
+    batch_over(alloc, script, &tables, out)
+}
+
+/// Writes the batch answer of an accepted script over these rows of its sources.
+pub fn batch_over<K: Sink>(
+    alloc: Global,
+    script: &Accepted,
+    tables: &Bags,
+    out: &mut K,
+) -> Result<(), Halt>
+    requires judged { IsJudged (accepted_view script.now) }
+    requires fit { RowsFit script.now.inserted.sources tables.now }
+    ensures runs { RunsThere (over_tables (accepted_view script.now) (with_rows script.now.inserted.sources tables.now)) (Rose (K.faults out.old) (K.faults out.new)) (K.written out.old) (K.written out.new) result }
+    ensures printable { IsPrintable (ending_of result) }
+{
+    let rows = answer_over(alloc, script, tables)?;
     write_rows(alloc, script, &rows, out)
 }
 

@@ -1,4 +1,5 @@
 pub mod Along
 pub mod Files
+pub mod Parts
 pub mod Records
 pub mod Theorems

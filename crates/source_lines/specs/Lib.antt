@@ -1,3 +1,4 @@
+pub mod Feeds
 pub mod Fitting
 pub mod Folding
 pub mod Kept

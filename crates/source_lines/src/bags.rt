@@ -34,7 +34,7 @@ pub fn bags_of(
 }
 
 // The rows of each fold.
-fn rows_of(alloc: Global, folds: Vec<SourceFold>) -> Result<Bags, Memory>
+pub(crate) fn rows_of(alloc: Global, folds: Vec<SourceFold>) -> Result<Bags, Memory>
     requires { (sources : List Table) × (taken : Taken) × StandAll sources folds.items taken }
     ensures { IfOk result (λ bags. (sources : List Table) (taken : Taken) → StandAll sources folds.items taken → bags ≡ rows_of sources taken) }
 {

@@ -8,7 +8,7 @@ ghost use Rattle.source_lines.specs.Folding.{FoldStands};
 ghost use Rattle.source_lines.specs.Kept.{refusal_after};
 ghost use Rattle.source_lines.specs.declared.refusals.SourceFault.TheVariants.{Refused};
 
-use crate::kept::{Kept, kept_for_rows, take};
+use crate::kept::{Kept, kept_for_rows, take_own};
 use crate::refusals::SourceFault;
 use ct_catalog::TableDef;
 use ct_change::{Bag, Change};
@@ -36,13 +36,13 @@ impl SourceFold {
 
     /// Takes a change, unless it is refused after the changes taken before: by KindNotDeclared, NullNotAllowed, RowAbsent or
     /// KeyPresent, the first of them that holds. After an error all is as before.
-    pub fn check(&mut self, change: &Change) -> Result<(), SourceFault>
+    pub fn check(&mut self, change: Change) -> Result<(), SourceFault>
         requires { (table : TableDef) × (changes : List Change) × FoldStands table self.old changes × (length changes + 1 < 2 ^ 64) }
-        ensures ok { OnOk result ((table : TableDef) (changes : List Change) → FoldStands table self.old changes → (refusal_after table changes change.now ≡ None) × FoldStands table self.new (changes ++ change.now ∷ [])) }
-        ensures refused { (code : ChangeCode) → IsErrOf result (Refused code) → (table : TableDef) (changes : List Change) → FoldStands table self.old changes → refusal_after table changes change.now ≡ Some code }
+        ensures ok { OnOk result ((table : TableDef) (changes : List Change) → FoldStands table self.old changes → (refusal_after table changes change ≡ None) × FoldStands table self.new (changes ++ change ∷ [])) }
+        ensures refused { (code : ChangeCode) → IsErrOf result (Refused code) → (table : TableDef) (changes : List Change) → FoldStands table self.old changes → refusal_after table changes change ≡ Some code }
         ensures err { OnErr result (self.new ≡ self.old) }
     {
-        take(&self.table, &mut self.kept, change)
+        take_own(&self.table, &mut self.kept, change)
     }
 
     /// The bag of the rows that the changes leave.

@@ -72,6 +72,22 @@ pub(crate) fn take(table: &TableDef, kept: &mut Kept, change: &Change) -> Result
     take_kept(table, kept, change)
 }
 
+/// The same of a change that is nobody else's, whose row it may keep.
+#[tactic(auto, using(crate::proofs::Takes::room_left, crate::proofs::Takes::by_rows))]
+pub(crate) fn take_own(table: &TableDef, kept: &mut Kept, change: Change) -> Result<(), SourceFault>
+    requires { (changes : List Change) × IsKept table.now kept.old (fold (table_mode table.now) changes) × (length changes + 1 < 2 ^ 64) }
+    ensures ok { OnOk result ((rows : Rows) → IsKept table.now kept.old rows → (refusal (taker_of table.now) rows change ≡ None) × IsKept table.now kept.new (apply (table_mode table.now) rows change)) }
+    ensures refused { (code : ChangeCode) → IsErrOf result (Refused code) → (rows : Rows) → IsKept table.now kept.old rows → refusal (taker_of table.now) rows change ≡ Some code }
+    ensures err { OnErr result (kept.new ≡ kept.old) }
+    ensures whole { IsWhole kept.old → IsWhole kept.new }
+{
+    if !table.mode.admits(change.kind) {
+        return Err(SourceFault::Refused(ChangeCode::KindNotDeclared));
+    }
+    check_nulls(table, &change)?;
+    keep_own(table, kept, change)
+}
+
 // Takes a change that the table takes by its kind.
 fn take_kept(table: &TableDef, kept: &mut Kept, change: &Change) -> Result<(), SourceFault>
     requires admitted { admits (table_mode table.now) change.now.kind ≡ true }
@@ -85,6 +101,22 @@ fn take_kept(table: &TableDef, kept: &mut Kept, change: &Change) -> Result<(), S
         Kept::Nothing => Ok(()),
         Kept::Rows(rows) => take_row(rows, change),
         Kept::Keyed(rows) => take_keyed(table, rows, change),
+    }
+}
+
+// The same of a change that is nobody else's.
+fn keep_own(table: &TableDef, kept: &mut Kept, change: Change) -> Result<(), SourceFault>
+    requires admitted { admits (table_mode table.now) change.kind ≡ true }
+    requires room { HasRoom kept.old }
+    ensures ok { OnOk result ((rows : Rows) → IsKept table.now kept.old rows → (rows_refusal table.now rows change ≡ None) × IsKept table.now kept.new (apply (table_mode table.now) rows change)) }
+    ensures refused { (code : ChangeCode) → IsErrOf result (Refused code) → (rows : Rows) → IsKept table.now kept.old rows → rows_refusal table.now rows change ≡ Some code }
+    ensures err { OnErr result (kept.new ≡ kept.old) }
+    ensures whole { IsWhole kept.old → IsWhole kept.new }
+{
+    match kept {
+        Kept::Nothing => Ok(()),
+        Kept::Rows(rows) => take_row(rows, &change),
+        Kept::Keyed(rows) => take_keyed_own(table, rows, change),
     }
 }
 
@@ -122,6 +154,22 @@ fn take_keyed(table: &TableDef, rows: &mut KeyedRows, change: &Change) -> Result
         return add_new(rows, key, change);
     }
     let_go(rows, &key, change)
+}
+
+// The same of a change that is nobody else's: the row that an upsert table then has is its own.
+fn take_keyed_own(table: &TableDef, rows: &mut KeyedRows, change: Change) -> Result<(), SourceFault>
+    ensures ok { OnOk result (rows.new ≡ keyed_after rows.old (project (key_of table.now) change.row) change) }
+    ensures taken { OnOk result (table.now.mode ≡ Declared.Upsert ⊎ (keyed_refusal (map.get rows.old (project (key_of table.now) change.row)) change ≡ None)) }
+    ensures refused { (code : ChangeCode) → IsErrOf result (Refused code) → (table.now.mode ≢ Declared.Upsert) × (keyed_refusal (map.get rows.old (project (key_of table.now) change.row)) change ≡ Some code) }
+    ensures err { OnErr result (rows.new ≡ rows.old) }
+{
+    if table.mode != Declared::Upsert || !change.kind.is_addition() {
+        return take_keyed(table, rows, &change);
+    }
+    let key = key_row(rows.alloc(), table, &change.row)?;
+    let Change { row, .. } = change;
+    rows.set(key, row)?;
+    Ok(())
 }
 
 // The values of a row in the table's key.

@@ -11,7 +11,7 @@ use job_text::{ChangeLines, Line, LineFault, NamedSources};
 use std::alloc::Global;
 
 // The folds of sources, of which no change was taken.
-fn folds_of(alloc: Global, sources: &[TableDef]) -> Result<Vec<SourceFold>, Memory>
+pub(crate) fn folds_of(alloc: Global, sources: &[TableDef]) -> Result<Vec<SourceFold>, Memory>
     ensures { IfOk result (λ folds. StandAll sources.now folds.items nothing_taken) }
 {
     let mut folds = Vec::new(alloc);
@@ -45,15 +45,15 @@ fn take_line(
     folds: &mut Vec<SourceFold>,
     feed: Option<u32>,
     number: u32,
-    line: &Line,
+    line: Line,
 ) -> Result<(), TakeFault>
     requires { (sources : List Table) × (taken : Taken) × StandAll sources folds.old.items taken × ((source : ℕ) → length (taken source) + 1 < 2 ^ 64) }
-    ensures ok { OnOk result ((sources : List Table) (taken : Taken) → StandAll sources folds.old.items taken → (line_refusal sources taken line.now ≡ None) × StandAll sources folds.new.items (with_line taken line.now)) }
-    ensures refused { IfErr result (λ fault. (sources : List Table) (taken : Taken) → StandAll sources folds.old.items taken → IsRefused fault (unless_refused feed number taken line.now (line_refusal sources taken line.now))) }
+    ensures ok { OnOk result ((sources : List Table) (taken : Taken) → StandAll sources folds.old.items taken → (line_refusal sources taken line ≡ None) × StandAll sources folds.new.items (with_line taken line)) }
+    ensures refused { IfErr result (λ fault. (sources : List Table) (taken : Taken) → StandAll sources folds.old.items taken → IsRefused fault (unless_refused feed number taken line (line_refusal sources taken line))) }
 {
     match folds.get_mut(line.table as usize) {
         None => Err(TakeFault::Memory),
-        Some(folded) => match folded.check(&line.change) {
+        Some(folded) => match folded.check(line.change) {
             Ok(()) => Ok(()),
             Err(SourceFault::Refused(code)) => Err(refusal(feed, number, code)),
             Err(SourceFault::Memory) => Err(TakeFault::Memory),
@@ -73,7 +73,7 @@ fn take_next(
         → IsRefused fault (take_line sources.now file.old.feed (suc file.old.read) taken (line_in sources.now file.old.feed first))) }
 {
     match file.next_line(sources) {
-        Ok(Some(line)) => take_line(folds, file.feed(), file.read(), &line),
+        Ok(Some(line)) => take_line(folds, file.feed(), file.read(), line),
         Ok(None) => Err(TakeFault::Memory),
         Err(LineFault::Change(code)) => Err(refusal(file.feed(), file.read(), code)),
         Err(LineFault::Memory) => Err(TakeFault::Memory),
@@ -92,7 +92,7 @@ fn first_lines(left: u32, first: Option<u64>) -> u32
 }
 
 // Takes the first lines of a file, or all.
-fn take_first(
+pub(crate) fn take_first(
     file: ChangeLines,
     sources: &NamedSources<'_>,
     folds: &mut Vec<SourceFold>,

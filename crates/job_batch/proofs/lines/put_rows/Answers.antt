@@ -1,4 +1,4 @@
-use Rattle.std.proofs.Common.{rules, ◌≡◌, ◌∷◌, ℕ, List, ap, length, subst, arith}
+use Rattle.std.proofs.Common.{rules, ◌≡◌, ℕ, List, length, subst, arith}
 use Rattle.std.specs.List.{AllByRecursion}
 use Rattle.ct_value.specs.Bag.{items}
 use Rattle.ct_value.specs.declared.row.Row.{Row}

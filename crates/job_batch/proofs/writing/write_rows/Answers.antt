@@ -1,4 +1,4 @@
-use Rattle.std.proofs.Common.{◌≡◌, List, IsTrue, map, ap, sym, subst, ◌∙◌}
+use Rattle.std.proofs.Common.{List, IsTrue, map, ap, sym, subst, ◌∙◌}
 use Rattle.std.specs.List.{AllByRecursion}
 use Rattle.ct_value.specs.declared.ty.Ty.{Ty}
 use Rattle.ct_field.specs.Numbers.{is_type}

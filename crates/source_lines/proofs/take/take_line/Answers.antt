@@ -6,14 +6,14 @@ use Rattle.source_lines.proofs.take.take_line.Goals as goal
 pub check-requires : goal.check-requires
 check-requires c =
     let r = c.requires in
-    let line = c.args.line.now in
+    let line = c.args.line in
     let within : line.table < length c.args.folds.now.items = let there = c.in-Some.ensures.variant.0 refl in let many = c.args.folds.now.ok in omega (arith, there, many) in
     let f = found r.0 c.args.folds.now.items r.1 line.table c.in-Some.folded.now r.2 within c.in-Some.ensures.value in
     (f.0, r.1 line.table, f.2, r.3 line.table)
 
 pub returns-in-Ok-clause-ok : goal.returns-in-Ok-clause-ok
 returns-in-Ok-clause-ok c = λ sources taken stand.
-    let line = c.args.line.now in
+    let line = c.args.line in
     let within : line.table < length c.args.folds.now.items = let there = c.in-Some.ensures.variant.0 refl in let many = c.args.folds.now.ok in omega (arith, there, many) in
     let f = found sources c.args.folds.now.items taken line.table c.in-Some.folded.now stand within c.in-Some.ensures.value in
     let told = c.in-Ok.ensures.ok f.0 (taken line.table) f.2 in
@@ -21,7 +21,7 @@ returns-in-Ok-clause-ok c = λ sources taken stand.
 
 pub returns-in-Err-Refused-clause-refused : goal.returns-in-Err-Refused-clause-refused
 returns-in-Err-Refused-clause-refused c = λ sources taken stand.
-    let line = c.args.line.now in
+    let line = c.args.line in
     let within : line.table < length c.args.folds.now.items = let there = c.in-Some.ensures.variant.0 refl in let many = c.args.folds.now.ok in omega (arith, there, many) in
     let f = found sources c.args.folds.now.items taken line.table c.in-Some.folded.now stand within c.in-Some.ensures.value in
     let told = c.in-Err-Refused.ensures.refused c.in-Err-Refused.code (ap Err c.in-Err-Refused.field-0-is) f.0 (taken line.table) f.2 in
