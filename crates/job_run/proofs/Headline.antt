@@ -1,10 +1,10 @@
 -- What a job has written, whatever its ending, and what one has written that ends well.
-use Rattle.std.proofs.Common.{◌≡◌, ◌≤◌, ◌+◌, ◌++◌, ℕ, suc, Bool, true, false, List, [], ◌∷◌, length, Option, Some, None, Result, Ok, Err, inl, inr, refl, sym, ap, subst, ◌∙◌, arith, append_assoc, append-nil}
+use Rattle.std.proofs.Common.{◌≡◌, ◌≤◌, ◌+◌, ◌++◌, ℕ, suc, Bool, true, false, List, [], ◌∷◌, length, Option, Some, None, Result, Ok, Err, inl, inr, refl, sym, ap, subst, ◌∙◌, arith, append_assoc, append-nil, cond, nat_le}
+use Rattle.std.proofs.lemmas.Bool.Decides.{nat_tests}
 use Rattle.std.proofs.lemmas.List.Sums.{sum_by-cons}
-use Rattle.command_line.specs.Words.{FileNames, Input, Request, run, batch, explain, load, request_of}
+use Rattle.command_line.specs.Words.{FileNames, Request, run, batch, explain, load, request_of}
 use Rattle.ct_value.specs.Bag.{items}
 use Rattle.ct_value.specs.declared.codes.OrderCode.TheVariants.{BadLine}
-use Rattle.ct_value.specs.declared.ty.Ty.{Ty}
 use Rattle.ct_catalog.specs.declared.table.TableDef.{TableDef}
 use Rattle.ct_change.specs.declared.change.Change.{Change}
 use Rattle.ct_change.specs.Changelog.{Mode, Rows}
@@ -30,7 +30,7 @@ use Rattle.source_lines.specs.declared.supply.ChangeFiles.{ChangeFiles}
 use Rattle.source_lines.specs.declared.supply.ChangeFiles.TheVariants.{One, Each}
 use Rattle.job_ending.specs.declared.ending.Ending.{Ending}
 use Rattle.job_ending.specs.declared.ending.Ending.TheVariants as e
-use Rattle.job_ending.specs.declared.ending.LimitName.TheVariants.{Script as ScriptLimit}
+use Rattle.job_ending.specs.declared.ending.LimitName.TheVariants.{Changes as ChangesLimit, Script as ScriptLimit}
 use Rattle.job_ending.specs.Outcome.{Outcome, ends}
 use Rattle.phys_plan.specs.declared.plan.Plan.{Plan}
 use Rattle.plan_check.specs.Types.{keep_nulls}
@@ -55,11 +55,11 @@ use Rattle.job_plan.specs.Promises.{IsScriptPlan, ScriptsArePlanned}
 use Rattle.job_plan.specs.Planned.{planned, topped}
 use Rattle.job_run.specs.Answers.{AreAnswers, AreAnswersOf, HasAnswers, HasRun, Wrote}
 use Rattle.job_run.specs.Edges.{AreCarried, AreCarriedOf, run_of}
-use Rattle.job_run.specs.Headline.{HasAnswered, HasExplained, HasLoaded, IsHeadline, IsHeadlineOf}
-use Rattle.job_run.specs.Held.{AreHeld, IsInput, IsOrder}
+use Rattle.job_run.specs.Headline.{AreRows, HasAnswered, HasExplained, HasLoaded, HasSummed, IsHeadline, IsHeadlineOf}
+use Rattle.job_run.specs.Held.{IsInput, IsOrder}
 use Rattle.job_run.specs.Insert.{Insert, answer_of, answer_over, sources_of}
-use Rattle.job_run.specs.Loads.{load_holdings, load_names, printed_feed, sums_holdings, sums_names, summary_of}
-use Rattle.job_run.specs.Outcome.{after_judgement, after_load, batch_named, batch_script, explain_script, load_of, load_run, over_input, run_named, run_plan, run_script, summed, sums_answer, where_well, with_order, with_request, with_script, outcome}
+use Rattle.job_run.specs.Loads.{load_holdings, load_names, printed_feed, sums_script, summary_of}
+use Rattle.job_run.specs.Outcome.{after_judgement, after_load, batch_named, batch_script, explain_script, changes_limit, load_of, load_run, over_input, run_named, run_plan, run_script, summed, sums_answer, sums_over, where_well, with_order, with_request, with_script, outcome}
 use Rattle.job_run.proofs.Inputs.{HoldsBefore, at_input, at_order, bytes_in, files_of, input_for, input_short}
 use Rattle.job_run.proofs.Inserted.{Found, IsInsertOf, Reads, TablesHaveTypes, found}
 use Rattle.job_run.proofs.Printed.{items_of_sink}
@@ -105,6 +105,27 @@ module _ (agree : AnswersAgree) (fit : RowsTakenFit) (script : Accepted) (judged
       (subst (λ (sink : TableDef). AreAnswered (table_mode sink) (sources_of insert) (answer_over (sources_of insert) sink script.query) files items) of.sink
       (subst (λ (tables : List TableDef). AreAnswered (table_mode script.inserted.sink) tables (answer_over tables script.inserted.sink script.query) files items) of.sources
       (all_so (table_mode script.inserted.sink) items all)))
+
+-- ---- rows
+
+module _ (text : List ℕ) (script : Accepted) (f : Found text script) (first : Option ℕ) (files : ChangeFiles) where
+  abbrev WellRows : Outcome → Type 0
+  WellRows o = o.ending ≡ e.Done → AreRows f.insert first files o.bytes
+
+  rows_here : (taken : Taken) → taken_of script.inserted.sources first files ≡ Ok taken → (b : Bool) (o : Option Rows) → query_answer script (rows_of script.inserted.sources taken) ≡ o → WellRows (answered (answer_types script) b o)
+  rows_here taken is true o answers done = absurd (cc (done))
+  rows_here taken is false None answers done = absurd (cc (done))
+  rows_here taken is false (Some rows) answers done = record {
+    taken = taken;
+    rows = rows;
+    lines_taken = ap (λ (tables : List TableDef). taken_of tables first files) (sym f.of.sources) ∙ is;
+    answers = sym (λ i. answer_over (f.of.sources i) (f.of.sink i) (f.of.query i) (rows_of (f.of.sources i) taken)) ∙ answers;
+    reads = ap (λ (sink : TableDef). row_lines (sink_types sink) (items rows)) f.of.sink;
+  }
+
+  pub lines_here : (r : Result Taken RefusedLine) → taken_of script.inserted.sources first files ≡ r → WellRows (after_lines script r)
+  lines_here (Err refusal) is done = absurd (cc (done))
+  lines_here (Ok taken) is done = rows_here taken is _ _ refl done
 
 -- ---- the plan answers what the script's tree does
 
@@ -307,26 +328,15 @@ module _ (h : Holdings) (names : FileNames) (text : List ℕ) (script_held : loa
     abbrev WellAnswered : Outcome → Type 0
     WellAnswered o = o.ending ≡ e.Done → HasAnswered names first h o.bytes
 
-    module _ (files : ChangeFiles) (held : IsInput h names.input script.inserted.sources files) where
-      batch_rows : (taken : Taken) → taken_of script.inserted.sources first files ≡ Ok taken → (b : Bool) (o : Option Rows) → query_answer script (rows_of script.inserted.sources taken) ≡ o → WellAnswered (answered (answer_types script) b o)
-      batch_rows taken is true o answers done = absurd (cc (done))
-      batch_rows taken is false None answers done = absurd (cc (done))
-      batch_rows taken is false (Some rows) answers done = record {
-        text = text;
-        script_held = script_held;
-        insert = f.insert;
-        files = files;
-        files_held = subst (λ (sources : List TableDef). IsInput h names.input sources files) f.of.sources held;
-        taken = taken;
-        rows = rows;
-        lines_taken = ap (λ (tables : List TableDef). taken_of tables first files) (sym f.of.sources) ∙ is;
-        answers = sym (λ i. answer_over (f.of.sources i) (f.of.sink i) (f.of.query i) (rows_of (f.of.sources i) taken)) ∙ answers;
-        reads = ap (λ (sink : TableDef). row_lines (sink_types sink) (items rows)) f.of.sink;
-      }
-
-      batch_lines : (r : Result Taken RefusedLine) → taken_of script.inserted.sources first files ≡ r → WellAnswered (after_lines script r)
-      batch_lines (Err refusal) is done = absurd (cc (done))
-      batch_lines (Ok taken) is done = batch_rows taken is _ _ refl done
+    batch_lines : (files : ChangeFiles) → IsInput h names.input script.inserted.sources files → (r : Result Taken RefusedLine) → taken_of script.inserted.sources first files ≡ r → WellAnswered (after_lines script r)
+    batch_lines files held r is done = record {
+      text = text;
+      script_held = script_held;
+      insert = f.insert;
+      files = files;
+      files_held = subst (λ (sources : List TableDef). IsInput h names.input sources files) f.of.sources held;
+      answers = lines_here text script f first files r is done;
+    }
 
     batch_planned : (j : Judged Plan) → WellAnswered (after_judgement (λ plan. over_input h names.input script.inserted.sources (batch_changes script first)) j)
     batch_planned (Err refusal) = λ done. absurd (cc (done))
@@ -434,6 +444,21 @@ behind_well next bytes e.ReadFault done = absurd (cc (done))
 behind_well next bytes e.WriteFault done = absurd (cc (done))
 behind_well next bytes e.Memory done = absurd (cc (done))
 
+-- the sums over what a load prints
+module _ (laws : Laws) (feed : List ℕ) where
+  sums_judged : length feed ≤ changes_limit → (j : Judged Accepted) → judgement sums_script ≡ j → OfWell (HasSummed feed) (after_judgement (sums_over feed) j)
+  sums_judged few (Err refusal) is done = absurd (cc (done))
+  sums_judged few (Ok script) is done =
+      let f = found laws.reads laws.typed sums_script script is in
+      record { insert = f.insert; within = few; answers = lines_here sums_script script f None (Each (feed ∷ [])) (taken_of script.inserted.sources None (Each (feed ∷ []))) refl done }
+
+  sums_sized : (b : Bool) → nat_le (length feed) 67108864 ≡ b → OfWell (HasSummed feed) (after_load ChangesLimit (λ bytes. after_judgement (sums_over bytes) (judgement sums_script)) (cond b (Whole feed) Long))
+  sums_sized true is done = let few : length feed ≤ 67108864 = grind (arith, nat_tests, is) in sums_judged few (judgement sums_script) refl done
+  sums_sized false is done = absurd (cc (done))
+
+  sums_headline : OfWell (HasSummed feed) (sums_answer feed)
+  sums_headline = sums_sized (nat_le (length feed) 67108864) refl
+
 load_headline : (laws : Laws) (seed lines : ℕ) → OfWell (HasLoaded seed lines) (load_of seed lines)
 load_headline laws seed lines done =
     let ran = load_run seed lines in
@@ -444,7 +469,7 @@ load_headline laws seed lines done =
       printed = ran.bytes;
       sums = answered.bytes;
       ran = run_headline laws (load_holdings seed lines) load_names None first.0;
-      summed = batch_headline laws (sums_holdings (printed_feed lines ran.bytes)) sums_names None second.0;
+      summed = sums_headline laws (printed_feed lines ran.bytes) second.0;
       reads = ap (λ (o : Outcome). o.bytes) first.1 ∙ ap (λ (o : Outcome). o.bytes) second.1;
     }
 

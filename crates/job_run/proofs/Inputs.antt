@@ -5,7 +5,6 @@ use Rattle.std.proofs.lemmas.Bool.{leb-true}
 use Rattle.ct_catalog.specs.declared.table.TableDef.{TableDef}
 use Rattle.command_line.specs.Words.{Input, changes, feeds}
 use Rattle.ct_io.specs.Holdings.{Holdings, Loaded, Missing, Long, Whole, found as found_within, held as held_at, loaded}
-use Rattle.job_ending.specs.declared.ending.Ending.{Ending}
 use Rattle.job_ending.specs.declared.ending.Ending.TheVariants as e
 use Rattle.job_ending.specs.declared.ending.LimitName.{LimitName}
 use Rattle.job_ending.specs.declared.ending.LimitName.TheVariants.{Changes as ChangesLimit, Order as OrderLimit}

@@ -9,6 +9,8 @@ pub mod Loading
 pub mod Loads
 pub mod Printable
 pub mod Printed
+pub mod RunningSums
 pub mod SumLines
+pub mod Summed
 pub mod Torn
 pub mod laws

@@ -1,7 +1,7 @@
 -- What a run prints are items of its sink: the sink's columns are as wide as those that are sent, and no quiet moment tells more changes than the
 -- change files have lines.
-use Rattle.std.specs.Prelude.{◌&&◌, ◌||◌, ◌+ℤ◌, ◌≤ℤ◌, ◌^◌, Bool, ℤ, int_le, int_lt, map, nat_le, neg_ℤ, pos, unsigned_abs}
-use Rattle.std.proofs.Common.{◌≡◌, ◌∙◌, ◌++◌, ◌<◌, ◌≤◌, ℕ, true, false, Option, List, [], ◌∷◌, refl, sym, ap, subst, arith, append_assoc, lit<}
+use Rattle.std.specs.Prelude.{◌||◌, ◌+ℤ◌, ◌≤ℤ◌, ◌^◌, Bool, ℤ, int_le, int_lt, map, nat_le, neg_ℤ, pos, unsigned_abs}
+use Rattle.std.proofs.Common.{◌≡◌, ◌∙◌, ◌++◌, ◌<◌, ◌≤◌, ℕ, true, false, Option, List, [], ◌∷◌, refl, sym, subst, arith, append_assoc, lit<}
 use Rattle.std.specs.List.{AllByRecursion}
 use Rattle.std.proofs.lemmas.Bool.{leb-true, ltb-true, lt-ltb}
 use Rattle.std.proofs.lemmas.Int.{ints}

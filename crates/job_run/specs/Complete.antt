@@ -1,5 +1,5 @@
 -- What a job needs to end well, and which scripts never leave a type's range as they run.
-use Rattle.std.specs.Prelude.{◌≡◌, ℕ, false, List, [], Option, Some, None, Ok}
+use Rattle.std.specs.Prelude.{◌≡◌, ◌≤◌, ℕ, false, List, [], ◌∷◌, length, Option, Some, None, Ok}
 use Rattle.command_line.specs.Words.{FileNames, Request, run, batch, explain, load, request_of}
 use Rattle.ct_io.specs.Holdings.{Holdings, Whole, loaded}
 use Rattle.ct_value.specs.declared.codes.OrderCode.{OrderCode}
@@ -17,6 +17,7 @@ use Rattle.stream_model.specs.Machine.{State}
 use Rattle.job_text.specs.declared.orders.OrderLine.{OrderLine}
 use Rattle.source_lines.specs.Run.{At, halts, disordered, stopped}
 use Rattle.source_lines.specs.declared.supply.ChangeFiles.{ChangeFiles}
+use Rattle.source_lines.specs.declared.supply.ChangeFiles.TheVariants.{Each}
 use Rattle.job_judgement.specs.Judgement.{Accepted, judgement}
 use Rattle.range_rules.specs.Arithmetic.{in_statements}
 use Rattle.job_batch.specs.Agree.{query_answer}
@@ -24,8 +25,8 @@ use Rattle.job_batch.specs.Batch.{with_rows}
 use Rattle.job_plan.specs.Planned.{planned}
 use Rattle.job_run.specs.Edges.{run_of}
 use Rattle.job_run.specs.Held.{AreHeld}
-use Rattle.job_run.specs.Loads.{load_holdings, load_names, printed_feed, sums_holdings, sums_names}
-use Rattle.job_run.specs.Outcome.{load_run, script_limit}
+use Rattle.job_run.specs.Loads.{load_holdings, load_names, printed_feed, sums_script}
+use Rattle.job_run.specs.Outcome.{changes_limit, load_run, script_limit}
 
 -- nothing is refused: the files are held, each within its limit; the script is accepted and can be run; each line passes, and each line of the
 -- order can be read and begins; and the machine's run of its plan is nowhere out of range, nor would it pass the limit on changes
@@ -64,10 +65,21 @@ pub record MayExplain (name : List ℕ) (h : Holdings) : Type 0 where
   pub accepted : judgement script_text ≡ Ok script
   pub runs : planned script ≡ Ok plan
 
+-- the same of sums over what was printed
+pub record MaySum (feed : List ℕ) : Type 0 where
+  pub script : Accepted
+  pub taken : Taken
+  pub rows : Rows
+  pub within : length feed ≤ changes_limit
+  pub accepted : judgement sums_script ≡ Ok script
+  pub lines_taken : taken_of script.inserted.sources None (Each (feed ∷ [])) ≡ Ok taken
+  pub answers : query_answer script (rows_of script.inserted.sources taken) ≡ Some rows
+  pub narrow : wide (tables_of (with_rows script.inserted.sources (rows_of script.inserted.sources taken))) script.inserted.query.rel ≡ false
+
 -- the same of a load: of its run, and of the sums over what that prints
 pub record MayLoad (seed lines : ℕ) : Type 0 where
   pub runs : MayRun load_names None (load_holdings seed lines)
-  pub sums : MayAnswer sums_names None (sums_holdings (printed_feed lines (load_run seed lines).bytes))
+  pub sums : MaySum (printed_feed lines (load_run seed lines).bytes)
 
 abbrev pub MayEndWellBy : Option Request → Holdings → Type 0
 MayEndWellBy None h = ⊥

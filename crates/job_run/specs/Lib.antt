@@ -7,3 +7,5 @@ pub mod Insert
 pub mod Kept
 pub mod Loads
 pub mod Outcome
+pub mod Printing
+pub mod Sums

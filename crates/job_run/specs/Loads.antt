@@ -3,7 +3,7 @@ use Rattle.std.specs.Prelude.{ℕ, ◌+◌, ◌-◌, ◌==◌, false, if◌then�
 use Rattle.std.specs.List.{fold}
 use Rattle.std.specs.FinMap.{empty, insert}
 use Rattle.std.specs.Fmt.{decimal}
-use Rattle.command_line.specs.Words.{FileNames, Input, changes, feeds, names}
+use Rattle.command_line.specs.Words.{FileNames, changes, names}
 use Rattle.ct_io.specs.Holdings.{Holdings}
 use Rattle.job_text.specs.Made.{made_lines}
 use Rattle.job_text.specs.Printed.{but_last, quiet_line}
@@ -24,15 +24,9 @@ load_names = names (codes "script") (changes (codes "changes"))
 abbrev pub load_holdings : ℕ → ℕ → Holdings
 load_holdings seed lines = script_and load_script (codes "changes") (made_lines seed lines)
 
--- the script that sums, over the feed of the table that the other fills
+-- the script that sums the table that the other fills
 unfoldable pub sums_script : List ℕ
 sums_script = codes "CREATE TABLE out_t (word STRING PRIMARY KEY NOT ENFORCED, n BIGINT, s INT) WITH ('changelog' = 'upsert'); CREATE TABLE sums (words BIGINT, total BIGINT) WITH ('changelog' = 'retract'); INSERT INTO sums SELECT COUNT(*), COALESCE(SUM(n), 0) FROM out_t;"
-
-abbrev pub sums_names : FileNames
-sums_names = names (codes "script") (feeds [])
-
-abbrev pub sums_holdings : List ℕ → Holdings
-sums_holdings feed = script_and sums_script (codes "out_t.csv") feed
 
 -- of what a run over so many lines has printed all but the quiet line, its last
 abbrev pub printed_feed : ℕ → List ℕ → List ℕ

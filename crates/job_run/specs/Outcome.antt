@@ -4,7 +4,7 @@ use Rattle.std.specs.Prelude.{ℕ, ◌-◌, Bool, List, [], ◌∷◌, ◌++◌,
 use Rattle.ct_value.specs.declared.codes.OrderCode.TheVariants.{BadLine}
 use Rattle.ct_catalog.specs.declared.table.TableDef.{TableDef}
 use Rattle.command_line.specs.Words.{FileNames, Input, changes, feeds, Request, run, batch, explain, load, request_of}
-use Rattle.ct_io.specs.Holdings.{Holdings, Loaded, Missing, Long, Whole, loaded}
+use Rattle.ct_io.specs.Holdings.{Holdings, Loaded, Missing, Long, Whole, loaded, within}
 use Rattle.judge.specs.Judgement.{Judged}
 use Rattle.phys_plan.specs.declared.plan.Plan.{Plan}
 use Rattle.job_text.specs.Orders.{orders_of}
@@ -24,7 +24,7 @@ use Rattle.job_plan.specs.Shown.{shown}
 use Rattle.job_plan.specs.Planned.{planned}
 use Rattle.job_stream.specs.Stream.{streamed}
 use Rattle.route.specs.Routing.{key_hash}
-use Rattle.job_run.specs.Loads.{line_count, load_holdings, load_names, printed_feed, sums_holdings, sums_names, summary}
+use Rattle.job_run.specs.Loads.{line_count, load_holdings, load_names, printed_feed, sums_script, summary}
 
 -- the largest script, change file and order, in bytes; all feeds together are no larger than a change file
 abbrev pub script_limit : ℕ
@@ -114,9 +114,13 @@ behind next went = where_well next went.bytes went.ending
 abbrev pub load_run : ℕ → ℕ → Outcome
 load_run seed lines = run_named load_names None (load_holdings seed lines)
 
--- the batch answer over a feed of what that printed
+-- the batch answer of the script that sums, where these lines are those of its first table
+abbrev pub sums_over : List ℕ → Accepted → Outcome
+sums_over feed script = batch_changes script None (Each (feed ∷ []))
+
+-- the same over what that printed, which is within the limit of change files
 abbrev pub sums_answer : List ℕ → Outcome
-sums_answer feed = batch_named sums_names None (sums_holdings feed)
+sums_answer feed = after_load ChangesLimit (λ bytes. after_judgement (sums_over bytes) (judgement sums_script)) (within changes_limit feed)
 
 -- the line of a load behind that answer, by the feed and the hash of all that was printed
 abbrev pub summed_over : ℕ → List ℕ → ℕ → Outcome

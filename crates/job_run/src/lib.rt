@@ -10,7 +10,11 @@ mod explains;
 mod files;
 mod kept;
 mod load;
+mod log;
 mod requests;
+mod running;
+mod summaries;
+mod summing;
 mod sums;
 
 pub use requests::run;

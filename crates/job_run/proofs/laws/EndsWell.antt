@@ -10,7 +10,7 @@ use Rattle.ct_change.specs.Changelog.{Rows}
 use Rattle.judge.specs.Judgement.{Judged}
 use Rattle.source_lines.specs.Taken.{RefusedLine, Taken, rows_of, taken_of}
 use Rattle.job_ending.specs.declared.ending.Ending.TheVariants.{Done}
-use Rattle.job_ending.specs.declared.ending.LimitName.TheVariants.{Script as ScriptLimit}
+use Rattle.job_ending.specs.declared.ending.LimitName.TheVariants.{Changes as ChangesLimit, Script as ScriptLimit}
 use Rattle.job_ending.specs.Outcome.{Outcome}
 use Rattle.phys_plan.specs.declared.plan.Plan.{Plan}
 use Rattle.stream_model.specs.declared.events.StepFault.TheVariants as fault
@@ -26,10 +26,11 @@ use Rattle.job_batch.specs.Batch.{after_lines as batch_lines, answered, sink_typ
 use Rattle.job_plan.specs.Shown.{shown}
 use Rattle.job_stream.specs.Stream.{most_sent, outcome_of, sink_key, sink_types, streamed}
 use Rattle.job_run.specs.Edges.{run_of}
-use Rattle.job_run.specs.Outcome.{script_limit, after_load, after_judgement, over_input, with_order, with_script, run_plan, run_script, batch_script, explain_script, load_of, load_run, summed, sums_answer, where_well, with_request, outcome}
+use Rattle.job_run.specs.Outcome.{script_limit, after_load, after_judgement, over_input, with_order, with_script, run_plan, run_script, batch_script, explain_script, load_of, load_run, summed, sums_answer, sums_over, where_well, with_request, outcome}
 use Rattle.job_run.proofs.Inputs.{input_for, input_is, order_is}
-use Rattle.job_run.specs.Complete.{MayRun, MayAnswer, MayExplain, MayLoad, MayEndWellBy, MayEndWell}
-use Rattle.job_run.specs.Loads.{load_holdings, load_names, printed_feed, sums_holdings, sums_names, summary_of}
+use Rattle.job_run.proofs.Summed.{is_whole}
+use Rattle.job_run.specs.Complete.{MayRun, MayAnswer, MayExplain, MayLoad, MaySum, MayEndWellBy, MayEndWell}
+use Rattle.job_run.specs.Loads.{load_holdings, load_names, printed_feed, sums_script, summary_of}
 
 script_well : (name text : List ℕ) (h : Holdings) (script : Accepted) → loaded h name script_limit ≡ Whole text → judgement text ≡ Ok script → (next : Accepted → Outcome) → (with_script h name next).ending ≡ (next script).ending
 script_well name text h script held accepted next =
@@ -76,13 +77,22 @@ explain_well : (name : List ℕ) (h : Holdings) → MayExplain name h → (with_
 explain_well name h may =
     script_well name may.script_text h may.script may.script_held may.accepted explain_script ∙ ap (λ (j : Judged Plan). (after_judgement shown j).ending) may.runs
 
+sums_well : (feed : List ℕ) → MaySum feed → (sums_answer feed).ending ≡ Done
+sums_well feed may =
+    let sources = may.script.inserted.sources in
+    ap (λ (l : Loaded). (after_load ChangesLimit (λ bytes. after_judgement (sums_over bytes) (judgement sums_script)) l).ending) (is_whole feed may.within)
+    ∙ ap (λ (j : Judged Accepted). (after_judgement (sums_over feed) j).ending) may.accepted
+    ∙ ap (λ (r : Result Taken RefusedLine). (batch_lines may.script r).ending) may.lines_taken
+    ∙ ap (λ (b : Bool). (answered (answer_types may.script) b (query_answer may.script (rows_of sources may.taken))).ending) may.narrow
+    ∙ ap (λ (o : Option Rows). (answered (answer_types may.script) false o).ending) may.answers
+
 load_well : (seed lines : ℕ) → MayLoad seed lines → (load_of seed lines).ending ≡ Done
 load_well seed lines may =
     let ran = load_run seed lines in
     let printed = ran.bytes in
     ap (λ ending. (where_well (summed lines) printed ending).ending) (run_well load_names None (load_holdings seed lines) may.runs)
     ∙ ap (λ ending. (where_well (λ sums. record { ending = Done; bytes = summary_of lines printed sums }) (sums_answer (printed_feed lines printed)).bytes ending).ending)
-    (answer_well sums_names None (sums_holdings (printed_feed lines printed)) may.sums)
+    (sums_well (printed_feed lines printed) may.sums)
 
 by_request : (request : Option Request) (h : Holdings) → MayEndWellBy request h → (with_request h request).ending ≡ Done
 by_request None h may = absurd may

@@ -1,5 +1,5 @@
 use Rattle.job_run.proofs.KeptRuns.{halt_kept, memory_printable, well_kept}
-use Rattle.job_run.proofs.sums.kept_by.Goals as goal
+use Rattle.job_run.proofs.kept.kept_by.Goals as goal
 
 pub returns-in-Ok-clause-ok : goal.returns-in-Ok-clause-ok
 returns-in-Ok-clause-ok c = rw c.in-Ok.is (λ there kept next. well_kept there c.args.kept.bytes.items kept next)

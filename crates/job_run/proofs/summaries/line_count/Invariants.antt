@@ -1,6 +1,6 @@
 use Rattle.std.proofs.Common.{◌≡◌, ◌≤◌, take}
 use Rattle.job_run.specs.Loads.{line_count}
-use Rattle.job_run.proofs.sums.line_count.Given as goal
+use Rattle.job_run.proofs.summaries.line_count.Given as goal
 
 abbrev pub invariant-loop-byte : goal.invariant-loop-byte
 invariant-loop-byte l = record {
