@@ -1,1 +1,2 @@
 pub mod Comings
+pub mod MaterializeArrivals
