@@ -8,8 +8,9 @@ use Rattle.stream_model.specs.declared.events.PrintItem.{PrintItem}
 use Rattle.stream_model.specs.declared.events.StepFault.{StepFault}
 use Rattle.stream_model.specs.Machine.{State, step, IsQuiet}
 use Rattle.stream_model.specs.Runs.{Item, happens, quiet, IsTyped}
-use Rattle.stream_model.specs.Drain.{Leads, StopsAlong, IsDrainFault, drain, stages}
+use Rattle.stream_model.specs.Drain.{Leads, StopsAlong, IsDrainFault, drain, moves, stages}
 use Rattle.session_core.specs.declared.session.Session as of_any
+use Rattle.session_core.specs.declared.wiring.Lane.{Lane}
 use Rattle.session_core.specs.Stands as of_network
 use Rattle.session_open.specs.declared.any.AnyOperator.{AnyOperator}
 use Rattle.session_open.specs.contracts.any.AnyOperatorOperator.TheImpl.{ghosts}
@@ -58,6 +59,15 @@ HasStepped session event next = ForSteps session event (λ plan limit handed ite
 abbrev pub HasDrained : Session → Session → Type 0
 HasDrained session next = ForRuns session (λ plan limit handed items. (now : State) × Leads (network plan) limit (reached plan limit items) (drain (network plan) limit (reached plan limit items)) now
     × Stands next plan limit handed (items ++ drain (network plan) limit (reached plan limit items)) × IsQuiet (network plan) now)
+
+-- the machine makes so many moves from a channel, and the next session stands for the run with them
+abbrev pub HasMoved : Session → Lane → ℕ → Session → Type 0
+HasMoved session lane count next = ForRuns session (λ plan limit handed items. (now : State) × Leads (network plan) limit (reached plan limit items) (moves lane.edge lane.from lane.to count) now
+    × Stands next plan limit handed (items ++ moves lane.edge lane.from lane.to count))
+
+-- it stops along them, by this fault and after these items, of which some were handed out before
+abbrev pub StopsMoving : Session → Lane → ℕ → StepFault → List PrintItem → Type 0
+StopsMoving session lane count fault printed = ForRuns session (λ plan limit handed items. StopsAlong (network plan) limit (reached plan limit items) (moves lane.edge lane.from lane.to count) fault (handed ++ printed))
 
 -- a drain of some such run has a stage of this number, from 0
 abbrev pub HasStage : Session → ℕ → Type 0

@@ -11,14 +11,14 @@ ghost use Rattle.stream_model.specs.declared.events.StepFault.TheVariants.{Memor
 ghost use Rattle.session_core.specs.LaidOut.{IsStageThere, stage_of};
 ghost use Rattle.session_core.specs.Stands.{HasAnswered, buffer_at};
 ghost use Rattle.session_open.specs.Opening.{IsTooMany};
-ghost use Rattle.exec_core.specs.Stands.{ForRuns, ForSteps, HasDrained, HasStage, HasStepped, HasTold, MayStep, Stands, StandsForSome, StopsDraining, reached};
+ghost use Rattle.exec_core.specs.Stands.{ForRuns, ForSteps, HasDrained, HasMoved, HasStage, HasStepped, HasTold, MayStep, Stands, StandsForSome, StopsDraining, StopsMoving, reached};
 
 use crate::TableCheck;
 use ct_change::Steps;
 use ct_value::Memory;
 use phys_plan::Plan;
 use plan_shape::columns_of;
-use session_core::{Buffer, Stage};
+use session_core::{Buffer, Lane, Stage};
 use session_open::{AnyOperator, OpenFault, open_job};
 use std::alloc::Global;
 use std::sync::ledger::Ledger;
@@ -59,6 +59,27 @@ impl Session {
         ensures printed { IfErr result (λ stopped. ForRuns self (λ plan limit handed items. (reached plan limit items).printed ≡ handed ++ stopped.printed)) }
     {
         match self.job.step(event, steps) {
+            Ok(()) => Ok(self),
+            Err(cause) => {
+                let printed = self.job.take_printed();
+                Err(Stopped { cause, printed })
+            }
+        }
+    }
+
+    /// The session after so many moves from a channel, one after the other. A stop comes exactly where the machine stops along them, with
+    /// its cause, or for want of memory; it consumes the session, and hands back what was printed before it and not yet handed out.
+    pub fn move_all<L: Ledger>(
+        mut self,
+        lane: Lane,
+        count: u32,
+        steps: &mut Steps<L>,
+    ) -> Result<Session, Stopped>
+        requires ready { StandsForSome self }
+        ensures ok { IfOk result (λ next. HasMoved self lane count next) }
+        ensures err { IfErr result (λ stopped. StopsMoving self lane count stopped.cause stopped.printed) }
+    {
+        match self.job.move_all(lane, count, steps) {
             Ok(()) => Ok(self),
             Err(cause) => {
                 let printed = self.job.take_printed();

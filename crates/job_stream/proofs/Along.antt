@@ -13,9 +13,10 @@ use Rattle.source_lines.specs.Run.{At, Went, and_then, halts, job_of, on}
 use Rattle.source_lines.proofs.laws.Along.{along_leads, leads_after}
 
 -- the first of so many moves
-pub moves_next : (e i j left rest : ℕ) → left ≡ rest + 1 → moves e i j left ≡ happens (Move e i j) ∷ moves e i j rest
-moves_next e i j zero rest is = absurd (omega (arith, is))
-moves_next e i j (suc left) rest is = let same : left ≡ rest = omega (arith, is) in ap (λ n. happens (Move e i j) ∷ moves e i j n) same
+moves_first : (e i j first rest all : ℕ) → all ≡ first + rest → moves e i j all ≡ moves e i j first ++ moves e i j rest
+moves_first e i j zero rest all is = let same : all ≡ rest = omega (arith, is) in ap (moves e i j) same
+moves_first e i j (suc first) rest zero is = absurd (omega (arith, is))
+moves_first e i j (suc first) rest (suc all) is = let same : all ≡ first + rest = omega (arith, is) in ap (λ items. happens (Move e i j) ∷ items) (moves_first e i j first rest all same)
 
 module _ (g : Network) (limit : ℕ) (sources : List TableDef) (by_table : Bool) where
   abbrev Along : At State → List Item → Went (At State)
@@ -37,6 +38,9 @@ module _ (g : Network) (limit : ℕ) (sources : List TableDef) (by_table : Bool)
 
   pub along_one : (p : At State) (item : Item) → Along p (item ∷ []) ≡ run.stepped (job_of g limit) sources by_table p (step_item g limit p.state item)
   along_one p item = then_on (run.stepped (job_of g limit) sources by_table p (step_item g limit p.state item))
+
+  pub along_moves : (p : At State) (e i j first rest all : ℕ) → all ≡ first + rest → Along p (moves e i j all) ≡ and_then (Along p (moves e i j first)) (λ q. Along q (moves e i j rest))
+  along_moves p e i j first rest all is = ap (Along p) (moves_first e i j first rest all is) ∙ along_both p (moves e i j first) (moves e i j rest)
 
   -- ---- a drain by its stages
 

@@ -3,12 +3,14 @@ use Rattle.std.specs.Prelude.{◌≡◌, ℕ, ◌≤◌, ◌+◌, ◌^◌, ◌-�
 use Rattle.std.proofs.Common.{[], true, false, refl, sym, ap, subst, ◌∙◌, Ok, Err, append_assoc, append-nil, arith}
 use Rattle.ct_io.specs.Counts.{Rose}
 use Rattle.ct_io.specs.Written.{Appends, AppendsPart}
-use Rattle.ct_io.proofs.laws.Appending.{appends_both, appends_nothing, part_none}
+use Rattle.ct_io.proofs.laws.Appending.{appends_both, appends_nothing, part_none, part_of_whole}
 use Rattle.phys_plan.specs.declared.plan.Plan.{Plan}
 use Rattle.job_text.specs.Lines.{LinesLeft}
 use Rattle.stream_model.specs.declared.events.PrintItem.{PrintItem}
 use Rattle.stream_model.specs.Machine.{State}
-use Rattle.source_lines.specs.Run.{At, Begins, Cause, Went, and_then, halts, on, printed_by}
+use Rattle.stream_model.specs.declared.events.StepFault.{StepFault}
+use Rattle.stream_model.specs.declared.events.StepFault.TheVariants as fault
+use Rattle.source_lines.specs.Run.{At, Begins, Cause, HaltsBy, IsStop, Went, and_then, halts, on, printed_by, stopped}
 use Rattle.exec_core.specs.declared.session.Session.{Session}
 use Rattle.exec_core.specs.Goes.{StandsAt}
 use Rattle.job_ending.specs.declared.halt.Halt.{Halt}
@@ -16,6 +18,7 @@ use Rattle.job_ending.specs.declared.halt.Halt.TheVariants as h
 use Rattle.job_ending.specs.Outcome.{Outcome}
 use Rattle.job_ending.specs.Runs.{IsCausedThere, RunsThere, ending_of_halt, is_free}
 use Rattle.job_stream.specs.declared.sheet.Sheet.{Sheet}
+use Rattle.job_stream.specs.Stops.{halt_of}
 use Rattle.job_stream.specs.Stream.{ending_of_run}
 use Rattle.job_stream.specs.Writing.{Ahead, Halts, Told, lines_on, outcome_on}
 use Rattle.job_stream.proofs.Items.{lines_both}
@@ -60,6 +63,9 @@ caused_by T there other write later (h.Order code line) same f e = sym same ∙ 
 caused_by T there other write later (h.Range node subtask row tys) same f e = sym same ∙ e
 caused_by T there other write later (h.Limit name) same f e = sym same ∙ e
 
+halt_begins : (cause : StepFault) (printed : List PrintItem) (went : Went (At State)) → HaltsBy cause printed went → Begins printed went
+halt_begins cause printed went stop = ([], ap printed_by stop.halted ∙ stop.same ∙ sym (append-nil printed))
+
 module _ (sheet : Sheet) where
   abbrev Lines : List PrintItem → List ℕ
   Lines items = lines_on sheet items
@@ -92,6 +98,59 @@ module _ (sheet : Sheet) where
 
   pub halts_same : (went other : Went (At State)) (p : At State) (old new : Told) (halt : Halt) → other ≡ went → Halts sheet went p old new halt → Halts sheet other p old new halt
   halts_same went other p old new halt is halted = subst (λ w. Halts sheet w p old new halt) (sym is) halted
+
+  -- ---- stops behind what was printed
+
+  stop_begins : (cause : StepFault) (printed : List PrintItem) (went : Went (At State)) → IsStop cause printed went → Begins printed went
+  stop_begins (fault.Change code) printed went stop = halt_begins (fault.Change code) printed went stop
+  stop_begins (fault.Order code) printed went stop = halt_begins (fault.Order code) printed went stop
+  stop_begins (fault.Range node subtask row types) printed went stop = halt_begins (fault.Range node subtask row types) printed went stop
+  stop_begins fault.Limit printed went stop = halt_begins fault.Limit printed went stop
+  stop_begins fault.Memory printed went stop = stop
+
+  module _ (went : Went (At State)) (p : At State) (more : List PrintItem) (old new : Told) where
+    abbrev Sofar : List PrintItem
+    Sofar = p.state.printed ++ more
+
+    -- the part may be gone along further, since memory was wanting or the output failed
+    free_behind : (halt : Halt) → is_free (ending_of_halt halt) ≡ true → (let r : Result (Unit {0}) Halt = Err halt in (there : Outcome) → IsCausedThere there (Rose old.faults new.faults) r)
+        → AppendsPart old.written new.written (Lines more) → Begins Sofar went → Halts sheet went p old new halt
+    free_behind halt free caused part begins = record {
+      more = more ++ begins.0;
+      printed = begins.1 ∙ append_assoc p.state.printed more begins.0;
+      runs = record {
+        cause = caused (outcome_on sheet went (more ++ begins.0));
+        part = subst (AppendsPart old.written new.written) (sym (both_lines more begins.0)) (part_longer old.written new.written (Lines more) (Lines begins.0) part);
+        whole = λ told. absurd (let both = sym free ∙ told in cc (both));
+      };
+    }
+
+    -- it halts where that was printed, which is written
+    halt_behind : (cause : StepFault) (halt : Halt) → HaltsBy cause Sofar went → Appends old.written new.written (Lines more)
+        → (let r : Result (Unit {0}) Halt = Err halt in (q : At State) → IsCausedThere (outcome_on sheet (halts (stopped cause) q) more) ⊥ r) → Halts sheet went p old new halt
+    halt_behind cause halt stop written caused = record {
+      more = more;
+      printed = ap printed_by stop.halted ∙ stop.same;
+      runs = record {
+        cause = caused_by (Unit {0}) (outcome_on sheet (halts (stopped cause) stop.place) more) (outcome_on sheet went more) ⊥ (Rose old.faults new.faults) halt
+            (ap ending_of_run (sym stop.halted)) (λ no. absurd no) (caused stop.place);
+        part = part_of_whole written;
+        whole = λ free. written;
+      };
+    }
+
+    pub stops_behind : (cause : StepFault) → IsStop cause Sofar went → Appends old.written new.written (Lines more) → Halts sheet went p old new (halt_of cause)
+    stops_behind (fault.Change code) stop written = halt_behind (fault.Change code) (halt_of (fault.Change code)) stop written (λ q. refl)
+    stops_behind (fault.Order code) stop written = halt_behind (fault.Order code) (halt_of (fault.Order code)) stop written (λ q. refl)
+    stops_behind (fault.Range node subtask row types) stop written = halt_behind (fault.Range node subtask row types) (halt_of (fault.Range node subtask row types)) stop written (λ q. refl)
+    stops_behind fault.Limit stop written = halt_behind fault.Limit (halt_of fault.Limit) stop written (λ q. refl)
+    stops_behind fault.Memory stop written = free_behind h.Memory refl (λ there. tt) (part_of_whole written) stop
+
+    pub memory_behind : (cause : StepFault) → IsStop cause Sofar went → AppendsPart old.written new.written (Lines more) → Halts sheet went p old new h.Memory
+    memory_behind cause stop part = free_behind h.Memory refl (λ there. tt) part (stop_begins cause Sofar went stop)
+
+    pub fault_behind : (cause : StepFault) → IsStop cause Sofar went → AppendsPart old.written new.written (Lines more) → Rose old.faults new.faults → Halts sheet went p old new h.WriteFault
+    fault_behind cause stop part rose = free_behind h.WriteFault refl (λ there. rose) part (stop_begins cause Sofar went stop)
 
   -- what free halts leave behind
   module _ (went next : Went (At State)) (p q : At State) (old new : Told) (begins : Begins q.state.printed next) where

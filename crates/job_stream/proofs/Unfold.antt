@@ -5,25 +5,24 @@ use Rattle.job_text.specs.Lines.{LinesLeft}
 use Rattle.job_text.specs.declared.orders.OrderLine.{OrderLine}
 use Rattle.phys_plan.specs.declared.plan.Plan.{Plan}
 use Rattle.plan_rules.specs.Doings.{network}
-use Rattle.stream_model.specs.declared.events.Event.TheVariants.{Move}
 use Rattle.stream_model.specs.Machine.{State}
-use Rattle.stream_model.specs.Runs.{Item, after, happens, quiet}
+use Rattle.stream_model.specs.Runs.{Item, after, quiet}
 use Rattle.stream_model.specs.Drain.{Stage, drain_stages, moves, stage_items, stages}
 use Rattle.source_lines.specs.Run as run
 use Rattle.source_lines.specs.Run.{At, Went, and_then, job_of, on}
 use Rattle.source_lines.proofs.laws.Along.{begins_along}
 use Rattle.job_stream.specs.Parts.{drain_run, end_run, first_run, item_run, line_run, lines_left, lines_run, moves_run, opened_run, order_run, orders_run, rest_run, stage_run, stages_run}
 use Rattle.job_stream.specs.Writing.{Part}
-use Rattle.job_stream.proofs.Along.{along_both, along_one, behind_is, behind_stage, drain_next, moves_next, staged_next, then_quiet}
+use Rattle.job_stream.proofs.Along.{along_both, along_moves, along_one, behind_is, behind_stage, drain_next, staged_next, then_quiet}
 use Rattle.job_stream.proofs.Begins.{begins_end, begins_many, begins_orders, begins_rest}
 use Rattle.job_stream.proofs.Chains.{AllUnfold, Unfolds, unfolds_so}
 
 -- ---- moves
 
-pub moves_unfold : (e i j left rest : ℕ) → left ≡ rest + 1 → AllUnfold (moves_run e i j left) (item_run (happens (Move e i j))) (moves_run e i j rest)
-moves_unfold e i j left rest is by_table plan limit p =
-    unfolds_so (moves_run e i j left by_table plan limit p) (item_run (happens (Move e i j)) by_table plan limit p) (moves_run e i j rest by_table plan limit)
-    (ap (λ items. run.go_along (job_of (network plan) limit) plan.sources by_table p items) (moves_next e i j left rest is))
+pub moves_unfold : (e i j first rest all : ℕ) → all ≡ first + rest → AllUnfold (moves_run e i j all) (moves_run e i j first) (moves_run e i j rest)
+moves_unfold e i j first rest all is by_table plan limit p =
+    unfolds_so (moves_run e i j all by_table plan limit p) (moves_run e i j first by_table plan limit p) (moves_run e i j rest by_table plan limit)
+    (along_moves (network plan) limit plan.sources by_table p e i j first rest all is)
     (λ q. begins_along (network plan) limit plan.sources by_table q (moves e i j rest))
 
 pub no_moves : (e i j left : ℕ) → left ≡ 0 → (by_table : Bool) (plan : Plan) (limit : ℕ) (p : At State) → moves_run e i j left by_table plan limit p ≡ on p

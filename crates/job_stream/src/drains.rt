@@ -4,13 +4,16 @@ ghost use Rattle.job_stream.specs.Parts.{drain_run, moves_run, stage_run, stages
 ghost use Rattle.job_stream.specs.Writing.{HaltsMoving, MayMove, MayMoveStage, Moves, told};
 
 use crate::sheet::{Sheet, Tools};
-use crate::steps::{go_step, tell_quiet};
+use crate::steps::{go_moves, go_step, tell_quiet};
 use ct_io::Sink;
 use exec_core::Session;
 use job_ending::Halt;
 use session_core::{Lane, Stage};
 use std::sync::ledger::Ledger;
 use stream_model::Event;
+
+// So many moves at most are made before what they print is written.
+const TOGETHER: u32 = 64;
 
 /// So many changes leave the front of a channel, one after the other.
 pub(crate) fn move_all<K: Sink, L: Ledger>(
@@ -28,13 +31,9 @@ pub(crate) fn move_all<K: Sink, L: Ledger>(
     let mut moved = session;
     let mut left = count;
     'moves: while left > 0 {
-        let event = Event::Move {
-            edge: lane.edge,
-            from: lane.from,
-            to: lane.to,
-        };
-        moved = go_step(moved, event, sheet, tools, out)?;
-        left -= 1;
+        let part = left.min(TOGETHER);
+        moved = go_moves(moved, lane, part, sheet, tools, out)?;
+        left -= part;
     }
     Ok(moved)
 }

@@ -3,7 +3,7 @@ ghost use Rattle.std.specs.Prelude.{◌≡◌, IfOk, IfErr};
 ghost use Rattle.phys_plan.specs.declared.plan.Plan.{Plan};
 ghost use Rattle.plan_rules.specs.Doings.{network};
 ghost use Rattle.stream_model.specs.Runs.{IsTyped, happens, quiet};
-ghost use Rattle.job_stream.specs.Parts.{item_run};
+ghost use Rattle.job_stream.specs.Parts.{item_run, moves_run};
 ghost use Rattle.job_stream.specs.Stops.{halt_of};
 ghost use Rattle.job_stream.specs.Writing.{HandsOut, HaltsMoving, MayHandOut, MayMove, Moves, StopsHandingOut, told};
 
@@ -13,6 +13,7 @@ use ct_io::Sink;
 use exec_core::Session;
 use job_ending::{Halt, LimitName};
 use job_text::LineWriter;
+use session_core::Lane;
 use std::sync::ledger::Ledger;
 use stream_model::{Event, StepFault};
 
@@ -78,6 +79,29 @@ pub(crate) fn go_step<K: Sink, L: Ledger>(
     match session.step(event, &mut tools.steps) {
         Ok(next) => hand_out(next, sheet, &mut tools.writer, out),
         Err(stopped) => Err(halt_of(stopped.cause)),
+    }
+}
+
+/// So many changes leave the front of a channel, one after the other; what they print is written behind the last of them.
+pub(crate) fn go_moves<K: Sink, L: Ledger>(
+    session: Session,
+    lane: Lane,
+    count: u32,
+    sheet: &Sheet,
+    tools: &mut Tools<L>,
+    out: &mut K,
+) -> Result<Session, Halt>
+    requires ready { MayMove sheet.now session }
+    ensures ok { IfOk result (λ next. Moves sheet.now session (moves_run lane.edge lane.from lane.to count) next (told K.written K.faults out.old) (told K.written K.faults out.new)) }
+    ensures halts { IfErr result (λ halt. HaltsMoving sheet.now session (moves_run lane.edge lane.from lane.to count) (told K.written K.faults out.old) (told K.written K.faults out.new) halt) }
+{
+    match session.move_all(lane, count, &mut tools.steps) {
+        Ok(next) => hand_out(next, sheet, &mut tools.writer, out),
+        Err(stopped) => match put_items(stopped.printed, sheet, &mut tools.writer, out) {
+            Ok(()) => Err(halt_of(stopped.cause)),
+            Err(PutFault::Failed) => Err(Halt::WriteFault),
+            Err(PutFault::Memory) => Err(Halt::Memory),
+        },
     }
 }
 

@@ -50,7 +50,7 @@ module _ (g : Network) (limit : ℕ) where
 
 -- ---- items that take nothing
 
-typed_moves : (g : Network) (e i j n : ℕ) → AreTyped g (moves e i j n)
+pub typed_moves : (g : Network) (e i j n : ℕ) → AreTyped g (moves e i j n)
 typed_moves g e i j zero = tt
 typed_moves g e i j (suc n) = (tt, typed_moves g e i j n)
 

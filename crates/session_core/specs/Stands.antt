@@ -15,11 +15,12 @@ use Rattle.stream_model.specs.Tables.{Table}
 use Rattle.stream_model.specs.Network.{Network, task, IsAnswer, MeetsFacts}
 use Rattle.stream_model.specs.Machine.{State, consumed, flushed, opened, is_place, step, IsQuiet}
 use Rattle.stream_model.specs.Runs.{Item, happens, quiet, after, changes_in, AreTyped, IsTyped}
-use Rattle.stream_model.specs.Drain.{Leads, IsSafe, StopsAlong, IsDrainFault, drain, stages}
+use Rattle.stream_model.specs.Drain.{Leads, IsSafe, StopsAlong, IsDrainFault, drain, moves, stages}
 use Rattle.stream_model.specs.Theorem.{table_rows}
 use Rattle.session_core.specs.LaidOut.{IsLaidOut}
 use Rattle.session_core.specs.Kept.{Carries, AllFit}
 use Rattle.session_core.specs.declared.traffic.Traffic.{Traffic}
+use Rattle.session_core.specs.declared.wiring.Lane.{Lane}
 use Rattle.session_core.specs.declared.wiring.Wiring.{Wiring}
 use Rattle.session_core.specs.declared.operators.Operators.{Operators}
 use Rattle.session_core.specs.declared.session.Buffer.{Buffer}
@@ -149,6 +150,15 @@ module _ {O S : Type 0} (rule_is : O → Rule) (is_broken : O → Bool) (stands 
   abbrev pub HasDrained : Session O S → Session O S → Type 0
   HasDrained session next = ForRuns session (λ g limit handed items. (now : State) × Leads g limit (reached g limit items) (drain g limit (reached g limit items)) now
       × StandsFor g limit next handed (items ++ drain g limit (reached g limit items)) × IsQuiet g now)
+
+  -- the machine makes so many moves from a channel, and the next session stands for the run with them
+  abbrev pub HasMoved : Session O S → Lane → ℕ → Session O S → Type 0
+  HasMoved session lane count next = ForRuns session (λ g limit handed items. (now : State) × Leads g limit (reached g limit items) (moves lane.edge lane.from lane.to count) now
+      × StandsFor g limit next handed (items ++ moves lane.edge lane.from lane.to count))
+
+  -- it stops along them, by this fault and after these items, of which some were handed out before
+  abbrev pub StopsMoving : Session O S → Lane → ℕ → StepFault → List PrintItem → Type 0
+  StopsMoving session lane count fault printed = ForRuns session (λ g limit handed items. StopsAlong g limit (reached g limit items) (moves lane.edge lane.from lane.to count) fault (handed ++ printed))
 
   -- a drain of some such run has a stage of this number, from 0
   abbrev pub HasStage : Session O S → ℕ → Type 0

@@ -5,7 +5,7 @@ ghost use Rattle.stream_model.specs.Machine.{State};
 ghost use Rattle.stream_model.specs.Drain as machine;
 ghost use Rattle.stream_model.specs.Drain.{StopsAlong, drain_stages, moves, stage_items, stages};
 ghost use Rattle.session_core.specs.LaidOut.{IsStageThere, IsThere, stage_of};
-ghost use Rattle.session_core.specs.Stands.{ForKept, ForRuns, HasDrained, HasStage, HasTold, Keeps, KeepsAlong, KeepsSome, StandsForSome, StopsDraining};
+ghost use Rattle.session_core.specs.Stands.{ForKept, ForRuns, HasDrained, HasMoved, HasStage, HasTold, Keeps, KeepsAlong, KeepsSome, StandsForSome, StopsDraining, StopsMoving};
 
 use crate::{Lane, Session, SourceCheck, Stage};
 use ct_change::Steps;
@@ -15,6 +15,23 @@ use std::sync::ledger::Ledger;
 use stream_model::StepFault;
 
 impl<O: PieceOperator + Drop, S: SourceCheck> Session<O, S> {
+    // So many changes leave the front of a channel, one after the other.
+    fn advance_all<L: Ledger>(
+        &mut self,
+        lane: Lane,
+        count: u32,
+        steps: &mut Steps<L>,
+    ) -> Result<(), StepFault>
+        requires ready { KeepsSome O.rule O.broken O.stands_for O.takes_pieces S.stands_for self.old }
+        ensures ok { OnOk result (ForKept O.rule O.broken O.stands_for O.takes_pieces S.stands_for self.old (λ g limit handed s. KeepsAlong O.rule O.broken O.stands_for O.takes_pieces S.stands_for (moves lane.edge lane.from lane.to count) self.new g limit handed s)) }
+        ensures err { IfErr result (λ fault. ForKept O.rule O.broken O.stands_for O.takes_pieces S.stands_for self.old (λ g limit handed s. StopsAlong g limit s (moves lane.edge lane.from lane.to count) fault (handed ++ self.new.traffic.printed))) }
+    {
+        for moved in 0..count {
+            self.advance(lane.edge, lane.from, lane.to, steps)?;
+        }
+        Ok(())
+    }
+
     // What is in flight in a channel is delivered whole.
     fn deliver<L: Ledger>(&mut self, lane: Lane, steps: &mut Steps<L>) -> Result<(), StepFault>
         requires ready { (g : Network) × (limit : ℕ) × (handed : List PrintItem) × (s : State) × Keeps O.rule O.broken O.stands_for O.takes_pieces S.stands_for g limit self.old handed s × IsThere g lane }
@@ -22,10 +39,7 @@ impl<O: PieceOperator + Drop, S: SourceCheck> Session<O, S> {
         ensures err { IfErr result (λ fault. ForKept O.rule O.broken O.stands_for O.takes_pieces S.stands_for self.old (λ g limit handed s. IsThere g lane → StopsAlong g limit s (moves lane.edge lane.from lane.to (length (s.flight lane.edge lane.from lane.to))) fault (handed ++ self.new.traffic.printed))) }
     {
         let count = self.traffic.held(lane);
-        for moved in 0..count {
-            self.advance(lane.edge, lane.from, lane.to, steps)?;
-        }
-        Ok(())
+        self.advance_all(lane, count, steps)
     }
 
     // A channel is delivered whole, or a bundle is flushed.
@@ -63,6 +77,25 @@ impl<O: PieceOperator + Drop, S: SourceCheck> Session<O, S> {
         self.run_stages(steps)?;
         self.traffic.tell_quiet()?;
         Ok(())
+    }
+
+    /// So many changes leave the front of a channel, one after the other. It stops exactly where the machine stops along these moves,
+    /// with its cause, or for want of memory; then what was printed before that is what the session has printed and not yet handed
+    /// out, and it is good for no more events.
+    pub fn move_all<L: Ledger>(
+        &mut self,
+        lane: Lane,
+        count: u32,
+        steps: &mut Steps<L>,
+    ) -> Result<(), StepFault>
+        requires ready { StandsForSome O.rule O.broken O.stands_for O.takes_pieces S.stands_for self.old }
+        ensures ok { OnOk result (HasMoved O.rule O.broken O.stands_for O.takes_pieces S.stands_for self.old lane count self.new) }
+        ensures err { IfErr result (λ fault. StopsMoving O.rule O.broken O.stands_for O.takes_pieces S.stands_for self.old lane count fault self.new.traffic.printed) }
+    {
+        match self.advance_all(lane, count, steps) {
+            Ok(()) => Ok(()),
+            Err(cause) => Err(cause),
+        }
     }
 
     /// How many stages a drain has: node by node, the channels that it delivers whole, then the bundles that it flushes. It takes no

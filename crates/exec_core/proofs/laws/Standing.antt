@@ -8,6 +8,8 @@ use Rattle.stream_model.specs.declared.events.StepFault.{StepFault}
 use Rattle.stream_model.specs.Network.{Network}
 use Rattle.stream_model.specs.Machine.{State, opened}
 use Rattle.stream_model.specs.Runs.{Item, after, state_in, step_item}
+use Rattle.stream_model.specs.Drain.{Leads}
+use Rattle.source_lines.proofs.laws.Along.{leads_after}
 use Rattle.exec_core.specs.declared.session.Session.{Session}
 use Rattle.exec_core.specs.Goes.{StandsIn}
 use Rattle.exec_core.specs.Stands.{Job, RunsBy, Stands, reached}
@@ -16,11 +18,20 @@ after-append : (g : Network) (limit : ℕ) (s : State) (xs ys : List Item) → a
 after-append g limit s [] ys = refl
 after-append g limit s (x ∷ xs) ys = after-append g limit (state_in s (step_item g limit s x)) xs ys
 
+-- items lead on to a state
+pub reached_along : (plan : Plan) (limit : ℕ) (items more : List Item) (s t : State) → reached plan limit items ≡ s → Leads (network plan) limit s more t → reached plan limit (items ++ more) ≡ t
+reached_along plan limit items more s t is leads =
+    let g = network plan in
+    after-append g limit (opened g) items more ∙ ap (λ (u : State). after g limit u more) is ∙ leads_after g limit s more t leads
+
+-- a session that stands for them too stands in that state
+pub stands_along : (next : Session) (plan : Plan) (limit : ℕ) (handed : List PrintItem) (items more : List Item) (s t : State) → reached plan limit items ≡ s
+    → Leads (network plan) limit s more t → Stands next plan limit handed (items ++ more) → StandsIn next plan limit handed t
+stands_along next plan limit handed items more s t is leads stands = record { items = items ++ more; stands = stands; is = reached_along plan limit items more s t is leads }
+
 -- one more item leads to the state that the machine answers
 reached_more : (plan : Plan) (limit : ℕ) (items : List Item) (item : Item) (s t : State) → reached plan limit items ≡ s → step_item (network plan) limit s item ≡ Ok t → reached plan limit (items ++ item ∷ []) ≡ t
-reached_more plan limit items item s t is steps =
-    let g = network plan in
-    after-append g limit (opened g) items (item ∷ []) ∙ ap (λ (u : State). after g limit u (item ∷ [])) is ∙ ap (state_in s) steps
+reached_more plan limit items item s t is steps = reached_along plan limit items (item ∷ []) s t is (t, steps, refl)
 
 -- a session that stands for one more item stands in that state
 pub stands_more : (next : Session) (plan : Plan) (limit : ℕ) (handed : List PrintItem) (items : List Item) (item : Item) (s t : State) → reached plan limit items ≡ s
