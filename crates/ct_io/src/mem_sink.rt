@@ -54,11 +54,17 @@ impl MemSink {
 }
 
 impl Sink for MemSink {
-    ghost use Rattle.std.specs.Prelude.{Some};
+    ghost use Rattle.std.specs.Prelude.{Some, false};
 
     ghost written = { λ s. Some s.bytes };
 
     ghost faults = { λ s. s.faults };
+
+    ghost last = { λ s. false };
+
+    fn is_last(&self) -> bool {
+        false
+    }
 
     fn put(&mut self, piece: &[u8]) -> Result<usize, PutFailed>
         ensures refused { refuses self.old piece.now ≡ true → IsErr result }

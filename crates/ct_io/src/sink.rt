@@ -1,4 +1,4 @@
-ghost use Rattle.std.specs.Prelude.{◌≤◌, ◌<◌, ℕ, Option, List, [], length, take, IfOk, OnErr};
+ghost use Rattle.std.specs.Prelude.{◌≤◌, ◌<◌, ◌≡◌, ℕ, Bool, Option, List, [], length, take, IfOk, OnErr};
 ghost use Rattle.ct_io.specs.Counts.{HasCause};
 ghost use Rattle.ct_io.specs.Written.{Appends};
 
@@ -14,6 +14,14 @@ pub trait Sink {
 
     /// How often it has failed.
     ghost faults: { Self → ℕ };
+
+    /// Whether the process ends with what is written here.
+    ghost last: { Self → Bool };
+
+    /// Whether the process ends with what is written here, so that memory may be left to the system, which frees it whole. It takes no
+    /// memory.
+    fn is_last(&self) -> bool
+        ensures { result ≡ last self.now };
 
     /// Takes some first bytes of a piece that isn't empty, at least one, and answers how many. It takes no memory.
     fn put(&mut self, piece: &[u8]) -> Result<usize, PutFailed>

@@ -45,11 +45,18 @@ impl SureSink {
 }
 
 impl Sink for SureSink {
+    ghost use Rattle.std.specs.Prelude.{false};
     ghost use Rattle.ct_io.specs.InMemory.{told_bytes};
 
     ghost written = { told_bytes };
 
     ghost faults = { λ s. 0 };
+
+    ghost last = { λ s. false };
+
+    fn is_last(&self) -> bool {
+        false
+    }
 
     fn put(&mut self, piece: &[u8]) -> Result<usize, PutFailed>
         ensures taken { result ≡ Ok (length piece.now) }

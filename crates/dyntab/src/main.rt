@@ -11,12 +11,13 @@ use words::{WordFault, words_of};
 
 fn main(rt: HostRuntime) -> ExitCode {
     let alloc = rt.alloc();
-    let (Ok(mut out), Ok(mut err)) = (
+    let (Ok(out), Ok(mut err)) = (
         Stream::new(alloc, rt.stdout()),
         Stream::new(alloc, rt.stderr()),
     ) else {
         return ExitCode::from(status(&Ending::Memory));
     };
+    let mut out = out.as_last();
     let mut shelf = FileShelf::new(&rt);
     let mut ending = match words_of(&rt) {
         Ok(words) => run_job(alloc, words.as_slice(), &mut shelf, &mut out, &mut err),

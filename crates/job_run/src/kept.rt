@@ -30,11 +30,17 @@ impl Kept {
 }
 
 impl Sink for Kept {
-    ghost use Rattle.std.specs.Prelude.{Some};
+    ghost use Rattle.std.specs.Prelude.{Some, false};
 
     ghost written = { λ s. Some s.bytes.items };
 
     ghost faults = { λ s. s.faults };
+
+    ghost last = { λ s. false };
+
+    fn is_last(&self) -> bool {
+        false
+    }
 
     fn put(&mut self, piece: &[u8]) -> Result<usize, PutFailed> {
         match self.bytes.extend_from_slice(piece) {

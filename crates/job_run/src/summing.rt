@@ -6,7 +6,7 @@ ghost use Rattle.job_ending.specs.declared.ending.Ending.TheVariants.{Done};
 ghost use Rattle.job_run.specs.Outcome.{summed};
 
 use crate::log::grown;
-use crate::running::Sums;
+use crate::running_sums::Sums;
 use ct_io::{PutFailed, Sink};
 use ct_value::Bytes;
 use job_ending::Halt;
@@ -21,6 +21,7 @@ pub(crate) struct SummingSink {
     sums: Sums,
     log: Snapshot<Bytes>,
     faults: u64,
+    last: bool,
 }
 
 impl Model for SummingSink {
@@ -29,21 +30,22 @@ impl Model for SummingSink {
 
     ghost Value = { Printing };
 
-    ghost view = { λ s. record { bytes = s.log.value; faults = s.faults } };
+    ghost view = { λ s. record { bytes = s.log.value; faults = s.faults; last = s.last } };
 
     ghost invariant = { λ s. AreSums s.sums s.log.value };
 }
 
 impl SummingSink {
-    /// Nothing is written yet.
-    pub(crate) fn new(alloc: Global) -> Self
-        ensures { result ≡ record { bytes = []; faults = 0 } }
+    /// Nothing is written yet; with it the process may end.
+    pub(crate) fn new(alloc: Global, last: bool) -> Self
+        ensures { result ≡ record { bytes = []; faults = 0; last = last } }
     {
         let nothing = Bytes::new(alloc);
         SummingSink {
             sums: Sums::new(alloc),
             log: Snapshot::of(&nothing),
             faults: 0,
+            last,
         }
     }
 
@@ -64,6 +66,12 @@ impl Sink for SummingSink {
     ghost written = { λ s. Some s.bytes };
 
     ghost faults = { λ s. s.faults };
+
+    ghost last = { λ s. s.last };
+
+    fn is_last(&self) -> bool {
+        self.last
+    }
 
     fn put(&mut self, piece: &[u8]) -> Result<usize, PutFailed> {
         match self.sums.push(piece) {

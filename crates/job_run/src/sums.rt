@@ -32,7 +32,7 @@ pub fn load_lines<K: Sink>(alloc: Global, seed: u64, lines: u64, out: &mut K) ->
     ensures runs { RunsThere (load_of seed lines) (Rose (K.faults out.old) (K.faults out.new)) (K.written out.old) (K.written out.new) result }
     ensures printable { IsPrintable (ending_of result) }
 {
-    let line = load_line(alloc, seed, lines)?;
+    let line = load_line(alloc, seed, lines, out.is_last())?;
     put_line(line.as_slice(), out)
 }
 
@@ -45,8 +45,8 @@ fn put_line<K: Sink>(line: &[u8], out: &mut K) -> Result<(), Halt>
     }
 }
 
-// The line of a load.
-fn load_line(alloc: Global, seed: u64, lines: u64) -> Result<Vec<u8>, Halt>
+// The line of a load, with which the process may end.
+fn load_line(alloc: Global, seed: u64, lines: u64, last: bool) -> Result<Vec<u8>, Halt>
     ensures ok { IfOk result (λ line. load_of seed lines ≡ record { ending = Done; bytes = line.items }) }
     ensures halts { IfErr result (λ halt. IsBefore halt (load_of seed lines)) }
     ensures printable { IfErr result (λ halt. IsPrintable (ending_of_halt halt)) }
@@ -57,7 +57,7 @@ fn load_line(alloc: Global, seed: u64, lines: u64) -> Result<Vec<u8>, Halt>
     let Ok(mut shelf) = load_shelf(alloc, seed, lines) else {
         return Err(Halt::Memory);
     };
-    let mut sink = SummingSink::new(alloc);
+    let mut sink = SummingSink::new(alloc, last);
     let ran = run_names(alloc, &names, &None, &mut shelf, &mut sink);
     summed_by(ran, sink, lines)
 }

@@ -20,14 +20,15 @@ use session_open::OpenFault;
 use source_lines::{ChangeFiles, read_files};
 use std::alloc::Global;
 use std::marker::Brand;
+use std::mem::forget;
 use std::sync::ledger::{Blank, Ledger};
 
 const MOST_SENT: u32 = 4294967295;
 
 /// Runs a sound plan over change files of at most 67,108,864 bytes each, and an order: each line of the order is steps of the job, or lines
 /// that are taken; then all lines that are left are taken, file by file, and the job is drained. What a step printed is written on `out`
-/// right behind it, each item as a line by the types of the sink's columns, and a `-D` into an upsert sink by its key. It sends at most
-/// 4,294,967,295 changes.
+/// behind it, or behind at most 63 more moves from the same channel, each item as a line by the types of the sink's columns, and a `-D` into
+/// an upsert sink by its key. It sends at most 4,294,967,295 changes. Where the process ends with `out`, what the job keeps isn't freed.
 pub fn stream<K: Sink>(
     alloc: Global,
     plan: &Plan,
@@ -103,10 +104,21 @@ fn run_job<K: Sink, L: Ledger>(
     };
     match Session::open_job(sheet.alloc, plan, sent_limit) {
         Ok(session) => match go_over(session, &mut left, orders, &sources, sheet, &mut tools, out) {
-            Ok(_) => Ok(()),
+            Ok(ended) => {
+                let_go(ended, out);
+                Ok(())
+            }
             Err(halt) => Err(halt),
         },
         Err(OpenFault::Limit) => Err(Halt::Limit(LimitName::Sent)),
         Err(OpenFault::Memory) => Err(Halt::Memory),
+    }
+}
+
+// The session of a run that has ended. What it keeps is left to the system where the process ends too, since to free it row by row takes
+// long.
+fn let_go<K: Sink>(session: Session, out: &K) {
+    if out.is_last() {
+        forget(session);
     }
 }

@@ -1,5 +1,5 @@
 // A sink over a writer.
-ghost use Rattle.std.specs.Prelude.{◌≡◌, ◌<◌, ◌≤◌, None, [], length, IfOk, OnOk};
+ghost use Rattle.std.specs.Prelude.{◌≡◌, ◌<◌, ◌≤◌, None, [], true, false, length, IfOk, OnOk};
 ghost use Rattle.ct_io.specs.Counts.{HasCause, Rose};
 
 use ct_io::{PutFailed, Sink};
@@ -16,18 +16,27 @@ pub struct Stream<W: Drop> {
     writer: W,
     gathered: Vec<u8>,
     faults: u64,
+    last: bool,
 }
 
 impl<W: Write + Drop> Stream<W> {
     /// A writer that hasn't failed yet. It takes all memory that it will need.
     pub fn new(alloc: Global, writer: W) -> Result<Self, AllocError>
-        ensures { IfOk result (λ stream. (stream.writer ≡ writer) × (stream.gathered.items ≡ []) × (stream.faults ≡ 0)) }
+        ensures { IfOk result (λ stream. (stream.writer ≡ writer) × (stream.gathered.items ≡ []) × (stream.faults ≡ 0) × (stream.last ≡ false)) }
     {
         Ok(Stream {
             writer,
             gathered: Vec::with_capacity(alloc, ROOM)?,
             faults: 0,
+            last: false,
         })
+    }
+
+    /// The same stream, with which the process ends.
+    pub fn as_last(self) -> Self
+        ensures { (result.writer ≡ self.writer) × (result.gathered ≡ self.gathered) × (result.faults ≡ self.faults) × (result.last ≡ true) }
+    {
+        Stream { last: true, ..self }
     }
 
     /// Writes what is gathered. It fails where the writer does, or takes no byte; then that isn't gathered any more.
@@ -84,6 +93,12 @@ impl<W: Write + Drop> Sink for Stream<W> {
     ghost written = { λ _. None };
 
     ghost faults = { λ s. s.faults };
+
+    ghost last = { λ s. s.last };
+
+    fn is_last(&self) -> bool {
+        self.last
+    }
 
     fn put(&mut self, piece: &[u8]) -> Result<usize, PutFailed> {
         self.make_room()?;

@@ -33,8 +33,8 @@ returns-in-Ok-go_over g c = λ all are by.
     let stands : StandsIn c.in-Ok-open_job.session plan limit [] (opened n) = record { items = []; stands = c.in-Ok-open_job.ensures.ok; is = refl } in
     let ahead = c.in-Ok-go_over.ensures.ok plan limit p c.requires.sheet (sym c.in-Ok.ensures) (record { stands = stands; files_are = are }) in
     let whole = whole_opened n limit plan.sources all orders c.in-Ok-open_job.ensures.within ∙ ap (λ b. opened_run orders b plan limit p) (sym by) in
-    ends_well plan.sink sheet (is_by_table all) c.requires.sheet by (whole_run n limit plan.sources all orders) p refl _ _ _ plan limit c.in-Ok-go_over.field-0 c.go_over.new.files.items
-    (ahead_same sheet plan limit (opened_run orders sheet.by_table plan limit p) (whole_run n limit plan.sources all orders) on p c.in-Ok-go_over.field-0 c.go_over.new.files.items _ _ whole ahead)
+    ends_well plan.sink sheet (is_by_table all) c.requires.sheet by (whole_run n limit plan.sources all orders) p refl _ _ _ plan limit c.in-Ok-go_over.ended c.go_over.new.files.items
+    (ahead_same sheet plan limit (opened_run orders sheet.by_table plan limit p) (whole_run n limit plan.sources all orders) on p c.in-Ok-go_over.ended c.go_over.new.files.items _ _ whole ahead)
 
 pub returns-in-Ok-open_job : goal.returns-in-Ok-open_job
 returns-in-Ok-open_job g c = λ all are by.
