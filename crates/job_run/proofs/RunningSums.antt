@@ -10,7 +10,7 @@ use Rattle.job_text.specs.Lines.{Record, records_of}
 use Rattle.job_text.specs.Printed.{commaed, quiet_line}
 use Rattle.job_text.proofs.laws.CutFiles.{records_of_parts}
 use Rattle.job_text.proofs.laws.Records.{few_records}
-use Rattle.job_run.specs.declared.running.Sums.{Sums}
+use Rattle.job_run.specs.declared.running_sums.Sums.{Sums}
 use Rattle.job_run.specs.Loads.{line_count, printed_feed, with_end}
 use Rattle.job_run.specs.Sums.{AreSums, IsCut, IsRest, TakesAs}
 

@@ -27,8 +27,8 @@ use Rattle.job_ending.specs.Runs.{IsBefore, RunsThere, ending_of}
 use Rattle.job_ending.proofs.laws.Runs.{runs_there}
 use Rattle.job_judgement.specs.Judgement.{Accepted, judgement}
 use Rattle.job_batch.specs.Batch.{after_lines, over_tables, with_rows}
-use Rattle.job_run.specs.declared.running.Taking.{Taking}
-use Rattle.job_run.specs.declared.running.Taking.TheVariants.{Halted}
+use Rattle.job_run.specs.declared.running_sums.Taking.{Taking}
+use Rattle.job_run.specs.declared.running_sums.Taking.TheVariants.{Halted}
 use Rattle.job_run.specs.Kept.{IsKept}
 use Rattle.job_run.specs.Loads.{line_count, printed_feed, sums_script, summary}
 use Rattle.job_run.specs.Outcome.{after_judgement, after_load, behind, changes_limit, summed, sums_answer, sums_over}

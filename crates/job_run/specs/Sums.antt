@@ -9,9 +9,9 @@ use Rattle.job_ending.specs.Runs.{IsBefore, ending_of_halt}
 use Rattle.job_judgement.specs.Judgement.{judgement}
 use Rattle.job_judgement.specs.Views.{accepted_view}
 use Rattle.job_batch.specs.Batch.{after_lines}
-use Rattle.job_run.specs.declared.running.Sums.{Sums}
-use Rattle.job_run.specs.declared.running.Taking.{Taking}
-use Rattle.job_run.specs.declared.running.Taking.TheVariants.{Going, Halted}
+use Rattle.job_run.specs.declared.running_sums.Sums.{Sums}
+use Rattle.job_run.specs.declared.running_sums.Taking.{Taking}
+use Rattle.job_run.specs.declared.running_sums.Taking.TheVariants.{Going, Halted}
 use Rattle.job_run.specs.Loads.{line_count, sums_script}
 use Rattle.job_run.specs.Outcome.{after_judgement, changes_limit}
 

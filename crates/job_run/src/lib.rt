@@ -12,7 +12,7 @@ mod kept;
 mod load;
 mod log;
 mod requests;
-mod running;
+mod running_sums;
 mod summaries;
 mod summing;
 mod sums;

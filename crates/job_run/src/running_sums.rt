@@ -15,7 +15,7 @@ ghost use Rattle.job_run.specs.Loads.{sums_script};
 ghost use Rattle.job_run.specs.Outcome.{behind, summed, sums_answer};
 ghost use Rattle.job_judgement.specs.Halts.{IsHalt};
 ghost use Rattle.job_run.specs.Sums.{AreSums, IsRest, TakesAs, sums_of};
-ghost use Rattle.job_run.specs.declared.running.Taking.TheVariants as Taking;
+ghost use Rattle.job_run.specs.declared.running_sums.Taking.TheVariants as Taking;
 
 use crate::kept::{Kept, kept_by};
 use crate::summaries::{line_count, quiet_len, summary, without_last};

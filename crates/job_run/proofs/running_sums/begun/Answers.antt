@@ -4,7 +4,7 @@ use Rattle.source_lines.specs.Feeds.{feed_taken}
 use Rattle.job_run.specs.Loads.{sums_script}
 use Rattle.job_run.proofs.Loads.{judged_before}
 use Rattle.job_run.proofs.Printable.{printable_halt}
-use Rattle.job_run.proofs.running.begun.Goals as goal
+use Rattle.job_run.proofs.running_sums.begun.Goals as goal
 
 pub returns-in-Err : goal.returns-in-Err
 returns-in-Err c =

@@ -1,6 +1,6 @@
 use Rattle.std.proofs.Common.{refl}
 use Rattle.job_run.proofs.RunningSums.{keep}
-use Rattle.job_run.proofs.running.Sums.keep.Goals as goal
+use Rattle.job_run.proofs.running_sums.Sums.keep.Goals as goal
 
 pub returns-clause-ok : goal.returns-clause-ok
 returns-clause-ok c = λ bytes s.

@@ -5,7 +5,7 @@ use Rattle.source_lines.specs.Feeds.{feed_taken}
 use Rattle.source_lines.specs.Taken.{IsRefused}
 use Rattle.source_lines.specs.declared.fault.TakeFault.{TakeFault}
 use Rattle.job_run.proofs.Summed.{refused_sums}
-use Rattle.job_run.proofs.running.more_taken.Goals as goal
+use Rattle.job_run.proofs.running_sums.more_taken.Goals as goal
 
 pub returns-in-Err-Refused : goal.returns-in-Err-Refused
 returns-in-Err-Refused c = λ records p.

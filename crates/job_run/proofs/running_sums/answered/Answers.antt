@@ -5,7 +5,7 @@ use Rattle.job_ending.specs.Runs.{IsBefore}
 use Rattle.job_run.specs.Outcome.{behind}
 use Rattle.job_run.proofs.KeptRuns.{if_halted, if_well}
 use Rattle.job_run.proofs.Summed.{whole_halted, whole_taken, whole_within}
-use Rattle.job_run.proofs.running.answered.Goals as goal
+use Rattle.job_run.proofs.running_sums.answered.Goals as goal
 
 pub taken-requires : goal.taken-requires
 taken-requires c =

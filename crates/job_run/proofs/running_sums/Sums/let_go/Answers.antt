@@ -3,7 +3,7 @@ use Rattle.job_text.specs.Lines.{records_of}
 use Rattle.job_run.specs.Loads.{line_count}
 use Rattle.job_run.specs.Sums.{TakesAs}
 use Rattle.job_run.proofs.RunningSums.{ends_fit, few_gone, let_go}
-use Rattle.job_run.proofs.running.Sums.let_go.Goals as goal
+use Rattle.job_run.proofs.running_sums.Sums.let_go.Goals as goal
 
 pub overflow_add-self-2 : goal.overflow_add-self-2
 overflow_add-self-2 c =

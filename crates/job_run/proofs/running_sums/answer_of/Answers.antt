@@ -6,7 +6,7 @@ use Rattle.job_batch.specs.Batch.{over_tables, with_rows}
 use Rattle.job_run.specs.Outcome.{behind}
 use Rattle.job_run.proofs.KeptRuns.{if_halted, if_well}
 use Rattle.job_run.proofs.Summed.{rows_fit, sums_over_rows, there_kept}
-use Rattle.job_run.proofs.running.answer_of.Goals as goal
+use Rattle.job_run.proofs.running_sums.answer_of.Goals as goal
 
 pub batch_over-ran-requires-clause-fit : goal.batch_over-ran-requires-clause-fit
 batch_over-ran-requires-clause-fit c =

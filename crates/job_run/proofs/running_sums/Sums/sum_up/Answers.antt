@@ -4,13 +4,13 @@ use Rattle.job_text.specs.Printed.{but_last, quiet_line}
 use Rattle.job_ending.specs.declared.ending.Ending.TheVariants.{Done}
 use Rattle.job_ending.specs.Outcome.{Outcome}
 use Rattle.job_ending.specs.Runs.{IsBefore}
-use Rattle.job_run.specs.declared.running.Sums.{Sums}
+use Rattle.job_run.specs.declared.running_sums.Sums.{Sums}
 use Rattle.job_run.specs.Loads.{line_count, summary}
 use Rattle.job_run.specs.Outcome.{behind, summed, sums_answer}
 use Rattle.job_run.specs.Sums.{AreSums}
 use Rattle.job_run.proofs.RunningSums.{ends_more, feed_is, few_ends, few_quiet, rest_is}
 use Rattle.job_run.proofs.Summed.{summed_is}
-use Rattle.job_run.proofs.running.Sums.sum_up.Goals as goal
+use Rattle.job_run.proofs.running_sums.Sums.sum_up.Goals as goal
 
 -- the line behind the sums
 abbrev line_of : ℕ → ℕ → ℕ → List ℕ → Outcome
