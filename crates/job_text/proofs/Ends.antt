@@ -1,15 +1,12 @@
 -- How many records a text has, byte by byte.
 use Rattle.std.proofs.Common.{◌≡◌, ◌≤◌, ◌<◌, ◌+◌, ◌∙◌, ℕ, zero, suc, List, [], ◌∷◌, length, drop, take, get_or, ◌-◌, Option, Some, None, Bool, true, false, refl, sym, ap, arith, inl, inr}
-use Rattle.std.specs.Prelude.{cond, not, ◌==◌, if◌then◌else◌}
-use Rattle.std.proofs.lemmas.Bool.{ne_eqb}
-use Rattle.std.proofs.lemmas.List.{drop_all, drop_more, take_rest}
+use Rattle.std.specs.Prelude.{cond, not, if◌then◌else◌}
+use Rattle.std.proofs.lemmas.List.{drop_all, take_rest}
 use Rattle.csv.specs.Machine.{Read, ends_at_end, is_end, next_record, step}
 use Rattle.csv.specs.Reading.{default_config, is_bom, records_from, strip_bom}
 use Rattle.csv.specs.declared.parser.State.{State}
 use Rattle.csv.specs.declared.parser.State.TheVariants as st
-use Rattle.job_text.specs.declared.counting.Place.{Place}
-use Rattle.job_text.specs.declared.counting.Place.TheVariants.{RecordStart, BehindReturn, FieldStart, Plain, Quoted, BehindQuote}
-use Rattle.job_text.specs.Ends.{LeadsAs, ends_in, is_unmarked, state_at, state_behind}
+use Rattle.job_text.specs.Ends.{ends_in, is_unmarked}
 use Rattle.job_text.specs.Lines.{records_of}
 use Rattle.job_text.proofs.Reading.{next-cases, next-leaves, next-shorter, some-same, strip_bom-few}
 
@@ -60,23 +57,13 @@ counted (suc n) s xs b h = elim (next-cases (next_record default_config s [] [] 
 pub all_counted : (bytes : List ℕ) → ends_in st.StartRecord (strip_bom bytes) ≡ length (records_of bytes)
 all_counted bytes = sym (counted (length (strip_bom bytes) + 1) st.StartRecord (strip_bom bytes) refl (omega arith))
 
--- one more byte
-pub one_byte : (text : List ℕ) (i : ℕ) (s : State) → i < length text
-    → ends_in s (drop i text) ≡ cond (is_end (step default_config s (get_or text i 0)).1) 1 0 + ends_in (step default_config s (get_or text i 0)).0 (drop (i + 1) text)
+-- all of a file, behind its last record
+pub total : (bytes text : List ℕ) (at count : ℕ) → text ≡ strip_bom bytes → length text ≤ at → count + ends_in st.StartRecord (drop at text) ≡ ends_in st.StartRecord text → count ≡ length (records_of bytes)
 unfolding ends_in
-one_byte text i s inside = rw (drop_more text i 0 inside) refl
-
--- and none
-pub no_byte : (text : List ℕ) (s : State) → ends_in s (drop (length text) text) ≡ cond (ends_at_end s) 1 0
-unfolding ends_in
-no_byte text s = rw (drop_all (length text) text (omega arith)) refl
-
--- all of a file, behind its last byte
-pub total : (bytes text : List ℕ) (i count last : ℕ) (s : State) (within : Bool) → text ≡ strip_bom bytes → i ≡ length text
-    → count + ends_in s (drop i text) ≡ ends_in st.StartRecord text → within ≡ ends_at_end s → last ≡ cond within 1 0 → count + last ≡ length (records_of bytes)
-total bytes text i count last s within is all counts same one =
-    ap (λ n. count + n) (one ∙ ap (λ b. cond b 1 0) same ∙ sym (no_byte text s))
-    ∙ ap (λ k. count + ends_in s (drop k text)) (sym all) ∙ counts ∙ ap (λ t. ends_in st.StartRecord t) is ∙ all_counted bytes
+total bytes text at count is past counts =
+    let none : ends_in st.StartRecord (drop at text) ≡ 0 = ap (λ t. ends_in st.StartRecord t) (drop_all at text past) in
+    let all : count ≡ ends_in st.StartRecord text = omega (arith, none, counts) in
+    all ∙ ap (λ t. ends_in st.StartRecord t) is ∙ all_counted bytes
 
 -- a text of a file is no longer than the file
 pub no_longer : (bytes text : List ℕ) → text ≡ strip_bom bytes → length text ≤ length bytes
@@ -108,29 +95,6 @@ stripped (a ∷ b ∷ c ∷ rest) long mark = sym (ap (λ is. if is then rest el
 pub marked : (xs : List ℕ) → 3 ≤ length xs → is_bom (get_or xs 0 0) (get_or xs 1 0) (get_or xs 2 0) ≡ true → take (length xs - 3) (drop 3 xs) ≡ strip_bom xs
 marked xs long mark = take_rest xs 3 ∙ stripped xs long mark
 
--- ---- a byte above the comma
-
--- such a byte is none that means something outside quotes, and none that does within
-record IsOther (c : ℕ) : Type 0 where
-  comma : (c == 44) ≡ false
-  quote : (c == 34) ≡ false
-  feed : (c == 10) ≡ false
-  back : (c == 13) ≡ false
-
-other : (c : ℕ) → 44 < c → IsOther c
-other c h = record { comma = ne_eqb c 44 (λ e. omega (arith, e)); quote = ne_eqb c 34 (λ e. omega (arith, e)); feed = ne_eqb c 10 (λ e. omega (arith, e)); back = ne_eqb c 13 (λ e. omega (arith, e)) }
-
-pub above_quoted : (place : Place) (c : ℕ) → 44 < c → place ≡ Quoted → LeadsAs (Quoted, false) (step default_config (state_at place) c)
-above_quoted place c h is = let o = other c h in rw (is, o.quote) (refl, refl)
-
-pub above : (place : Place) (c : ℕ) → 44 < c → (place ≡ Quoted → ⊥) → LeadsAs (Plain, false) (step default_config (state_at place) c)
-above RecordStart c h n = let o = other c h in rw (o.back, o.feed, o.quote, o.comma) (refl, refl)
-above BehindReturn c h n = let o = other c h in rw (o.feed, o.back, o.quote, o.comma) (refl, refl)
-above FieldStart c h n = let o = other c h in rw (o.quote, o.comma, o.back, o.feed) (refl, refl)
-above Plain c h n = let o = other c h in rw (o.comma, o.back, o.feed) (refl, refl)
-above Quoted c h n = absurd (n refl)
-above BehindQuote c h n = let o = other c h in rw (o.quote, o.comma, o.back, o.feed) (refl, refl)
-
 -- ---- where a file may be cut
 
 pub few_unmarked : (xs : List ℕ) → length xs < 3 → is_unmarked xs ≡ false
@@ -144,11 +108,3 @@ unmarked_of [] long = absurd (omega arith)
 unmarked_of (a ∷ []) long = absurd (omega arith)
 unmarked_of (a ∷ b ∷ []) long = absurd (omega arith)
 unmarked_of (a ∷ b ∷ c ∷ rest) long = refl
-
-pub state_more : (text : List ℕ) (i : ℕ) (s : State) → i < length text → state_behind s (drop i text) ≡ state_behind (step default_config s (get_or text i 0)).0 (drop (i + 1) text)
-unfolding state_behind
-state_more text i s inside = rw (drop_more text i 0 inside) refl
-
-pub state_all : (text : List ℕ) (s : State) → state_behind s (drop (length text) text) ≡ s
-unfolding state_behind
-state_all text s = rw (drop_all (length text) text (omega arith)) refl

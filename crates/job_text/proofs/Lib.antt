@@ -3,7 +3,10 @@ pub mod MadeLines
 pub mod Names
 pub mod Numerals
 pub mod Quotes
+pub mod PlainBytes
+pub mod PlainFields
 pub mod Readers
+pub mod RecordEnds
 pub mod RecordLines
 pub mod Reading
 pub mod Texts

@@ -1,31 +1,48 @@
 -- The texts of fields, as CSV's writer makes them.
-use Rattle.std.proofs.Common.{◌≡◌, ◌<◌, ◌+◌, ◌∙◌, ℕ, true, false, List, [], ◌∷◌, ◌++◌, length, drop, get_or, ap, arith, refl, sym, append_assoc, codes}
+use Rattle.std.proofs.Common.{◌≡◌, ◌<◌, ◌+◌, ◌∙◌, ℕ, Bool, cond, true, false, List, [], ◌∷◌, ◌++◌, length, drop, get_or, ap, arith, refl, sym, append_assoc, codes}
 use Rattle.std.specs.Prelude.{if◌then◌else◌}
 use Rattle.std.proofs.lemmas.List.{append-nil, drop_all, drop_more}
 use Rattle.csv.specs.Writing as csv
 use Rattle.csv.proofs.WriteFacts.{escaped-append, escaped-double, escaped-other}
-use Rattle.job_text.specs.Printed.{fields_behind}
+use Rattle.ct_field.specs.Fields.{begins_with_backslash, escaped}
 
--- a field behind a comma, as it is
-pub plain_behind : (line field : List ℕ) → csv.needs_quotes csv.default_writer field ≡ false → (line ++ csv.comma ∷ []) ++ field ≡ line ++ fields_behind (field ∷ [])
-unfolding csv.fields_text
-plain_behind line field plain =
-    let text : csv.field_text csv.default_writer field ≡ field = ap (λ b. if b then csv.quoted csv.default_writer field else field) plain in
-    append_assoc line (csv.comma ∷ []) field ∙ ap (λ xs. line ++ csv.comma ∷ xs) (sym (append-nil (csv.field_text csv.default_writer field) ∙ text))
+-- a text that needs no quotes stands as it is, behind one more backslash where it begins with one
+front_needs : (b : Bool) (text : List ℕ) → csv.needs_quotes csv.default_writer (cond b (92 ∷ text) text) ≡ csv.needs_quotes csv.default_writer text
+front_needs true text = refl
+front_needs false text = refl
 
--- or between quotes
-pub quoted_behind : (line field : List ℕ) → csv.needs_quotes csv.default_writer field ≡ true → (line ++ csv.comma ∷ []) ++ csv.quoted csv.default_writer field ≡ line ++ fields_behind (field ∷ [])
-unfolding csv.fields_text
-quoted_behind line field marked =
-    let text : csv.field_text csv.default_writer field ≡ csv.quoted csv.default_writer field = ap (λ b. if b then csv.quoted csv.default_writer field else field) marked in
-    append_assoc line (csv.comma ∷ []) (csv.quoted csv.default_writer field)
-    ∙ ap (λ xs. line ++ csv.comma ∷ xs) (sym (append-nil (csv.field_text csv.default_writer field) ∙ text))
+front_before : (b : Bool) (line text : List ℕ) → (line ++ cond b (csv.backslash ∷ []) []) ++ text ≡ line ++ cond b (92 ∷ text) text
+front_before true line text = append_assoc line (csv.backslash ∷ []) text
+front_before false line text = ap (λ xs. xs ++ text) (append-nil line)
 
--- the quotes round a field
-pub quotes_round : (line field : List ℕ) → ((line ++ csv.quote_mark ∷ []) ++ csv.escaped csv.default_writer field) ++ csv.quote_mark ∷ [] ≡ line ++ csv.quoted csv.default_writer field
-quotes_round line field =
-    append_assoc (line ++ csv.quote_mark ∷ []) (csv.escaped csv.default_writer field) (csv.quote_mark ∷ [])
-    ∙ append_assoc line (csv.quote_mark ∷ []) (csv.escaped csv.default_writer field ++ csv.quote_mark ∷ [])
+front_doubled : (b : Bool) (text : List ℕ) → cond b (csv.backslash ∷ []) [] ++ csv.escaped csv.default_writer text ≡ csv.escaped csv.default_writer (cond b (92 ∷ text) text)
+unfolding csv.escaped
+front_doubled true text = refl
+front_doubled false text = refl
+
+shown_text : (b : Bool) (text : List ℕ) → csv.needs_quotes csv.default_writer text ≡ b → csv.field_text csv.default_writer (escaped text) ≡ (if b then csv.quoted csv.default_writer (escaped text) else escaped text)
+shown_text b text is = ap (λ q. if q then csv.quoted csv.default_writer (escaped text) else escaped text) (front_needs (begins_with_backslash text) text ∙ is)
+
+pub plain_text : (line text : List ℕ) → csv.needs_quotes csv.default_writer text ≡ false
+    → (line ++ cond (begins_with_backslash text) (csv.backslash ∷ []) []) ++ text ≡ line ++ csv.field_text csv.default_writer (escaped text)
+plain_text line text plain = front_before (begins_with_backslash text) line text ∙ ap (λ xs. line ++ xs) (sym (shown_text false text plain))
+
+-- and one that needs them stands between quotes
+pub marked_text : (line text : List ℕ) → csv.needs_quotes csv.default_writer text ≡ true
+    → line ++ csv.quoted csv.default_writer (escaped text) ≡ line ++ csv.field_text csv.default_writer (escaped text)
+marked_text line text marked = ap (λ xs. line ++ xs) (sym (shown_text true text marked))
+
+-- the quotes round it
+pub quotes_round : (line text : List ℕ)
+    → (((line ++ csv.quote_mark ∷ []) ++ cond (begins_with_backslash text) (csv.backslash ∷ []) []) ++ csv.escaped csv.default_writer text) ++ csv.quote_mark ∷ []
+    ≡ line ++ csv.quoted csv.default_writer (escaped text)
+quotes_round line text =
+    let front = cond (begins_with_backslash text) (csv.backslash ∷ []) [] in
+    let doubled = csv.escaped csv.default_writer text in
+    let all : front ++ doubled ≡ csv.escaped csv.default_writer (escaped text) = front_doubled (begins_with_backslash text) text in
+    ap (λ xs. xs ++ csv.quote_mark ∷ []) (append_assoc (line ++ csv.quote_mark ∷ []) front doubled ∙ ap (λ xs. (line ++ csv.quote_mark ∷ []) ++ xs) all)
+    ∙ append_assoc (line ++ csv.quote_mark ∷ []) (csv.escaped csv.default_writer (escaped text)) (csv.quote_mark ∷ [])
+    ∙ append_assoc line (csv.quote_mark ∷ []) (csv.escaped csv.default_writer (escaped text) ++ csv.quote_mark ∷ [])
 
 -- a byte of such a field
 pub byte_doubled : (line : List ℕ) (byte : ℕ) → byte ≡ 34 → line ++ codes "\"\"" ≡ line ++ csv.escaped csv.default_writer (byte ∷ [])

@@ -1,8 +1,7 @@
 -- How many records a text has, told by where its bytes leave a reader.
-use Rattle.std.specs.Prelude.{◌≡◌, ◌+◌, ◌&&◌, ℕ, Bool, true, false, not, cond, List, [], ◌∷◌}
+use Rattle.std.specs.Prelude.{◌==◌, ◌+◌, ◌&&◌, ℕ, suc, Bool, true, false, not, cond, List, [], ◌∷◌}
 use Rattle.csv.specs.Machine.{ends_at_end, is_end, step}
 use Rattle.csv.specs.Reading.{default_config, is_bom}
-use Rattle.csv.specs.declared.parser.Action.{Action}
 use Rattle.csv.specs.declared.parser.State.{State}
 use Rattle.csv.specs.declared.parser.State.TheVariants as st
 use Rattle.job_text.specs.declared.counting.Place.{Place}
@@ -17,14 +16,28 @@ state_at Plain = st.InField
 state_at Quoted = st.InQuoted
 state_at BehindQuote = st.AfterQuote
 
--- a byte leads to a place, and ends a record or not, as it does the machine
-abbrev pub LeadsAs : Place × Bool → State × Action → Type 0
-LeadsAs led does = (state_at led.0 ≡ does.0) × (led.1 ≡ is_end does.1)
-
 -- how many records end in a text behind a state
 unfoldable pub ends_in : State → List ℕ → ℕ
 ends_in s [] = cond (ends_at_end s) 1 0
 ends_in s (c ∷ rest) = cond (is_end (step default_config s c).1) 1 0 + ends_in (step default_config s c).0 rest
+
+-- how many bytes stand before the one that leaves the machine between two records
+unfoldable pub before_end : State → List ℕ → ℕ
+before_end s [] = 0
+before_end s (c ∷ rest) = cond (ends_at_end (step default_config s c).0) (suc (before_end (step default_config s c).0 rest)) 0
+
+-- a byte that begins and ends neither quotes nor a record
+abbrev pub is_plain : ℕ → Bool
+is_plain c = not (c == 34) && (not (c == 13) && not (c == 10))
+
+abbrev pub is_field_start : State → Bool
+is_field_start st.StartField = true
+is_field_start s = false
+
+-- how many fields end in a text behind a state with another field behind them
+unfoldable pub field_ends : State → List ℕ → ℕ
+field_ends s [] = 0
+field_ends s (c ∷ rest) = cond (is_field_start (step default_config s c).0) 1 0 + field_ends (step default_config s c).0 rest
 
 -- ---- where a file may be cut
 

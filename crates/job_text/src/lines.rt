@@ -6,7 +6,7 @@ ghost use Rattle.stream_model.specs.KeysTold.{told_by};
 ghost use Rattle.job_text.specs.AtKey.{at_key};
 ghost use Rattle.job_text.specs.Printed.{IsWide, change_line, commaed, field_texts, fields_behind, item_line, kind_text, numbers_told, quiet_line, record_line, row_line, row_text, sum_of, told_texts};
 
-use crate::quoting::push_behind_comma;
+use crate::quoting::push_text;
 use ct_change::{Change, Kind, among};
 use ct_field::push_field;
 use ct_value::{Bytes, Cols, Memory, Row, Ty, Value};
@@ -18,9 +18,7 @@ use stream_model::PrintItem;
 #[derive(Drop)]
 pub struct LineWriter {
     alloc: Global,
-    line: Vec<u8>,
-    // the text of the value that is being written
-    text: Bytes,
+    line: Bytes,
 }
 
 impl Model for LineWriter {
@@ -28,7 +26,7 @@ impl Model for LineWriter {
 
     ghost Value = { List ℕ };
 
-    ghost view = { λ w. w.line.items };
+    ghost view = { λ w. w.line };
 }
 
 impl LineWriter {
@@ -38,8 +36,7 @@ impl LineWriter {
     {
         LineWriter {
             alloc,
-            line: Vec::new(alloc),
-            text: Bytes::new(alloc),
+            line: Bytes::new(alloc),
         }
     }
 
@@ -67,7 +64,7 @@ impl LineWriter {
         self.line.clear();
         match item {
             PrintItem::Change(change) => {
-                push_change(self.alloc, &mut self.line, &mut self.text, change, tys, key)
+                push_change(self.alloc, &mut self.line, change, tys, key)
             }
             PrintItem::Quiet(counts) => {
                 push_quiet(self.alloc, &mut self.line, counts.as_slice(), by_table)
@@ -82,9 +79,8 @@ pub fn row_line(alloc: Global, row: &Row, tys: &[Ty]) -> Result<Vec<u8>, Memory>
     requires types { AllByRecursion (λ ty. IsTrue (is_type ty)) tys.now }
     ensures { IfOk result (λ line. line.items ≡ row_line tys.now row.now) }
 {
-    let mut fields = Vec::new(alloc);
-    let mut text = Bytes::new(alloc);
-    push_values(alloc, &mut fields, &mut text, tys, row.as_slice())?;
+    let mut fields = Bytes::new(alloc);
+    push_values(alloc, &mut fields, tys, row.as_slice())?;
     record_line(alloc, fields.as_slice())
 }
 
@@ -119,19 +115,18 @@ fn record_line(alloc: Global, behind: &[u8]) -> Result<Vec<u8>, Memory>
 #[tactic(auto, using(crate::proofs::RecordLines::change_put))]
 fn push_change(
     alloc: Global,
-    line: &mut Vec<u8>,
-    text: &mut Bytes,
+    line: &mut Bytes,
     change: &Change,
     tys: &[Ty],
     key: Option<&Cols>,
 ) -> Result<(), Memory>
     requires wide { length change.now.row ≡ length tys.now }
     requires types { AllByRecursion (λ ty. IsTrue (is_type ty)) tys.now }
-    ensures { OnOk result (line.new.items ≡ line.old.items ++ change_line tys.now (option_copied key.entry) change.now) }
+    ensures { OnOk result (line.new ≡ line.old ++ change_line tys.now (option_copied key.entry) change.now) }
 {
-    line.extend_from_slice(kind_text(change.kind).as_bytes())?;
+    line.extend(kind_text(change.kind).as_bytes())?;
     let told = told_key(key, change.kind);
-    push_row(alloc, line, text, tys, change.row.as_slice(), told)?;
+    push_row(alloc, line, tys, change.row.as_slice(), told)?;
     line.push(b'\n')?;
     Ok(())
 }
@@ -150,37 +145,30 @@ fn told_key(key: Option<&Cols>, kind: Kind) -> Option<&Cols>
 // Puts the texts of a row, or those of a key that is told alone.
 fn push_row(
     alloc: Global,
-    line: &mut Vec<u8>,
-    text: &mut Bytes,
+    line: &mut Bytes,
     tys: &[Ty],
     values: &[Value],
     key: Option<&Cols>,
 ) -> Result<(), Memory>
     requires types { AllByRecursion (λ ty. IsTrue (is_type ty)) tys.now }
     requires wide { length values.now ≡ length tys.now }
-    ensures { OnOk result (line.new.items ≡ line.old.items ++ fields_behind (told_texts (option_copied key.entry) (field_texts tys.now values.now))) }
+    ensures { OnOk result (line.new ≡ line.old ++ fields_behind (told_texts (option_copied key.entry) (field_texts tys.now values.now))) }
 {
     match key {
-        None => push_values(alloc, line, text, tys, values),
-        Some(key) => push_key_values(alloc, line, text, tys, values, key.as_slice()),
+        None => push_values(alloc, line, tys, values),
+        Some(key) => push_key_values(alloc, line, tys, values, key.as_slice()),
     }
 }
 
 // Puts the texts of values.
 #[tactic(auto, using(crate::proofs::Texts::texts_none, crate::proofs::Texts::type_at))]
-fn push_values(
-    alloc: Global,
-    line: &mut Vec<u8>,
-    text: &mut Bytes,
-    tys: &[Ty],
-    values: &[Value],
-) -> Result<(), Memory>
+fn push_values(alloc: Global, line: &mut Bytes, tys: &[Ty], values: &[Value]) -> Result<(), Memory>
     requires types { AllByRecursion (λ ty. IsTrue (is_type ty)) tys.now }
     requires wide { length values.now ≡ length tys.now }
-    ensures { OnOk result (line.new.items ≡ line.old.items ++ fields_behind (field_texts tys.now values.now)) }
+    ensures { OnOk result (line.new ≡ line.old ++ fields_behind (field_texts tys.now values.now)) }
 {
     for i in 0..values.len() {
-        push_value(alloc, line, text, tys[i], &values[i])?;
+        push_value(alloc, line, tys[i], &values[i])?;
     }
     Ok(())
 }
@@ -189,19 +177,18 @@ fn push_values(
 #[tactic(auto, using(crate::proofs::Texts::key_texts_none, crate::proofs::Texts::type_at))]
 fn push_key_values(
     alloc: Global,
-    line: &mut Vec<u8>,
-    text: &mut Bytes,
+    line: &mut Bytes,
     tys: &[Ty],
     values: &[Value],
     key: &[u32],
 ) -> Result<(), Memory>
     requires types { AllByRecursion (λ ty. IsTrue (is_type ty)) tys.now }
     requires wide { length values.now ≡ length tys.now }
-    ensures { OnOk result (line.new.items ≡ line.old.items ++ fields_behind (at_key key.now 0 (field_texts tys.now values.now))) }
+    ensures { OnOk result (line.new ≡ line.old ++ fields_behind (at_key key.now 0 (field_texts tys.now values.now))) }
 {
     let in_key = among(alloc, values.len(), key)?;
     for i in 0..values.len() {
-        push_at_key(alloc, line, text, tys[i], &values[i], in_key[i])?;
+        push_at_key(alloc, line, tys[i], &values[i], in_key[i])?;
     }
     Ok(())
 }
@@ -210,45 +197,36 @@ fn push_key_values(
 #[tactic(auto, using(crate::proofs::Texts::none_behind))]
 fn push_at_key(
     alloc: Global,
-    line: &mut Vec<u8>,
-    text: &mut Bytes,
+    line: &mut Bytes,
     ty: Ty,
     value: &Value,
     is_key: bool,
 ) -> Result<(), Memory>
     requires ty { IsTrue (is_type ty) }
-    ensures { OnOk result (line.new.items ≡ line.old.items ++ fields_behind (cond is_key (field_text ty value.now ∷ []) [])) }
+    ensures { OnOk result (line.new ≡ line.old ++ fields_behind (cond is_key (field_text ty value.now ∷ []) [])) }
 {
     if is_key {
-        return push_value(alloc, line, text, ty, value);
+        return push_value(alloc, line, ty, value);
     }
     Ok(())
 }
 
-// Puts the text of a value, which is made in `text`.
-fn push_value(
-    alloc: Global,
-    line: &mut Vec<u8>,
-    text: &mut Bytes,
-    ty: Ty,
-    value: &Value,
-) -> Result<(), Memory>
+// Puts the text of a value behind a comma. That of a number or a truth value needs no quotes.
+#[tactic(auto, using(crate::proofs::PlainFields::plain_behind, crate::proofs::PlainFields::field_behind))]
+fn push_value(alloc: Global, line: &mut Bytes, ty: Ty, value: &Value) -> Result<(), Memory>
     requires ty { IsTrue (is_type ty) }
-    ensures { OnOk result (line.new.items ≡ line.old.items ++ fields_behind (field_text ty value.now ∷ [])) }
+    ensures { OnOk result (line.new ≡ line.old ++ fields_behind (field_text ty value.now ∷ [])) }
 {
-    text.clear();
-    push_field(alloc, text, ty, value)?;
-    push_behind_comma(line, text.as_slice())
+    line.push(b',')?;
+    match value {
+        Value::Text(text) => push_text(line, text.as_slice()),
+        Value::Null | Value::Bool(_) | Value::Num(_) => push_field(alloc, line, ty, value),
+    }
 }
 
 // Puts the line of a quiet moment.
-fn push_quiet(
-    alloc: Global,
-    line: &mut Vec<u8>,
-    counts: &[u32],
-    by_table: bool,
-) -> Result<(), Memory>
-    ensures { OnOk result (line.new.items ≡ line.old.items ++ quiet_line (numbers_told by_table counts.now)) }
+fn push_quiet(alloc: Global, line: &mut Bytes, counts: &[u32], by_table: bool) -> Result<(), Memory>
+    ensures { OnOk result (line.new ≡ line.old ++ quiet_line (numbers_told by_table counts.now)) }
 {
     if by_table {
         push_counts(alloc, line, counts)
@@ -258,24 +236,22 @@ fn push_quiet(
 }
 
 #[tactic(auto, using(crate::proofs::Texts::counts_start, crate::proofs::Texts::counts_end))]
-fn push_counts(alloc: Global, line: &mut Vec<u8>, counts: &[u32]) -> Result<(), Memory>
-    ensures { OnOk result (line.new.items ≡ line.old.items ++ quiet_line counts.now) }
+fn push_counts(alloc: Global, line: &mut Bytes, counts: &[u32]) -> Result<(), Memory>
+    ensures { OnOk result (line.new ≡ line.old ++ quiet_line counts.now) }
 {
     line.push(b'=')?;
     for i in 0..counts.len() {
         push_count(alloc, line, counts[i])?;
     }
-    line.push(b'\n')?;
-    Ok(())
+    line.push(b'\n')
 }
 
 // Puts a number behind a comma.
-fn push_count(alloc: Global, line: &mut Vec<u8>, count: u32) -> Result<(), Memory>
-    ensures { OnOk result (line.new.items ≡ line.old.items ++ commaed (count ∷ [])) }
+fn push_count(alloc: Global, line: &mut Bytes, count: u32) -> Result<(), Memory>
+    ensures { OnOk result (line.new ≡ line.old ++ commaed (count ∷ [])) }
 {
     let text = format!(in alloc; ",{count}")?;
-    line.extend_from_slice(text.as_bytes())?;
-    Ok(())
+    line.extend(text.as_bytes())
 }
 
 // The sum, for which 64 bits may be too few.
@@ -289,12 +265,11 @@ fn sum_of(counts: &[u32]) -> u128
     sum
 }
 
-fn push_sum(alloc: Global, line: &mut Vec<u8>, sum: u128) -> Result<(), Memory>
-    ensures { OnOk result (line.new.items ≡ line.old.items ++ quiet_line (sum ∷ [])) }
+fn push_sum(alloc: Global, line: &mut Bytes, sum: u128) -> Result<(), Memory>
+    ensures { OnOk result (line.new ≡ line.old ++ quiet_line (sum ∷ [])) }
 {
     let text = format!(in alloc; "=,{sum}\n")?;
-    line.extend_from_slice(text.as_bytes())?;
-    Ok(())
+    line.extend(text.as_bytes())
 }
 
 fn kind_text(kind: Kind) -> &'static str

@@ -1,10 +1,14 @@
-use Rattle.std.proofs.Common.{◌≡◌, ◌≤◌, ◌+◌, drop}
-use Rattle.csv.specs.declared.parser.State.TheVariants as st
-use Rattle.job_text.specs.Ends.{ends_in, state_at}
+use Rattle.std.proofs.Common.{◌≡◌, ◌≤◌, ◌+◌, ◌-◌, drop, length}
+use Rattle.csv.specs.declared.parser.State.TheVariants.{StartRecord}
+use Rattle.job_text.specs.Ends.{ends_in}
 use Rattle.job_text.proofs.counting.count_records.Given as goal
 
-abbrev pub invariant-loop-i : goal.invariant-loop-i
-invariant-loop-i l = record {
-  few : l.count ≤ l.i;
-  counted : l.count + ends_in (state_at l.place) (drop l.i l.text) ≡ ends_in st.StartRecord l.text;
+abbrev pub invariant-loop-at : goal.invariant-loop-at
+invariant-loop-at l = record {
+  few : l.count ≤ l.at;
+  within : l.at ≤ length l.text + 1;
+  counted : l.count + ends_in StartRecord (drop l.at l.text) ≡ ends_in StartRecord l.text;
 }
+
+abbrev pub decreases-loop-at : goal.decreases-loop-at
+decreases-loop-at l = length l.text - l.at

@@ -1,11 +1,18 @@
-use Rattle.std.proofs.Common.{◌≡◌, ◌∙◌, ap, arith, drop, length, sym}
-use Rattle.job_text.specs.Ends.{is_start, state_at, state_behind}
-use Rattle.job_text.proofs.Ends.{state_all}
+use Rattle.std.proofs.Common.{◌∙◌, arith, refl}
+use Rattle.job_text.proofs.RecordEnds.{last_line, more_lines, none_behind}
 use Rattle.job_text.proofs.counting.ends_lines.Goals as goal
 
-pub returns : goal.returns
-returns c =
-    let text = c.args.bytes.now in
-    let place = state_at c.loop-i.place in
-    let all : c.loop-i.i ≡ length text = omega (arith, c.loop-i-test.false, c.loop-i.auto.i-end) in
-    c.is_record_start.ensures ∙ ap is_start (sym (state_all text place) ∙ ap (λ n. state_behind place (drop n text)) (sym all) ∙ c.loop-i.invariant)
+pub loop-at-init : goal.loop-at-init
+loop-at-init c = record { within = omega arith; more = λ some. refl; all = λ none. none_behind c.args.bytes.now none }
+
+pub loop-at-preserved : goal.loop-at-preserved
+loop-at-preserved c =
+    let bytes = c.args.bytes.now in
+    let inside = c.loop-at-test.true in
+    let so_far = c.loop-at.invariant.more inside in
+    let end = c.record_end-end.result in
+    record {
+      within = omega (arith, c.record_end-end.ensures.within);
+      more = λ more. more_lines bytes c.loop-at.at end _ inside c.record_end-end.ensures.is so_far more;
+      all = λ all. c.begins_behind-begins.ensures ∙ last_line bytes c.loop-at.at end _ inside c.record_end-end.ensures.is so_far all;
+    }

@@ -3,4 +3,4 @@ use Rattle.job_text.specs.Printed.{commaed}
 use Rattle.job_text.proofs.lines.push_counts.Given as goal
 
 abbrev pub invariant-loop-i : goal.invariant-loop-i
-invariant-loop-i l = l.line.items ++ commaed (drop l.i l.counts) ≡ l.fn.line.items ++ (codes "=" ++ commaed l.counts)
+invariant-loop-i l = l.line ++ commaed (drop l.i l.counts) ≡ l.fn.line ++ (codes "=" ++ commaed l.counts)

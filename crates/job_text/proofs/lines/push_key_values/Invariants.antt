@@ -4,4 +4,4 @@ use Rattle.job_text.proofs.Texts.{key_texts}
 use Rattle.job_text.proofs.lines.push_key_values.Given as goal
 
 abbrev pub invariant-loop-i : goal.invariant-loop-i
-invariant-loop-i l = l.line.items ++ fields_behind (key_texts l.key l.fn.tys l.fn.values l.i) ≡ l.initial.line.items ++ fields_behind (key_texts l.key l.fn.tys l.fn.values 0)
+invariant-loop-i l = l.line ++ fields_behind (key_texts l.key l.fn.tys l.fn.values l.i) ≡ l.initial.line ++ fields_behind (key_texts l.key l.fn.tys l.fn.values 0)
