@@ -8,7 +8,7 @@ ghost use Rattle.stream_model.specs.Machine.{IsQuiet, opened};
 ghost use Rattle.stream_model.specs.Drain.{StopsBy, stages};
 ghost use Rattle.stream_model.specs.Looks.{in_flight, taken_of};
 ghost use Rattle.stream_model.specs.declared.events.StepFault.TheVariants.{Memory as Wanting};
-ghost use Rattle.session_core.specs.LaidOut.{IsStageThere, stage_of};
+ghost use Rattle.session_core.specs.LaidOut.{IsStageThere, is_at_sink, stage_of};
 ghost use Rattle.session_core.specs.Stands.{HasAnswered, buffer_at};
 ghost use Rattle.session_open.specs.Opening.{IsTooMany};
 ghost use Rattle.exec_core.specs.Stands.{ForRuns, ForSteps, HasDrained, HasMoved, HasStage, HasStepped, HasTold, MayStep, Stands, StandsForSome, StopsDraining, StopsMoving, reached};
@@ -159,6 +159,13 @@ impl Session {
         ensures busy { ForRuns self.now (λ plan limit handed items. IsQuiet (network plan) (reached plan limit items) → result ≡ true) }
     {
         self.job.is_quiet()
+    }
+
+    /// Whether a stage of a drain is one of the sink, which prints and sends nothing. It takes no memory.
+    pub fn is_at_sink(&self, stage: Stage) -> bool
+        ensures { ForRuns self.now (λ plan limit handed items. result ≡ is_at_sink (network plan) (stage_of stage)) }
+    {
+        self.job.is_at_sink(stage)
     }
 
     /// How many changes were taken of a table, and `None` exactly where there is no such table. It takes no memory.

@@ -13,7 +13,7 @@ use Rattle.source_lines.specs.Run.{At, Went, and_then, halts, job_of, on}
 use Rattle.source_lines.proofs.laws.Along.{along_leads, leads_after}
 
 -- the first of so many moves
-moves_first : (e i j first rest all : ℕ) → all ≡ first + rest → moves e i j all ≡ moves e i j first ++ moves e i j rest
+pub moves_first : (e i j first rest all : ℕ) → all ≡ first + rest → moves e i j all ≡ moves e i j first ++ moves e i j rest
 moves_first e i j zero rest all is = let same : all ≡ rest = omega (arith, is) in ap (moves e i j) same
 moves_first e i j (suc first) rest zero is = absurd (omega (arith, is))
 moves_first e i j (suc first) rest (suc all) is = let same : all ≡ first + rest = omega (arith, is) in ap (λ items. happens (Move e i j) ∷ items) (moves_first e i j first rest all same)

@@ -53,7 +53,7 @@ part_longer a b x y p = record {
 
 -- ---- why a run halted
 
-caused_by : (T : Type 0) (there other : Outcome) (write later : Type 0) (halt : Halt) → there.ending ≡ other.ending → (write → later) → (let r : Result T Halt = Err halt in IsCausedThere there write r) → let r : Result T Halt = Err halt in IsCausedThere other later r
+pub caused_by : (T : Type 0) (there other : Outcome) (write later : Type 0) (halt : Halt) → there.ending ≡ other.ending → (write → later) → (let r : Result T Halt = Err halt in IsCausedThere there write r) → let r : Result T Halt = Err halt in IsCausedThere other later r
 caused_by T there other write later h.Memory same f e = tt
 caused_by T there other write later h.WriteFault same f e = f e
 caused_by T there other write later h.ReadFault same f e = absurd e

@@ -11,3 +11,6 @@ pub mod Stages
 pub mod Stepped
 pub mod Taken
 pub mod Unfold
+pub mod Passing
+pub mod Sooner
+pub mod EarlyRuns

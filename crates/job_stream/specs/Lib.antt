@@ -1,3 +1,4 @@
+pub mod Early
 pub mod Parts
 pub mod Stops
 pub mod Stream

@@ -28,7 +28,8 @@ const MOST_SENT: u32 = 4294967295;
 /// Runs a sound plan over change files of at most 67,108,864 bytes each, and an order: each line of the order is steps of the job, or lines
 /// that are taken; then all lines that are left are taken, file by file, and the job is drained. What a step printed is written on `out`
 /// behind it, or behind at most 63 more moves from the same channel, each item as a line by the types of the sink's columns, and a `-D` into
-/// an upsert sink by its key. It sends at most 4,294,967,295 changes. Where the process ends with `out`, what the job keeps isn't freed.
+/// an upsert sink by its key. In a drain the changes of the sink's first channel are taken there as they are sent, and the lines that this
+/// prints are kept in memory until its stage. It sends at most 4,294,967,295 changes. Where the process ends with `out`, what the job keeps isn't freed.
 pub fn stream<K: Sink>(
     alloc: Global,
     plan: &Plan,

@@ -1,5 +1,5 @@
 -- A network's wiring, laid out for look-ups.
-use Rattle.std.specs.Prelude.{◌≡◌, ℕ, zero, suc, ◌+◌, ◌<◌, ◌≤◌, ◌^◌, true, cond, List, [], ◌∷◌, ◌++◌, map, length, get_or, slice_get, Option, Some, None}
+use Rattle.std.specs.Prelude.{◌≡◌, ℕ, zero, suc, ◌+◌, ◌<◌, ◌≤◌, ◌^◌, ◌==◌, Bool, true, cond, List, [], ◌∷◌, ◌++◌, map, length, get_or, slice_get, Option, Some, None}
 use Rattle.std.specs.List.{All}
 use Rattle.ct_value.specs.declared.ty.ColTy.{ColTy}
 use Rattle.ct_change.specs.declared.change.Change.{Change}
@@ -8,7 +8,7 @@ use Rattle.stream_model.specs.Network as network
 use Rattle.stream_model.specs.Network.{Network, IsWired}
 use Rattle.stream_model.specs.Machine.{is_place, is_scan_of}
 use Rattle.stream_model.specs.Drain as drain
-use Rattle.stream_model.specs.Drain.{delivers, flushes, stages}
+use Rattle.stream_model.specs.Drain.{delivers, feeds_node, flushes, stages}
 use Rattle.session_channels.specs.Routes.{SpreadsBy}
 use Rattle.session_channels.specs.Sending.{AllRoute}
 use Rattle.session_core.specs.declared.wiring.Feed.{Feed}
@@ -30,6 +30,11 @@ feed_of (Some feed) = Some (port_of feed)
 abbrev pub stage_of : Stage → drain.Stage
 stage_of (Deliver lane) = delivers lane.edge lane.from lane.to
 stage_of (Flush node subtask) = flushes node subtask
+
+-- whether a stage of a drain is one of the sink: a channel that leads there, or its bundle
+abbrev pub is_at_sink : Network → drain.Stage → Bool
+is_at_sink g (delivers e i j) = feeds_node g.count (g.fed e)
+is_at_sink g (flushes v j) = v == g.count
 
 -- the scans of a table among the nodes below a number, in order
 abbrev pub scans_below : Network → ℕ → ℕ → List ℕ

@@ -3,9 +3,10 @@ ghost use Rattle.ct_change.specs.Changelog.{Mode};
 ghost use Rattle.stream_model.specs.Network.{MeetsFacts};
 ghost use Rattle.stream_model.specs.Machine.{IsQuiet};
 ghost use Rattle.stream_model.specs.Looks.{in_flight, taken_of};
+ghost use Rattle.session_core.specs.LaidOut.{is_at_sink, stage_of};
 ghost use Rattle.session_core.specs.Stands.{ForRuns, HasAnswered, PrintsIn, StandsFor, StandsForSome, buffer_at, reached};
 
-use crate::{Buffer, Session, SourceCheck};
+use crate::{Buffer, Session, SourceCheck, Stage};
 use op_rules::PieceOperator;
 use std::mem::swap;
 use stream_model::PrintList;
@@ -40,6 +41,13 @@ impl<O: PieceOperator + Drop, S: SourceCheck> Session<O, S> {
             Some(_) => Buffer::Holds(self.operators.held(node, subtask)),
             None => Buffer::NoBuffer,
         }
+    }
+
+    /// Whether a stage of a drain is one of the sink, which prints and sends nothing. It takes no memory.
+    pub fn is_at_sink(&self, stage: Stage) -> bool
+        ensures { ForRuns O.rule O.broken O.stands_for O.takes_pieces S.stands_for self.now (λ g limit handed items. result ≡ is_at_sink g (stage_of stage)) }
+    {
+        self.wiring.is_at_sink(stage)
     }
 
     /// How many changes were taken of a table, and `None` exactly where there is no such table. It takes no memory.

@@ -2,7 +2,7 @@ ghost use Rattle.std.specs.Prelude.{◌≡◌, ℕ, ◌+◌, ◌<◌, ◌∷◌,
 ghost use Rattle.stream_model.specs.Network.{Network};
 ghost use Rattle.stream_model.specs.Machine as machine;
 ghost use Rattle.stream_model.specs.Drain.{stages};
-ghost use Rattle.session_core.specs.LaidOut.{IsLaidOut, IsStageThere, feed_of, stage_of};
+ghost use Rattle.session_core.specs.LaidOut.{IsLaidOut, IsStageThere, feed_of, is_at_sink, stage_of};
 
 use crate::{Feed, Stage, TableWiring, Wiring};
 use ct_value::{ColTys, Memory};
@@ -64,6 +64,19 @@ impl Wiring {
         match self.bundles.get(node as usize) {
             Some(size) => *size,
             None => None,
+        }
+    }
+
+    /// Whether a stage of a drain is one of the sink.
+    pub fn is_at_sink(&self, stage: Stage) -> bool
+        ensures { (g : Network) (limit : ℕ) → IsLaidOut self.now g limit → result ≡ is_at_sink g (stage_of stage) }
+    {
+        match stage {
+            Stage::Deliver(lane) => match self.feed(lane.edge) {
+                Some(feed) => feed.node == self.nodes,
+                None => false,
+            },
+            Stage::Flush { node, .. } => node == self.nodes,
         }
     }
 
