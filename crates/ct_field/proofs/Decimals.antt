@@ -1,33 +1,49 @@
--- The turns of a loop that writes the decimal digits of a number, the last one first.
-use Rattle.std.proofs.Common.{◌≡◌, ℕ, zero, suc, ◌+◌, ◌-◌, ◌/◌, ◌%◌, ◌<◌, ◌≤◌, List, [], ◌∷◌, length, drop, set, true, false, cond, eqb, refl, ap, ◌∙◌, arith, eq-eqb, ne_eqb, lt-ltb}
-use Rattle.std.proofs.lemmas.List.{drop-set}
-use Rattle.std.specs.Fmt.{decimal, digits, digits_onto, digit_glyph}
+-- The decimal digits of a number, the last two first.
+use Rattle.std.proofs.Common.{◌≡◌, ℕ, zero, suc, ◌+◌, ◌-◌, ◌*◌, ◌/◌, ◌%◌, ◌^◌, ◌<◌, ◌≤◌, Bool, true, ◌&&◌, eqb, eq-zero-or-pos, List, [], ◌∷◌, ◌++◌, length, get_or, length-append, append_assoc, inl, inr, refl, ap, ◌∙◌, arith}
+use Rattle.std.specs.Fmt.{decimal}
+use Rattle.std.proofs.lemmas.Bool.{eqb-true}
+use Rattle.std.proofs.lemmas.Fmt.{decimal_digit, decimal_step}
+use Rattle.ct_field.proofs.laws.Numbers.{first_true, second_true}
+use Rattle.ct_field.specs.declared.write.TheConstants.{PAIRS}
 
--- the digits of n, at most i of them, before others
-abbrev pub decimal_onto : ℕ → ℕ → List ℕ → List ℕ
-decimal_onto i n acc = digits_onto i 10 false n acc
+abbrev pub pair : ℕ → List ℕ
+pair p = (48 + p / 10) ∷ (48 + p % 10) ∷ []
 
-pub onto_none : (n : ℕ) → decimal_onto 64 n [] ≡ decimal n
-unfolding digits
-onto_none n = refl
+pub length_one : (n : ℕ) → n < 10 → length (decimal n) ≡ 1
+length_one n h = ap length (decimal_digit n h)
 
-glyph : (d : ℕ) → d < 10 → digit_glyph false d ≡ 48 + d
-glyph d h = ap (λ b. cond b (48 + d) (87 + d)) (lt-ltb d 10 h)
+pub decimal_two : (n : ℕ) → 10 ≤ n → n < 100 → decimal n ≡ pair n
+decimal_two n low high = rw (decimal_step n low (omega arith), decimal_digit (n / 10) (omega arith))
 
-module _ (n : ℕ) (acc : List ℕ) where
-  turned : (k : ℕ) (t : _) → eqb (n / 10) 0 ≡ t → decimal_onto (suc k) n acc ≡ cond t (digit_glyph false (n % 10) ∷ acc) (decimal_onto k (n / 10) (digit_glyph false (n % 10) ∷ acc))
-  turned k t e = ap (λ b. cond b (digit_glyph false (n % 10) ∷ acc) (decimal_onto k (n / 10) (digit_glyph false (n % 10) ∷ acc))) e
+pub length_two : (n : ℕ) → 10 ≤ n → n < 100 → length (decimal n) ≡ 2
+length_two n low high = ap length (decimal_two n low high)
 
-  pub onto_last : (i : ℕ) → 0 < i → n / 10 ≡ 0 → decimal_onto i n acc ≡ (48 + n % 10) ∷ acc
-  onto_last zero h e = absurd (omega arith)
-  onto_last (suc k) h e = turned k true (eq-eqb _ 0 e) ∙ ap (λ d. d ∷ acc) (glyph (n % 10) (omega arith))
+pub decimal_pair : (n : ℕ) → 100 ≤ n → n < 2 ^ 64 → decimal n ≡ decimal (n / 100) ++ pair (n % 100)
+decimal_pair n low high =
+    let a : n / 10 / 10 ≡ n / 100 = omega arith in
+    let b : n / 10 % 10 ≡ n % 100 / 10 = omega arith in
+    let c : n % 10 ≡ n % 100 % 10 = omega arith in
+    rw (decimal_step n (omega arith) high, decimal_step (n / 10) (omega arith) (omega arith), append_assoc, a, b, ← c)
 
-  pub onto_more : (i : ℕ) → 0 < i → (n / 10 ≡ 0 → ⊥) → decimal_onto i n acc ≡ decimal_onto (i - 1) (n / 10) ((48 + n % 10) ∷ acc)
-  onto_more zero h e = absurd (omega arith)
-  onto_more (suc k) h e = turned k false (ne_eqb _ 0 e) ∙ ap (λ d. decimal_onto k (n / 10) (d ∷ acc)) (glyph (n % 10) (omega arith))
-      ∙ ap (λ j. decimal_onto j (n / 10) ((48 + n % 10) ∷ acc)) {x = k} {y = suc k - 1} (omega arith)
+pub length_pair : (n : ℕ) → 100 ≤ n → n < 2 ^ 64 → length (decimal n) ≡ length (decimal (n / 100)) + 2
+length_pair n low high = ap length (decimal_pair n low high) ∙ length-append _ _
 
-pub written : (out : List ℕ) (i x y : ℕ) → 0 < i → i ≤ length out → x ≡ y → drop (i - 1) (set out (i - 1) x) ≡ y ∷ drop i out
-written out i x y h l e =
-    let s : i - 1 + 1 ≡ i = omega arith in
-    drop-set out (i - 1) x (omega arith) ∙ (λ j. e j ∷ drop (s j) out)
+-- ---- the table
+
+abbrev are_pairs : ℕ → Bool
+are_pairs zero = true
+are_pairs (suc p) = (eqb (get_or PAIRS (p * 2) 0) (48 + p / 10) && eqb (get_or PAIRS (p * 2 + 1) 0) (48 + p % 10)) && are_pairs p
+
+abbrev Stands : ℕ → Type 0
+Stands p = (get_or PAIRS (p * 2) 0 ≡ 48 + p / 10) × (get_or PAIRS (p * 2 + 1) 0 ≡ 48 + p % 10)
+
+below : (n p : ℕ) → are_pairs n ≡ true → p < n → Stands p
+below zero p t h = absurd (omega arith)
+below (suc n) p t h =
+    elim (eq-zero-or-pos (n - p)) [
+      | inl z ↦ let e : p ≡ n = omega arith in let a = first_true _ (are_pairs n) t in rw e (eqb-true _ _ (first_true _ _ a), eqb-true _ _ (second_true _ _ a))
+      | inr g ↦ below n p (second_true _ (are_pairs n) t) (omega arith)
+    ]
+
+pub pair_stands : (p : ℕ) → p < 100 → Stands p
+pair_stands p h = below 100 p refl h

@@ -19,21 +19,21 @@ digit_at [] i h l = absurd (omega arith)
 digit_at (b ∷ bs) zero h l = (and_both (is_ascii_digit b) (list_all is_ascii_digit bs) h).0
 digit_at (b ∷ bs) (suc i) h l = digit_at bs i (and_both (is_ascii_digit b) (list_all is_ascii_digit bs) h).1 (omega arith)
 
-digit_bounds : (c : ℕ) → is_ascii_digit c ≡ true → (48 ≤ c) × (c ≤ 57)
+pub digit_bounds : (c : ℕ) → is_ascii_digit c ≡ true → (48 ≤ c) × (c ≤ 57)
 digit_bounds c h = grind (arith, nat_tests)
 
 value_of_digit : (c : ℕ) → 48 ≤ c → c ≤ 57 → digit_value c ≡ c - 48
 value_of_digit c low high = grind (arith, nat_tests)
 
-pub digit_low : (bs : List ℕ) (i : ℕ) → list_all is_ascii_digit bs ≡ true → i < length bs → 48 ≤ get_or bs i 0
-digit_low bs i h l = (digit_bounds (get_or bs i 0) (digit_at bs i h l)).0
-
 pub digit_high : (bs : List ℕ) (i : ℕ) → list_all is_ascii_digit bs ≡ true → i < length bs → get_or bs i 0 ≤ 57
 digit_high bs i h l = (digit_bounds (get_or bs i 0) (digit_at bs i h l)).1
 
 -- one digit more
+pub digit_more : (bs : List ℕ) (i : ℕ) → is_ascii_digit (get_or bs i 0) ≡ true → i < length bs → digits_value 10 (take (i + 1) bs) ≡ digits_value 10 (take i bs) * 10 + (get_or bs i 0 - 48)
+digit_more bs i h l = let d = digit_bounds (get_or bs i 0) h in rw (digits_value_more 10 bs i l, value_of_digit (get_or bs i 0) d.0 d.1) refl
+
 pub one_more : (bs : List ℕ) (i : ℕ) → list_all is_ascii_digit bs ≡ true → i < length bs → digits_value 10 (take (i + 1) bs) ≡ digits_value 10 (take i bs) * 10 + (get_or bs i 0 - 48)
-one_more bs i h l = rw (digits_value_more 10 bs i l, value_of_digit (get_or bs i 0) (digit_low bs i h l) (digit_high bs i h l)) refl
+one_more bs i h l = digit_more bs i (digit_at bs i h l) l
 
 -- too many digits so far are too many in the end
 pub too_many : (bs : List ℕ) (i : ℕ) → 10 ^ 38 ≤ digits_value 10 (take i bs) → bounded_number (digits_value 10 bs) ≡ None

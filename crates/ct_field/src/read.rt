@@ -1,5 +1,5 @@
 //! The value that a text spells.
-ghost use Rattle.std.specs.Prelude.{◌≡◌, ◌<◌, ◌≤◌, ◌*◌, ◌^◌, Some, None, true, cond, nat_lt, position, option_map, option_and_then, IsTrue, IfOk, IfSome, IsErrOf};
+ghost use Rattle.std.specs.Prelude.{◌≡◌, ◌<◌, ◌≤◌, ◌*◌, ◌^◌, Some, None, true, cond, nat_lt, nat_le, length, position, option_map, option_and_then, IsTrue, IfOk, IfSome, IsErrOf};
 ghost use Rattle.std.specs.List.{list_all};
 ghost use Rattle.std.specs.Char.{is_ascii_digit};
 ghost use Rattle.std.specs.Str.Parse.{digits_value, starts_with_minus, without_leading_sign};
@@ -14,6 +14,9 @@ use std::alloc::Global;
 
 /// The most bytes of a field that is read.
 pub const MAX_FIELD: usize = 65_536;
+
+// So many digits always fit into 64 bits.
+const SHORT: usize = 18;
 
 /// Why a field isn't read.
 #[derive(Clone, Copy, Debug, PartialEq, Eq)]
@@ -113,7 +116,21 @@ fn without_sign(bytes: &[u8]) -> &[u8]
 }
 
 // The number of a text without a sign, where it has at most 38 digits.
+#[tactic(auto, using(crate::proofs::Short::short_is_spelled))]
 fn unsigned_spelled(scale: u32, bytes: &[u8]) -> Option<u128>
+    requires { scale ≤ 38 }
+    ensures value { result ≡ bounded (unsigned_spelled scale bytes.now) }
+    ensures bound { IfSome result (λ number. number < 10 ^ 38) }
+{
+    match short_number(bytes) {
+        Some(number) => with_zeros(number as u128, scale),
+        None => long_spelled(scale, bytes),
+    }
+}
+
+// The same, also where there is a point or where the digits are many. Not inline, so that short numbers are read by little code.
+#[inline(never)]
+fn long_spelled(scale: u32, bytes: &[u8]) -> Option<u128>
     requires { scale ≤ 38 }
     ensures value { result ≡ bounded (unsigned_spelled scale bytes.now) }
     ensures bound { IfSome result (λ number. number < 10 ^ 38) }
@@ -154,6 +171,17 @@ fn scaled(digits: &[u8], zeros: u32) -> Option<u128>
     ensures bound { IfSome result (λ number. number < 10 ^ 38) }
 {
     let number = digits_spelled(digits)?;
+    with_zeros(number, zeros)
+}
+
+fn with_zeros(number: u128, zeros: u32) -> Option<u128>
+    requires { zeros ≤ 38 }
+    ensures value { result ≡ bounded_number (number * 10 ^ zeros) }
+    ensures bound { IfSome result (λ number. number < 10 ^ 38) }
+{
+    if zeros == 0 {
+        return bounded(number);
+    }
     product(number, power_of_ten(zeros))
 }
 
@@ -178,10 +206,32 @@ fn bounded(number: u128) -> Option<u128>
 fn digits_spelled(bytes: &[u8]) -> Option<u128>
     ensures { result ≡ bounded (digits_spelled bytes.now) }
 {
-    if bytes.is_empty() || !all_digits(bytes) {
+    if bytes.len() <= SHORT {
+        let number = short_number(bytes)?;
+        return Some(number as u128);
+    }
+    if !all_digits(bytes) {
         return None;
     }
     digits_number(bytes)
+}
+
+// The number of few digits, in one walk.
+fn short_number(bytes: &[u8]) -> Option<u64>
+    ensures value { result ≡ cond (nat_le (length bytes.now) 18) (digits_spelled bytes.now) None }
+    ensures bound { IfSome result (λ number. number < 10 ^ 18) }
+{
+    if bytes.is_empty() || bytes.len() > SHORT {
+        return None;
+    }
+    let mut number: u64 = 0;
+    for byte in bytes {
+        if !byte.is_ascii_digit() {
+            return None;
+        }
+        number = number * 10 + (*byte - b'0') as u64;
+    }
+    Some(number)
 }
 
 fn all_digits(bytes: &[u8]) -> bool

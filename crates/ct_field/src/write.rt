@@ -1,5 +1,5 @@
 //! The one text of a value.
-ghost use Rattle.std.specs.Prelude.{◌≡◌, ◌≤◌, ◌++◌, ◌∷◌, ◌^◌, [], drop, IsTrue, IfOk, OnOk};
+ghost use Rattle.std.specs.Prelude.{◌≡◌, ◌<◌, ◌≤◌, ◌+◌, ◌/◌, ◌%◌, ◌++◌, ◌∷◌, ◌^◌, [], drop, length, IsTrue, IfOk, OnOk};
 ghost use Rattle.std.specs.Fmt.{decimal};
 ghost use Rattle.ct_field.specs.Numbers.{is_type};
 ghost use Rattle.ct_field.specs.Fields.{field_text, number_text, unsigned_text, last_digits, escaped, scale_of};
@@ -8,8 +8,12 @@ use crate::number::power_of_ten;
 use ct_value::{Bytes, Memory, Text, TextFault, Ty, Value};
 use std::alloc::Global;
 
-// Room for the digits of each number of 64 bits, of which there are at most 20.
-const MOST_DIGITS: usize = 64;
+// The most digits of a number of 64 bits.
+const MOST_DIGITS: usize = 20;
+
+// The two digits of each number below 100.
+static PAIRS: [u8; 200] =
+    *b"00010203040506070809101112131415161718192021222324252627282930313233343536373839404142434445464748495051525354555657585960616263646566676869707172737475767778798081828384858687888990919293949596979899";
 
 /// The field text of a value: no plus sign, no leading zeros, no -0, all decimals of the type, TRUE or FALSE, `\N` for
 /// NULL, and one more backslash in front of a text that begins with one. It may be longer than a field that is read.
@@ -75,6 +79,19 @@ fn push_number(alloc: Global, text: &mut Bytes, scale: u32, number: i128) -> Res
     requires { scale ≤ 38 }
     ensures { OnOk result (text.new ≡ text.old ++ number_text scale number) }
 {
+    if scale == 0 && 0 <= number && number <= u64::MAX as i128 {
+        return push_digits(text, number as u64);
+    }
+    push_wide(alloc, text, scale, number)
+}
+
+// The same for each number. Not inline, so that most numbers are written by little code.
+#[inline(never)]
+#[tactic(auto, using(std::proofs::Common::append_assoc))]
+fn push_wide(alloc: Global, text: &mut Bytes, scale: u32, number: i128) -> Result<(), Memory>
+    requires { scale ≤ 38 }
+    ensures { OnOk result (text.new ≡ text.old ++ number_text scale number) }
+{
     if number.is_negative() {
         text.push(b'-')?;
     }
@@ -114,22 +131,49 @@ fn push_digits(text: &mut Bytes, number: u64) -> Result<(), Memory>
     text.extend(&digits[start..])
 }
 
-// Writes the decimal digits of a number at the end of a buffer, and answers where they start.
+// Writes the decimal digits of a number at the end of a buffer, two at a time, and answers where they start.
 fn write_digits(digits: &mut [u8; MOST_DIGITS], number: u64) -> usize
-    ensures start { result ≤ 64 }
+    ensures start { result ≤ 20 }
     ensures written { drop result digits.new ≡ decimal number }
 {
     let mut start = MOST_DIGITS;
     let mut rest = number;
-    while start > 0 {
-        start -= 1;
-        digits[start] = b'0' + (rest % 10) as u8;
-        rest /= 10;
-        if rest == 0 {
-            break;
-        }
+    while rest >= 100 {
+        start -= 2;
+        write_pair(digits, start, rest % 100);
+        rest /= 100;
     }
-    start
+    write_first(digits, start, rest)
+}
+
+// Writes the first one or two digits of a number in front of the others, and answers where they start.
+#[inline(always)]
+fn write_first(digits: &mut [u8; MOST_DIGITS], end: usize, number: u64) -> usize
+    requires below { number < 100 }
+    requires room { length (decimal number) ≤ end }
+    requires most { end ≤ 20 }
+    ensures start { result ≤ 20 }
+    ensures written { drop result digits.new ≡ decimal number ++ drop end digits.old }
+{
+    if number < 10 {
+        digits[end - 1] = b'0' + number as u8;
+        return end - 1;
+    }
+    write_pair(digits, end - 2, number);
+    end - 2
+}
+
+#[inline(always)]
+fn write_pair(digits: &mut [u8; MOST_DIGITS], at: usize, pair: u64)
+    requires below { pair < 100 }
+    requires room { at + 2 ≤ 20 }
+    ensures length { length digits.new ≡ 20 }
+    ensures written { drop at digits.new ≡ (48 + pair / 10) ∷ (48 + pair % 10) ∷ drop (at + 2) digits.old }
+{
+    let from = pair as usize * 2;
+    let (tens, ones) = (PAIRS[from], PAIRS[from + 1]);
+    digits[at] = tens;
+    digits[at + 1] = ones;
 }
 
 // Puts the last digits of a number, so many, behind a text.
@@ -137,10 +181,25 @@ fn write_digits(digits: &mut [u8; MOST_DIGITS], number: u64) -> usize
 fn push_last_digits(text: &mut Bytes, digits: u32, number: u128) -> Result<(), Memory>
     ensures { OnOk result (text.new ≡ text.old ++ last_digits digits number) }
 {
+    if number <= u64::MAX as u128 {
+        return push_last_short(text, digits, number as u64);
+    }
     if digits == 0 {
         return Ok(());
     }
     push_last_digits(text, digits - 1, number / 10)?;
+    text.push(b'0' + (number % 10) as u8)
+}
+
+// The same of a number of 64 bits, whose divisions cost less.
+#[tactic(auto, using(std::proofs::Common::append_assoc))]
+fn push_last_short(text: &mut Bytes, digits: u32, number: u64) -> Result<(), Memory>
+    ensures { OnOk result (text.new ≡ text.old ++ last_digits digits number) }
+{
+    if digits == 0 {
+        return Ok(());
+    }
+    push_last_short(text, digits - 1, number / 10)?;
     text.push(b'0' + (number % 10) as u8)
 }
 

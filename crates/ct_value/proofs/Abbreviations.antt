@@ -71,7 +71,7 @@ both_digits (x ∷ xs) ys p q = (p.0, both_digits xs ys p.1 q)
 
 -- ---- digits of numbers
 
-unit_some : (k : ℕ) → 0 < unit k
+pub unit_some : (k : ℕ) → 0 < unit k
 unit_some zero = omega arith
 unit_some (suc k) = let l = unit_some k in omega arith
 
@@ -84,15 +84,6 @@ unit_follows zero zero h = omega arith
 unit_follows (suc k) zero h = absurd (omega arith)
 unit_follows zero (suc j) h = let l = unit_follows zero j (omega arith) in omega arith
 unit_follows (suc k) (suc j) h = let l = unit_follows k j (omega arith) in omega arith
-
--- there is room for one digit more
-pub one_room : (number left : ℕ) → number < unit (8 - left) → 0 < left → number < 2 ^ 56
-one_room number left fits some = let u = unit_follows (8 - left) 7 (omega arith) in let m : unit 7 ≡ 2 ^ 56 = refl in omega arith
-
-pub one_fits : (number left digit : ℕ) → number < unit (8 - left) → left ≤ 8 → 0 < left → digit < 256 → number * 256 + digit < unit (8 - (left - 1))
-one_fits number left digit fits few some is =
-    let e : suc (8 - left) ≡ 8 - (left - 1) = omega arith in
-    subst (λ k. number * 256 + digit < unit k) e (omega arith)
 
 div_follows : (s t d : ℕ) → 0 < d → s ≤ t → s / d ≤ t / d
 div_follows s t d some h = le-div (s / d) t d some (let e = div-add-mod' s d in omega arith)
@@ -207,7 +198,7 @@ numbers_follow m n k a r u h l are = elim (place_follows m n h) [
 
 -- ---- digits of texts
 
-are_text : (text : List ℕ) → AreDigits (text_digits text)
+pub are_text : (text : List ℕ) → AreDigits (text_digits text)
 are_text [] = (omega arith, tt)
 are_text (b ∷ text) = elim (ltb b 254) as (λ t. ltb b 254 ≡ t → AreDigits (cond t ((b + 1) ∷ text_digits text) (replicate 8 255))) [
   | true ↦ λ e. (let l = ltb-true b 254 e in omega arith, are_text text)
@@ -255,7 +246,7 @@ are_place : (p : ℕ) → AreDigits (place_digits p)
 are_place p = by_place p AreDigits
     (λ l. (omega arith, are_digits 7 p)) (λ l m. are_digits 2 (p - Low + 8192)) (λ l. (omega arith, are_digits 7 p))
 
-are_value : (v : Value) → AreDigits (value_digits v)
+pub are_value : (v : Value) → AreDigits (value_digits v)
 are_value Null = (omega arith, tt)
 are_value (Truth false) = (omega arith, tt)
 are_value (Truth true) = (omega arith, tt)

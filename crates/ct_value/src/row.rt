@@ -111,7 +111,11 @@ impl Row {
     pub fn prefix(&self, count: u32) -> Result<Row, Memory>
         ensures { IfOk result (λ row. row ≡ take count self.now) }
     {
-        let end = self.values.len().min(count as usize);
+        let end = count as usize;
+        if self.values.len() <= end {
+            // All values, and so the same abbreviation.
+            return self.dup();
+        }
         let mut values = Vec::with_capacity(self.values.alloc(), end)?;
         for value in &self.values.as_slice()[..end] {
             let copy = value.dup()?;

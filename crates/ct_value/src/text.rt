@@ -1,9 +1,10 @@
-ghost use Rattle.std.specs.Prelude.{◌≡◌, ◌≤◌, ◌↔◌, ◌++◌, Some, length, string_bytes, IfOk, IsErrOf, IsTrue};
+ghost use Rattle.std.specs.Prelude.{◌≡◌, ◌<◌, ◌≤◌, ◌↔◌, ◌++◌, Some, length, take, slice_index, string_bytes, EachIndex, IfOk, IsErrOf, IsTrue};
 ghost use Rattle.std.specs.Str.{IsUtf8, bytes_eq};
 ghost use Rattle.std.specs.Ordering.{nat_cmp, eq_by_cmp};
 ghost use Rattle.std.specs.Cmp.{eq_by_cmp_equiv, partial_equiv_from_equiv, po};
 ghost use Rattle.std.specs.Cmp.Lexicographic.{slice_cmp, nat_list_cmp_total};
 ghost use Rattle.std.proofs.Common.{refl};
+ghost use Rattle.ct_value.specs.Abbreviations.{first_digits, number_onto};
 
 use crate::Memory;
 use crate::each::compare_each;
@@ -75,6 +76,9 @@ impl Text {
         ensures utf8 { IfOk result (λ _. IsUtf8 bytes.now) }
         ensures not_utf8 { IsErrOf result TextFault.NotUtf8 → ¬ (IsUtf8 bytes.now) }
     {
+        if bytes.len() <= ROOM && is_ascii(bytes) {
+            return Ok(near(bytes));
+        }
         let Ok(text) = str::from_utf8(bytes) else {
             return Err(TextFault::NotUtf8);
         };
@@ -89,7 +93,7 @@ impl Text {
         ensures { IfOk result (λ copy. copy ≡ text.now) }
     {
         if text.len() <= ROOM {
-            return Ok(near(text));
+            return Ok(near(text.as_bytes()));
         }
         far(alloc, String::from_str(alloc, text)?)
     }
@@ -101,7 +105,7 @@ impl Text {
         let mut text = String::from_str(alloc, left.as_str())?;
         text.push_str(right.as_str())?;
         if text.len() <= ROOM {
-            return Ok(near(text.as_str()));
+            return Ok(near(text.as_str().as_bytes()));
         }
         far(alloc, text)
     }
@@ -114,6 +118,16 @@ impl Text {
         match &self.held {
             Held::Near(len, bytes) => &bytes[..*len as usize],
             Held::Far(text) => text.as_str().as_bytes(),
+        }
+    }
+
+    // The first seven bytes as a number, the first of them the highest, with zeros where there are fewer.
+    pub(crate) fn front(&self) -> u64
+        ensures { result ≡ number_onto 0 (first_digits 7 self.now) }
+    {
+        match &self.held {
+            Held::Near(len, bytes) => near_front(*len, bytes),
+            Held::Far(text) => far_front(text.as_str().as_bytes()),
         }
     }
 
@@ -143,7 +157,7 @@ impl Text {
             Held::Near(len, bytes) => Ok(Text {
                 held: Held::Near(*len, *bytes),
             }),
-            Held::Far(text) => far(*text.allocator(), text.as_ref().clone()?),
+            Held::Far(text) => dup_far(text),
         }
     }
 }
@@ -197,16 +211,61 @@ fn compare_bytes(left: &[u8], right: &[u8]) -> Ordering
     left.cmp(right)
 }
 
+// Never inlined, so that the copy of a short text, which takes no memory, stays small.
+#[inline(never)]
+fn dup_far(text: &Box<String>) -> Result<Text, Memory>
+    ensures { IfOk result (λ copy. copy ≡ string_bytes text.now.value) }
+{
+    far(*text.allocator(), text.as_ref().clone()?)
+}
+
+// Whether all bytes are ASCII. It is for few bytes: the test of UTF-8 passes many by groups, and that costs more to begin than few cost.
+fn is_ascii(bytes: &[u8]) -> bool
+    ensures { IsTrue result ↔ EachIndex bytes.now (λ k. slice_index bytes.now k < 128) }
+{
+    for byte in bytes {
+        if *byte >= 128 {
+            return false;
+        }
+    }
+    true
+}
+
 // A short text, which takes no memory.
-fn near(text: &str) -> Text
-    requires { length text.now ≤ 22 }
+fn near(text: &[u8]) -> Text
+    requires short { length text.now ≤ 22 }
+    requires utf8 { IsUtf8 text.now }
     ensures { result ≡ text.now }
 {
     let mut bytes = [0; 22];
-    bytes[..text.len()].copy_from_slice(text.as_bytes());
+    bytes[..text.len()].copy_from_slice(text);
     Text {
         held: Held::Near(text.len() as u8, bytes),
     }
+}
+
+// The front of a short text. What lies behind its bytes counts nothing.
+fn near_front(len: u8, bytes: &[u8; 22]) -> u64
+    ensures { result ≡ number_onto 0 (first_digits 7 (take len bytes.now)) }
+{
+    let behind = 8 * (7 - len.min(7));
+    let eight = u64::from_be_bytes([
+        bytes[0], bytes[1], bytes[2], bytes[3], bytes[4], bytes[5], bytes[6], bytes[7],
+    ]);
+    eight >> 8 >> behind << behind
+}
+
+// The same where the bytes lie elsewhere. Never inlined, for few texts are so long.
+#[inline(never)]
+fn far_front(bytes: &[u8]) -> u64
+    ensures { result ≡ number_onto 0 (first_digits 7 bytes.now) }
+{
+    let mut number = 0;
+    for i in 0..7 {
+        let byte = if i < bytes.len() { bytes[i] } else { 0 };
+        number = number * 256 + byte as u64;
+    }
+    number
 }
 
 // A text whose bytes lie in memory of their own.

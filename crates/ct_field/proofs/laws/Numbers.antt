@@ -47,7 +47,7 @@ sum_parts (Some a) (Some b) n e = (a, b, refl, refl, cc)
 
 -- ---- digits
 
-digits_read : (ds : List ℕ) (n : ℕ) → digits_spelled ds ≡ Some n → IsDigits ds × (n ≡ digits_value 10 ds)
+pub digits_read : (ds : List ℕ) (n : ℕ) → digits_spelled ds ≡ Some n → IsDigits ds × (n ≡ digits_value 10 ds)
 digits_read ds n e =
     let p = if_some (nat_lt 0 (length ds) && list_all is_ascii_digit ds) (digits_value 10 ds) n e in
     ((ltb-true 0 (length ds) (first_true (nat_lt 0 (length ds)) (list_all is_ascii_digit ds) p.0), second_true (nat_lt 0 (length ds)) (list_all is_ascii_digit ds) p.0), sym p.1)
@@ -101,7 +101,7 @@ not_less n = grind (arith, nat_tests)
 less_more : (n m : ℕ) → nat_lt n (n + suc m) ≡ true
 less_more n m = lt-ltb n (n + suc m) (omega arith)
 
-digits_without_point : (ds : List ℕ) → list_all is_ascii_digit ds ≡ true → position is_point ds ≡ None
+pub digits_without_point : (ds : List ℕ) → list_all is_ascii_digit ds ≡ true → position is_point ds ≡ None
 digits_without_point ds h = ap (λ k. cond (nat_lt k (length ds)) (Some k) None) (no_point ds h) ∙ ap (λ b. cond b (Some (length ds)) None) (not_less (length ds))
 
 length_point : (whole fraction : List ℕ) → length (whole ++ 46 ∷ fraction) ≡ length whole + suc (length fraction)
