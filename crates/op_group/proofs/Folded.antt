@@ -1,5 +1,5 @@
 -- What is told of a group whose changes were taken in turn.
-use Rattle.std.proofs.Common.{◌≡◌, ◌≢◌, ℕ, ◌&&◌, ◌==◌, not, Bool, true, false, cond, List, [], ◌∷◌, length, take, Option, Some, None, Ok, Err, refl, sym, ap, subst, ◌∙◌, arith, append-nil}
+use Rattle.std.proofs.Common.{◌≡◌, ◌≢◌, ℕ, ◌&&◌, ◌==◌, ◌++◌, not, Bool, true, false, cond, List, [], ◌∷◌, length, take, Option, Some, None, Ok, Err, refl, sym, ap, subst, ◌∙◌, arith, append-nil}
 use Rattle.std.specs.Prelude.{filter, Result, IfOk, OnOk}
 use Rattle.std.specs.List.{AllByRecursion}
 use Rattle.std.specs.BTreeMap.{BTreeMap}
@@ -15,6 +15,7 @@ use Rattle.op_rules.specs.Rules.{Answer, appended}
 use Rattle.op_rules.specs.declared.operator.OpFault.{OpFault}
 use Rattle.op_rules.specs.declared.operator.OpFault.TheVariants.{Range, Memory}
 use Rattle.op_rules.specs.Faults.{IfRange}
+use Rattle.op_rules.proofs.laws.Histories.{appended-nothing}
 use Rattle.emission_rules.specs.Grouping.{Grouping, members, row_count, is_shown, row_of as row_with, group_row, fits_along, is_counted, groups_of, answers, group_emits, TellsGroups, IsSound}
 use Rattle.emission_rules.proofs.laws.GroupAnswers.{row_of_group}
 use Rattle.emission_rules.proofs.laws.Members.{row_count-members, grows_from}
@@ -70,8 +71,8 @@ module _ (by : GroupBy) (input output : Mode) (rows : Rows) (groups : BTreeMap R
   emits_out row is out = says false out ∙ ap (λ k. let r : Answer = Err k in r) (sym is)
 
   module _ (results : Results) (folded : IsFolded (grouping by input output) rows key changes results) where
-    pub emits_folded : (sent : List Change) → sent ≡ emission output results.old results.fresh → group_emits (grouping by input output) rows changes key ≡ Ok sent
-    emits_folded sent e = says true folded.fine ∙ ap (λ xs. let r : Answer = Ok xs in r) (sym (e ∙ (λ i. emission output (folded.old i) (folded.fresh i))))
+    pub emits_folded : (earlier sent : List Change) → sent ≡ earlier ++ emission output results.old results.fresh → appended (Ok earlier) (group_emits (grouping by input output) rows changes key) ≡ Ok sent
+    emits_folded earlier sent e = ap (appended (Ok earlier)) (says true folded.fine) ∙ ap (λ xs. let r : Answer = Ok xs in r) (sym (e ∙ (λ i. earlier ++ emission output (folded.old i) (folded.fresh i))))
 
     -- a group of which nothing came has the row that it had
     is_some_change : results.old ≢ results.fresh → (length key ≡ by.keys)
@@ -138,3 +139,7 @@ pub ranges : {T : Type 0} (r : Result T OpFault) {P Q : Row → Type 0} → ((ro
 ranges (Ok x) h p = tt
 ranges (Err (Range row)) h p = h row p
 ranges (Err Memory) h p = tt
+
+-- what stands behind nothing is all
+pub behind_none : (answer : Answer) (none sent : List Change) → none ≡ [] → appended (Ok none) answer ≡ Ok sent → answer ≡ Ok sent
+behind_none answer none sent is e = sym (appended-nothing answer) ∙ ap (λ xs. appended (Ok xs) answer) (sym is) ∙ e

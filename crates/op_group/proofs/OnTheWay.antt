@@ -1,5 +1,5 @@
 -- Groups that take their changes one after the other: the first, the next, and the last.
-use Rattle.std.proofs.Common.{◌≡◌, ℕ, ◌+◌, List, [], ◌∷◌, ◌++◌, length, Ok, Err, refl, sym, ap, subst, ◌∙◌, arith, append_assoc, append-nil}
+use Rattle.std.proofs.Common.{◌≡◌, ℕ, ◌+◌, List, [], ◌∷◌, length, Ok, Err, refl, sym, ap, subst, ◌∙◌, arith, append_assoc, append-nil}
 use Rattle.std.specs.BTreeMap.{BTreeMap}
 use Rattle.ct_value.specs.declared.row.Row.{Row}
 use Rattle.ct_change.specs.declared.change.Change.{Change}
@@ -25,9 +25,10 @@ at_first by g rows held entries stands groups stand may = record {
   count = refl;
 }
 
-told_more : (sent told : List Change) (answer : Answer) → appended (Ok sent) (appended (Ok told) answer) ≡ appended (Ok (sent ++ told)) answer
-told_more sent told (Ok more) = ap (λ xs. let r : Answer = Ok xs in r) (sym (append_assoc sent told more))
-told_more sent told (Err row) = refl
+told_more : (sent : List Change) (answer others : Answer) → appended (Ok sent) (appended answer others) ≡ appended (appended (Ok sent) answer) others
+told_more sent (Ok told) (Ok more) = ap (λ xs. let r : Answer = Ok xs in r) (sym (append_assoc sent told more))
+told_more sent (Ok told) (Err row) = refl
+told_more sent (Err row) others = refl
 
 module _ (by : GroupBy) (input output : Mode) (rows : Rows) (held : ℕ) (entries : Entries) (stands : Rows → Type 0) (groups : BTreeMap Row Kept) (left : Entries) (sent : List Change) (way : AreOnTheWay by (grouping by input output) rows held entries stands groups left sent) where
   abbrev g : Grouping
@@ -50,9 +51,9 @@ module _ (by : GroupBy) (input output : Mode) (rows : Rows) (held : ℕ) (entrie
       few = let few = may_now.few in omega (arith, few);
     }
 
-    pub onward : (stands_now : Rows → Type 0) (new : BTreeMap Row Kept) (told : List Change) → group_emits (grouping by input output) way.now changes key ≡ Ok told → stands_now (fold_from input way.now changes)
-        → IsGrouped by (grouping by input output) (fold_from input way.now changes) new (way.taken + length changes) → AreOnTheWay by (grouping by input output) rows held entries stands_now new rest (sent ++ told)
-    onward stands_now new told e stand grouped = record {
+    pub onward : (stands_now : Rows → Type 0) (new : BTreeMap Row Kept) (all : List Change) → appended (Ok sent) (group_emits (grouping by input output) way.now changes key) ≡ Ok all → stands_now (fold_from input way.now changes)
+        → IsGrouped by (grouping by input output) (fold_from input way.now changes) new (way.taken + length changes) → AreOnTheWay by (grouping by input output) rows held entries stands_now new rest all
+    onward stands_now new all e stand grouped = record {
       now = fold_from input way.now changes;
       taken = way.taken + length changes;
       stand = stand;
@@ -62,7 +63,7 @@ module _ (by : GroupBy) (input output : Mode) (rows : Rows) (held : ℕ) (entrie
         follow = may_now.follow.1;
         few = let few = may_now.few in omega (arith, few);
       };
-      told = told_now ∙ ap (λ a. appended (Ok sent) (appended a (told_along g (fold_from input way.now changes) rest))) e ∙ told_more sent told (told_along g (fold_from input way.now changes) rest);
+      told = told_now ∙ told_more sent (group_emits g way.now changes key) (told_along g (fold_from input way.now changes) rest) ∙ ap (λ a. appended a (told_along g (fold_from input way.now changes) rest)) e;
       folds = way.folds ∙ ap (folded input way.now) is;
       count = let count = way.count in let size = ap held_in is in omega (arith, count, size);
     }

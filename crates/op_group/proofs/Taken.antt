@@ -142,8 +142,8 @@ module _ (by : GroupBy) (input output : Mode) (rows : Rows) (groups : BTreeMap R
     fine : in_range by (replaced (members g key rows) gone come) ≡ true
     fine = told.fine (m.grouped.fit key)
 
-    pub emits_told : (sent : List Change) → sent ≡ emission output results.old results.fresh → group_emits (grouping by input output) rows (change ∷ []) (take by.keys change.row) ≡ Ok sent
-    emits_told sent e = emits_row true fine ∙ ap (λ xs. let r : Answer = Ok xs in r) (sym (e ∙ (λ i. emission output (old_is i) (fresh_is i))))
+    pub emits_told : (earlier sent : List Change) → sent ≡ earlier ++ emission output results.old results.fresh → appended (Ok earlier) (group_emits (grouping by input output) rows (change ∷ []) (take by.keys change.row)) ≡ Ok sent
+    emits_told earlier sent e = ap (appended (Ok earlier)) (emits_row true fine) ∙ ap (λ xs. let r : Answer = Ok xs in r) (sym (e ∙ (λ i. earlier ++ emission output (old_is i) (fresh_is i))))
 
     pub grouped_after : (new : BTreeMap Row Kept) → AreKept by new (λ k. members (grouping by input output) k (apply input rows change)) → IsGrouped by (grouping by input output) (apply input rows change) new (held + 1)
     grouped_after new kept =

@@ -3,13 +3,14 @@ ghost use Rattle.std.specs.Prelude.{◌≡◌, ◌+◌, ◌&&◌, ◌∷◌, [],
 ghost use Rattle.ct_change.specs.Changelog.{Mode, apply, fold_from};
 ghost use Rattle.ct_value.specs.declared.row.Row.{Row as Line};
 ghost use Rattle.op_rules.specs.Faults.{IfRange};
+ghost use Rattle.op_rules.specs.Rules.{appended};
 ghost use Rattle.agg_fns.specs.declared.acc.AccFault.TheVariants.{Out};
 ghost use Rattle.emission_rules.specs.Grouping.{fits_along, is_counted, group_emits, members};
 ghost use Rattle.op_group.specs.Groups.{IsGrouped};
 ghost use Rattle.op_group.specs.Kept.{row_in};
 ghost use Rattle.op_group.specs.Folding.{ForFolded, ForShifted, HasShiftedAlong, IsFolded, MayFoldSome, MayShift};
 
-use crate::group::{row_of, told};
+use crate::group::{row_of, tell};
 use crate::groups::{GroupBy, Results, forget, put_back, take_out};
 use crate::kept::Kept;
 use agg_fns::AccFault;
@@ -18,7 +19,8 @@ use ct_value::Row;
 use op_rules::OpFault;
 use std::collections::BTreeMap;
 
-/// Takes changes of the rows of the group with this key in turn, and answers what is emitted for them as one change of the group.
+/// Takes changes of the rows of the group with this key in turn, and puts what is emitted for them as one change of the group
+/// behind what stands in `to`.
 pub(crate) fn take_group<I: InMode, O: OutMode>(
     by: &GroupBy,
     input: &I,
@@ -27,9 +29,10 @@ pub(crate) fn take_group<I: InMode, O: OutMode>(
     groups: &mut BTreeMap<Row, Kept>,
     key: Row,
     changes: Changes,
-) -> Result<Changes, OpFault>
+    to: &mut Changes,
+) -> Result<(), OpFault>
     requires { MayFoldSome by.now (I.mode input.now) (O.mode output.now) (I.stands_for input.now rows.old) groups.old key changes }
-    ensures sent { IfOk result (λ sent. ForFolded by.now (I.mode input.now) (O.mode output.now) (I.stands_for input.now rows.old) groups.old key changes (λ g stood held. group_emits g stood changes key ≡ Ok sent)) }
+    ensures sent { OnOk result (ForFolded by.now (I.mode input.now) (O.mode output.now) (I.stands_for input.now rows.old) groups.old key changes (λ g stood held. appended (Ok to.old) (group_emits g stood changes key) ≡ Ok to.new)) }
     ensures rows { OnOk result (ForFolded by.now (I.mode input.now) (O.mode output.now) (I.stands_for input.now rows.old) groups.old key changes (λ g stood held. I.stands_for input.now rows.new (fold_from g.input stood changes))) }
     ensures kept { OnOk result (ForFolded by.now (I.mode input.now) (O.mode output.now) (I.stands_for input.now rows.old) groups.old key changes (λ g stood held. IsGrouped by.now g (fold_from g.input stood changes) groups.new (held + length changes))) }
     ensures range { IfRange result (λ row. ForFolded by.now (I.mode input.now) (O.mode output.now) (I.stands_for input.now rows.old) groups.old key changes (λ g stood held. group_emits g stood changes key ≡ Err row)) }
@@ -38,8 +41,8 @@ pub(crate) fn take_group<I: InMode, O: OutMode>(
         Ok(results) => results,
         Err(fault) => return Err(fault),
     };
-    let sent = told(by.alloc, output, results)?;
-    Ok(sent)
+    tell(output, results, to)?;
+    Ok(())
 }
 
 // The group with this key takes changes of its rows in turn, and is forgotten where it then has no rows. It is out of range, at its

@@ -3,6 +3,7 @@ ghost use Rattle.ct_change.specs.Changelog.{Rows, apply};
 ghost use Rattle.ct_change.specs.Emission.{emission, row_of, CanTell};
 ghost use Rattle.op_rules.specs.Faults.{IfRange};
 ghost use Rattle.op_rules.specs.History.{Arrival};
+ghost use Rattle.op_rules.specs.Rules.{appended};
 
 use crate::fold::take_group;
 use crate::groups::{GroupBy, Results, first_row, turn_group};
@@ -90,7 +91,8 @@ impl<I: InMode, O: OutMode> Group<I, O> {
         ensures cost { _steps.new ≡ _steps.old }
     {
         self.broken = true;
-        let sent = match take_group(
+        let mut sent = Changes::new(self.by.alloc);
+        if let Err(fault) = take_group(
             &self.by,
             &self.input,
             &self.output,
@@ -98,18 +100,18 @@ impl<I: InMode, O: OutMode> Group<I, O> {
             &mut self.groups,
             key,
             changes,
+            &mut sent,
         ) {
-            Ok(sent) => sent,
-            Err(fault) => return Err(fault),
-        };
+            return Err(fault);
+        }
         self.broken = false;
         Ok(sent)
     }
 
-    // Takes a change, and answers what is emitted for it.
-    fn take(&mut self, change: Change) -> Result<Changes, OpFault>
+    // Takes a change, and puts what is emitted for it behind what stands in `to`.
+    fn take(&mut self, change: Change, to: &mut Changes) -> Result<(), OpFault>
         requires { (rows : Rows) × (held : ℕ) × I.stands_for self.old.input self.old.rows rows × MayTake self.old.by (grouping self.old.by (I.mode self.old.input) (O.mode self.old.output)) rows self.old.groups held change }
-        ensures sent { IfOk result (λ sent. (rows : Rows) (held : ℕ) → I.stands_for self.old.input self.old.rows rows → MayTake self.old.by (grouping self.old.by (I.mode self.old.input) (O.mode self.old.output)) rows self.old.groups held change → group_emits (grouping self.old.by (I.mode self.old.input) (O.mode self.old.output)) rows (change ∷ []) (take self.old.by.keys change.row) ≡ Ok sent) }
+        ensures sent { OnOk result ((rows : Rows) (held : ℕ) → I.stands_for self.old.input self.old.rows rows → MayTake self.old.by (grouping self.old.by (I.mode self.old.input) (O.mode self.old.output)) rows self.old.groups held change → appended (Ok to.old) (group_emits (grouping self.old.by (I.mode self.old.input) (O.mode self.old.output)) rows (change ∷ []) (take self.old.by.keys change.row)) ≡ Ok to.new) }
         ensures kept { OnOk result ((rows : Rows) (held : ℕ) → I.stands_for self.old.input self.old.rows rows → MayTake self.old.by (grouping self.old.by (I.mode self.old.input) (O.mode self.old.output)) rows self.old.groups held change → I.stands_for self.new.input self.new.rows (apply (I.mode self.old.input) rows change) × IsGrouped self.old.by (grouping self.old.by (I.mode self.old.input) (O.mode self.old.output)) (apply (I.mode self.old.input) rows change) self.new.groups (held + 1)) }
         ensures range { IfRange result (λ row. (rows : Rows) (held : ℕ) → I.stands_for self.old.input self.old.rows rows → MayTake self.old.by (grouping self.old.by (I.mode self.old.input) (O.mode self.old.output)) rows self.old.groups held change → group_emits (grouping self.old.by (I.mode self.old.input) (O.mode self.old.output)) rows (change ∷ []) (take self.old.by.keys change.row) ≡ Err row) }
         ensures same { (self.new.by ≡ self.old.by) × (self.new.input ≡ self.old.input) × (self.new.output ≡ self.old.output) × (self.new.broken ≡ self.old.broken) }
@@ -121,19 +123,20 @@ impl<I: InMode, O: OutMode> Group<I, O> {
             Ok(results) => results,
             Err(fault) => return Err(fault),
         };
-        let sent = told(self.by.alloc, &self.output, results)?;
-        Ok(sent)
+        tell(&self.output, results, to)?;
+        Ok(())
     }
 
     // What is emitted when the job opens.
     fn opened(&self, subtask: u32) -> Result<Changes, Memory>
         ensures { IfOk result (λ sent. sent ≡ (group_rule (grouping self.now.by (I.mode self.now.input) (O.mode self.now.output))).opening subtask) }
     {
+        let mut sent = Changes::new(self.by.alloc);
         if self.by.keys != 0 || subtask != 0 {
-            return Ok(Changes::new(self.by.alloc));
+            return Ok(sent);
         }
         let fresh = first_row(&self.by)?;
-        let sent = told(self.by.alloc, &self.output, Results { old: None, fresh })?;
+        tell(&self.output, Results { old: None, fresh }, &mut sent)?;
         Ok(sent)
     }
 }
@@ -165,13 +168,14 @@ impl<I: InMode, O: OutMode> Operator for Group<I, O> {
         &mut self,
         _port: u32,
         change: Change,
+        to: &mut Changes,
         _steps: &mut Steps<L>,
-    ) -> Result<Changes, OpFault> {
+    ) -> Result<(), OpFault> {
         self.broken = true;
-        match self.take(change) {
-            Ok(sent) => {
+        match self.take(change, to) {
+            Ok(()) => {
                 self.broken = false;
-                Ok(sent)
+                Ok(())
             }
             Err(fault) => Err(fault),
         }
@@ -217,22 +221,15 @@ pub(crate) fn row_of(change: &Option<Change>) -> Option<&Row>
     }
 }
 
-// The changes that replace one row of a group by another, none where it stays.
-pub(crate) fn told<O: OutMode>(
-    alloc: Global,
-    output: &O,
-    results: Results,
-) -> Result<Changes, Memory>
+// Puts the changes that replace one row of a group by another, none where it stays, behind what stands in `to`.
+pub(crate) fn tell<O: OutMode>(output: &O, results: Results, to: &mut Changes) -> Result<(), Memory>
     requires { results.old ≢ results.fresh → CanTell (O.mode output.now) results.old results.fresh }
-    ensures { IfOk result (λ sent. sent ≡ emission (O.mode output.now) results.old results.fresh) }
+    ensures { OnOk result (to.new ≡ to.old ++ emission (O.mode output.now) results.old results.fresh) }
 {
     if stays(&results) {
-        let sent = Changes::new(alloc);
-        return Ok(sent);
+        return Ok(());
     }
-    let mut sent = Changes::with_capacity(alloc, 2)?;
-    output.emit(results.old, results.fresh, &mut sent)?;
-    Ok(sent)
+    output.emit(results.old, results.fresh, to)
 }
 
 // Whether the group's row is as before.

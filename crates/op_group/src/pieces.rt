@@ -35,9 +35,8 @@ pub(crate) fn take_groups<I: InMode, O: OutMode>(
     let mut left = bundle;
     let mut sent = Changes::new(by.alloc);
     'groups: while let Some((key, changes)) = left.take_first() {
-        match take_group(by, input, output, rows, groups, key, changes) {
-            Ok(told) => sent.append(told)?,
-            Err(fault) => return Err(fault),
+        if let Err(fault) = take_group(by, input, output, rows, groups, key, changes, &mut sent) {
+            return Err(fault);
         }
     }
     Ok(sent)

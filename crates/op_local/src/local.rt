@@ -60,16 +60,18 @@ impl<M: InMode> Operator for LocalGroup<M> {
         &mut self,
         _port: u32,
         change: Change,
+        to: &mut Changes,
         steps: &mut Steps<L>,
-    ) -> Result<Changes, OpFault> {
+    ) -> Result<(), OpFault> {
         self.broken = true;
         let changes = only(self.alloc, change)?;
         let sent = match tell_changes(self.alloc, self.keys, &self.aggs, changes, steps) {
             Ok(sent) => sent,
             Err(fault) => return Err(fault),
         };
+        to.append(sent)?;
         self.broken = false;
-        Ok(sent)
+        Ok(())
     }
 
     fn is_broken(&self) -> bool {

@@ -1,5 +1,5 @@
 -- Groups that take their partial rows one after the other: the first, the next, and the last.
-use Rattle.std.proofs.Common.{◌≡◌, List, [], ◌∷◌, ◌++◌, length, Ok, Err, refl, sym, ap, subst, ◌∙◌, append_assoc, append-nil}
+use Rattle.std.proofs.Common.{◌≡◌, List, [], ◌∷◌, length, Ok, Err, refl, sym, ap, subst, ◌∙◌, append_assoc, append-nil}
 use Rattle.std.specs.BTreeMap.{BTreeMap}
 use Rattle.ct_value.specs.declared.row.Row.{Row}
 use Rattle.ct_change.specs.declared.change.Change.{Change}
@@ -16,9 +16,10 @@ use Rattle.op_merge.specs.Bundles.{AreNamed, AreOnTheWay, grown, told_along}
 pub at_first : (by : MergeBy) (output : Mode) (of : Amounts) (entries : Entries) (groups : BTreeMap Row Kept) → AreMerged by groups of → AreNamed by.keys entries → AreOnTheWay by output of entries groups entries []
 at_first by output of entries groups are named = record { now = of; are = are; named = named; told = sym (appended-nothing (told_along (merging by output) of entries)); grows = refl }
 
-told_more : (sent told : List Change) (answer : Answer) → appended (Ok sent) (appended (Ok told) answer) ≡ appended (Ok (sent ++ told)) answer
-told_more sent told (Ok more) = ap (λ xs. let r : Answer = Ok xs in r) (sym (append_assoc sent told more))
-told_more sent told (Err row) = refl
+told_more : (sent : List Change) (answer others : Answer) → appended (Ok sent) (appended answer others) ≡ appended (appended (Ok sent) answer) others
+told_more sent (Ok told) (Ok more) = ap (λ xs. let r : Answer = Ok xs in r) (sym (append_assoc sent told more))
+told_more sent (Ok told) (Err row) = refl
+told_more sent (Err row) others = refl
 
 module _ (by : MergeBy) (output : Mode) (of : Amounts) (entries : Entries) (groups : BTreeMap Row Kept) (left : Entries) (sent : List Change) (way : AreOnTheWay by output of entries groups left sent) where
   module _ (key : Row) (changes : List Change) (rest : Entries) (is : left ≡ (key, changes) ∷ rest) where
@@ -28,14 +29,14 @@ module _ (by : MergeBy) (output : Mode) (of : Amounts) (entries : Entries) (grou
     pub named_next : length key ≡ by.keys
     named_next = (subst (AreNamed by.keys) is way.named).0
 
-    pub onward : (new : BTreeMap Row Kept) (told : List Change) → merge_answer (merging by output) key (way.now key) (amounts_of by.keys changes) ≡ Ok told → AreMerged by new (with_more way.now key (amounts_of by.keys changes)) → AreOnTheWay by output of entries new rest (sent ++ told)
-    onward new told e are = record {
+    pub onward : (new : BTreeMap Row Kept) (all : List Change) → appended (Ok sent) (merge_answer (merging by output) key (way.now key) (amounts_of by.keys changes)) ≡ Ok all → AreMerged by new (with_more way.now key (amounts_of by.keys changes)) → AreOnTheWay by output of entries new rest all
+    onward new all e are = record {
       now = with_more way.now key (amounts_of by.keys changes);
       are = are;
       named = (subst (AreNamed by.keys) is way.named).1;
       told =
-          told_now ∙ ap (λ a. appended (Ok sent) (appended a (told_along (merging by output) (with_more way.now key (amounts_of by.keys changes)) rest))) e
-          ∙ told_more sent told (told_along (merging by output) (with_more way.now key (amounts_of by.keys changes)) rest);
+          told_now ∙ told_more sent (merge_answer (merging by output) key (way.now key) (amounts_of by.keys changes)) (told_along (merging by output) (with_more way.now key (amounts_of by.keys changes)) rest)
+          ∙ ap (λ a. appended a (told_along (merging by output) (with_more way.now key (amounts_of by.keys changes)) rest)) e;
       grows = way.grows ∙ ap (grown by.keys way.now) is;
     }
 

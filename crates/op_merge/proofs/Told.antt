@@ -9,7 +9,7 @@ use Rattle.ct_change.specs.declared.change.Change.{Change}
 use Rattle.ct_change.specs.Changelog.{Mode, append, retract, upsert}
 use Rattle.ct_change.specs.Emission.{emission, CanTell}
 use Rattle.op_rules.specs.Faults.{IfRange}
-use Rattle.op_rules.specs.Rules.{Answer}
+use Rattle.op_rules.specs.Rules.{Answer, appended}
 use Rattle.op_rules.specs.declared.operator.OpFault.{OpFault}
 use Rattle.op_rules.specs.declared.operator.OpFault.TheVariants.{Range, Memory}
 use Rattle.emission_rules.proofs.laws.GroupAnswers.{take-front, length-front}
@@ -27,8 +27,8 @@ module _ (m : Merging) (key : Row) (earlier rows : List (List Value)) where
   pub answer_out : (row : Row) → row ≡ key → (within_after m.local earlier rows && has_results m.local (earlier ++ rows)) ≡ false → merge_answer m key earlier rows ≡ Err row
   answer_out row is out = says false out ∙ ap (λ k. let r : Answer = Err k in r) (sym is)
 
-  pub answer_told : (results : Results) → IsTold m.local key earlier rows results → (sent : List Change) → sent ≡ emission m.output results.old results.fresh → merge_answer m key earlier rows ≡ Ok sent
-  answer_told results told sent e = says true told.fine ∙ ap (λ xs. let r : Answer = Ok xs in r) (sym (e ∙ (λ i. emission m.output (told.old i) (told.fresh i))))
+  pub answer_told : (results : Results) → IsTold m.local key earlier rows results → (before sent : List Change) → sent ≡ before ++ emission m.output results.old results.fresh → appended (Ok before) (merge_answer m key earlier rows) ≡ Ok sent
+  answer_told results told before sent e = ap (appended (Ok before)) (says true told.fine) ∙ ap (λ xs. let r : Answer = Ok xs in r) (sym (e ∙ (λ i. before ++ emission m.output (told.old i) (told.fresh i))))
 
 -- a group's row begins with its key
 row_named : (l : LocalGrouping) (key : Row) (amounts : List Value) (row : Row) → length key ≡ l.keys → row_from l key amounts ≡ Some row → (take l.keys row ≡ key) × (l.keys ≤ length row)

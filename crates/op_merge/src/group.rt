@@ -1,6 +1,7 @@
 ghost use Rattle.std.specs.Prelude.{◌≡◌, ◌≤◌, ◌∷◌, [], length, take, true, false, IfOk, OnOk, Ok, Err};
 ghost use Rattle.ct_change.specs.Changelog.{Mode};
 ghost use Rattle.op_rules.specs.Faults.{IfRange};
+ghost use Rattle.op_rules.specs.Rules.{appended};
 
 use crate::groups::MergeBy;
 use crate::kept::Kept;
@@ -51,19 +52,19 @@ impl<O: OutMode> MergeGroup<O> {
         }
     }
 
-    // Takes a partial row, and answers what is emitted for it.
-    fn take(&mut self, change: Change) -> Result<Changes, OpFault>
+    // Takes a partial row, and puts what is emitted for it behind what stands in `to`.
+    fn take(&mut self, change: Change, to: &mut Changes) -> Result<(), OpFault>
         requires can { CanMerge (merging self.old.by (O.mode self.old.output)) }
         requires are { (of : Amounts) × AreMerged self.old.by self.old.groups of }
         requires long { self.old.by.keys ≤ length change.row }
-        ensures sent { IfOk result (λ sent. (of : Amounts) → AreMerged self.old.by self.old.groups of → merge_answer (merging self.old.by (O.mode self.old.output)) (take self.old.by.keys change.row) (of (take self.old.by.keys change.row)) (amounts_of self.old.by.keys (change ∷ [])) ≡ Ok sent) }
+        ensures sent { OnOk result ((of : Amounts) → AreMerged self.old.by self.old.groups of → appended (Ok to.old) (merge_answer (merging self.old.by (O.mode self.old.output)) (take self.old.by.keys change.row) (of (take self.old.by.keys change.row)) (amounts_of self.old.by.keys (change ∷ []))) ≡ Ok to.new) }
         ensures kept { OnOk result ((of : Amounts) → AreMerged self.old.by self.old.groups of → AreMerged self.old.by self.new.groups (with_more of (take self.old.by.keys change.row) (amounts_of self.old.by.keys (change ∷ [])))) }
         ensures range { IfRange result (λ row. (of : Amounts) → AreMerged self.old.by self.old.groups of → merge_answer (merging self.old.by (O.mode self.old.output)) (take self.old.by.keys change.row) (of (take self.old.by.keys change.row)) (amounts_of self.old.by.keys (change ∷ [])) ≡ Err row) }
         ensures same { (self.new.by ≡ self.old.by) × (self.new.output ≡ self.old.output) × (self.new.broken ≡ self.old.broken) }
     {
         let key = change.row.prefix(self.by.keys)?;
         let changes = one(self.by.alloc, change)?;
-        take_group(&self.by, &self.output, &mut self.groups, key, changes)
+        take_group(&self.by, &self.output, &mut self.groups, key, changes, to)
     }
 }
 
@@ -88,13 +89,14 @@ impl<O: OutMode> Operator for MergeGroup<O> {
         &mut self,
         _port: u32,
         change: Change,
+        to: &mut Changes,
         _steps: &mut Steps<L>,
-    ) -> Result<Changes, OpFault> {
+    ) -> Result<(), OpFault> {
         self.broken = true;
-        match self.take(change) {
-            Ok(sent) => {
+        match self.take(change, to) {
+            Ok(()) => {
                 self.broken = false;
-                Ok(sent)
+                Ok(())
             }
             Err(fault) => Err(fault),
         }

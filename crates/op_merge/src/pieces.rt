@@ -2,6 +2,7 @@
 ghost use Rattle.std.specs.Prelude.{◌≡◌, ◌++◌, ◌<◌, ◌≤◌, ◌^◌, length, Ok, Err, IfOk, OnOk};
 ghost use Rattle.std.specs.List.{AllByRecursion};
 ghost use Rattle.op_rules.specs.Faults.{IfRange};
+ghost use Rattle.op_rules.specs.Rules.{appended};
 ghost use Rattle.emission_rules.specs.Grouping.{answers, groups_of};
 ghost use Rattle.phase_rules.specs.Merging.{amounts_in, merge_answer};
 ghost use Rattle.op_merge.specs.Bundles.{AreNamed, grown, told_along};
@@ -16,18 +17,20 @@ use mini_batch::Bundle;
 use op_rules::OpFault;
 use std::collections::BTreeMap;
 
-/// Partial rows of the group with this key are merged in turn, and what is emitted for them is answered.
+/// Partial rows of the group with this key are merged in turn, and what is emitted for them is put behind what stands
+/// in `to`.
 pub(crate) fn take_group<O: OutMode>(
     by: &MergeBy,
     output: &O,
     groups: &mut BTreeMap<Row, Kept>,
     key: Row,
     changes: Changes,
-) -> Result<Changes, OpFault>
+    to: &mut Changes,
+) -> Result<(), OpFault>
     requires can { CanMerge (merging by.now (O.mode output.now)) }
     requires are { (of : Amounts) × AreMerged by.now groups.old of }
     requires named { length key ≡ by.now.keys }
-    ensures sent { IfOk result (λ sent. (of : Amounts) → AreMerged by.now groups.old of → merge_answer (merging by.now (O.mode output.now)) key (of key) (amounts_of by.now.keys changes) ≡ Ok sent) }
+    ensures sent { OnOk result ((of : Amounts) → AreMerged by.now groups.old of → appended (Ok to.old) (merge_answer (merging by.now (O.mode output.now)) key (of key) (amounts_of by.now.keys changes)) ≡ Ok to.new) }
     ensures kept { OnOk result ((of : Amounts) → AreMerged by.now groups.old of → AreMerged by.now groups.new (with_more of key (amounts_of by.now.keys changes))) }
     ensures range { IfRange result (λ row. (of : Amounts) → AreMerged by.now groups.old of → merge_answer (merging by.now (O.mode output.now)) key (of key) (amounts_of by.now.keys changes) ≡ Err row) }
 {
@@ -35,9 +38,8 @@ pub(crate) fn take_group<O: OutMode>(
         Ok(results) => results,
         Err(fault) => return Err(fault),
     };
-    let mut sent = Changes::new(by.alloc);
-    output.emit(results.old, results.fresh, &mut sent)?;
-    Ok(sent)
+    output.emit(results.old, results.fresh, to)?;
+    Ok(())
 }
 
 /// The groups of a bundle take their partial rows, one group after the other, and what is emitted for each stands
@@ -58,9 +60,8 @@ pub(crate) fn take_groups<O: OutMode>(
     let mut left = bundle;
     let mut sent = Changes::new(by.alloc);
     'groups: while let Some((key, changes)) = left.take_first() {
-        match take_group(by, output, groups, key, changes) {
-            Ok(told) => sent.append(told)?,
-            Err(fault) => return Err(fault),
+        if let Err(fault) = take_group(by, output, groups, key, changes, &mut sent) {
+            return Err(fault);
         }
     }
     Ok(sent)

@@ -7,7 +7,7 @@ use Rattle.ct_change.specs.Changelog.{Mode, upsert, Rows, adds, row_at, apply, f
 use Rattle.ct_change.specs.Emission.{difference, replaced_by, put_in, put_over, emission, row_of, CanTell}
 use Rattle.ct_change.proofs.laws.Folds.{fold-push}
 use Rattle.op_rules.specs.History.{Arrival}
-use Rattle.op_rules.specs.Rules.{Answer}
+use Rattle.op_rules.specs.Rules.{Answer, appended}
 use Rattle.emission_rules.specs.Changes.{changes_of}
 use Rattle.emission_rules.specs.Normalize.{Normalize, normalize_emits, normalized, row_left, TellsKey}
 use Rattle.emission_rules.proofs.laws.Normalizing.{can-normalize}
@@ -50,13 +50,13 @@ module _ (key : List ℕ) (mode : Mode) (rows : Rows) (change : Change) (diff : 
   told_is : emission mode (row_of diff.gone) (row_of diff.come) ≡ normalized (record { key = key; output = mode }) rows change
   told_is = ap (λ o. emission mode o (row_of diff.come)) old_is ∙ ap (emission mode (row_at rows key change.row)) fresh_is
 
-  pub told_by : (sent : List Change) (old fresh : Option Row) → old ≡ row_of diff.gone → fresh ≡ row_of diff.come → sent ≡ emission mode old fresh → sent ≡ normalized (record { key = key; output = mode }) rows change
-  told_by sent old fresh is_old is_fresh e = e ∙ ap (λ o. emission mode o fresh) is_old ∙ ap (emission mode (row_of diff.gone)) is_fresh ∙ told_is
+  pub told_by : (was sent : List Change) (old fresh : Option Row) → old ≡ row_of diff.gone → fresh ≡ row_of diff.come → sent ≡ was ++ emission mode old fresh → sent ≡ was ++ normalized (record { key = key; output = mode }) rows change
+  told_by was sent old fresh is_old is_fresh e = e ∙ ap (λ l. was ++ l) (ap (λ o. emission mode o fresh) is_old ∙ ap (emission mode (row_of diff.gone)) is_fresh ∙ told_is)
 
 -- the rows after one more arrival
 pub rows_after : (key : List ℕ) (before : List Arrival) (a : Arrival) → fold (upsert key) (changes_of (before ++ a ∷ [])) ≡ apply (upsert key) (fold (upsert key) (changes_of before)) a.change
 rows_after key before a = ap (fold (upsert key)) (changes_of-append before (a ∷ [])) ∙ fold-push (upsert key) (changes_of before) a.change
 
 -- what is emitted for one change
-pub emits_one : (normalize : Normalize) (before : List Change) (change : Change) (sent : List Change) → sent ≡ normalized normalize (fold (upsert normalize.key) before) change → normalize_emits normalize before (change ∷ []) ≡ Ok sent
-emits_one normalize before change sent e = ap (λ (xs : List Change). let r : Answer = Ok xs in r) (append-nil (normalized normalize (fold (upsert normalize.key) before) change) ∙ sym e)
+pub emits_one : (normalize : Normalize) (before : List Change) (change : Change) (was sent : List Change) → sent ≡ was ++ normalized normalize (fold (upsert normalize.key) before) change → appended (Ok was) (normalize_emits normalize before (change ∷ [])) ≡ Ok sent
+emits_one normalize before change was sent e = ap (λ (xs : List Change). let r : Answer = Ok xs in r) (ap (λ l. was ++ l) (append-nil (normalized normalize (fold (upsert normalize.key) before) change)) ∙ sym e)

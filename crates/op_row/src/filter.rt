@@ -1,7 +1,8 @@
-ghost use Rattle.std.specs.Prelude.{◌≡◌, [], ◌∷◌, false, IfOk, Some, Ok, Err};
+ghost use Rattle.std.specs.Prelude.{◌≡◌, [], false, OnOk, Some, Ok, Err};
 ghost use Rattle.ct_field.specs.Typed as t;
 ghost use Rattle.ct_expr.specs.View.{expr_view};
 ghost use Rattle.op_rules.specs.Faults.{IfRange};
+ghost use Rattle.op_rules.specs.Rules.{appended};
 ghost use Rattle.emission_rules.specs.Filter.{kept_where, filter_change};
 
 use ct_change::{Change, Changes, Steps};
@@ -50,17 +51,18 @@ impl Operator for FilterOp {
         Ok(Changes::new(self.alloc))
     }
 
-    #[tactic(auto, using(crate::proofs::Answers::answer_alone))]
+    #[tactic(auto, using(crate::proofs::Answers::answer_onto, crate::proofs::Answers::answer_alone))]
     fn consume<L: Ledger>(
         &mut self,
         _port: u32,
         change: Change,
+        to: &mut Changes,
         _steps: &mut Steps<L>,
-    ) -> Result<Changes, OpFault> {
+    ) -> Result<(), OpFault> {
         self.broken = true;
-        let sent = passed_on(self.alloc, &self.cond, change)?;
+        pass_on(self.alloc, &self.cond, change, to)?;
         self.broken = false;
-        Ok(sent)
+        Ok(())
     }
 
     fn is_broken(&self) -> bool {
@@ -68,27 +70,26 @@ impl Operator for FilterOp {
     }
 }
 
-// The change, where the condition is TRUE on its row.
-fn passed_on(alloc: Global, cond: &Expr, change: Change) -> Result<Changes, OpFault>
-    ensures ok { IfOk result (λ sent. filter_change (record { condition = expr_view cond.now }) change ≡ Ok sent) }
+// Puts the change behind the others, where the condition is TRUE on its row.
+fn pass_on(alloc: Global, cond: &Expr, change: Change, to: &mut Changes) -> Result<(), OpFault>
+    ensures ok { OnOk result (appended (Ok to.old) (filter_change (record { condition = expr_view cond.now }) change) ≡ Ok to.new) }
     ensures range { IfRange result (λ row. filter_change (record { condition = expr_view cond.now }) change ≡ Err row) }
 {
     match eval(alloc, cond, &change.row) {
-        Ok(value) => Ok(kept(alloc, is_true(&value), change)?),
+        Ok(value) => Ok(keep(is_true(&value), change, to)?),
         Err(EvalFault::Out) => Err(OpFault::Range(change.row)),
         Err(EvalFault::Memory) => Err(OpFault::Memory),
     }
 }
 
-// The change where it passes, and else nothing.
-fn kept(alloc: Global, passes: bool, change: Change) -> Result<Changes, Memory>
-    ensures { IfOk result (λ sent. kept_where change (Some passes) ≡ Ok sent) }
+// Puts the change behind the others, where it passes.
+fn keep(passes: bool, change: Change, to: &mut Changes) -> Result<(), Memory>
+    ensures { OnOk result (appended (Ok to.old) (kept_where change (Some passes)) ≡ Ok to.new) }
 {
-    let mut sent = Changes::new(alloc);
     if passes {
-        sent.push(change)?;
+        to.push(change)?;
     }
-    Ok(sent)
+    Ok(())
 }
 
 // Neither FALSE nor NULL.

@@ -4,7 +4,6 @@
 //! the values of expressions and on the laws of changelogs.
 #![tactic(auto)]
 
-mod change;
 mod filter;
 mod gone;
 mod normalize;

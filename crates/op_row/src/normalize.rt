@@ -1,6 +1,6 @@
-ghost use Rattle.std.specs.Prelude.{◌≡◌, [], ◌∷◌, false, IfOk};
+ghost use Rattle.std.specs.Prelude.{◌≡◌, ◌++◌, [], false, IfOk, OnOk};
 ghost use Rattle.ct_change.specs.Changelog.{Rows, upsert, apply, MayCome, HasKey};
-ghost use Rattle.ct_change.specs.Emission.{emission, row_of, CanTell};
+ghost use Rattle.ct_change.specs.Emission.{row_of};
 ghost use Rattle.ct_change.specs.LastRows.{AreLast};
 ghost use Rattle.emission_rules.specs.Normalize.{normalized, TellsKey};
 
@@ -43,23 +43,18 @@ impl<O: OutMode> NormalizeOp<O> {
         })
     }
 
-    // Takes a change, and answers what is emitted for it.
-    fn take(&mut self, change: Change) -> Result<Changes, Memory>
+    // Takes a change, and puts what is emitted for it behind the others.
+    fn take(&mut self, change: Change, to: &mut Changes) -> Result<(), Memory>
         requires may { (rows : Rows) × AreLast self.old.input.key self.old.kept rows × MayCome (upsert self.old.input.key) rows change }
         requires key { HasKey (upsert self.old.input.key) change.row }
         requires tells { TellsKey self.old.input.key (O.mode self.old.output) }
-        ensures sent { IfOk result (λ sent. (rows : Rows) → AreLast self.old.input.key self.old.kept rows → MayCome (upsert self.old.input.key) rows change → sent ≡ normalized (record { key = self.old.input.key; output = O.mode self.old.output }) rows change) }
-        ensures kept { IfOk result (λ _. (rows : Rows) → AreLast self.old.input.key self.old.kept rows → MayCome (upsert self.old.input.key) rows change → AreLast self.new.input.key self.new.kept (apply (upsert self.old.input.key) rows change)) }
+        ensures sent { OnOk result ((rows : Rows) → AreLast self.old.input.key self.old.kept rows → MayCome (upsert self.old.input.key) rows change → to.new ≡ to.old ++ normalized (record { key = self.old.input.key; output = O.mode self.old.output }) rows change) }
+        ensures kept { OnOk result ((rows : Rows) → AreLast self.old.input.key self.old.kept rows → MayCome (upsert self.old.input.key) rows change → AreLast self.new.input.key self.new.kept (apply (upsert self.old.input.key) rows change)) }
         ensures same { (self.new.input ≡ self.old.input) × (self.new.output ≡ self.old.output) × (self.new.broken ≡ self.old.broken) }
     {
         let diff = self.input.absorb(&mut self.kept, change)?;
-        let sent = told(
-            self.alloc,
-            &self.output,
-            row_in(diff.gone),
-            row_in(diff.come),
-        )?;
-        Ok(sent)
+        self.output.emit(row_in(diff.gone), row_in(diff.come), to)?;
+        Ok(())
     }
 }
 
@@ -84,13 +79,14 @@ impl<O: OutMode> Operator for NormalizeOp<O> {
         &mut self,
         _port: u32,
         change: Change,
+        to: &mut Changes,
         _steps: &mut Steps<L>,
-    ) -> Result<Changes, OpFault> {
+    ) -> Result<(), OpFault> {
         self.broken = true;
-        match self.take(change) {
-            Ok(sent) => {
+        match self.take(change, to) {
+            Ok(()) => {
                 self.broken = false;
-                Ok(sent)
+                Ok(())
             }
             Err(Memory) => Err(OpFault::Memory),
         }
@@ -109,19 +105,4 @@ fn row_in(change: Option<Change>) -> Option<Row>
         None => None,
         Some(change) => Some(change.row),
     }
-}
-
-// The changes that replace one row by the other.
-fn told<O: OutMode>(
-    alloc: Global,
-    output: &O,
-    old: Option<Row>,
-    fresh: Option<Row>,
-) -> Result<Changes, Memory>
-    requires { CanTell (O.mode output.now) old fresh }
-    ensures { IfOk result (λ sent. sent ≡ emission (O.mode output.now) old fresh) }
-{
-    let mut sent = Changes::with_capacity(alloc, 2)?;
-    output.emit(old, fresh, &mut sent)?;
-    Ok(sent)
 }

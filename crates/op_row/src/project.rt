@@ -1,12 +1,12 @@
-ghost use Rattle.std.specs.Prelude.{◌≡◌, [], ◌∷◌, false, map, option_map, IfOk, IsErrOf, Some, None, Ok, Err};
+ghost use Rattle.std.specs.Prelude.{◌≡◌, [], false, map, option_map, IfOk, OnOk, IsErrOf, Some, None, Ok, Err};
 ghost use Rattle.ct_expr.specs.Eval as e;
 ghost use Rattle.ct_expr.specs.View.{exprs_view};
 ghost use Rattle.rel_algebra.specs.Clauses.{row_of};
 ghost use Rattle.op_rules.specs.Faults.{IfRange};
+ghost use Rattle.op_rules.specs.Rules.{appended};
 ghost use Rattle.emission_rules.specs.Project.{with_row, project_change};
 ghost use Rattle.op_row.specs.Gone.{TellsGone, key_of};
 
-use crate::change::alone;
 use crate::gone::{Gone, gone_by};
 use ct_change::{Change, Changes, Steps};
 use ct_expr::{EvalFault, Exprs, eval};
@@ -58,17 +58,18 @@ impl Operator for ProjectOp {
         Ok(Changes::new(self.alloc))
     }
 
-    #[tactic(auto, using(crate::proofs::Answers::answer_alone))]
+    #[tactic(auto, using(crate::proofs::Answers::answer_onto, crate::proofs::Answers::answer_alone))]
     fn consume<L: Ledger>(
         &mut self,
         _port: u32,
         change: Change,
+        to: &mut Changes,
         _steps: &mut Steps<L>,
-    ) -> Result<Changes, OpFault> {
+    ) -> Result<(), OpFault> {
         self.broken = true;
-        let sent = sent_for(self.alloc, &self.items, &self.after, change)?;
+        send(self.alloc, &self.items, &self.after, change, to)?;
         self.broken = false;
-        Ok(sent)
+        Ok(())
     }
 
     fn is_broken(&self) -> bool {
@@ -76,50 +77,52 @@ impl Operator for ProjectOp {
     }
 }
 
-// What is sent for a change.
-fn sent_for(
+// Puts what is sent for a change behind the others.
+fn send(
     alloc: Global,
     items: &Exprs,
     after: &Option<Gone>,
     change: Change,
-) -> Result<Changes, OpFault>
+    to: &mut Changes,
+) -> Result<(), OpFault>
     requires tells { TellsGone (exprs_view items.now) after.now }
-    ensures ok { IfOk result (λ sent. project_change (record { items = exprs_view items.now; after = option_map key_of after.now }) change ≡ Ok sent) }
+    ensures ok { OnOk result (appended (Ok to.old) (project_change (record { items = exprs_view items.now; after = option_map key_of after.now }) change) ≡ Ok to.new) }
     ensures range { IfRange result (λ row. project_change (record { items = exprs_view items.now; after = option_map key_of after.now }) change ≡ Err row) }
 {
     match after {
-        None => projected(alloc, items, change),
-        Some(gone) => sent_by_key(alloc, items, gone, change),
+        None => project(alloc, items, change, to),
+        Some(gone) => send_by_key(alloc, items, gone, change, to),
     }
 }
 
 // The same over an edge that is after-only by a key.
 #[tactic(auto, using(crate::proofs::Sent::comes, crate::proofs::Sent::goes))]
-fn sent_by_key(
+fn send_by_key(
     alloc: Global,
     items: &Exprs,
     gone: &Gone,
     change: Change,
-) -> Result<Changes, OpFault>
+    to: &mut Changes,
+) -> Result<(), OpFault>
     requires tells { TellsGone (exprs_view items.now) (Some gone.now) }
-    ensures ok { IfOk result (λ sent. project_change (record { items = exprs_view items.now; after = Some gone.now.key }) change ≡ Ok sent) }
+    ensures ok { OnOk result (appended (Ok to.old) (project_change (record { items = exprs_view items.now; after = Some gone.now.key }) change) ≡ Ok to.new) }
     ensures range { IfRange result (λ row. project_change (record { items = exprs_view items.now; after = Some gone.now.key }) change ≡ Err row) }
 {
     if change.kind.is_addition() {
-        projected(alloc, items, change)
+        project(alloc, items, change, to)
     } else {
         let row = gone.row(alloc, &change.row)?;
-        Ok(alone(alloc, Change::new(change.kind, row))?)
+        Ok(to.push(Change::new(change.kind, row))?)
     }
 }
 
-// The change with the items' row.
-fn projected(alloc: Global, items: &Exprs, change: Change) -> Result<Changes, OpFault>
-    ensures ok { IfOk result (λ sent. with_row change (row_of (map e.eval (exprs_view items.now)) change.row) ≡ Ok sent) }
+// Puts the change with the items' row behind the others.
+fn project(alloc: Global, items: &Exprs, change: Change, to: &mut Changes) -> Result<(), OpFault>
+    ensures ok { OnOk result (appended (Ok to.old) (with_row change (row_of (map e.eval (exprs_view items.now)) change.row)) ≡ Ok to.new) }
     ensures range { IfRange result (λ row. with_row change (row_of (map e.eval (exprs_view items.now)) change.row) ≡ Err row) }
 {
     match values_of(alloc, items, &change.row) {
-        Ok(row) => Ok(alone(alloc, Change::new(change.kind, row))?),
+        Ok(row) => Ok(to.push(Change::new(change.kind, row))?),
         Err(EvalFault::Out) => Err(OpFault::Range(change.row)),
         Err(EvalFault::Memory) => Err(OpFault::Memory),
     }

@@ -1,6 +1,5 @@
-ghost use Rattle.std.specs.Prelude.{◌≡◌, [], ◌∷◌, false, IfOk};
+ghost use Rattle.std.specs.Prelude.{◌≡◌, [], false};
 
-use crate::change::alone;
 use ct_change::{Change, Changes, Steps};
 use ct_value::Memory;
 use op_rules::{OpFault, Operator};
@@ -50,12 +49,13 @@ impl Operator for UnionOp {
         &mut self,
         _port: u32,
         change: Change,
+        to: &mut Changes,
         _steps: &mut Steps<L>,
-    ) -> Result<Changes, OpFault> {
+    ) -> Result<(), OpFault> {
         self.broken = true;
-        let sent = alone(self.alloc, change)?;
+        to.push(change)?;
         self.broken = false;
-        Ok(sent)
+        Ok(())
     }
 
     fn is_broken(&self) -> bool {

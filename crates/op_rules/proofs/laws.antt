@@ -1,3 +1,4 @@
+pub mod Emits
 pub mod Histories
 pub mod LastRows
 pub mod Ready

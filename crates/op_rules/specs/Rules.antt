@@ -58,6 +58,10 @@ abbrev pub work_along : Rule → List Arrival → List Arrival → ℕ
 work_along rule before [] = 0
 work_along rule before (a ∷ others) = rule.work before a + work_along rule (before ++ a ∷ []) others
 
+-- behind these changes, what is emitted for an arrival after what was taken before makes those
+abbrev pub EmitsOnto : Rule → List Arrival → Arrival → List Change → List Change → Type 0
+EmitsOnto rule before a old new = appended (Ok old) (rule.emits before (a ∷ [])) ≡ Ok new
+
 -- these changes, which came as one piece after what was taken before, may come to the rule, each after those before it
 pub record MayTakePiece (rule : Rule) (before piece : List Arrival) (changes : List Change) : Type 0 where
   pub is : map (λ a. a.change) piece ≡ changes

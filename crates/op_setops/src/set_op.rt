@@ -1,5 +1,5 @@
 //! The operator of set operations.
-ghost use Rattle.std.specs.Prelude.{◌≡◌, ◌+◌, ◌<◌, ◌^◌, ◌==◌, [], ◌∷◌, cond, false, IfOk, OnOk};
+ghost use Rattle.std.specs.Prelude.{◌≡◌, ◌++◌, ◌+◌, ◌<◌, ◌^◌, ◌==◌, [], ◌∷◌, cond, false, IfOk, OnOk};
 ghost use Rattle.ct_value.specs.Bag as bag;
 ghost use Rattle.ct_change.specs.Changelog.{retract, apply, MayCome};
 ghost use Rattle.emission_rules.specs.SetOps.{number_in, told_by_numbers};
@@ -69,11 +69,11 @@ impl SetOp {
         }
     }
 
-    // Takes a change of a port, and answers what is told of it.
-    fn take(&mut self, port: u32, change: Change) -> Result<Changes, Memory>
+    // Takes a change of a port, and puts what is told of it behind the others.
+    fn take(&mut self, port: u32, change: Change, to: &mut Changes) -> Result<(), Memory>
         requires may { MayCome retract (cond (port == 0) self.old.left self.old.right) change }
         requires room { bag.copies (cond (port == 0) self.old.left self.old.right) change.row + 1 < 2 ^ 64 }
-        ensures sent { IfOk result (λ sent. sent ≡ told_by_numbers (number_in (record { except = self.old.except; all = self.old.all }) self.old.left self.old.right change.row) (number_in (record { except = self.old.except; all = self.old.all }) self.new.left self.new.right change.row) change.row) }
+        ensures sent { OnOk result (to.new ≡ to.old ++ told_by_numbers (number_in (record { except = self.old.except; all = self.old.all }) self.old.left self.old.right change.row) (number_in (record { except = self.old.except; all = self.old.all }) self.new.left self.new.right change.row) change.row) }
         ensures left { OnOk result (self.new.left ≡ cond (port == 0) (apply retract self.old.left change) self.old.left) }
         ensures right { OnOk result (self.new.right ≡ cond (port == 0) self.old.right (apply retract self.old.right change)) }
         ensures same { (self.new.except ≡ self.old.except) × (self.new.all ≡ self.old.all) × (self.new.broken ≡ self.old.broken) }
@@ -82,7 +82,7 @@ impl SetOp {
         let old = self.number(&row);
         self.put(port, change)?;
         let new = self.number(&row);
-        told(self.alloc, old, new, row)
+        tell(old, new, row, to)
     }
 }
 
@@ -104,12 +104,13 @@ impl Operator for SetOp {
         &mut self,
         port: u32,
         change: Change,
+        to: &mut Changes,
         _steps: &mut Steps<L>,
-    ) -> Result<Changes, OpFault> {
+    ) -> Result<(), OpFault> {
         self.broken = true;
-        let sent = self.take(port, change)?;
+        self.take(port, change, to)?;
         self.broken = false;
-        Ok(sent)
+        Ok(())
     }
 
     fn is_broken(&self) -> bool {
@@ -132,14 +133,13 @@ fn put_into(rows: &mut Bag, change: Change) -> Result<(), Memory>
 }
 
 // `+I` of a row where its number rises, `-D` where it falls, and else nothing.
-fn told(alloc: Global, old: u64, new: u64, row: Row) -> Result<Changes, Memory>
-    ensures { IfOk result (λ sent. sent ≡ told_by_numbers old new row) }
+fn tell(old: u64, new: u64, row: Row, to: &mut Changes) -> Result<(), Memory>
+    ensures { OnOk result (to.new ≡ to.old ++ told_by_numbers old new row) }
 {
-    let mut sent = Changes::new(alloc);
     if old < new {
-        sent.push(Change::new(Kind::I, row))?;
+        to.push(Change::new(Kind::I, row))?;
     } else if new < old {
-        sent.push(Change::new(Kind::D, row))?;
+        to.push(Change::new(Kind::D, row))?;
     }
-    Ok(sent)
+    Ok(())
 }

@@ -78,12 +78,14 @@ impl Operator for Materialize {
         &mut self,
         _port: u32,
         change: Change,
+        to: &mut Changes,
         steps: &mut Steps<L>,
-    ) -> Result<Changes, OpFault> {
+    ) -> Result<(), OpFault> {
         self.broken = true;
         let sent = self.take(change, steps)?;
+        to.append(sent)?;
         self.broken = false;
-        Ok(sent)
+        Ok(())
     }
 
     fn is_broken(&self) -> bool {

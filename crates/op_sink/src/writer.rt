@@ -1,4 +1,4 @@
-ghost use Rattle.std.specs.Prelude.{◌≡◌, [], ◌∷◌, false, IfOk};
+ghost use Rattle.std.specs.Prelude.{◌≡◌, ◌++◌, [], ◌∷◌, false, IfOk, OnOk};
 ghost use Rattle.ct_change.specs.Changelog.{adds, mode_of};
 ghost use Rattle.ct_change.specs.KeyRows.{row_told};
 ghost use Rattle.emission_rules.specs.Changes.{after_key};
@@ -59,13 +59,14 @@ impl Operator for SinkWriter {
         &mut self,
         _port: u32,
         change: Change,
+        to: &mut Changes,
         _steps: &mut Steps<L>,
-    ) -> Result<Changes, OpFault> {
+    ) -> Result<(), OpFault> {
         self.broken = true;
         let split = splits(self.declared, &self.update);
-        let sent = printed(self.alloc, self.declared, &self.key, split, change)?;
+        print(self.alloc, self.declared, &self.key, split, change, to)?;
         self.broken = false;
-        Ok(sent)
+        Ok(())
     }
 
     fn is_broken(&self) -> bool {
@@ -121,19 +122,18 @@ fn row_printed(
     }
 }
 
-// The change as it is printed.
-fn printed(
+// Puts the change as it is printed behind the others.
+fn print(
     alloc: Global,
     declared: Declared,
     key: &Cols,
     split: bool,
     change: Change,
-) -> Result<Changes, Memory>
-    ensures { IfOk result (λ sent. sent ≡ record { kind = r.kind_printed split change.kind; row = row_told (mode_of declared key.now) (adds change.kind) change.row } ∷ []) }
+    to: &mut Changes,
+) -> Result<(), Memory>
+    ensures { OnOk result (to.new ≡ to.old ++ record { kind = r.kind_printed split change.kind; row = row_told (mode_of declared key.now) (adds change.kind) change.row } ∷ []) }
 {
     let Change { kind, row } = change;
     let row = row_printed(alloc, declared, key, kind.is_addition(), row)?;
-    let mut sent = Changes::with_capacity(alloc, 1)?;
-    sent.push(Change::new(kind_printed(split, kind), row))?;
-    Ok(sent)
+    to.push(Change::new(kind_printed(split, kind), row))
 }

@@ -52,14 +52,15 @@ fn comes(standing: &mut Bag, change: &Change, count: u64) -> Result<bool, Memory
     Ok(true)
 }
 
-// What is told of a change, which has to be one that may come.
+// What is told of a change, which has to be one that may come, is put behind the others.
 fn fed<O: Operator, L: Ledger>(
     operator: &mut O,
     standing: &mut Bag,
     taken: &mut u32,
     change: Change,
+    to: &mut Changes,
     steps: &mut Steps<L>,
-) -> Result<Changes, OpFault>
+) -> Result<(), OpFault>
     requires whole { O.broken operator.old ≡ false }
     requires fed { (before : List Arrival) × (O.rule operator.old ≡ materialize_rule (0 ∷ [])) × O.stands_for operator.old before × (standing.old ≡ fold retract (at_port 0 before)) × (length before ≡ taken.old) }
     requires wide { length change.row ≡ 2 }
@@ -73,9 +74,9 @@ fn fed<O: Operator, L: Ledger>(
     if !may {
         return Err(OpFault::Memory);
     }
-    let sent = operator.consume(0, change, steps)?;
+    operator.consume(0, change, to, steps)?;
     *taken += 1;
-    Ok(sent)
+    Ok(())
 }
 
 // What a materializer by the first column tells of changes of pairs with these numbers.
@@ -98,8 +99,14 @@ fn told<O: Operator, L: Ledger>(
     let mut taken = 0;
     for (kind, number) in changes {
         let change = Change::new(*kind, pair(alloc, *number)?);
-        let sent = fed(operator, &mut standing, &mut taken, change, &mut steps)?;
-        told.append(sent)?;
+        fed(
+            operator,
+            &mut standing,
+            &mut taken,
+            change,
+            &mut told,
+            &mut steps,
+        )?;
     }
     Ok(told)
 }

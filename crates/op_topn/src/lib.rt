@@ -19,5 +19,5 @@ pub use compare::rank_compare;
 pub use key::{Directed, RankKey};
 pub use partitions::{Firsts, TopBy, turn_partition, turn_rows};
 pub use rows::{RankedRows, rows_of};
-pub use telling::told;
+pub use telling::tell;
 pub use topn::TopN;

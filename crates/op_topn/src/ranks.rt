@@ -8,7 +8,6 @@ ghost use Rattle.op_topn.specs.Tells.{shown_at, CanTellFrom, IsNext};
 use crate::partitions::Firsts;
 use ct_change::{Changes, OutMode};
 use ct_value::{Memory, Row, Value};
-use std::alloc::Global;
 use std::marker::Model;
 use std::vec::IntoIter;
 
@@ -42,28 +41,28 @@ impl RanksLeft {
     }
 }
 
-/// Tells of each rank, from the first one on, that its old row gives way to its new one, with `ranked` each row with its rank.
+/// Tells of each rank, from the first one on, that its old row gives way to its new one, with `ranked` each row with its rank,
+/// behind what stands in `to`.
 pub fn tell_ranks<O: OutMode>(
-    alloc: Global,
     ranked: bool,
     output: &O,
     firsts: Firsts,
-) -> Result<Changes, Memory>
+    to: &mut Changes,
+) -> Result<(), Memory>
     requires can { CanTellFrom (O.mode output.now) ranked 1 firsts.olds.items firsts.news.items }
     requires few { (length firsts.olds.items < 2 ^ 63) × (length firsts.news.items < 2 ^ 63) }
-    ensures { IfOk result (λ sent. sent ≡ told_by_rank ranked (O.mode output.now) 1 firsts.olds.items firsts.news.items) }
+    ensures { OnOk result (to.new ≡ to.old ++ told_by_rank ranked (O.mode output.now) 1 firsts.olds.items firsts.news.items) }
 {
-    let mut sent = Changes::new(alloc);
     let mut rank: u64 = 1;
     let mut left = RanksLeft {
         olds: firsts.olds.into_iter(),
         news: firsts.news.into_iter(),
     };
     'ranks: while let Some((old, new)) = left.next_rank() {
-        tell_rank(ranked, output, rank, old, new, &mut sent)?;
+        tell_rank(ranked, output, rank, old, new, to)?;
         rank += 1;
     }
-    Ok(sent)
+    Ok(())
 }
 
 // Tells that the old row of a rank, if there is one, gives way to the new one, if there is one.

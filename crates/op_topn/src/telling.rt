@@ -1,5 +1,5 @@
 //! What is told of the first rows of a partition before and after a change.
-ghost use Rattle.std.specs.Prelude.{◌≡◌, ◌<◌, ◌≤◌, ◌^◌, ◌++◌, ◌==◌, ◌||◌, true, length, map, drop, IfOk, OnOk};
+ghost use Rattle.std.specs.Prelude.{◌≡◌, ◌<◌, ◌≤◌, ◌^◌, ◌++◌, ◌==◌, ◌||◌, true, length, map, drop, OnOk};
 ghost use Rattle.ct_change.specs.Changelog.{Mode};
 ghost use Rattle.emission_rules.specs.Ranking as rule;
 ghost use Rattle.emission_rules.specs.Ranking.{beyond, told_by_row};
@@ -13,33 +13,36 @@ use crate::ranks::tell_ranks;
 use ct_change::{Change, Changes, Kind, OutMode};
 use ct_value::{Memory, Row};
 use rel_algebra::Sorts;
-use std::alloc::Global;
 use std::cmp::Ordering;
 
-/// The changes that lead from the first rows of a partition before a change to those after it: rank by rank where ranks are
-/// shown or there is one alone, else what left and then what entered.
-pub fn told<O: OutMode>(by: &TopBy, output: &O, firsts: Firsts) -> Result<Changes, Memory>
+/// Puts the changes that lead from the first rows of a partition before a change to those after it behind what stands in `to`:
+/// rank by rank where ranks are shown or there is one alone, else what left and then what entered.
+pub fn tell<O: OutMode>(
+    by: &TopBy,
+    output: &O,
+    firsts: Firsts,
+    to: &mut Changes,
+) -> Result<(), Memory>
     requires can { (by.now.ranked || (by.now.bound == 1)) ≡ true → CanTellFrom (O.mode output.now) by.now.ranked 1 firsts.olds.items firsts.news.items }
     requires few { (length firsts.olds.items < 2 ^ 63) × (length firsts.news.items < 2 ^ 63) }
     requires ranked { AreRanked by.now.order firsts.olds.items × AreRanked by.now.order firsts.news.items }
-    ensures { IfOk result (λ sent. (input : Mode) → sent ≡ rule.told (ranking by.now input (O.mode output.now)) firsts.olds.items firsts.news.items) }
+    ensures { OnOk result ((input : Mode) → to.new ≡ to.old ++ rule.told (ranking by.now input (O.mode output.now)) firsts.olds.items firsts.news.items) }
 {
     if by.ranked || by.bound == 1 {
-        tell_ranks(by.alloc, by.ranked, output, firsts)
+        tell_ranks(by.ranked, output, firsts, to)
     } else {
-        tell_rows(by.alloc, &by.order, &firsts)
+        tell_rows(&by.order, &firsts, to)
     }
 }
 
 // Tells what left and then what entered.
-fn tell_rows(alloc: Global, order: &Sorts, firsts: &Firsts) -> Result<Changes, Memory>
+fn tell_rows(order: &Sorts, firsts: &Firsts, to: &mut Changes) -> Result<(), Memory>
     requires { AreRanked order.now firsts.now.olds.items × AreRanked order.now firsts.now.news.items }
-    ensures { IfOk result (λ sent. sent ≡ told_by_row firsts.now.olds.items firsts.now.news.items) }
+    ensures { OnOk result (to.new ≡ to.old ++ told_by_row firsts.now.olds.items firsts.now.news.items) }
 {
-    let mut sent = Changes::new(alloc);
-    tell_beyond(order, Kind::D, &firsts.olds, &firsts.news, &mut sent)?;
-    tell_beyond(order, Kind::I, &firsts.news, &firsts.olds, &mut sent)?;
-    Ok(sent)
+    tell_beyond(order, Kind::D, &firsts.olds, &firsts.news, to)?;
+    tell_beyond(order, Kind::I, &firsts.news, &firsts.olds, to)?;
+    Ok(())
 }
 
 // Tells, as changes of this kind, the rows beyond those of another list, both in rank order.

@@ -1,11 +1,11 @@
 //! The operator.
-ghost use Rattle.std.specs.Prelude.{◌≡◌, ℕ, ◌+◌, ◌*◌, ◌≤◌, [], ◌∷◌, true, false, IfOk, OnOk};
+ghost use Rattle.std.specs.Prelude.{◌≡◌, ℕ, ◌+◌, ◌*◌, ◌≤◌, ◌++◌, [], ◌∷◌, true, false, IfOk, OnOk};
 ghost use Rattle.ct_change.specs.Changelog.{Rows, apply};
 ghost use Rattle.ct_change.specs.Emission as e;
 
 use crate::RankedRows;
 use crate::partitions::{TopBy, turn_partition};
-use crate::telling::told;
+use crate::telling::tell;
 use ct_change::{Change, Changes, InMode, OutMode, Steps};
 use ct_value::{ColTys, Cols, Memory, Row};
 use op_rules::{OpFault, Operator};
@@ -68,10 +68,15 @@ impl<I: InMode, O: OutMode> TopN<I, O> {
         })
     }
 
-    // Takes a change, and answers what is emitted for it.
-    fn take<L: Ledger>(&mut self, change: Change, steps: &mut Steps<L>) -> Result<Changes, Memory>
+    // Takes a change, and puts what is emitted for it behind what stands in `to`.
+    fn take<L: Ledger>(
+        &mut self,
+        change: Change,
+        to: &mut Changes,
+        steps: &mut Steps<L>,
+    ) -> Result<(), Memory>
         requires { (rows : Rows) × (held : ℕ) × I.stands_for self.old.input self.old.rows rows × MayTake (ranking self.old.by (I.mode self.old.input) (O.mode self.old.output)) rows self.old.partitions held change }
-        ensures sent { IfOk result (λ sent. (rows : Rows) (held : ℕ) → I.stands_for self.old.input self.old.rows rows → MayTake (ranking self.old.by (I.mode self.old.input) (O.mode self.old.output)) rows self.old.partitions held change → sent ≡ tells (ranking self.old.by (I.mode self.old.input) (O.mode self.old.output)) rows change) }
+        ensures sent { OnOk result ((rows : Rows) (held : ℕ) → I.stands_for self.old.input self.old.rows rows → MayTake (ranking self.old.by (I.mode self.old.input) (O.mode self.old.output)) rows self.old.partitions held change → to.new ≡ to.old ++ tells (ranking self.old.by (I.mode self.old.input) (O.mode self.old.output)) rows change) }
         ensures kept { OnOk result ((rows : Rows) (held : ℕ) → I.stands_for self.old.input self.old.rows rows → MayTake (ranking self.old.by (I.mode self.old.input) (O.mode self.old.output)) rows self.old.partitions held change → I.stands_for self.new.input self.new.rows (apply (I.mode self.old.input) rows change) × IsHeld (ranking self.old.by (I.mode self.old.input) (O.mode self.old.output)) (apply (I.mode self.old.input) rows change) self.new.partitions (held + 1)) }
         ensures same { (self.new.by ≡ self.old.by) × (self.new.input ≡ self.old.input) × (self.new.output ≡ self.old.output) × (self.new.broken ≡ self.old.broken) }
         ensures cost { steps.new ≤ steps.old + 2 * self.old.by.bound }
@@ -81,10 +86,10 @@ impl<I: InMode, O: OutMode> TopN<I, O> {
         let (gone, come) = (row_of(diff.gone), row_of(diff.come));
         let firsts = turn_partition(&self.by, &mut self.partitions, key, gone, come, steps)?;
         match firsts {
-            None => Ok(Changes::new(self.by.alloc)),
+            None => Ok(()),
             Some(firsts) => {
-                let sent = told(&self.by, &self.output, firsts)?;
-                Ok(sent)
+                tell(&self.by, &self.output, firsts, to)?;
+                Ok(())
             }
         }
     }
@@ -114,12 +119,13 @@ impl<I: InMode, O: OutMode> Operator for TopN<I, O> {
         &mut self,
         _port: u32,
         change: Change,
+        to: &mut Changes,
         steps: &mut Steps<L>,
-    ) -> Result<Changes, OpFault> {
+    ) -> Result<(), OpFault> {
         self.broken = true;
-        let sent = self.take(change, steps)?;
+        self.take(change, to, steps)?;
         self.broken = false;
-        Ok(sent)
+        Ok(())
     }
 
     fn is_broken(&self) -> bool {

@@ -8,9 +8,47 @@ use crate::{Channels, Route, goes_to};
 use ct_change::{Change, Changes};
 use ct_value::{Cols, Memory};
 use std::alloc::Global;
+use std::mem::swap;
 
-/// A subtask sends changes through an edge, each to the subtask that the edge's exchange says.
+/// A subtask sends changes through an edge, each to the subtask that the edge's exchange says. Where they are two at most, their list
+/// keeps its memory.
 pub fn send_all(
+    alloc: Global,
+    channels: &mut Channels,
+    route: &Route,
+    edge: u32,
+    from: u32,
+    changes: &mut Changes,
+) -> Result<(), Memory>
+    requires edge { edge < channels.old.edges }
+    requires from { from < channels.old.width }
+    requires room { channels.old.sent + length changes.old < 2 ^ 32 }
+    requires wide { All (λ change. IsWide route.now change.row) changes.old }
+    ensures ok { OnOk result ((of : Edge) (flight : ℕ → ℕ → ℕ → List Change) → RoutesFor channels.old.width route.now of → Carry channels.old flight → Carry channels.new (sent_by of flight edge from changes.old)) }
+    ensures sent { OnOk result (channels.new.sent ≡ channels.old.sent + length changes.old) }
+    ensures width { channels.new.width ≡ channels.old.width }
+    ensures edges { channels.new.edges ≡ channels.old.edges }
+{
+    let Some(last) = changes.pop() else {
+        return Ok(());
+    };
+    if changes.is_empty() {
+        return send_one(alloc, channels, route, edge, from, last);
+    }
+    if changes.len() == 1 {
+        if let Some(first) = changes.pop() {
+            send_one(alloc, channels, route, edge, from, first)?;
+        }
+        return send_one(alloc, channels, route, edge, from, last);
+    }
+    changes.push(last)?;
+    let mut list = changes.beside();
+    swap(&mut list, changes);
+    send_list(alloc, channels, route, edge, from, list)
+}
+
+// The same of a list.
+fn send_list(
     alloc: Global,
     channels: &mut Channels,
     route: &Route,

@@ -1,5 +1,5 @@
 -- What a subtask emitted for its bundle is handed on, or the bundle wasn't due.
-use Rattle.std.proofs.Common.{◌≡◌, ℕ, Bool, cond, List, [], Some, None, Ok, refl, sym, ap, subst, ◌∙◌}
+use Rattle.std.proofs.Common.{◌≡◌, ℕ, Bool, cond, List, [], Option, Some, None, Ok, refl, sym, ap, subst, ◌∙◌}
 use Rattle.ct_change.specs.declared.change.Change.{Change}
 use Rattle.op_rules.specs.History.{Arrival}
 use Rattle.op_rules.specs.Rules.{Rule, Answer}
@@ -18,8 +18,8 @@ use Rattle.session_core.proofs.Steps.{folded_carries, outside_put}
 module _ {O S : Type 0} (rule_is : O → Rule) (is_broken : O → Bool) (stands : O → List Arrival → Type 0) (takes_pieces : O → Bool) (checks : S → Table → List Change → Type 0) where
   module _ (session : Session O S) (v j : ℕ) (due : Bool) (g : Network) (limit : ℕ) (handed : List PrintItem) (s : State) where
     -- a bundle that isn't due stays
-    pub stays : Pends rule_is is_broken stands takes_pieces checks session v j None due g limit handed s → KeepsAnswer rule_is is_broken stands takes_pieces checks (next_if due g limit v j s) session g limit handed
-    stays p =
+    pub stays : (e : Option (List Change)) → Pends rule_is is_broken stands takes_pieces checks session v j None due g limit handed s → KeepsAnswer rule_is is_broken stands takes_pieces checks (next_if due g limit v j s) (record session { emitted = e }) g limit handed
+    stays e p =
         let is : next_if due g limit v j s ≡ Ok s = ap (λ b. cond b (flushed g limit v j s) (Ok s)) p.runs.0 in (
           s,
           is,
@@ -48,8 +48,8 @@ module _ {O S : Type 0} (rule_is : O → Rule) (is_broken : O → Bool) (stands 
         fit = λ after done. (p.opens after (handed_is ∙ done)).fits [] tt after refl;
       }
 
-      pub handed_keeps : (t : Traffic) → HasHandedOn t v j changes g limit handed (folded v j s) → KeepsAnswer rule_is is_broken stands takes_pieces checks (next_if due g limit v j s) (record session { traffic = t }) g limit handed
-      handed_keeps t done = (
+      pub handed_keeps : (t : Traffic) (e : Option (List Change)) → HasHandedOn t v j changes g limit handed (folded v j s) → KeepsAnswer rule_is is_broken stands takes_pieces checks (next_if due g limit v j s) (record session { traffic = t; emitted = e }) g limit handed
+      handed_keeps t e done = (
         done.0,
         handed_is ∙ done.1,
         record {

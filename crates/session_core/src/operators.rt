@@ -1,4 +1,4 @@
-ghost use Rattle.std.specs.Prelude.{◌≡◌, ℕ, ◌<◌, ◌+◌, ◌*◌, Bool, true, length, IfOk, IfErr};
+ghost use Rattle.std.specs.Prelude.{◌≡◌, ℕ, ◌<◌, ◌+◌, ◌*◌, Bool, true, length, OnOk, IfErr};
 ghost use Rattle.op_rules.specs.Faults.{IfRange};
 ghost use Rattle.op_rules.specs.Rules.{Answer};
 ghost use Rattle.stream_model.specs.Network.{Network};
@@ -7,10 +7,10 @@ ghost use Rattle.session_subtasks.specs.Subtasks.{IsOutOf};
 ghost use Rattle.session_core.specs.Runs.{AreEmpty, ForAllRun, HasConsumed, HasFlushed, HasFlushedIn, HasTakenIn, IsEmptyAt, IsOutAt, IsOutConsuming, IsOutFlushing, IsOutFlushingIn, IsOutTakingIn, MayFlushIn, MayTakeIn, MaySomeConsume, MaySomeFlushAt, StopsConsuming, StopsFlushing};
 
 use crate::{Feed, Wiring};
-use ct_change::{Change, Changes, Steps};
+use ct_change::{Change, Steps};
 use ct_value::{Memory, Row};
 use op_rules::{OpFault, PieceOperator};
-use session_subtasks::Subtask;
+use session_subtasks::{Emitted, Subtask};
 use std::sync::ledger::Ledger;
 use stream_model::StepFault;
 
@@ -35,19 +35,20 @@ impl<O: PieceOperator> Operators<O> {
         feed: Feed,
         subtask: u32,
         change: Change,
+        to: &mut Emitted,
         steps: &mut Steps<L>,
-    ) -> Result<Option<Changes>, OpFault>
+    ) -> Result<(), OpFault>
         requires node { feed.node < self.old.nodes }
         requires subtask { subtask < self.old.width }
         requires ready { MaySomeConsume O.rule O.broken O.stands_for O.takes_pieces self.old.width self.old.items.items size feed.node subtask feed.port change }
-        ensures ok { IfOk result (λ sent. HasConsumed O.rule O.broken O.stands_for O.takes_pieces self.old.width self.old.items.items self.new.items.items size feed.node subtask feed.port change sent) }
+        ensures ok { OnOk result (HasConsumed O.rule O.broken O.stands_for O.takes_pieces self.old.width self.old.items.items self.new.items.items size feed.node subtask feed.port change to.new) }
         ensures range { IfRange result (λ row. IsOutConsuming O.rule O.broken O.stands_for O.takes_pieces self.old.width self.old.items.items size feed.node subtask feed.port change row) }
         ensures width { self.new.width ≡ self.old.width }
         ensures nodes { self.new.nodes ≡ self.old.nodes }
     {
         let place = self.place(feed.node, subtask);
         match self.items.get_mut(place) {
-            Some(slot) => take_in(slot, size, feed.port, change, steps),
+            Some(slot) => take_in(slot, size, feed.port, change, to, steps),
             None => unreachable!(),
         }
     }
@@ -57,19 +58,20 @@ impl<O: PieceOperator> Operators<O> {
         &mut self,
         node: u32,
         subtask: u32,
+        to: &mut Emitted,
         steps: &mut Steps<L>,
-    ) -> Result<Option<Changes>, OpFault>
+    ) -> Result<(), OpFault>
         requires node { node < self.old.nodes }
         requires subtask { subtask < self.old.width }
         requires ready { MaySomeFlushAt O.rule O.broken O.stands_for O.takes_pieces self.old.width self.old.items.items node subtask }
-        ensures ok { IfOk result (λ sent. HasFlushed O.rule O.broken O.stands_for O.takes_pieces self.old.width self.old.items.items self.new.items.items node subtask sent) }
+        ensures ok { OnOk result (HasFlushed O.rule O.broken O.stands_for O.takes_pieces self.old.width self.old.items.items self.new.items.items node subtask to.new) }
         ensures range { IfRange result (λ row. IsOutFlushing O.rule O.broken O.stands_for O.takes_pieces self.old.width self.old.items.items node subtask row) }
         ensures width { self.new.width ≡ self.old.width }
         ensures nodes { self.new.nodes ≡ self.old.nodes }
     {
         let place = self.place(node, subtask);
         match self.items.get_mut(place) {
-            Some(slot) => flush_in(slot, steps),
+            Some(slot) => flush_in(slot, to, steps),
             None => unreachable!(),
         }
     }
@@ -129,14 +131,15 @@ fn take_in<O: PieceOperator, L: Ledger>(
     size: Option<u32>,
     port: u32,
     change: Change,
+    to: &mut Emitted,
     steps: &mut Steps<L>,
-) -> Result<Option<Changes>, OpFault>
+) -> Result<(), OpFault>
     requires ready { MayTakeIn O.rule O.broken O.stands_for O.takes_pieces slot.old size port change }
-    ensures ok { IfOk result (λ sent. HasTakenIn O.rule O.broken O.stands_for O.takes_pieces slot.old slot.new size port change sent) }
+    ensures ok { OnOk result (HasTakenIn O.rule O.broken O.stands_for O.takes_pieces slot.old slot.new size port change to.new) }
     ensures range { IfRange result (λ row. IsOutTakingIn O.rule O.broken O.stands_for O.takes_pieces slot.old size port change row) }
 {
     match slot {
-        Some(subtask) => subtask.take(size, port, change, steps),
+        Some(subtask) => subtask.take(size, port, change, to, steps),
         None => unreachable!(),
     }
 }
@@ -144,15 +147,19 @@ fn take_in<O: PieceOperator, L: Ledger>(
 // The subtask in a slot, if there is one, emits for what its bundle holds.
 fn flush_in<O: PieceOperator, L: Ledger>(
     slot: &mut Option<Subtask<O>>,
+    to: &mut Emitted,
     steps: &mut Steps<L>,
-) -> Result<Option<Changes>, OpFault>
+) -> Result<(), OpFault>
     requires ready { MayFlushIn O.rule O.broken O.stands_for O.takes_pieces slot.old }
-    ensures ok { IfOk result (λ sent. HasFlushedIn O.rule O.broken O.stands_for O.takes_pieces slot.old slot.new sent) }
+    ensures ok { OnOk result (HasFlushedIn O.rule O.broken O.stands_for O.takes_pieces slot.old slot.new to.new) }
     ensures range { IfRange result (λ row. IsOutFlushingIn O.rule O.broken O.stands_for O.takes_pieces slot.old row) }
 {
     match slot {
-        Some(subtask) => subtask.flush(steps),
-        None => Ok(None),
+        Some(subtask) => subtask.flush(to, steps),
+        None => {
+            to.clear();
+            Ok(())
+        }
     }
 }
 
@@ -164,19 +171,20 @@ pub fn consume_at<O: PieceOperator, L: Ledger>(
     feed: Feed,
     subtask: u32,
     change: Change,
+    to: &mut Emitted,
     steps: &mut Steps<L>,
-) -> Result<Option<Changes>, StepFault>
+) -> Result<(), StepFault>
     requires node { feed.node < operators.old.nodes }
     requires typed { feed.node < length wiring.now.types.items }
     requires subtask { subtask < operators.old.width }
     requires ready { MaySomeConsume O.rule O.broken O.stands_for O.takes_pieces operators.old.width operators.old.items.items size feed.node subtask feed.port change }
-    ensures ok { IfOk result (λ sent. HasConsumed O.rule O.broken O.stands_for O.takes_pieces operators.old.width operators.old.items.items operators.new.items.items size feed.node subtask feed.port change sent) }
+    ensures ok { OnOk result (HasConsumed O.rule O.broken O.stands_for O.takes_pieces operators.old.width operators.old.items.items operators.new.items.items size feed.node subtask feed.port change to.new) }
     ensures err { IfErr result (λ fault. StopsConsuming O.rule O.broken O.stands_for O.takes_pieces wiring.now operators.old.width operators.old.items.items size feed.node subtask feed.port change fault) }
     ensures width { operators.new.width ≡ operators.old.width }
     ensures nodes { operators.new.nodes ≡ operators.old.nodes }
 {
-    match operators.consume(size, feed, subtask, change, steps) {
-        Ok(sent) => Ok(sent),
+    match operators.consume(size, feed, subtask, change, to, steps) {
+        Ok(()) => Ok(()),
         Err(OpFault::Range(row)) => Err(range_at(wiring, feed.node, subtask, row)),
         Err(OpFault::Memory) => Err(StepFault::Memory),
     }
@@ -188,19 +196,20 @@ pub fn flush_at<O: PieceOperator, L: Ledger>(
     wiring: &Wiring,
     node: u32,
     subtask: u32,
+    to: &mut Emitted,
     steps: &mut Steps<L>,
-) -> Result<Option<Changes>, StepFault>
+) -> Result<(), StepFault>
     requires node { node < operators.old.nodes }
     requires typed { node < length wiring.now.types.items }
     requires subtask { subtask < operators.old.width }
     requires ready { MaySomeFlushAt O.rule O.broken O.stands_for O.takes_pieces operators.old.width operators.old.items.items node subtask }
-    ensures ok { IfOk result (λ sent. HasFlushed O.rule O.broken O.stands_for O.takes_pieces operators.old.width operators.old.items.items operators.new.items.items node subtask sent) }
+    ensures ok { OnOk result (HasFlushed O.rule O.broken O.stands_for O.takes_pieces operators.old.width operators.old.items.items operators.new.items.items node subtask to.new) }
     ensures err { IfErr result (λ fault. StopsFlushing O.rule O.broken O.stands_for O.takes_pieces wiring.now operators.old.width operators.old.items.items node subtask fault) }
     ensures width { operators.new.width ≡ operators.old.width }
     ensures nodes { operators.new.nodes ≡ operators.old.nodes }
 {
-    match operators.flush(node, subtask, steps) {
-        Ok(sent) => Ok(sent),
+    match operators.flush(node, subtask, to, steps) {
+        Ok(()) => Ok(()),
         Err(OpFault::Range(row)) => Err(range_at(wiring, node, subtask, row)),
         Err(OpFault::Memory) => Err(StepFault::Memory),
     }

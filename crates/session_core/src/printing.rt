@@ -3,10 +3,28 @@ ghost use Rattle.stream_model.specs.declared.events.PrintItem.TheVariants.{Chang
 
 use ct_change::Changes;
 use ct_value::Memory;
+use std::mem::swap;
 use stream_model::{PrintItem, PrintList};
 
-/// The sink prints changes. After want of memory nothing is printed.
-pub fn print_all(printed: &mut PrintList, changes: Changes) -> Result<(), Memory>
+/// The sink prints changes. Where it is one, its list keeps its memory. After want of memory nothing is printed.
+pub fn print_all(printed: &mut PrintList, changes: &mut Changes) -> Result<(), Memory>
+    ensures ok { OnOk result (printed.new ≡ printed.old ++ map Printed changes.old) }
+    ensures err { OnErr result (printed.new ≡ printed.old) }
+{
+    let Some(last) = changes.pop() else {
+        return Ok(());
+    };
+    if changes.is_empty() {
+        return printed.push(PrintItem::Change(last));
+    }
+    changes.push(last)?;
+    let mut list = changes.beside();
+    swap(&mut list, changes);
+    print_list(printed, list)
+}
+
+// The same of a list.
+fn print_list(printed: &mut PrintList, changes: Changes) -> Result<(), Memory>
     ensures ok { OnOk result (printed.new ≡ printed.old ++ map Printed changes) }
     ensures err { OnErr result (printed.new ≡ printed.old) }
 {

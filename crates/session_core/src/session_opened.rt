@@ -2,6 +2,7 @@ ghost use Rattle.session_core.specs.Stands.{HasOpened};
 
 use crate::{Operators, Session, SourceCheck, Traffic, Wiring};
 use op_rules::PieceOperator;
+use session_subtasks::Emitted;
 
 impl<O: PieceOperator + Drop, S: SourceCheck> Session<O, S> {
     /// The session of parts that agree with the machine's opening state, over a network whose nodes meet their facts. It
@@ -14,11 +15,13 @@ impl<O: PieceOperator + Drop, S: SourceCheck> Session<O, S> {
     ) -> Session<O, S>
         ensures { HasOpened O.rule O.broken O.stands_for O.takes_pieces S.stands_for operators sources.items traffic wiring result }
     {
+        let emitted = Emitted::new(wiring.alloc);
         Session {
             operators,
             sources,
             traffic,
             wiring,
+            emitted,
         }
     }
 }

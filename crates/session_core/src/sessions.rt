@@ -10,7 +10,7 @@ ghost use Rattle.session_core.specs.Stands.{ForApplied, ForKept, ForSteps, ForPe
 
 use crate::operators::{consume_at, flush_at};
 use crate::{Session, SourceCheck, SourceFault, Wiring};
-use ct_change::{Change, Changes, Steps};
+use ct_change::{Change, Steps};
 use ct_value::OrderCode;
 use op_rules::PieceOperator;
 use std::sync::ledger::Ledger;
@@ -32,16 +32,17 @@ impl<O: PieceOperator + Drop, S: SourceCheck> Session<O, S> {
     {
         let (feed, change) = self.traffic.fetch(&self.wiring, edge, from, to)?;
         let size = self.wiring.bundle(feed.node);
-        let sent = consume_at(
+        consume_at(
             &mut self.operators,
             &self.wiring,
             size,
             feed,
             to,
             change,
+            &mut self.emitted,
             steps,
         )?;
-        self.hand_out(feed.node, to, sent)
+        self.hand_out(feed.node, to)
     }
 
     // What a subtask's bundle holds is emitted for, before it is full.
@@ -57,19 +58,32 @@ impl<O: PieceOperator + Drop, S: SourceCheck> Session<O, S> {
         ensures printed { OnErr result (self.new.traffic.printed ≡ self.old.traffic.printed) }
     {
         find_bundle(&self.wiring, node, subtask)?;
-        let sent = flush_at(&mut self.operators, &self.wiring, node, subtask, steps)?;
-        self.hand_out(node, subtask, sent)
+        flush_at(
+            &mut self.operators,
+            &self.wiring,
+            node,
+            subtask,
+            &mut self.emitted,
+            steps,
+        )?;
+        self.hand_out(node, subtask)
     }
 
     // What a subtask emitted for its bundle, if that was due, is handed on.
-    fn hand_out(&mut self, node: u32, subtask: u32, sent: Option<Changes>) -> Result<(), StepFault>
-        requires ready { PendsSome O.rule O.broken O.stands_for O.takes_pieces S.stands_for self.old node subtask sent }
-        ensures ok { OnOk result (ForPending O.rule O.broken O.stands_for O.takes_pieces S.stands_for self.old node subtask sent (λ g limit handed next. KeepsAnswer O.rule O.broken O.stands_for O.takes_pieces S.stands_for next self.new g limit handed)) }
-        ensures err { IfErr result (λ fault. ForPending O.rule O.broken O.stands_for O.takes_pieces S.stands_for self.old node subtask sent (λ g limit handed next. StopsBy next fault)) }
+    fn hand_out(&mut self, node: u32, subtask: u32) -> Result<(), StepFault>
+        requires ready { PendsSome O.rule O.broken O.stands_for O.takes_pieces S.stands_for self.old node subtask self.old.emitted }
+        ensures ok { OnOk result (ForPending O.rule O.broken O.stands_for O.takes_pieces S.stands_for self.old node subtask self.old.emitted (λ g limit handed next. KeepsAnswer O.rule O.broken O.stands_for O.takes_pieces S.stands_for next self.new g limit handed)) }
+        ensures err { IfErr result (λ fault. ForPending O.rule O.broken O.stands_for O.takes_pieces S.stands_for self.old node subtask self.old.emitted (λ g limit handed next. StopsBy next fault)) }
         ensures printed { OnErr result (self.new.traffic.printed ≡ self.old.traffic.printed) }
     {
-        match sent {
-            Some(changes) => self.traffic.hand_on(&self.wiring, node, subtask, changes),
+        match self.emitted.take() {
+            Some(mut changes) => {
+                let handed = self
+                    .traffic
+                    .hand_on(&self.wiring, node, subtask, &mut changes);
+                self.emitted.keep(changes);
+                handed
+            }
             None => Ok(()),
         }
     }

@@ -57,11 +57,11 @@ impl Traffic {
         wiring: &Wiring,
         node: u32,
         subtask: u32,
-        changes: Changes,
+        changes: &mut Changes,
     ) -> Result<(), StepFault>
-        requires ready { ForSome (MayHandOn wiring.now self.old node subtask changes) }
-        ensures ok { OnOk result (ForEach (MayHandOn wiring.now self.old node subtask changes) (HasHandedOn self.new node subtask changes)) }
-        ensures err { IfErr result (λ fault. ForEach (MayHandOn wiring.now self.old node subtask changes) (λ g limit handed s. StopsBy (machine.hand_on g limit node subtask changes s) fault)) }
+        requires ready { ForSome (MayHandOn wiring.now self.old node subtask changes.old) }
+        ensures ok { OnOk result (ForEach (MayHandOn wiring.now self.old node subtask changes.old) (HasHandedOn self.new node subtask changes.old)) }
+        ensures err { IfErr result (λ fault. ForEach (MayHandOn wiring.now self.old node subtask changes.old) (λ g limit handed s. StopsBy (machine.hand_on g limit node subtask changes.old s) fault)) }
         ensures printed { OnErr result (self.new.printed ≡ self.old.printed) }
     {
         if node == wiring.nodes {

@@ -112,22 +112,23 @@ impl Operator for AnyOperator {
         &mut self,
         port: u32,
         change: Change,
+        to: &mut Changes,
         steps: &mut Steps<L>,
-    ) -> Result<Changes, OpFault> {
+    ) -> Result<(), OpFault> {
         match self {
-            AnyOperator::Filter(o) => o.consume(port, change, steps),
-            AnyOperator::Project(o) => o.consume(port, change, steps),
-            AnyOperator::Union(o) => o.consume(port, change, steps),
-            AnyOperator::Normalize(o) => o.consume(port, change, steps),
-            AnyOperator::Group(o) => o.consume(port, change, steps),
-            AnyOperator::Local(o) => o.consume(port, change, steps),
-            AnyOperator::Merge(o) => o.consume(port, change, steps),
-            AnyOperator::Join(o) => o.consume(port, change, steps),
-            AnyOperator::Semi(o) => o.consume(port, change, steps),
-            AnyOperator::SetOp(o) => o.consume(port, change, steps),
-            AnyOperator::TopN(o) => o.consume(port, change, steps),
-            AnyOperator::Materialize(o) => o.consume(port, change, steps),
-            AnyOperator::Sink(o) => o.consume(port, change, steps),
+            AnyOperator::Filter(o) => o.consume(port, change, to, steps),
+            AnyOperator::Project(o) => o.consume(port, change, to, steps),
+            AnyOperator::Union(o) => o.consume(port, change, to, steps),
+            AnyOperator::Normalize(o) => o.consume(port, change, to, steps),
+            AnyOperator::Group(o) => o.consume(port, change, to, steps),
+            AnyOperator::Local(o) => o.consume(port, change, to, steps),
+            AnyOperator::Merge(o) => o.consume(port, change, to, steps),
+            AnyOperator::Join(o) => o.consume(port, change, to, steps),
+            AnyOperator::Semi(o) => o.consume(port, change, to, steps),
+            AnyOperator::SetOp(o) => o.consume(port, change, to, steps),
+            AnyOperator::TopN(o) => o.consume(port, change, to, steps),
+            AnyOperator::Materialize(o) => o.consume(port, change, to, steps),
+            AnyOperator::Sink(o) => o.consume(port, change, to, steps),
         }
     }
 

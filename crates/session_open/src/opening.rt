@@ -73,8 +73,8 @@ fn open_subtask<O: PlanOperator>(
     ensures opened { OnOk result ((g : Network) (limit : ℕ) → Opens O.runs plan.now columns.now wiring.now g limit → HaveOpened g limit (node * plan.now.parallelism + subtask) channels.old → HaveOpened g limit (node * plan.now.parallelism + subtask + 1) channels.new) }
     ensures err { IfErr result (λ fault. (g : Network) (limit : ℕ) → Opens O.runs plan.now columns.now wiring.now g limit → HaveOpened g limit (node * plan.now.parallelism + subtask) channels.old → IsTooMany limit (total (node * plan.now.parallelism + subtask + 1) (opens_with g)) fault) }
 {
-    let (op, sent) = open_node(alloc, plan, columns, node, subtask)?;
-    start(wiring, channels, node, subtask, sent)?;
+    let (op, mut sent) = open_node(alloc, plan, columns, node, subtask)?;
+    start(wiring, channels, node, subtask, &mut sent)?;
     Ok(op)
 }
 
@@ -84,11 +84,11 @@ fn start(
     channels: &mut Channels,
     node: u32,
     subtask: u32,
-    changes: Changes,
+    changes: &mut Changes,
 ) -> Result<(), OpenFault>
-    requires ready { (g : Network) × (limit : ℕ) × MayStart wiring.now channels.old node subtask changes g limit }
-    ensures ok { OnOk result ((g : Network) (limit : ℕ) → MayStart wiring.now channels.old node subtask changes g limit → HaveOpened g limit (node * g.subtasks + subtask + 1) channels.new) }
-    ensures err { IfErr result (λ fault. (g : Network) (limit : ℕ) → MayStart wiring.now channels.old node subtask changes g limit → IsTooMany limit (total (node * g.subtasks + subtask + 1) (opens_with g)) fault) }
+    requires ready { (g : Network) × (limit : ℕ) × MayStart wiring.now channels.old node subtask changes.old g limit }
+    ensures ok { OnOk result ((g : Network) (limit : ℕ) → MayStart wiring.now channels.old node subtask changes.old g limit → HaveOpened g limit (node * g.subtasks + subtask + 1) channels.new) }
+    ensures err { IfErr result (λ fault. (g : Network) (limit : ℕ) → MayStart wiring.now channels.old node subtask changes.old g limit → IsTooMany limit (total (node * g.subtasks + subtask + 1) (opens_with g)) fault) }
 {
     if ((wiring.limit - channels.sent) as usize) < changes.len() {
         return Err(OpenFault::Limit);

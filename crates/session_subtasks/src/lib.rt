@@ -5,7 +5,9 @@
 //! emitted is what the rule emits. It stands on the trait of operators and on the machine's network.
 #![tactic(auto)]
 
+mod emitted;
 mod folding;
 mod subtask;
 
+pub use emitted::Emitted;
 pub use subtask::Subtask;

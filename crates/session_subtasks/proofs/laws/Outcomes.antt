@@ -31,6 +31,6 @@ pub if_err_on : {A E : Type 0} (C : Type 0) (P Q : E → Type 0) (r : Result A E
 if_err_on C P Q (Ok x) c h f = tt
 if_err_on C P Q (Err e) c h f = f e c h
 
-pub range_of : (P Q : Row → Type 0) (fault : OpFault) → IfRange (let r : Result (List Change) OpFault = Err fault in r) P → ((x : Row) → P x → Q x) → IfRange (let r : Result (Option (List Change)) OpFault = Err fault in r) Q
-range_of P Q (Range row) h f = f row h
-range_of P Q Memory h f = tt
+pub range_of : (A B : Type 0) (P Q : Row → Type 0) (fault : OpFault) → IfRange (let r : Result A OpFault = Err fault in r) P → ((x : Row) → P x → Q x) → IfRange (let r : Result B OpFault = Err fault in r) Q
+range_of A B P Q (Range row) h f = f row h
+range_of A B P Q Memory h f = tt

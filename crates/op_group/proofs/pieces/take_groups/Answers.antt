@@ -22,9 +22,8 @@ groups-preserved g c =
       way = λ rows held stands m.
           let w = c.groups.invariant.way rows held stands m in
           let next = may_next c.args.by.now input output rows held c.args.bundle.entries (g.I.InMode.stands_for c.args.input.now c.groups.rows) c.groups.groups c.groups.left.entries c.groups.sent w c.in-Some.key c.in-Some.changes c.take_first.new.self.entries c.in-Some.ensures.some in
-          subst (AreOnTheWay c.args.by.now (grouping c.args.by.now input output) rows held c.args.bundle.entries (g.I.InMode.stands_for c.args.input.now c.take_group.new.rows) c.take_group.new.groups c.take_first.new.self.entries) (sym c.in_ok-append-in-Ok.ensures.ok)
-          (onward c.args.by.now input output rows held c.args.bundle.entries (g.I.InMode.stands_for c.args.input.now c.groups.rows) c.groups.groups c.groups.left.entries c.groups.sent w c.in-Some.key c.in-Some.changes c.take_first.new.self.entries c.in-Some.ensures.some
-          (g.I.InMode.stands_for c.args.input.now c.take_group.new.rows) c.take_group.new.groups c.in-Ok.told (c.in-Ok.ensures.sent w.now w.taken w.stand next) (c.in-Ok.ensures.rows w.now w.taken w.stand next) (c.in-Ok.ensures.kept w.now w.taken w.stand next));
+          onward c.args.by.now input output rows held c.args.bundle.entries (g.I.InMode.stands_for c.args.input.now c.groups.rows) c.groups.groups c.groups.left.entries c.groups.sent w c.in-Some.key c.in-Some.changes c.take_first.new.self.entries c.in-Some.ensures.some
+          (g.I.InMode.stands_for c.args.input.now c.take_group.new.rows) c.take_group.new.groups c.take_group.new.to (c.in_default-take_group.ensures.sent w.now w.taken w.stand next) (c.in_default-take_group.ensures.rows w.now w.taken w.stand next) (c.in_default-take_group.ensures.kept w.now w.taken w.stand next);
     }
 
 pub groups-init : goal.groups-init
@@ -38,7 +37,7 @@ groups-init g c =
     }
 
 pub returns-in-Err-clause-range : goal.returns-in-Err-clause-range
-returns-in-Err-clause-range g c = if_range (List Change) (List Change) c.in-Err.fault (λ row out rows held stands m.
+returns-in-Err-clause-range g c = if_range (Unit {0}) (List Change) c.in-Err.fault (λ row out rows held stands m.
     let input = g.I.ChangeMode.mode c.args.input.now in
     let output = g.O.ChangeMode.mode c.args.output.now in
     let w = c.groups.invariant.way rows held stands m in

@@ -31,13 +31,12 @@ groups-preserved g c =
     record {
       way = λ of are.
           let w = c.groups.invariant.way of are in
-          subst (AreOnTheWay c.args.by.now output of c.args.bundle.entries c.take_group.new.groups c.take_first.new.self.entries) (sym c.in_ok-append-in-Ok.ensures.ok)
-          (onward c.args.by.now output of c.args.bundle.entries c.groups.groups c.groups.left.entries c.groups.sent w c.in-Some.key c.in-Some.changes c.take_first.new.self.entries c.in-Some.ensures.some
-          c.take_group.new.groups c.in-Ok.told (c.in-Ok.ensures.sent w.now w.are) (c.in-Ok.ensures.kept w.now w.are));
+          onward c.args.by.now output of c.args.bundle.entries c.groups.groups c.groups.left.entries c.groups.sent w c.in-Some.key c.in-Some.changes c.take_first.new.self.entries c.in-Some.ensures.some
+          c.take_group.new.groups c.take_group.new.to (c.in_default-take_group.ensures.sent w.now w.are) (c.in_default-take_group.ensures.kept w.now w.are);
     }
 
 pub returns-in-Err-clause-range : goal.returns-in-Err-clause-range
-returns-in-Err-clause-range g c = if_range (List Change) (List Change) c.in-Err.fault (λ row out of are.
+returns-in-Err-clause-range g c = if_range (Unit {0}) (List Change) c.in-Err.fault (λ row out of are.
     let output = g.O.ChangeMode.mode c.args.output.now in
     let w = c.groups.invariant.way of are in
     out_now c.args.by.now output of c.args.bundle.entries c.groups.groups c.groups.left.entries c.groups.sent w c.in-Some.key c.in-Some.changes c.take_first.new.self.entries c.in-Some.ensures.some row (out w.now w.are)) c.in-Err.ensures.range

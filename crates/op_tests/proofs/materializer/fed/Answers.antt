@@ -11,5 +11,5 @@ returns-clause-fed g c =
     let arrives_now = arrives rule stands_for c.args.standing.now c.args.taken.now fed c.args.change may.0 c.requires.wide in
     let count = fed.4 in
     let room = c.if-taken-gt4000000000.false in
-    fed_more rule stands_for c.args.standing.now c.args.taken.now fed c.args.change (g.O.Operator.rule c.consume.new.self) (g.O.Operator.stands_for c.consume.new.self) c.stands.new.standing c.in_ok-sent.ensures.rule_stays may.1
-    (c.in_ok-sent.ensures.ok fed.0 0 fed.2 arrives_now (omega arith)).1
+    fed_more rule stands_for c.args.standing.now c.args.taken.now fed c.args.change (g.O.Operator.rule c.consume.new.self) (g.O.Operator.stands_for c.consume.new.self) c.stands.new.standing c.in_ok-consume.ensures.rule_stays may.1
+    (c.in_ok-consume.ensures.ok fed.0 0 fed.2 arrives_now (omega arith)).1

@@ -6,7 +6,7 @@ use Rattle.op_topn.proofs.ranks.tell_ranks.Given as goal
 -- what is told and what is left to be told are all
 abbrev pub invariant-ranks : goal.invariant-ranks
 invariant-ranks g l = record {
-  told : l.sent ++ told_by_rank l.ranked (g.O.ChangeMode.mode l.output) l.rank l.left.0 l.left.1 ≡ told_by_rank l.ranked (g.O.ChangeMode.mode l.output) 1 l.fn.firsts.olds.items l.fn.firsts.news.items;
+  told : l.to ++ told_by_rank l.ranked (g.O.ChangeMode.mode l.output) l.rank l.left.0 l.left.1 ≡ l.fn.to ++ told_by_rank l.ranked (g.O.ChangeMode.mode l.output) 1 l.fn.firsts.olds.items l.fn.firsts.news.items;
   can : CanTellFrom (g.O.ChangeMode.mode l.output) l.ranked l.rank l.left.0 l.left.1;
   few : l.rank + (length l.left.0 + length l.left.1) < 2 ^ 64;
 }

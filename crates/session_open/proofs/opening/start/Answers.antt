@@ -21,7 +21,7 @@ send_all-requires-clause-wide c =
     let v = c.args.node in
     let route = c.index-route.result.now in
     let at : slice_get c.args.wiring.now.routes.items v ≡ Some route = slice_get-get_or c.args.wiring.now.routes.items v route (omega (arith, may.node, may.laid.routes_many)) ∙ ap Some (sym c.index-route.ensures) in
-    all_wide g.subtasks route (g.edge v) c.args.changes (may.laid.routes v route at) may.fit
+    all_wide g.subtasks route (g.edge v) c.args.changes.now (may.laid.routes v route at) may.fit
 
 pub returns-clause-ok : goal.returns-clause-ok
 returns-clause-ok c = λ g limit may.

@@ -1,5 +1,4 @@
-use Rattle.std.proofs.Common.{List, ap, ◌∙◌, option_copied}
-use Rattle.ct_change.specs.declared.change.Change.{Change}
+use Rattle.std.proofs.Common.{ap, ◌∙◌, option_copied}
 use Rattle.ct_change.specs.declared.change.Diff.{Diff}
 use Rattle.ct_change.specs.Changelog.{apply}
 use Rattle.ct_change.specs.Emission.{row_of}
@@ -25,7 +24,7 @@ turn_group-requires-clause-kept g c =
     )
 
 pub returns-in-Err-clause-range : goal.returns-in-Err-clause-range
-returns-in-Err-clause-range g c = if_range Results (List Change) c.in-Err.fault (λ row out rows held stands m.
+returns-in-Err-clause-range g c = if_range Results (Unit {0}) c.in-Err.fault (λ row out rows held stands m.
     let by = c.args.self.now.by in
     let input = g.I.ChangeMode.mode c.args.self.now.input in
     let output = g.O.ChangeMode.mode c.args.self.now.output in
@@ -36,8 +35,8 @@ returns-in-Err-clause-range g c = if_range Results (List Change) c.in-Err.fault 
     out_at by input output rows c.args.self.now.groups held c.args.change m c.in_ok-key.key (option_copied c.row_of-gone.result) (option_copied c.row_of-come.result) c.in_ok-key.ensures gone come row out.0
     (out.1 (λ k. members (grouping by input output) k rows) m.grouped.kept has (m.grouped.counted c.in_ok-key.key))) c.in-Err.ensures.range
 
-pub told-requires : goal.told-requires
-told-requires g c =
+pub tell-requires : goal.tell-requires
+tell-requires g c =
     let r = c.requires in
     let by = c.args.self.now.by in
     let input = g.I.ChangeMode.mode c.args.self.now.input in
@@ -61,7 +60,7 @@ returns-clause-sent g c = λ rows held stands m.
     let has = has_at by input output rows c.args.self.now.groups held c.args.change m c.in_ok-key.key (option_copied c.row_of-gone.result) (option_copied c.row_of-come.result) c.in_ok-key.ensures gone come in
     let told = told_at by input output rows c.args.self.now.groups held c.args.change m c.in_ok-key.key (option_copied c.row_of-gone.result) (option_copied c.row_of-come.result) c.in_ok-key.ensures gone come c.in-Ok.results
     (c.in-Ok.ensures.told (λ k. members (grouping by input output) k rows) m.grouped.kept has) in
-    emits_told by input output rows c.args.self.now.groups held c.args.change m c.in-Ok.results told c.in_ok-sent.sent c.in_ok-sent.ensures
+    emits_told by input output rows c.args.self.now.groups held c.args.change m c.in-Ok.results told c.args.to.now c.tell.new.to c.in_ok-tell.ensures
 
 pub returns-clause-kept : goal.returns-clause-kept
 returns-clause-kept g c = λ rows held stands m.

@@ -1,7 +1,7 @@
-use Rattle.std.proofs.Common.{List, length, Ok, Err}
-use Rattle.ct_change.specs.declared.change.Change.{Change}
+use Rattle.std.proofs.Common.{length, Ok, Err, refl, ap, ◌∙◌}
 use Rattle.ct_change.specs.Changelog.{fold}
 use Rattle.op_rules.specs.History.{at_port}
+use Rattle.op_rules.specs.Rules.{appended}
 use Rattle.op_group.proofs.Taken.{may_take, fold_arrives, emits_arrives, grouped_arrives, if_range}
 use Rattle.op_group.proofs.group.GroupOperator.consume.Goals as goal
 
@@ -20,7 +20,7 @@ returns-in-Ok-clause-ok g c = λ before from stands may few.
     let m = may_take by input output before c.args._port from c.args.change may c.args.self.now.groups stands.0 stands.2 few in
     let kept = c.in-Ok.ensures.kept (fold input (at_port 0 before)) (length before) stands.1 m in
     let same = c.take.ensures.same in (
-      emits_arrives by input output before c.args._port from c.args.change may (Ok c.in-Ok.sent) (c.in-Ok.ensures.sent (fold input (at_port 0 before)) (length before) stands.1 m),
+      ap (appended (Ok c.args.to.now)) (emits_arrives by input output before c.args._port from c.args.change may _ refl) ∙ c.in-Ok.ensures.sent (fold input (at_port 0 before)) (length before) stands.1 m,
       (
         rw (same.0, same.1, same.2) stands.0,
         rw (same.1, fold_arrives by input output before c.args._port from c.args.change may) (rw same.1 at kept.0),
@@ -29,7 +29,7 @@ returns-in-Ok-clause-ok g c = λ before from stands may few.
     )
 
 pub returns-in-Err-clause-range : goal.returns-in-Err-clause-range
-returns-in-Err-clause-range g c = if_range (List Change) (List Change) c.in-Err.fault (λ row out before from stands may few.
+returns-in-Err-clause-range g c = if_range (Unit {0}) (Unit {0}) c.in-Err.fault (λ row out before from stands may few.
     let by = c.args.self.now.by in
     let input = g.I.ChangeMode.mode c.args.self.now.input in
     let output = g.O.ChangeMode.mode c.args.self.now.output in

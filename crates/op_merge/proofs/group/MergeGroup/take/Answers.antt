@@ -1,18 +1,19 @@
-use Rattle.std.proofs.Common.{[], ◌∷◌, length, sym, ap, subst, ◌∙◌}
+use Rattle.std.proofs.Common.{[], ◌∷◌, length, Ok, sym, ap, subst, ◌∙◌}
 use Rattle.std.proofs.lemmas.List.{length-take-le}
+use Rattle.op_rules.specs.Rules.{appended}
 use Rattle.phase_rules.specs.Merging.{merge_answer}
 use Rattle.op_merge.specs.Groups.{AreMerged, amounts_of, merging, with_more}
-use Rattle.op_merge.proofs.Told.{if_ok, on_ok, ranges}
+use Rattle.op_merge.proofs.Told.{on_ok, ranges}
 use Rattle.op_merge.proofs.group.MergeGroup.take.Goals as goal
 
 pub take_group-requires-clause-named : goal.take_group-requires-clause-named
 take_group-requires-clause-named g c = ap length c.in_ok-key.ensures ∙ length-take-le c.args.self.now.by.keys c.args.change.row c.requires.long
 
 pub returns-clause-sent : goal.returns-clause-sent
-returns-clause-sent g c = if_ok c.take_group.result (λ sent told of are.
+returns-clause-sent g c = on_ok c.take_group.result (λ told of are.
     let by = c.args.self.now.by in
     let m = merging by (g.O.ChangeMode.mode c.args.self.now.output) in
-    (λ i. merge_answer m (sym c.in_ok-key.ensures i) (of (sym c.in_ok-key.ensures i)) (amounts_of by.keys (sym c.in_ok-changes.ensures i))) ∙ told of are) c.take_group.ensures.sent
+    (λ i. appended (Ok c.args.to.now) (merge_answer m (sym c.in_ok-key.ensures i) (of (sym c.in_ok-key.ensures i)) (amounts_of by.keys (sym c.in_ok-changes.ensures i)))) ∙ told of are) c.take_group.ensures.sent
 
 pub returns-clause-kept : goal.returns-clause-kept
 returns-clause-kept g c = on_ok c.take_group.result (λ kept of are.

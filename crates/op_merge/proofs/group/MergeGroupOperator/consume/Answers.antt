@@ -1,6 +1,6 @@
-use Rattle.std.proofs.Common.{List, Ok, Err}
-use Rattle.ct_change.specs.declared.change.Change.{Change}
+use Rattle.std.proofs.Common.{Ok, Err, refl, ap, ◌∙◌}
 use Rattle.op_rules.specs.History.{at_port}
+use Rattle.op_rules.specs.Rules.{appended}
 use Rattle.phase_rules.specs.Merging.{amounts_in}
 use Rattle.op_merge.specs.Groups.{Amounts, merging}
 use Rattle.op_merge.proofs.Arrived.{long_one, emits_one, grows_one}
@@ -25,7 +25,7 @@ returns-in-Ok-clause-ok g c = λ before from stands may few.
     let m = merging by (g.O.ChangeMode.mode c.args.self.now.output) in
     let of : Amounts = λ key. amounts_in by.keys key (at_port 0 before) in
     let same = c.take.ensures.same in (
-      emits_one m before c.args._port from c.args.change may (Ok c.in-Ok.sent) (c.in-Ok.ensures.sent of stands.1),
+      ap (appended (Ok c.args.to.now)) (emits_one m before c.args._port from c.args.change may _ refl) ∙ c.in-Ok.ensures.sent of stands.1,
       (
         rw (same.0, same.1) stands.0,
         rw (same.0) (merged_same by c.take.new.self.groups _ _ (grows_one m before c.args._port from c.args.change may) (c.in-Ok.ensures.kept of stands.1)),
@@ -33,7 +33,7 @@ returns-in-Ok-clause-ok g c = λ before from stands may few.
     )
 
 pub returns-in-Err-clause-range : goal.returns-in-Err-clause-range
-returns-in-Err-clause-range g c = if_range (List Change) (List Change) c.in-Err.fault (λ row out before from stands may few.
+returns-in-Err-clause-range g c = if_range (Unit {0}) (Unit {0}) c.in-Err.fault (λ row out before from stands may few.
     let by = c.args.self.now.by in
     let m = merging by (g.O.ChangeMode.mode c.args.self.now.output) in
     emits_one m before c.args._port from c.args.change may (Err row) (out (λ key. amounts_in by.keys key (at_port 0 before)) stands.1)) c.in-Err.ensures.range

@@ -10,7 +10,7 @@ returns-in-Ok-clause-ok g c = λ before from stands may few.
     let rows = fold (upsert key) (changes_of before) in
     let kept = c.in-Ok.ensures.kept rows stands.1 may.change in
     let same = c.take.ensures.same in (
-      emits_one (record { key = key; output = g.O.ChangeMode.mode c.args.self.now.output }) (changes_of before) c.args.change c.in-Ok.sent (c.in-Ok.ensures.sent rows stands.1 may.change),
+      emits_one (record { key = key; output = g.O.ChangeMode.mode c.args.self.now.output }) (changes_of before) c.args.change c.args.to.now c.take.new.to (c.in-Ok.ensures.sent rows stands.1 may.change),
       (
         rw (same.0, same.1) stands.0,
         rw (same.0, rows_after key before (arrival c.args._port from c.args.change)) (rw same.0 at kept),

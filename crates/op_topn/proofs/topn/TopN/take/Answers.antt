@@ -1,4 +1,4 @@
-use Rattle.std.proofs.Common.{length, refl, ap, ◌∙◌}
+use Rattle.std.proofs.Common.{◌++◌, length, refl, sym, ap, append-nil, ◌∙◌}
 use Rattle.ct_change.specs.declared.change.Diff.{Diff}
 use Rattle.ct_change.specs.Changelog.{apply}
 use Rattle.ct_change.specs.Emission.{row_of}
@@ -28,8 +28,8 @@ turn_partition-requires g c =
     let come = c.row_of-come.ensures ∙ ap (λ (x : Diff). row_of x.come) d in
     record { kept = (λ k. members top k r.0, r.3.is_held.kept, has_at top r.0 c.args.self.now.partitions r.1 c.args.change r.3 c.in_ok-key.key c.row_of-gone.result c.row_of-come.result c.in_ok-key.ensures gone come, room_at top r.0 c.args.self.now.partitions r.1 c.args.change r.3 c.in_ok-key.key c.row_of-gone.result c.row_of-come.result c.in_ok-key.ensures gone come) }
 
-pub told-requires-clause-can : goal.told-requires-clause-can
-told-requires-clause-can g c = λ by_rank.
+pub tell-requires-clause-can : goal.tell-requires-clause-can
+tell-requires-clause-can g c = λ by_rank.
     let r = c.requires in
     let by = c.args.self.now.by in
     let input = g.I.ChangeMode.mode c.args.self.now.input in
@@ -42,8 +42,8 @@ told-requires-clause-can g c = λ by_rank.
     let are = some_firsts _ _ c.in_ok-firsts.firsts c.in-Some.firsts c.in-Some.is (c.in_ok-firsts.ensures.firsts (λ k. members top k r.0) r.3.is_held.kept has) in
     can_at top r.0 c.args.self.now.partitions r.1 c.args.change r.3 c.in_ok-key.key c.row_of-gone.result c.row_of-come.result c.in_ok-key.ensures gone come c.in-Some.firsts.olds.items c.in-Some.firsts.news.items are.0 are.1
 
-pub told-requires-clause-ranked : goal.told-requires-clause-ranked
-told-requires-clause-ranked g c =
+pub tell-requires-clause-ranked : goal.tell-requires-clause-ranked
+tell-requires-clause-ranked g c =
     let r = c.requires in
     let by = c.args.self.now.by in
     let input = g.I.ChangeMode.mode c.args.self.now.input in
@@ -67,10 +67,10 @@ returns-in-None-clause-sent g c = λ rows held stands m.
     let come = c.row_of-come.ensures ∙ ap (λ (x : Diff). row_of x.come) d in
     let has = has_at top rows c.args.self.now.partitions held c.args.change m c.in_ok-key.key c.row_of-gone.result c.row_of-come.result c.in_ok-key.ensures gone come in
     let same = same_firsts _ _ c.in_ok-firsts.firsts c.in-None.is (c.in_ok-firsts.ensures.firsts (λ k. members top k rows) m.is_held.kept has) in
-    c.new.ensures ∙ nothing_at top rows c.args.self.now.partitions held c.args.change m c.in_ok-key.key c.row_of-gone.result c.row_of-come.result c.in_ok-key.ensures gone come _ _ refl refl same
+    sym (append-nil c.args.to.now) ∙ ap (λ changes. c.args.to.now ++ changes) (nothing_at top rows c.args.self.now.partitions held c.args.change m c.in_ok-key.key c.row_of-gone.result c.row_of-come.result c.in_ok-key.ensures gone come _ _ refl refl same)
 
-pub returns-in_ok-sent-in-Some-clause-sent : goal.returns-in_ok-sent-in-Some-clause-sent
-returns-in_ok-sent-in-Some-clause-sent g c = λ rows held stands m.
+pub returns-in_ok-tell-in-Some-clause-sent : goal.returns-in_ok-tell-in-Some-clause-sent
+returns-in_ok-tell-in-Some-clause-sent g c = λ rows held stands m.
     let by = c.args.self.now.by in
     let input = g.I.ChangeMode.mode c.args.self.now.input in
     let output = g.O.ChangeMode.mode c.args.self.now.output in
@@ -80,7 +80,7 @@ returns-in_ok-sent-in-Some-clause-sent g c = λ rows held stands m.
     let come = c.row_of-come.ensures ∙ ap (λ (x : Diff). row_of x.come) d in
     let has = has_at top rows c.args.self.now.partitions held c.args.change m c.in_ok-key.key c.row_of-gone.result c.row_of-come.result c.in_ok-key.ensures gone come in
     let are = some_firsts _ _ c.in_ok-firsts.firsts c.in-Some.firsts c.in-Some.is (c.in_ok-firsts.ensures.firsts (λ k. members top k rows) m.is_held.kept has) in
-    c.in_ok-sent-in-Some.ensures input ∙ told_at top rows c.args.self.now.partitions held c.args.change m c.in_ok-key.key c.row_of-gone.result c.row_of-come.result c.in_ok-key.ensures gone come c.in-Some.firsts.olds.items c.in-Some.firsts.news.items are.0 are.1
+    c.in_ok-tell-in-Some.ensures input ∙ ap (λ changes. c.args.to.now ++ changes) (told_at top rows c.args.self.now.partitions held c.args.change m c.in_ok-key.key c.row_of-gone.result c.row_of-come.result c.in_ok-key.ensures gone come c.in-Some.firsts.olds.items c.in-Some.firsts.news.items are.0 are.1)
 
 pub returns-in-None-clause-kept : goal.returns-in-None-clause-kept
 returns-in-None-clause-kept g c = λ rows held stands m.
@@ -98,8 +98,8 @@ returns-in-None-clause-kept g c = λ rows held stands m.
           (c.in_ok-firsts.ensures.kept (λ k. members top k rows) (λ k. members top k (apply input rows c.args.change)) m.is_held.kept has turned),
     )
 
-pub returns-in_ok-sent-in-Some-clause-kept : goal.returns-in_ok-sent-in-Some-clause-kept
-returns-in_ok-sent-in-Some-clause-kept g c = λ rows held stands m.
+pub returns-in_ok-tell-in-Some-clause-kept : goal.returns-in_ok-tell-in-Some-clause-kept
+returns-in_ok-tell-in-Some-clause-kept g c = λ rows held stands m.
     let by = c.args.self.now.by in
     let input = g.I.ChangeMode.mode c.args.self.now.input in
     let output = g.O.ChangeMode.mode c.args.self.now.output in

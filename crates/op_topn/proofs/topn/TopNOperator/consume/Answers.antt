@@ -1,6 +1,8 @@
-use Rattle.std.proofs.Common.{length}
+use Rattle.std.proofs.Common.{length, refl}
 use Rattle.ct_change.specs.Changelog.{fold}
-use Rattle.op_rules.specs.History.{at_port}
+use Rattle.op_rules.specs.History.{arrival, at_port}
+use Rattle.op_rules.proofs.laws.Emits.{emits_onto}
+use Rattle.emission_rules.specs.Ranking.{tells, topn_rule}
 use Rattle.op_topn.specs.Tops.{ranking}
 use Rattle.op_topn.proofs.Taken.{may_take, fold_arrives, emits_arrives, held_arrives}
 use Rattle.op_topn.proofs.topn.TopNOperator.consume.Goals as goal
@@ -19,9 +21,9 @@ returns-clause-ok g c = λ before from stands may few.
     let top = ranking c.args.self.now.by input output in
     let rows = fold input (at_port 0 before) in
     let m = may_take top before c.args._port from c.args.change may c.args.self.now.partitions stands.0 stands.2 few in
-    let kept = c.in_ok-sent.ensures.kept rows (length before) stands.1 m in
+    let kept = c.in_ok-take.ensures.kept rows (length before) stands.1 m in
     let same = c.take.ensures.same in (
-      emits_arrives top before c.args._port from c.args.change may c.in_ok-sent.sent (c.in_ok-sent.ensures.sent rows (length before) stands.1 m),
+      emits_onto (topn_rule top) before (arrival c.args._port from c.args.change) c.args.to.now (tells top rows c.args.change) c.take.new.to (emits_arrives top before c.args._port from c.args.change may _ refl) (c.in_ok-take.ensures.sent rows (length before) stands.1 m),
       (
         rw (same.0, same.1, same.2) stands.0,
         rw (same.1, fold_arrives top before c.args._port from c.args.change may) (rw same.1 at kept.0),

@@ -1,4 +1,4 @@
-use Rattle.session_subtasks.proofs.laws.Outcomes.{if_ok, if_range}
+use Rattle.session_subtasks.proofs.laws.Outcomes.{on_ok, if_range}
 use Rattle.session_core.proofs.Running.{found}
 use Rattle.session_core.proofs.Slots.{consumed_in, may_take_in, out_taking_in}
 use Rattle.session_core.proofs.operators.Operators.consume.Goals as goal
@@ -13,9 +13,9 @@ take_in-requires b c =
     }
 
 pub returns-clause-ok : goal.returns-clause-ok
-returns-clause-ok b c = if_ok _ _ c.take_in.result c.take_in.ensures.ok (λ sent told g pieces bundle from m.
+returns-clause-ok b c = on_ok _ _ c.take_in.result c.take_in.ensures.ok (λ told g pieces bundle from m.
     let s = c.args.self.now in
-    consumed_in b.O.Operator.rule b.O.Operator.broken b.O.Operator.stands_for b.O.PieceOperator.takes_pieces s.width s.items.items c.args.size c.args.feed.node c.args.subtask c.args.feed.port c.args.change g pieces bundle from c.place-place.result c.in-Some.slot.now c.take_in.new.slot sent m
+    consumed_in b.O.Operator.rule b.O.Operator.broken b.O.Operator.stands_for b.O.PieceOperator.takes_pieces s.width s.items.items c.args.size c.args.feed.node c.args.subtask c.args.feed.port c.args.change g pieces bundle from c.place-place.result c.in-Some.slot.now c.take_in.new.slot c.take_in.new.to m
     (found b.O.Operator.rule b.O.Operator.broken b.O.Operator.stands_for b.O.PieceOperator.takes_pieces g s.width s.items.items pieces bundle c.args.feed.node c.args.subtask c.place-place.result c.in-Some.slot.now m.all m.there c.requires.subtask c.place-place.ensures.is c.place-place.ensures.within c.in-Some.ensures.value)
     c.requires.subtask c.place-place.ensures.is c.place-place.ensures.within told)
 

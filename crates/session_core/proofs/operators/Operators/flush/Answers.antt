@@ -1,4 +1,4 @@
-use Rattle.session_subtasks.proofs.laws.Outcomes.{if_ok, if_range}
+use Rattle.session_subtasks.proofs.laws.Outcomes.{on_ok, if_range}
 use Rattle.session_core.proofs.Running.{found}
 use Rattle.session_core.proofs.Slots.{flushed_in, may_flush_in, out_flushing_in}
 use Rattle.session_core.proofs.operators.Operators.flush.Goals as goal
@@ -13,9 +13,9 @@ flush_in-requires b c =
     }
 
 pub returns-clause-ok : goal.returns-clause-ok
-returns-clause-ok b c = if_ok _ _ c.flush_in.result c.flush_in.ensures.ok (λ sent told g pieces bundle m.
+returns-clause-ok b c = on_ok _ _ c.flush_in.result c.flush_in.ensures.ok (λ told g pieces bundle m.
     let s = c.args.self.now in
-    flushed_in b.O.Operator.rule b.O.Operator.broken b.O.Operator.stands_for b.O.PieceOperator.takes_pieces s.width s.items.items c.args.node c.args.subtask g pieces bundle c.place-place.result c.in-Some.slot.now c.flush_in.new.slot sent m
+    flushed_in b.O.Operator.rule b.O.Operator.broken b.O.Operator.stands_for b.O.PieceOperator.takes_pieces s.width s.items.items c.args.node c.args.subtask g pieces bundle c.place-place.result c.in-Some.slot.now c.flush_in.new.slot c.flush_in.new.to m
     (found b.O.Operator.rule b.O.Operator.broken b.O.Operator.stands_for b.O.PieceOperator.takes_pieces g s.width s.items.items pieces bundle c.args.node c.args.subtask c.place-place.result c.in-Some.slot.now m.all m.there c.requires.subtask c.place-place.ensures.is c.place-place.ensures.within c.in-Some.ensures.value)
     c.requires.subtask c.place-place.ensures.is c.place-place.ensures.within told)
 

@@ -58,8 +58,8 @@ consume_at-requires-clause-ready b c =
       },
     )
 
-pub returns-in_err-sent-clause-err : goal.returns-in_err-sent-clause-err
-returns-in_err-sent-clause-err b c = let p = err_from_is_err_and c.from_residual-in_err-sent.result c.from_residual-in_err-sent.ensures.1 in rw (p.1, p.2) (λ g limit handed s keeps.
+pub returns-in_err-consume_at-clause-err : goal.returns-in_err-consume_at-clause-err
+returns-in_err-consume_at-clause-err b c = let p = err_from_is_err_and c.from_residual-in_err-consume_at.result c.from_residual-in_err-consume_at.ensures.1 in rw (p.1, p.2) (λ g limit handed s keeps.
     let e = c.args.edge in
     let i = c.args.from in
     let j = c.args.to in
@@ -69,9 +69,9 @@ returns-in_err-sent-clause-err b c = let p = err_from_is_err_and c.from_residual
     let port = port_of c.in_ok-feed.feed in
     let there = fed_there g keeps.laid.wired e port f.fed in
     let between = joins e i j port change f.rest s in
-    stops_out g limit v j (is_full g v (between.bundle v j)) between (move g limit s e i j) c.in_err-sent.field-0.0
+    stops_out g limit v j (is_full g v (between.bundle v j)) between (move g limit s e i j) c.in_err-consume_at.field-0.0
     (move_next g limit s e i j port change f.rest f.fed f.channel f.front)
-    (c.in_err-sent.ensures.err g s.pieces s.bundle i (record {
+    (c.in_err-consume_at.ensures.err g s.pieces s.bundle i (record {
       node = there.ports;
       there = there.node;
       all = keeps.runs;
@@ -96,7 +96,7 @@ hand_out-requires b c =
     let there = fed_there g keeps.laid.wired e port f.fed in
     let between = joins e i j port change f.rest s in
     let due = is_full g v (between.bundle v j) in
-    let told = c.in_ok-sent.ensures.ok g s.pieces s.bundle i (record {
+    let told = c.in_ok-consume_at.ensures.ok g s.pieces s.bundle i (record {
       node = there.ports;
       there = there.node;
       all = keeps.runs;
@@ -115,7 +115,7 @@ hand_out-requires b c =
           nodes_are = c.consume_at.ensures.nodes ∙ keeps.nodes_are;
           width_is = c.consume_at.ensures.width ∙ keeps.width_is;
           carries = joins_carries g limit s e i j port change f.rest c.fetch.new.self r.2 f.carries;
-          runs = subst (λ (w : ℕ). AllHaveRun b.O.Operator.rule b.O.Operator.broken b.O.Operator.stands_for b.O.PieceOperator.takes_pieces due g w c.consume_at.new.operators.items.items between.pieces between.bundle v j c.in_ok-sent.sent) (sym c.consume_at.ensures.width) told;
+          runs = subst (λ (w : ℕ). AllHaveRun b.O.Operator.rule b.O.Operator.broken b.O.Operator.stands_for b.O.PieceOperator.takes_pieces due g w c.consume_at.new.operators.items.items between.pieces between.bundle v j c.consume_at.new.to) (sym c.consume_at.ensures.width) told;
           sources = keeps.sources;
           outside = outside_put g s.bundle v j (s.bundle v j ++ arrival port.port i change ∷ []) (let n = there.node in omega (arith, n)) keeps.outside;
           subtask = (channel_there g e i j f.channel).1;
@@ -137,7 +137,7 @@ returns-clause-ok b c = on_ok _ _ c.hand_out.result c.hand_out.ensures.ok (λ ha
     let between = joins e i j port change f.rest s in
     let due = is_full g v (between.bundle v j) in
     let is = move_next g limit s e i j port change f.rest f.fed f.channel f.front in
-    let told = c.in_ok-sent.ensures.ok g s.pieces s.bundle i (record {
+    let told = c.in_ok-consume_at.ensures.ok g s.pieces s.bundle i (record {
       node = there.ports;
       there = there.node;
       all = keeps.runs;
@@ -149,7 +149,7 @@ returns-clause-ok b c = on_ok _ _ c.hand_out.result c.hand_out.ensures.ok (λ ha
       nodes_are = c.consume_at.ensures.nodes ∙ keeps.nodes_are;
       width_is = c.consume_at.ensures.width ∙ keeps.width_is;
       carries = joins_carries g limit s e i j port change f.rest c.fetch.new.self handed f.carries;
-      runs = subst (λ (w : ℕ). AllHaveRun b.O.Operator.rule b.O.Operator.broken b.O.Operator.stands_for b.O.PieceOperator.takes_pieces due g w c.consume_at.new.operators.items.items between.pieces between.bundle v j c.in_ok-sent.sent) (sym c.consume_at.ensures.width) told;
+      runs = subst (λ (w : ℕ). AllHaveRun b.O.Operator.rule b.O.Operator.broken b.O.Operator.stands_for b.O.PieceOperator.takes_pieces due g w c.consume_at.new.operators.items.items between.pieces between.bundle v j c.consume_at.new.to) (sym c.consume_at.ensures.width) told;
       sources = keeps.sources;
       outside = outside_put g s.bundle v j (s.bundle v j ++ arrival port.port i change ∷ []) (let n = there.node in omega (arith, n)) keeps.outside;
       subtask = (channel_there g e i j f.channel).1;
@@ -170,7 +170,7 @@ returns-clause-err b c = if_err _ _ c.hand_out.result c.hand_out.ensures.err (λ
     let between = joins e i j port change f.rest s in
     let due = is_full g v (between.bundle v j) in
     let is = move_next g limit s e i j port change f.rest f.fed f.channel f.front in
-    let told = c.in_ok-sent.ensures.ok g s.pieces s.bundle i (record {
+    let told = c.in_ok-consume_at.ensures.ok g s.pieces s.bundle i (record {
       node = there.ports;
       there = there.node;
       all = keeps.runs;
@@ -182,7 +182,7 @@ returns-clause-err b c = if_err _ _ c.hand_out.result c.hand_out.ensures.err (λ
       nodes_are = c.consume_at.ensures.nodes ∙ keeps.nodes_are;
       width_is = c.consume_at.ensures.width ∙ keeps.width_is;
       carries = joins_carries g limit s e i j port change f.rest c.fetch.new.self handed f.carries;
-      runs = subst (λ (w : ℕ). AllHaveRun b.O.Operator.rule b.O.Operator.broken b.O.Operator.stands_for b.O.PieceOperator.takes_pieces due g w c.consume_at.new.operators.items.items between.pieces between.bundle v j c.in_ok-sent.sent) (sym c.consume_at.ensures.width) told;
+      runs = subst (λ (w : ℕ). AllHaveRun b.O.Operator.rule b.O.Operator.broken b.O.Operator.stands_for b.O.PieceOperator.takes_pieces due g w c.consume_at.new.operators.items.items between.pieces between.bundle v j c.consume_at.new.to) (sym c.consume_at.ensures.width) told;
       sources = keeps.sources;
       outside = outside_put g s.bundle v j (s.bundle v j ++ arrival port.port i change ∷ []) (let n = there.node in omega (arith, n)) keeps.outside;
       subtask = (channel_there g e i j f.channel).1;

@@ -47,14 +47,14 @@ flush_at-requires-clause-ready b c =
     let at = place_there g v j has.place in
     (g, s.pieces, s.bundle, record { there = at.0; all = keeps.runs; size = has.size; bundled = has.bundled; ready = keeps.opens.ready [] tt s refl v j at.1 })
 
-pub returns-in_err-sent-clause-err : goal.returns-in_err-sent-clause-err
-returns-in_err-sent-clause-err b c = let p = err_from_is_err_and c.from_residual-in_err-sent.result c.from_residual-in_err-sent.ensures.1 in rw (p.1, p.2) (λ g limit handed s keeps.
+pub returns-in_err-flush_at-clause-err : goal.returns-in_err-flush_at-clause-err
+returns-in_err-flush_at-clause-err b c = let p = err_from_is_err_and c.from_residual-in_err-flush_at.result c.from_residual-in_err-flush_at.ensures.1 in rw (p.1, p.2) (λ g limit handed s keeps.
     let v = c.args.node in
     let j = c.args.subtask in
     let has = c.in_ok-find_bundle.ensures.ok g limit keeps.laid in
     let at = place_there g v j has.place in
-    stops_out g limit v j (holds_some (s.bundle v j)) s (flush g limit s v j) c.in_err-sent.field-0.0 (flush_next g limit s v j has)
-    (c.in_err-sent.ensures.err g s.pieces s.bundle (record { there = at.0; all = keeps.runs; size = has.size; bundled = has.bundled; ready = keeps.opens.ready [] tt s refl v j at.1 }) limit keeps.laid))
+    stops_out g limit v j (holds_some (s.bundle v j)) s (flush g limit s v j) c.in_err-flush_at.field-0.0 (flush_next g limit s v j has)
+    (c.in_err-flush_at.ensures.err g s.pieces s.bundle (record { there = at.0; all = keeps.runs; size = has.size; bundled = has.bundled; ready = keeps.opens.ready [] tt s refl v j at.1 }) limit keeps.laid))
 
 pub hand_out-requires : goal.hand_out-requires
 hand_out-requires b c =
@@ -70,7 +70,7 @@ hand_out-requires b c =
     let at = place_there g v j has.place in
     let due = holds_some (s.bundle v j) in
     let is = flush_next g limit s v j has in
-    let told = c.in_ok-sent.ensures.ok g s.pieces s.bundle (record { there = at.0; all = keeps.runs; size = has.size; bundled = has.bundled; ready = keeps.opens.ready [] tt s refl v j at.1 }) in
+    let told = c.in_ok-flush_at.ensures.ok g s.pieces s.bundle (record { there = at.0; all = keeps.runs; size = has.size; bundled = has.bundled; ready = keeps.opens.ready [] tt s refl v j at.1 }) in
     record {
       ready = (
         due,
@@ -83,7 +83,7 @@ hand_out-requires b c =
           nodes_are = c.flush_at.ensures.nodes ∙ keeps.nodes_are;
           width_is = c.flush_at.ensures.width ∙ keeps.width_is;
           carries = keeps.carries;
-          runs = subst (λ (w : ℕ). AllHaveRun b.O.Operator.rule b.O.Operator.broken b.O.Operator.stands_for b.O.PieceOperator.takes_pieces due g w c.flush_at.new.operators.items.items s.pieces s.bundle v j c.in_ok-sent.sent) (sym c.flush_at.ensures.width) told;
+          runs = subst (λ (w : ℕ). AllHaveRun b.O.Operator.rule b.O.Operator.broken b.O.Operator.stands_for b.O.PieceOperator.takes_pieces due g w c.flush_at.new.operators.items.items s.pieces s.bundle v j c.flush_at.new.to) (sym c.flush_at.ensures.width) told;
           sources = keeps.sources;
           outside = keeps.outside;
           subtask = at.1;
@@ -100,13 +100,13 @@ returns-clause-ok b c = on_ok _ _ c.hand_out.result c.hand_out.ensures.ok (λ ha
     let at = place_there g v j has.place in
     let due = holds_some (s.bundle v j) in
     let is = flush_next g limit s v j has in
-    let told = c.in_ok-sent.ensures.ok g s.pieces s.bundle (record { there = at.0; all = keeps.runs; size = has.size; bundled = has.bundled; ready = keeps.opens.ready [] tt s refl v j at.1 }) in
+    let told = c.in_ok-flush_at.ensures.ok g s.pieces s.bundle (record { there = at.0; all = keeps.runs; size = has.size; bundled = has.bundled; ready = keeps.opens.ready [] tt s refl v j at.1 }) in
     let done = handed_out due g limit handed s (record {
       laid = keeps.laid;
       nodes_are = c.flush_at.ensures.nodes ∙ keeps.nodes_are;
       width_is = c.flush_at.ensures.width ∙ keeps.width_is;
       carries = keeps.carries;
-      runs = subst (λ (w : ℕ). AllHaveRun b.O.Operator.rule b.O.Operator.broken b.O.Operator.stands_for b.O.PieceOperator.takes_pieces due g w c.flush_at.new.operators.items.items s.pieces s.bundle v j c.in_ok-sent.sent) (sym c.flush_at.ensures.width) told;
+      runs = subst (λ (w : ℕ). AllHaveRun b.O.Operator.rule b.O.Operator.broken b.O.Operator.stands_for b.O.PieceOperator.takes_pieces due g w c.flush_at.new.operators.items.items s.pieces s.bundle v j c.flush_at.new.to) (sym c.flush_at.ensures.width) told;
       sources = keeps.sources;
       outside = keeps.outside;
       subtask = at.1;
@@ -122,13 +122,13 @@ returns-clause-err b c = if_err _ _ c.hand_out.result c.hand_out.ensures.err (λ
     let at = place_there g v j has.place in
     let due = holds_some (s.bundle v j) in
     let is = flush_next g limit s v j has in
-    let told = c.in_ok-sent.ensures.ok g s.pieces s.bundle (record { there = at.0; all = keeps.runs; size = has.size; bundled = has.bundled; ready = keeps.opens.ready [] tt s refl v j at.1 }) in
+    let told = c.in_ok-flush_at.ensures.ok g s.pieces s.bundle (record { there = at.0; all = keeps.runs; size = has.size; bundled = has.bundled; ready = keeps.opens.ready [] tt s refl v j at.1 }) in
     stops_same (flush g limit s v j) (next_if due g limit v j s) fault is (stops due g limit handed s (record {
       laid = keeps.laid;
       nodes_are = c.flush_at.ensures.nodes ∙ keeps.nodes_are;
       width_is = c.flush_at.ensures.width ∙ keeps.width_is;
       carries = keeps.carries;
-      runs = subst (λ (w : ℕ). AllHaveRun b.O.Operator.rule b.O.Operator.broken b.O.Operator.stands_for b.O.PieceOperator.takes_pieces due g w c.flush_at.new.operators.items.items s.pieces s.bundle v j c.in_ok-sent.sent) (sym c.flush_at.ensures.width) told;
+      runs = subst (λ (w : ℕ). AllHaveRun b.O.Operator.rule b.O.Operator.broken b.O.Operator.stands_for b.O.PieceOperator.takes_pieces due g w c.flush_at.new.operators.items.items s.pieces s.bundle v j c.flush_at.new.to) (sym c.flush_at.ensures.width) told;
       sources = keeps.sources;
       outside = keeps.outside;
       subtask = at.1;

@@ -13,8 +13,8 @@ pub returns-then-node-wiring-clause-ok : goal.returns-then-node-wiring-clause-ok
 returns-then-node-wiring-clause-ok c = λ g limit handed s may.
     let kept = may.carries in
     let last = c.if-node-wiring.true ∙ may.laid.nodes in (
-      print c.args.node c.args.subtask c.args.changes s,
-      handed_print g limit c.args.node c.args.subtask c.args.changes s last,
+      print c.args.node c.args.subtask c.args.changes.now s,
+      handed_print g limit c.args.node c.args.subtask c.args.changes.now s last,
       record { pieces = refl; bundle = refl; taken = refl },
       record {
         width = kept.width;
@@ -26,8 +26,8 @@ returns-then-node-wiring-clause-ok c = λ g limit handed s may.
         few = kept.few;
         counted = kept.counted;
         shares = kept.shares;
-        printed = ap (λ (l : List PrintItem). l ++ map Printed c.args.changes) kept.printed
-            ∙ (append_assoc handed c.args.self.now.printed (map Printed c.args.changes) ∙ ap (λ (l : List PrintItem). handed ++ l) (sym c.in_ok-print_all.ensures.ok));
+        printed = ap (λ (l : List PrintItem). l ++ map Printed c.args.changes.now) kept.printed
+            ∙ (append_assoc handed c.args.self.now.printed (map Printed c.args.changes.now) ∙ ap (λ (l : List PrintItem). handed ++ l) (sym c.in_ok-print_all.ensures.ok));
       },
     )
 
@@ -40,7 +40,7 @@ send_all-requires-clause-wide c =
     let may = r.4 in
     let v = c.args.node in
     let j = c.args.subtask in
-    let changes = c.args.changes in
+    let changes = c.args.changes.now in
     let route = c.index-route.result.now in
     let off : (v ≡ g.count → ⊥) = λ last. c.if-node-wiring.false (last ∙ sym may.laid.nodes) in
     let within : s.sends + length changes ≤ limit = omega (arith, may.carries.sends, may.carries.within, may.laid.limit_is, c.len.ensures) in
@@ -54,7 +54,7 @@ returns-clause-ok c = λ g limit handed s may.
     let kept = may.carries in
     let v = c.args.node in
     let j = c.args.subtask in
-    let changes = c.args.changes in
+    let changes = c.args.changes.now in
     let route = c.index-route.result.now in
     let off : (v ≡ g.count → ⊥) = λ last. c.if-node-wiring.false (last ∙ sym may.laid.nodes) in
     let within : s.sends + length changes ≤ limit = omega (arith, kept.sends, kept.within, may.laid.limit_is, c.len.ensures) in

@@ -1,4 +1,9 @@
-use Rattle.std.proofs.Common.{refl}
+use Rattle.std.proofs.Common.{List, [], ◌∷◌, ◌++◌, refl, sym, subst}
+use Rattle.ct_change.specs.declared.change.Change.{Change}
+use Rattle.op_rules.specs.History.{arrival}
+use Rattle.op_rules.specs.Rules.{EmitsOnto}
+use Rattle.op_rules.proofs.laws.Emits.{emits_alone}
+use Rattle.session_subtasks.specs.Subtasks.{HasRun, is_full}
 use Rattle.session_subtasks.proofs.laws.Outcomes.{range_of}
 use Rattle.session_subtasks.proofs.Subtasks.{alone_arrives, alone_few, alone_ok, alone_range}
 use Rattle.session_subtasks.proofs.subtask.Subtask.take_alone.Goals as goal
@@ -23,11 +28,15 @@ returns-in-Ok-clause-ok b c = λ g v j history bundle from m.
     let may = alone_arrives b.O.Operator.rule b.O.Operator.broken b.O.Operator.stands_for b.O.PieceOperator.takes_pieces old c.args.port c.args.change g v j history bundle from m in
     let few = alone_few b.O.Operator.rule b.O.Operator.broken b.O.Operator.stands_for b.O.PieceOperator.takes_pieces old c.args.port c.args.change g v j history bundle from m in
     let told = c.in-Ok.ensures.ok history from m.stands_as.runs.stands_for may few in
-    alone_ok b.O.Operator.rule b.O.Operator.broken b.O.Operator.stands_for b.O.PieceOperator.takes_pieces old c.args.port c.args.change g v j history bundle from m
-    _ c.in-Ok.sent c.consume.ensures.rule_stays c.in-Ok.ensures.stays_whole refl told.0 told.1
+    let rule = b.O.Operator.rule old.operator in
+    let a = arrival c.args.port from c.args.change in
+    let emits = emits_alone rule history a c.consume.new.to (subst (λ (l : List Change). EmitsOnto rule history a l c.consume.new.to) c.room-changes.ensures told.0) in
+    subst (HasRun b.O.Operator.rule b.O.Operator.broken b.O.Operator.stands_for b.O.PieceOperator.takes_pieces (is_full g v (bundle ++ a ∷ [])) g v _ history (bundle ++ a ∷ [])) (sym c.put.ensures)
+    (alone_ok b.O.Operator.rule b.O.Operator.broken b.O.Operator.stands_for b.O.PieceOperator.takes_pieces old c.args.port c.args.change g v j history bundle from m
+    _ c.consume.new.to c.consume.ensures.rule_stays c.in-Ok.ensures.stays_whole refl emits told.1)
 
 pub returns-in-Err-clause-range : goal.returns-in-Err-clause-range
-returns-in-Err-clause-range b c = range_of _ _ c.in-Err.fault c.in-Err.ensures.range (λ row told g v j history bundle from m.
+returns-in-Err-clause-range b c = range_of (Unit {0}) (Unit {0}) _ _ c.in-Err.fault c.in-Err.ensures.range (λ row told g v j history bundle from m.
     let old = c.args.self.now in
     alone_range b.O.Operator.rule b.O.Operator.broken b.O.Operator.stands_for b.O.PieceOperator.takes_pieces old c.args.port c.args.change g v j history bundle from m row (told history from m.stands_as.runs.stands_for
     (alone_arrives b.O.Operator.rule b.O.Operator.broken b.O.Operator.stands_for b.O.PieceOperator.takes_pieces old c.args.port c.args.change g v j history bundle from m)

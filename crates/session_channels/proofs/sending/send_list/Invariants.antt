@@ -3,7 +3,7 @@ use Rattle.ct_change.specs.declared.change.Change.{Change}
 use Rattle.op_rules.specs.Edges.{Edge}
 use Rattle.session_channels.specs.Routes.{RoutesFor}
 use Rattle.session_channels.specs.Sending.{Carry, sent_by}
-use Rattle.session_channels.proofs.sending.send_all.Given as goal
+use Rattle.session_channels.proofs.sending.send_list.Given as goal
 
 abbrev pub invariant-loop-change : goal.invariant-loop-change
 invariant-loop-change l = record {

@@ -6,7 +6,7 @@ use Rattle.ct_change.specs.declared.change.Change.{Change}
 use Rattle.session_channels.specs.Routes.{IsWide, RoutesFor}
 use Rattle.session_channels.specs.Sending.{sent_by}
 use Rattle.session_channels.proofs.Sends.{carry_same, sent_none}
-use Rattle.session_channels.proofs.sending.send_all.Goals as goal
+use Rattle.session_channels.proofs.sending.send_list.Goals as goal
 
 pub loop-change-init : goal.loop-change-init
 loop-change-init c = record {
