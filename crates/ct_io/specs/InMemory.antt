@@ -53,6 +53,11 @@ after_piece s piece = record s { bytes = s.bytes ++ piece; calls = next s.calls 
 abbrev pub after_put : SinkState → List ℕ → SinkState
 after_put s piece = cond (refuses s piece) (after_refusal s) (after_piece s piece)
 
+-- a sink that grows with what is written: its bytes, and how often it had no room
+pub record GrowingState : Type 0 where
+  pub bytes : List ℕ
+  pub faults : ℕ
+
 -- a sink that never fails: the bytes that it holds, and whether these are all that was written
 pub record SureState : Type 0 where
   pub bytes : List ℕ

@@ -9,6 +9,7 @@
 
 mod calls;
 mod files;
+mod growing_sink;
 mod mem_shelf;
 mod mem_sink;
 mod put;
@@ -19,6 +20,7 @@ mod sure_sink;
 
 pub use calls::Calls;
 pub use files::Files;
+pub use growing_sink::GrowingSink;
 pub use mem_shelf::MemShelf;
 pub use mem_sink::MemSink;
 pub use put::{put_all, put_copies};

@@ -1,5 +1,5 @@
-// Files in memory, and calls by their numbers. Shelves and sinks are tried by the runs of job_tests.
-use ct_io::{Calls, Files};
+// Files in memory, calls by their numbers, and a sink that grows. Shelves and the other sinks are tried by the runs of job_tests.
+use ct_io::{Calls, Files, GrowingSink, put_all};
 use ct_value::{Bytes, Memory, Text};
 use std::alloc::Global;
 use std::test::Fail;
@@ -39,10 +39,24 @@ fn holds_one_file(alloc: Global) -> Result<bool, Memory> {
     Ok(matches!(held, Some(bytes) if bytes.is(b"abc")) && other.is_none())
 }
 
+// Whether two pieces are told and handed over, one behind the other.
+fn holds_both_pieces(alloc: Global) -> bool {
+    let mut sink = GrowingSink::new(alloc);
+    let taken = put_all(&mut sink, b"ab").is_ok() && put_all(&mut sink, b"c").is_ok();
+    let told = matches!(sink.written(), b"abc");
+    taken && told && matches!(sink.into_bytes().as_slice(), b"abc")
+}
+
 #[test]
 fn calls_and_files_are_held(rt: HostRuntime) -> Result<(), Fail> {
     assert!(rt; Calls::new(rt.alloc()).is_empty());
     assert!(rt; lists_calls(rt.alloc())?);
     assert!(rt; holds_one_file(rt.alloc())?);
+    Ok(())
+}
+
+#[test]
+fn written_pieces_are_held(rt: HostRuntime) -> Result<(), Fail> {
+    assert!(rt; holds_both_pieces(rt.alloc()));
     Ok(())
 }

@@ -17,8 +17,9 @@ ghost use Rattle.job_judgement.specs.Halts.{IsHalt};
 ghost use Rattle.job_run.specs.Sums.{AreSums, IsRest, TakesAs, sums_of};
 ghost use Rattle.job_run.specs.declared.running_sums.Taking.TheVariants as Taking;
 
-use crate::kept::{Kept, kept_by};
+use crate::kept::kept_by;
 use crate::summaries::{line_count, quiet_len, summary, without_last};
+use ct_io::GrowingSink;
 use ct_value::{Bytes, Memory};
 use job_batch::batch_over;
 use job_ending::{Halt, LimitName};
@@ -297,7 +298,7 @@ fn answer_of(alloc: Global, script: &Accepted, feed: FeedFold) -> Result<Vec<u8>
     let Ok(tables) = feed.into_bags() else {
         return Err(Halt::Memory);
     };
-    let mut kept = Kept::new(alloc);
+    let mut kept = GrowingSink::new(alloc);
     let ran = batch_over(alloc, script, &tables, &mut kept);
     kept_by(ran, kept)
 }

@@ -11,8 +11,15 @@ use Rattle.stream_model.specs.Machine.{State, is_channel}
 use Rattle.stream_model.specs.Drain.{Stage, delivers, flushes, bundles_at, bundles_from, channels_from, channels_into, channels_to, feeds_node, stages, stages_from}
 use Rattle.stream_model.specs.Looks.{flight_at, in_flight}
 use Rattle.source_lines.specs.Run.{At}
+use Rattle.session_core.specs.LaidOut.{stage_of}
 use Rattle.session_core.specs.declared.wiring.Lane.{Lane}
+use Rattle.session_core.specs.declared.wiring.Stage.{Stage as SessionStage}
+use Rattle.session_core.specs.declared.wiring.Stage.TheVariants.{Deliver}
+use Rattle.exec_core.specs.declared.session.Session.{Session}
+use Rattle.exec_core.specs.Stands.{ForRuns, reached}
+use Rattle.job_stream.specs.declared.sheet.Sheet.{Sheet}
 use Rattle.job_stream.specs.Parts.{first_run, item_run, moves_run, stage_run}
+use Rattle.job_stream.specs.Writing.{MayMoveStage}
 use Rattle.job_stream.proofs.Along.{along_one}
 
 module _ (g : Network) where
@@ -75,11 +82,19 @@ module _ (g : Network) where
       let here = (subst AreChannels is (all_behind n (stages g) (all_stages 1 g.count))).0 in
       ap (flight_at g s e i j) here.1 ∙ ap (λ b. cond b (Some (length (s.flight e i j))) None) here.2
 
--- a channel's stage, by what a session tells of the channel
-module _ (g : Network) (s : State) (number : ℕ) (lane : Lane) (rest : List Stage) (next : drop number (stages g) ≡ delivers lane.edge lane.from lane.to ∷ rest) where
-  pub held_all : (o : Option ℕ) → o ≡ in_flight g s lane.edge lane.from lane.to → o ≡ Some (length (s.flight lane.edge lane.from lane.to))
-  held_all o is = is ∙ told_flight g s number lane.edge lane.from lane.to rest next
+-- so a session that has a channel's stage tells what the channel holds
+pub stage_is_held : (sheet : Sheet) (session : Session) (number : ℕ) → MayMoveStage sheet session number
+    → (stage : SessionStage) (lane : Lane) → stage ≡ Deliver lane → ForRuns session (λ plan limit handed items. drop number (stages (network plan)) ≡ stage_of stage ∷ drop (number + 1) (stages (network plan)))
+    → (held : Option ℕ) → held ≡ None → ForRuns session (λ plan limit handed items. held ≡ in_flight (network plan) (reached plan limit items) lane.edge lane.from lane.to) → ⊥
+stage_is_held sheet session number may stage lane delivered next held none told =
+    let g = network may.0 in
+    let stands = may.5 in
+    let first = subst (λ (x : SessionStage). drop number (stages g) ≡ stage_of x ∷ drop (number + 1) (stages g)) delivered (next may.0 may.1 may.2.printed stands.items stands.stands) in
+    let flight = told may.0 may.1 may.2.printed stands.items stands.stands ∙ ap (λ (s : State). in_flight g s lane.edge lane.from lane.to) stands.is in
+    let is = sym none ∙ flight ∙ told_flight g may.2 number lane.edge lane.from lane.to (drop (number + 1) (stages g)) first in
+    absurd (cc (is))
 
+-- a channel's stage is so many moves
 pub stage_moves : (by_table : Bool) (plan : Plan) (limit : ℕ) (p : At State) (number : ℕ) (lane : Lane) (held : ℕ) (rest : List Stage) → drop number (stages (network plan)) ≡ delivers lane.edge lane.from lane.to ∷ rest
     → Some held ≡ in_flight (network plan) p.state lane.edge lane.from lane.to → stage_run number by_table plan limit p ≡ moves_run lane.edge lane.from lane.to held by_table plan limit p
 stage_moves by_table plan limit p number lane held rest next is =

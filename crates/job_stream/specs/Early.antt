@@ -1,6 +1,6 @@
 -- A drain that makes moves into the sink early: as soon as something is in flight to it, and not at the sink's own stage. Where it has come along
 -- is told by the run that makes them at their stage, and what they printed is kept until then.
-use Rattle.std.specs.Prelude.{◌≡◌, ℕ, ◌<◌, ◌≤◌, ◌+◌, ◌==◌, true, false, List, [], ◌∷◌, ◌++◌, drop, length}
+use Rattle.std.specs.Prelude.{◌≡◌, ℕ, ◌<◌, ◌≤◌, ◌+◌, ◌==◌, true, false, List, ◌∷◌, ◌++◌, drop, length}
 use Rattle.phys_plan.specs.declared.plan.Plan.{Plan}
 use Rattle.plan_rules.specs.Doings.{network}
 use Rattle.job_text.specs.Lines.{LinesLeft}
@@ -16,6 +16,7 @@ use Rattle.exec_core.specs.Goes.{StandsAt, StandsIn}
 use Rattle.exec_core.specs.Stands.{Stands}
 use Rattle.job_ending.specs.declared.halt.Halt.{Halt}
 use Rattle.job_ending.specs.declared.halt.Halt.TheVariants as h
+use Rattle.job_stream.specs.declared.early.EarlySession.{EarlySession}
 use Rattle.job_stream.specs.declared.sheet.Sheet.{Sheet}
 use Rattle.job_stream.specs.Writing.{Halts, IsSheetOf, Part, Told, lines_on}
 
@@ -42,42 +43,41 @@ pub record BeginsElsewhere (number : ℕ) (plan : Plan) : Type 0 where
   pub elsewhere : AreElsewhere number plan
 
 -- the session has made so many moves into the sink more than the run has that stands at this place, and what they printed is kept
-pub record IsEarly (sheet : Sheet) (plan : Plan) (limit : ℕ) (lane : Lane) (p : At State) (session : Session) (files : List LinesLeft) (before kept : List ℕ) : Type 0 where
+pub record IsEarly (sheet : Sheet) (plan : Plan) (limit : ℕ) (p : At State) (early : EarlySession) (files : List LinesLeft) (before : List ℕ) : Type 0 where
+  pub sheet_is : IsSheetOf plan.sink sheet
+  pub to_sink : IsToSink plan early.sink
   pub count : ℕ
   pub state : State
-  pub leads : Leads (network plan) limit p.state (moves lane.edge lane.from lane.to count) state
-  pub stands : StandsAt session plan limit files (record p { state = state })
+  pub leads : Leads (network plan) limit p.state (moves early.sink.edge early.sink.from early.sink.to count) state
+  pub stands : StandsAt early.session plan limit files (record p { state = state })
   pub more : List PrintItem
   pub printed : state.printed ≡ p.state.printed ++ more
-  pub kept_is : kept ≡ before ++ lines_on sheet more
+  pub kept_is : early.kept.bytes ≡ before ++ lines_on sheet more
 
 -- a part of the run goes on from a place behind which it has printed nothing, and there the session is early
-pub record HasGoneEarly (sheet : Sheet) (plan : Plan) (limit : ℕ) (lane : Lane) (went : Went (At State)) (rest : At State → Went (At State)) (p : At State) (session : Session) (files : List LinesLeft) (before kept : List ℕ) : Type 0 where
+pub record HasGoneEarly (sheet : Sheet) (plan : Plan) (limit : ℕ) (went : Went (At State)) (rest : At State → Went (At State)) (p : At State) (later : EarlySession) (files : List LinesLeft) (before : List ℕ) : Type 0 where
   pub place : At State
   pub goes : went ≡ rest place
   pub silent : place.state.printed ≡ p.state.printed
-  pub early : IsEarly sheet plan limit lane place session files before kept
+  pub early : IsEarly sheet plan limit place later files before
 
--- so it is from each place where a session was early
-abbrev pub GoesEarly : (Plan → Type 0) → Sheet → Lane → Session → List ℕ → Part → Part → Session → List ℕ → Type 0
-GoesEarly of_plan sheet lane session kept part rest next later =
-    (before : List ℕ) (files : List LinesLeft) (plan : Plan) (limit : ℕ) (p : At State) → IsSheetOf plan.sink sheet → IsToSink plan lane → of_plan plan → IsEarly sheet plan limit lane p session files before kept
-    → HasGoneEarly sheet plan limit lane (part sheet.by_table plan limit p) (rest sheet.by_table plan limit) p next files before later
+-- it is by the same channel, and in each plan in which the one session stands the other does
+pub record StaysIn (sheet : Sheet) (early later : EarlySession) : Type 0 where
+  pub sink_is : later.sink ≡ early.sink
+  pub stands : (plan : Plan) (limit : ℕ) (s : State) → IsSheetOf plan.sink sheet → StandsIn early.session plan limit s.printed s → (t : State) × StandsIn later.session plan limit t.printed t
+
+-- what holds of each place where a session is early
+abbrev pub ForEarly : (Plan → Type 0) → Sheet → EarlySession → (Plan → ℕ → At State → List LinesLeft → List ℕ → Type 0) → Type 0
+ForEarly of_plan sheet early P = (plan : Plan) (limit : ℕ) (p : At State) (files : List LinesLeft) (before : List ℕ) → of_plan plan → IsEarly sheet plan limit p early files before → P plan limit p files before
+
+-- from there it goes along the part to where the rest of it goes on
+pub record GoesEarly (of_plan : Plan → Type 0) (sheet : Sheet) (early : EarlySession) (part rest : Part) (later : EarlySession) : Type 0 where
+  pub stays : StaysIn sheet early later
+  pub goes : ForEarly of_plan sheet early (λ plan limit p files before. HasGoneEarly sheet plan limit (part sheet.by_table plan limit p) (rest sheet.by_table plan limit) p later files before)
 
 -- it halts along the part, before which nothing more was written
-abbrev pub HaltsEarly : (Plan → Type 0) → Sheet → Lane → Session → List ℕ → Part → Halt → Type 0
-HaltsEarly of_plan sheet lane session kept part halt =
-    (before : List ℕ) (files : List LinesLeft) (plan : Plan) (limit : ℕ) (p : At State) → IsSheetOf plan.sink sheet → IsToSink plan lane → of_plan plan → IsEarly sheet plan limit lane p session files before kept
-    → (at : Told) → Halts sheet (part sheet.by_table plan limit p) p at at halt
-
--- more moves into the sink
-abbrev pub LetsThrough : Sheet → Lane → Session → List ℕ → Session → List ℕ → Type 0
-LetsThrough sheet lane session kept next later =
-    (before : List ℕ) (files : List LinesLeft) (plan : Plan) (limit : ℕ) (p : At State) → IsSheetOf plan.sink sheet → IsEarly sheet plan limit lane p session files before kept → IsEarly sheet plan limit lane p next files before later
-
--- in each plan in which the one session stands the other does
-abbrev pub StaysIn : Sheet → Session → Session → Type 0
-StaysIn sheet session next = (plan : Plan) (limit : ℕ) (s : State) → IsSheetOf plan.sink sheet → StandsIn session plan limit s.printed s → (t : State) × StandsIn next plan limit t.printed t
+abbrev pub HaltsEarly : (Plan → Type 0) → Sheet → EarlySession → Part → Halt → Type 0
+HaltsEarly of_plan sheet early part halt = ForEarly of_plan sheet early (λ plan limit p files before. (at : Told) → Halts sheet (part sheet.by_table plan limit p) p at at halt)
 
 -- what is kept is written by nobody: that there was no room for it is want of memory
 abbrev pub unwritten : Halt → Halt

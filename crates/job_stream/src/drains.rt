@@ -4,11 +4,10 @@ ghost use Rattle.job_stream.specs.Parts.{drain_run, moves_run, stage_run, stages
 ghost use Rattle.job_stream.specs.Early.{BeginsElsewhere, ForPlans, MayMoveStages};
 ghost use Rattle.job_stream.specs.Writing.{HaltsMoving, MayMove, MayMoveStage, Moves, MovesOn, told};
 
-use crate::early::{deliver_before, sink_lane, stages_before_sink};
-use crate::kept_lines::KeptLines;
+use crate::early::{EarlySession, sink_lane, stages_before_sink};
 use crate::sheet::{Sheet, Tools};
 use crate::steps::{go_moves, go_step, tell_quiet};
-use ct_io::{Sink, put_all};
+use ct_io::{GrowingSink, Sink, put_all};
 use exec_core::Session;
 use job_ending::Halt;
 use session_core::{Lane, Stage};
@@ -102,10 +101,14 @@ fn deliver_first<K: Sink, L: Ledger>(
     let Some(sink) = sink_lane(&session, count) else {
         return deliver_some(session, 0, count, sheet, tools, out);
     };
-    let mut kept = KeptLines::new(sheet.alloc);
-    let early = deliver_before(session, count, sink, sheet, tools, &mut kept)?;
-    match put_all(out, kept.bytes.as_slice()) {
-        Ok(()) => Ok(early),
+    let start = EarlySession {
+        session,
+        sink,
+        kept: GrowingSink::new(sheet.alloc),
+    };
+    let early = start.deliver_before(count, sheet, tools)?;
+    match put_all(out, early.kept.written()) {
+        Ok(()) => Ok(early.session),
         Err(_) => Err(Halt::WriteFault),
     }
 }

@@ -5,18 +5,26 @@ ghost use Rattle.stream_model.specs.declared.events.Event.TheVariants.{Flush};
 ghost use Rattle.stream_model.specs.Runs.{happens};
 ghost use Rattle.exec_core.specs.Stands.{StandsForSome};
 ghost use Rattle.job_stream.specs.Parts.{item_run, moves_run, stage_run, stages_run};
-ghost use Rattle.job_stream.specs.Early.{AreElsewhere, BeginsElsewhere, ForPlans, GoesEarly, HaltsEarly, IsElsewhere, IsFirst, IsNodeElsewhere, IsStageElsewhere, LetsThrough, MayMoveStages, StaysIn, unwritten};
+ghost use Rattle.job_stream.specs.Early.{AreElsewhere, BeginsElsewhere, ForPlans, GoesEarly, HaltsEarly, IsElsewhere, IsFirst, IsNodeElsewhere, IsStageElsewhere, MayMoveStages, unwritten};
 ghost use Rattle.job_stream.specs.Writing.{MayMove, MayMoveStage, nothing};
 
 use crate::drains::TOGETHER;
-use crate::kept_lines::KeptLines;
 use crate::sheet::{Sheet, Tools};
 use crate::steps::{go_moves, go_step};
+use ct_io::GrowingSink;
 use exec_core::Session;
 use job_ending::Halt;
 use session_core::{Lane, Stage};
 use std::sync::ledger::Ledger;
 use stream_model::Event;
+
+/// A session that makes the moves from one channel to the sink early, and the lines that these print, kept until the sink's stage.
+#[derive(Drop)]
+pub(crate) struct EarlySession {
+    pub session: Session,
+    pub sink: Lane,
+    pub kept: GrowingSink,
+}
 
 /// How many stages of a drain stand before the first that is one of the sink.
 pub(crate) fn stages_before_sink(session: &Session) -> usize
@@ -60,139 +68,139 @@ fn halt_unwritten(halt: Halt) -> Halt
     }
 }
 
-// All that is in flight in a channel to the sink is taken there. Nothing can be wanting but memory, since the sink is never out of range and
-// sends nothing.
-fn let_through<L: Ledger>(
-    session: Session,
-    sink: Lane,
-    sheet: &Sheet,
-    tools: &mut Tools<L>,
-    kept: &mut KeptLines,
-) -> Result<Session, Halt>
-    requires ready { MayMove sheet.now session }
-    ensures stays { IfOk result (λ next. StaysIn sheet.now session next) }
-    ensures ok { IfOk result (λ next. LetsThrough sheet.now sink session kept.old.bytes.items next kept.new.bytes.items) }
-    ensures halts { IfErr result (λ halt. halt ≡ Halt.Memory) }
-{
-    let count = session
-        .in_flight(sink.edge, sink.from, sink.to)
-        .unwrap_or(0);
-    match go_moves(session, sink, count, sheet, tools, kept) {
-        Ok(next) => Ok(next),
-        Err(_) => Err(Halt::Memory),
-    }
-}
-
-// So many changes leave the front of another channel, and what they send to the sink is taken there after each few of them.
-fn move_early<L: Ledger>(
-    session: Session,
-    lane: Lane,
-    count: u32,
-    sink: Lane,
-    sheet: &Sheet,
-    tools: &mut Tools<L>,
-    kept: &mut KeptLines,
-) -> Result<Session, Halt>
-    requires ready { MayMove sheet.now session }
-    ensures stays { IfOk result (λ next. StaysIn sheet.now session next) }
-    ensures ok { IfOk result (λ next. GoesEarly (IsElsewhere lane) sheet.now sink session kept.old.bytes.items (moves_run lane.edge lane.from lane.to count) nothing next kept.new.bytes.items) }
-    ensures halts { IfErr result (λ halt. HaltsEarly (IsElsewhere lane) sheet.now sink session kept.old.bytes.items (moves_run lane.edge lane.from lane.to count) halt) }
-{
-    let mut moved = session;
-    let mut left = count;
-    'moves: while left > 0 {
-        let part = left.min(TOGETHER);
-        moved = move_part(moved, lane, part, sink, sheet, tools, kept)?;
-        left -= part;
-    }
-    Ok(moved)
-}
-
-// A few of them.
-fn move_part<L: Ledger>(
-    session: Session,
-    lane: Lane,
-    count: u32,
-    sink: Lane,
-    sheet: &Sheet,
-    tools: &mut Tools<L>,
-    kept: &mut KeptLines,
-) -> Result<Session, Halt>
-    requires ready { MayMove sheet.now session }
-    ensures stays { IfOk result (λ next. StaysIn sheet.now session next) }
-    ensures ok { IfOk result (λ next. GoesEarly (IsElsewhere lane) sheet.now sink session kept.old.bytes.items (moves_run lane.edge lane.from lane.to count) nothing next kept.new.bytes.items) }
-    ensures halts { IfErr result (λ halt. HaltsEarly (IsElsewhere lane) sheet.now sink session kept.old.bytes.items (moves_run lane.edge lane.from lane.to count) halt) }
-{
-    match go_moves(session, lane, count, sheet, tools, kept) {
-        Ok(moved) => let_through(moved, sink, sheet, tools, kept),
-        Err(halt) => Err(halt_unwritten(halt)),
-    }
-}
-
-// The bundle of another node's subtask is flushed, and what that sends to the sink is taken there.
-fn flush_early<L: Ledger>(
-    session: Session,
-    node: u32,
-    subtask: u32,
-    sink: Lane,
-    sheet: &Sheet,
-    tools: &mut Tools<L>,
-    kept: &mut KeptLines,
-) -> Result<Session, Halt>
-    requires ready { MayMove sheet.now session }
-    ensures stays { IfOk result (λ next. StaysIn sheet.now session next) }
-    ensures ok { IfOk result (λ next. GoesEarly (IsNodeElsewhere node) sheet.now sink session kept.old.bytes.items (item_run (happens (Flush node subtask))) nothing next kept.new.bytes.items) }
-    ensures halts { IfErr result (λ halt. HaltsEarly (IsNodeElsewhere node) sheet.now sink session kept.old.bytes.items (item_run (happens (Flush node subtask))) halt) }
-{
-    let event = Event::Flush { node, subtask };
-    match go_step(session, event, sheet, tools, kept) {
-        Ok(flushed) => let_through(flushed, sink, sheet, tools, kept),
-        Err(halt) => Err(halt_unwritten(halt)),
-    }
-}
-
-// The stage of this number, which isn't one of the sink.
-fn deliver_early<L: Ledger>(
-    session: Session,
-    number: usize,
-    sink: Lane,
-    sheet: &Sheet,
-    tools: &mut Tools<L>,
-    kept: &mut KeptLines,
-) -> Result<Session, Halt>
-    requires ready { MayMoveStage sheet.now session number }
-    ensures stays { IfOk result (λ next. StaysIn sheet.now session next) }
-    ensures ok { IfOk result (λ next. GoesEarly (IsStageElsewhere number) sheet.now sink session kept.old.bytes.items (stage_run number) nothing next kept.new.bytes.items) }
-    ensures halts { IfErr result (λ halt. HaltsEarly (IsStageElsewhere number) sheet.now sink session kept.old.bytes.items (stage_run number) halt) }
-{
-    match session.stage(number) {
-        Stage::Deliver(lane) => match session.in_flight(lane.edge, lane.from, lane.to) {
-            Some(held) => move_early(session, lane, held, sink, sheet, tools, kept),
-            None => unreachable!(),
-        },
-        Stage::Flush { node, subtask } => {
-            flush_early(session, node, subtask, sink, sheet, tools, kept)
+impl EarlySession {
+    // All that is in flight in the channel to the sink is taken there. Nothing can be wanting but memory, since the sink is never out of
+    // range and sends nothing.
+    fn let_through<L: Ledger>(
+        self,
+        sheet: &Sheet,
+        tools: &mut Tools<L>,
+    ) -> Result<EarlySession, Halt>
+        requires ready { MayMove sheet.now self.session }
+        ensures ok { IfOk result (λ later. GoesEarly (λ plan. Unit {0}) sheet.now self nothing nothing later) }
+        ensures halts { IfErr result (λ halt. halt ≡ Halt.Memory) }
+    {
+        let EarlySession {
+            session,
+            sink,
+            mut kept,
+        } = self;
+        let count = session
+            .in_flight(sink.edge, sink.from, sink.to)
+            .unwrap_or(0);
+        match go_moves(session, sink, count, sheet, tools, &mut kept) {
+            Ok(session) => Ok(EarlySession {
+                session,
+                sink,
+                kept,
+            }),
+            Err(_) => Err(Halt::Memory),
         }
     }
-}
 
-/// So many first stages, none of which is one of the sink.
-pub(crate) fn deliver_before<L: Ledger>(
-    session: Session,
-    count: usize,
-    sink: Lane,
-    sheet: &Sheet,
-    tools: &mut Tools<L>,
-    kept: &mut KeptLines,
-) -> Result<Session, Halt>
-    requires ready { MayMoveStages sheet.now session count }
-    ensures stays { IfOk result (λ next. StaysIn sheet.now session next) }
-    ensures ok { IfOk result (λ next. GoesEarly (AreElsewhere count) sheet.now sink session kept.old.bytes.items (stages_run 0) (stages_run count) next kept.new.bytes.items) }
-    ensures halts { IfErr result (λ halt. HaltsEarly (AreElsewhere count) sheet.now sink session kept.old.bytes.items (stages_run 0) halt) }
-{
-    let mut drained = session;
-    'stages: for number in 0..count {
-        drained = deliver_early(drained, number, sink, sheet, tools, kept)?;
+    // So many changes leave the front of another channel, and what they send to the sink is taken there after each few of them.
+    fn make_moves<L: Ledger>(
+        self,
+        lane: Lane,
+        count: u32,
+        sheet: &Sheet,
+        tools: &mut Tools<L>,
+    ) -> Result<EarlySession, Halt>
+        requires ready { MayMove sheet.now self.session }
+        ensures ok { IfOk result (λ later. GoesEarly (IsElsewhere lane) sheet.now self (moves_run lane.edge lane.from lane.to count) nothing later) }
+        ensures halts { IfErr result (λ halt. HaltsEarly (IsElsewhere lane) sheet.now self (moves_run lane.edge lane.from lane.to count) halt) }
+    {
+        let mut early = self;
+        let mut left = count;
+        'moves: while left > 0 {
+            let part = left.min(TOGETHER);
+            let EarlySession {
+                session,
+                sink,
+                mut kept,
+            } = early;
+            match go_moves(session, lane, part, sheet, tools, &mut kept) {
+                Ok(session) => {
+                    let moved = EarlySession {
+                        session,
+                        sink,
+                        kept,
+                    };
+                    early = moved.let_through(sheet, tools)?;
+                }
+                Err(halt) => return Err(halt_unwritten(halt)),
+            }
+            left -= part;
+        }
+        Ok(early)
     }
-    Ok(drained)
+
+    // The bundle of another node's subtask is flushed, and what that sends to the sink is taken there.
+    fn flush<L: Ledger>(
+        self,
+        node: u32,
+        subtask: u32,
+        sheet: &Sheet,
+        tools: &mut Tools<L>,
+    ) -> Result<EarlySession, Halt>
+        requires ready { MayMove sheet.now self.session }
+        ensures ok { IfOk result (λ later. GoesEarly (IsNodeElsewhere node) sheet.now self (item_run (happens (Flush node subtask))) nothing later) }
+        ensures halts { IfErr result (λ halt. HaltsEarly (IsNodeElsewhere node) sheet.now self (item_run (happens (Flush node subtask))) halt) }
+    {
+        let EarlySession {
+            session,
+            sink,
+            mut kept,
+        } = self;
+        let event = Event::Flush { node, subtask };
+        match go_step(session, event, sheet, tools, &mut kept) {
+            Ok(session) => {
+                let flushed = EarlySession {
+                    session,
+                    sink,
+                    kept,
+                };
+                flushed.let_through(sheet, tools)
+            }
+            Err(halt) => Err(halt_unwritten(halt)),
+        }
+    }
+
+    // The stage of this number, which isn't one of the sink.
+    fn deliver<L: Ledger>(
+        self,
+        number: usize,
+        sheet: &Sheet,
+        tools: &mut Tools<L>,
+    ) -> Result<EarlySession, Halt>
+        requires ready { MayMoveStage sheet.now self.session number }
+        ensures ok { IfOk result (λ later. GoesEarly (IsStageElsewhere number) sheet.now self (stage_run number) nothing later) }
+        ensures halts { IfErr result (λ halt. HaltsEarly (IsStageElsewhere number) sheet.now self (stage_run number) halt) }
+    {
+        match self.session.stage(number) {
+            Stage::Deliver(lane) => match self.session.in_flight(lane.edge, lane.from, lane.to) {
+                Some(held) => self.make_moves(lane, held, sheet, tools),
+                None => unreachable!(),
+            },
+            Stage::Flush { node, subtask } => self.flush(node, subtask, sheet, tools),
+        }
+    }
+
+    /// So many first stages, none of which is one of the sink.
+    pub(crate) fn deliver_before<L: Ledger>(
+        self,
+        count: usize,
+        sheet: &Sheet,
+        tools: &mut Tools<L>,
+    ) -> Result<EarlySession, Halt>
+        requires ready { MayMoveStages sheet.now self.session count }
+        ensures ok { IfOk result (λ later. GoesEarly (AreElsewhere count) sheet.now self (stages_run 0) (stages_run count) later) }
+        ensures halts { IfErr result (λ halt. HaltsEarly (AreElsewhere count) sheet.now self (stages_run 0) halt) }
+    {
+        let mut early = self;
+        'stages: for number in 0..count {
+            early = early.deliver(number, sheet, tools)?;
+        }
+        Ok(early)
+    }
 }

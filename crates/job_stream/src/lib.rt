@@ -9,7 +9,6 @@
 
 mod drains;
 mod early;
-mod kept_lines;
 mod lines;
 mod orders;
 mod sheet;

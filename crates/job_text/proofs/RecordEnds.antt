@@ -167,35 +167,25 @@ record Goes (p : State × Action) : Type 0 where
 plain_field : (c : ℕ) → (c == 13) ≡ false → (c == 10) ≡ false → Goes (in_field default_config c)
 plain_field c p q = either Goes (c == 44) (st.StartField, act.EndField) _ (record { bare = refl; lasts = refl }) (rw (p, q) (record { bare = refl; lasts = refl }))
 
+-- what holds of each of them
+of_bare : (P : State → Type 0) → P st.StartRecord → P st.StartField → P st.InField → (s : State) → is_bare s ≡ true → P s
+of_bare P record_start field_start field st.StartRecord e = record_start
+of_bare P record_start field_start field st.StartField e = field_start
+of_bare P record_start field_start field st.InField e = field
+of_bare P record_start field_start field st.InQuoted e = cc e
+of_bare P record_start field_start field st.InEscape e = cc e
+of_bare P record_start field_start field st.AfterQuote e = cc e
+of_bare P record_start field_start field st.InComment e = cc e
+of_bare P record_start field_start field st.AfterCr e = cc e
+
 plain_step : (s : State) (c : ℕ) → is_bare s ≡ true → (c == 34) ≡ false → (c == 13) ≡ false → (c == 10) ≡ false → Goes (step default_config s c)
-plain_step st.StartRecord c e q b f = let g = plain_field c b f in rw (b, f, q) (rw (b, f) at g)
-plain_step st.StartField c e q b f = let g = plain_field c b f in rw q g
-plain_step st.InField c e q b f = plain_field c b f
-plain_step st.InQuoted c e q b f = cc e
-plain_step st.InEscape c e q b f = cc e
-plain_step st.AfterQuote c e q b f = cc e
-plain_step st.InComment c e q b f = cc e
-plain_step st.AfterCr c e q b f = cc e
+plain_step s c bare q b f = let g = plain_field c b f in of_bare (λ t. Goes (step default_config t c)) (rw (b, f, q) (rw (b, f) at g)) (rw q g) g s bare
 
 return_step : (s : State) → is_bare s ≡ true → ends_at_end (step default_config s 13).0 ≡ false
-return_step st.StartRecord e = refl
-return_step st.StartField e = refl
-return_step st.InField e = refl
-return_step st.InQuoted e = cc
-return_step st.InEscape e = cc
-return_step st.AfterQuote e = cc
-return_step st.InComment e = cc
-return_step st.AfterCr e = cc
+return_step = of_bare (λ s. ends_at_end (step default_config s 13).0 ≡ false) refl refl refl
 
 feed_step : (s : State) → is_bare s ≡ true → ends_at_end (step default_config s 10).0 ≡ false
-feed_step st.StartRecord e = refl
-feed_step st.StartField e = refl
-feed_step st.InField e = refl
-feed_step st.InQuoted e = cc
-feed_step st.InEscape e = cc
-feed_step st.AfterQuote e = cc
-feed_step st.InComment e = cc
-feed_step st.AfterCr e = cc
+feed_step = of_bare (λ s. ends_at_end (step default_config s 10).0 ≡ false) refl refl refl
 
 abbrev IsUnquoted : List ℕ → Type 0
 IsUnquoted xs = get_or xs (prefix_len is_plain xs) 0 ≡ 34 → ⊥

@@ -1,4 +1,5 @@
 use Rattle.std.proofs.Common.{◌∙◌, ap, subst, sym}
+use Rattle.ct_io.specs.InMemory.{GrowingState}
 use Rattle.job_text.specs.Lines.{records_of}
 use Rattle.job_ending.specs.Runs.{IsBefore}
 use Rattle.job_judgement.specs.Views.{accepted_view}
@@ -20,11 +21,11 @@ returns-clause-ok c = if_well c.kept_by.result c.kept_by.ensures.ok (λ sums hol
     let script = accepted_view c.args.script.now in
     let told = c.in-Ok.ensures script.inserted.sources (records_of bytes) stands in
     ap (behind next) (sums_over_rows script c.requires.accepted (records_of bytes) told.0 c.in-Ok.tables told.1 told.2)
-    ∙ holds (over_tables script (with_rows script.inserted.sources c.in-Ok.tables)) (there_kept _ _ _ _ _ c.new-kept.ensures c.batch_over-ran.ensures.runs) next)
+    ∙ holds (over_tables script (with_rows script.inserted.sources c.in-Ok.tables)) (there_kept _ _ _ _ _ (ap (λ (k : GrowingState). k.bytes) c.new-kept.ensures) c.batch_over-ran.ensures.runs) next)
 
 pub returns-clause-halts : goal.returns-clause-halts
 returns-clause-halts c = if_halted c.kept_by.result c.kept_by.ensures.halts (λ halt holds. λ bytes stands next.
     let script = accepted_view c.args.script.now in
     let told = c.in-Ok.ensures script.inserted.sources (records_of bytes) stands in
     subst (IsBefore halt) (sym (ap (behind next) (sums_over_rows script c.requires.accepted (records_of bytes) told.0 c.in-Ok.tables told.1 told.2)))
-    (holds (over_tables script (with_rows script.inserted.sources c.in-Ok.tables)) (there_kept _ _ _ _ _ c.new-kept.ensures c.batch_over-ran.ensures.runs) next))
+    (holds (over_tables script (with_rows script.inserted.sources c.in-Ok.tables)) (there_kept _ _ _ _ _ (ap (λ (k : GrowingState). k.bytes) c.new-kept.ensures) c.batch_over-ran.ensures.runs) next))

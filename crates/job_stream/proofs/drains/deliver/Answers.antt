@@ -1,4 +1,4 @@
-use Rattle.std.proofs.Common.{◌≡◌, ◌+◌, List, ◌∷◌, drop, refl, sym, ap, subst, ◌∙◌}
+use Rattle.std.proofs.Common.{◌≡◌, ◌+◌, ◌∷◌, drop, sym, ap, subst, ◌∙◌}
 use Rattle.plan_rules.specs.Doings.{network}
 use Rattle.stream_model.specs.declared.events.Event.TheVariants.{Flush}
 use Rattle.stream_model.specs.Drain.{stages}
@@ -10,18 +10,11 @@ use Rattle.session_core.specs.LaidOut.{stage_of}
 use Rattle.job_stream.specs.Parts.{item_run, moves_run, stage_run}
 use Rattle.job_stream.proofs.Going.{ahead_same, halts_same}
 use Rattle.job_stream.proofs.Results.{err_weaker, ok_weaker}
-use Rattle.job_stream.proofs.Stages.{held_all, stage_flushes, stage_moves}
+use Rattle.job_stream.proofs.Stages.{stage_flushes, stage_is_held, stage_moves}
 use Rattle.job_stream.proofs.drains.deliver.Goals as goal
 
 pub unreachable-requires : goal.unreachable-requires
-unreachable-requires g c =
-    let r = c.requires.ready in
-    let stands = r.5 in
-    let lane = c.in-Deliver.lane in
-    let next = subst (λ (x : Stage). drop c.args.number (stages (network r.0)) ≡ stage_of x ∷ drop (c.args.number + 1) (stages (network r.0))) c.in-Deliver.is (c.stage.ensures.next r.0 r.1 r.2.printed stands.items stands.stands) in
-    let told = c.in_flight.ensures.value r.0 r.1 r.2.printed stands.items stands.stands in
-    let all = held_all (network r.0) r.2 c.args.number lane _ next c.in_flight.result (told ∙ ap (λ (s : State). in_flight (network r.0) s lane.edge lane.from lane.to) stands.is) in
-    absurd (let is = sym c.in-None.is ∙ all in cc (is))
+unreachable-requires g c = stage_is_held c.args.sheet.now c.args.session c.args.number c.requires.ready c.stage.result c.in-Deliver.lane c.in-Deliver.is c.stage.ensures.next c.in_flight.result c.in-None.is c.in_flight.ensures.value
 
 pub returns-in-Some-clause-ok : goal.returns-in-Some-clause-ok
 returns-in-Some-clause-ok g c = ok_weaker c.move_all.result c.move_all.ensures.ok (λ next moved sources files plan limit p is same stands.
