@@ -12,7 +12,7 @@ use Rattle.ct_expr.proofs.laws.Seen.{seen}
 use Rattle.op_rules.specs.Edges.{meaning_of}
 use Rattle.emission_rules.specs.Filter.{filter_rule}
 use Rattle.emission_rules.specs.Project.{project_rule}
-use Rattle.emission_rules.specs.Joining.{joins, matched, join_rule}
+use Rattle.emission_rules.specs.Joining.{join_rule}
 use Rattle.phys_plan.specs.declared.node.Op.{Op}
 use Rattle.phys_plan.specs.declared.node.Op.TheVariants as op
 use Rattle.phys_plan.specs.declared.node.Node.{Node}
@@ -21,7 +21,7 @@ use Rattle.plan_rules.specs.Plans.{inputs_in, scan_of, scan_in, bundle_of, bundl
 use Rattle.phys_plan.specs.Reading.{numbered, first_input}
 use Rattle.ct_catalog.specs.Columns.{table_mode}
 use Rattle.plan_rules.specs.Columns.{columns_as, columns_by, numbered_columns, next_columns, columns_after, columns_at}
-use Rattle.plan_rules.specs.Around.{Around, filter_of, project_of, joining_of, mode_read}
+use Rattle.plan_rules.specs.Around.{Around, filter_of, project_of, join_of, semi_of, mode_read}
 use Rattle.plan_rules.specs.Behaviours.{behaviour_by, doing_of, rule_of}
 use Rattle.plan_rules.specs.Phases.{fits_sent, local_by, meaning_sent}
 use Rattle.plan_rules.specs.Doings.{doing_by, other_inputs, around_of, doing_in, network}
@@ -33,8 +33,8 @@ use Rattle.plan_rules.proofs.laws.Seen.{exprs_seen, rest_seen, role_seen}
 rule_seen : (o : Op) → rule_of (op_as_seen o) ≡ rule_of o
 rule_seen (op.Filter cond) = ap (λ c. Some (λ (around : Around). filter_rule (filter_of c))) (seen (expr_view cond))
 rule_seen (op.Project items) = ap (λ es. Some (λ around. project_rule (project_of es around))) (exprs_seen items)
-rule_seen (op.Join kind on rest) = ap (λ r. Some (λ around. join_rule (joining_of (joins kind) on r around))) (rest_seen rest)
-rule_seen (op.Semi anti on rest) = ap (λ r. Some (λ around. join_rule (joining_of (matched anti) on r around))) (rest_seen rest)
+rule_seen (op.Join kind on rest) = ap (λ r. Some (λ around. join_rule (join_of kind on r around))) (rest_seen rest)
+rule_seen (op.Semi anti on rest) = ap (λ r. Some (λ around. join_rule (semi_of anti on r around))) (rest_seen rest)
 rule_seen _ = refl
 
 scan_of_seen : (o : Op) → scan_of (op_as_seen o) ≡ scan_of o
@@ -43,7 +43,7 @@ scan_of_seen _ = refl
 
 -- ---- columns
 
-columns_by_seen : (sources : List TableDef) (o : Op) (inputs : List (Option (List ColTy))) → columns_by sources (op_as_seen o) inputs ≡ columns_by sources o inputs
+pub columns_by_seen : (sources : List TableDef) (o : Op) (inputs : List (Option (List ColTy))) → columns_by sources (op_as_seen o) inputs ≡ columns_by sources o inputs
 columns_by_seen sources o inputs = λ i. cond (is_some (scan_of_seen o i) || is_some (rule_seen o i)) (columns_as sources (role_seen o i) inputs) None
 
 columns_after_seen : (sources : List TableDef) (done : List (Option (List ColTy))) (nodes : List Node) → columns_after sources done (map node_as_seen nodes) ≡ columns_after sources done nodes

@@ -9,6 +9,8 @@ use Rattle.rel_algebra.specs.declared.agg.Agg.{Agg}
 use Rattle.rel_algebra.specs.declared.join.JoinKind.{JoinKind}
 use Rattle.rel_algebra.specs.declared.join.JoinKind.TheVariants.{Inner, Left, Right, Full}
 use Rattle.rel_algebra.specs.declared.join.Pair.{Pair}
+use Rattle.phys_plan.specs.declared.edge.Exchange.{Exchange}
+use Rattle.phys_plan.specs.declared.edge.Exchange.TheVariants.{Forward, Hash}
 use Rattle.phys_plan.specs.declared.node.Op.{Op}
 use Rattle.phys_plan.specs.declared.node.Op.TheVariants as op
 use Rattle.phys_plan.specs.Reading.{Wire, read_up}
@@ -158,41 +160,81 @@ abbrev pub chain_columns : List (List Pair) → ℕ → List ℕ
 chain_columns on zero = lefts_in (slice_get on 0)
 chain_columns on (suc port) = rights_in (slice_get on port)
 
--- the columns by which an operator asks for the rows of a port; none where it takes them as they come
-abbrev pub asked : Op → ℕ → Option (List ℕ)
-asked (op.Scan source) port = None
-asked (op.Filter cond) port = None
-asked (op.Project items) port = None
-asked op.Union port = None
-asked (op.Normalize key) port = Some key
-asked (op.Group keys aggs) port = Some (first_columns keys)
-asked (op.BatchGroup keys aggs) port = Some (first_columns keys)
-asked (op.Join kind on rest) port = Some (side_columns on port)
-asked (op.Semi anti on rest) port = Some (side_columns on port)
-asked (op.TopN partition order bound ranked) port = Some partition
-asked (op.Materialize key) port = Some key
-asked op.Sink port = None
-asked (op.LocalGroup keys aggs) port = None
-asked (op.MultiJoin on) port = Some (chain_columns on port)
-asked (op.SetOp except all columns) port = Some (first_columns columns)
+abbrev pub same_key : Option (List ℕ) → List ℕ → Bool
+same_key None key = false
+same_key (Some other) key = same_set other key
 
--- operators that judge each row by itself, or count rows, need the old rows of updates
+abbrev pub is_after : Update → Option (List ℕ) → Bool
+is_after (After key) image = same_key image key
+is_after Absent image = false
+is_after Both image = false
+
+-- an upsert sink by its own key
+abbrev pub sink_takes : TableDef → List ℕ → Bool
+sink_takes sink key = is_upsert sink.mode && same_key sink.key key
+
+-- how an operator takes updates: in full, whether or not it needs the old rows; or by new rows alone, where this holds of the port, the
+-- sink's table, how its own edge tells updates, and the key by which the new rows come
+pub data Taking : Type 0 where
+  all_rows : Bool → Taking
+  new_rows : (ℕ → TableDef → Update → List ℕ → Bool) → Taking
+
+-- how it reads its inputs: by port the columns by which it asks for the rows, none where it takes them as they come; and the updates
+pub record Reads : Type 0 where
+  pub columns : ℕ → Option (List ℕ)
+  pub updates : Taking
+
+abbrev pub forward : Taking → Reads
+forward updates = record { columns = λ port. None; updates = updates }
+
+abbrev pub hashed : (ℕ → List ℕ) → Taking → Reads
+hashed columns updates = record { columns = λ port. Some (columns port); updates = updates }
+
+-- rows of a key that has the columns come to one subtask, which knows the row before
+abbrev pub known : (ℕ → List ℕ) → Reads
+known columns = hashed columns (new_rows (λ port sink update key. is_within (columns port) key))
+
+-- operators that judge each row by itself, or count rows, need the old rows; a Project hands new rows on where its own edge tells them so
+abbrev pub reads : Op → Reads
+reads (op.Scan source) = forward (all_rows false)
+reads (op.Filter cond) = forward (all_rows true)
+reads (op.Project items) = forward (new_rows (λ port sink update key. is_after update (image (plain_columns items) key)))
+reads op.Union = forward (all_rows true)
+reads (op.Normalize key) = hashed (λ port. key) (all_rows false)
+reads (op.Group keys aggs) = hashed (λ port. first_columns keys) (all_rows true)
+reads (op.BatchGroup keys aggs) = hashed (λ port. first_columns keys) (all_rows true)
+reads (op.Join kind on rest) = known (side_columns on)
+reads (op.Semi anti on rest) = known (side_columns on)
+reads (op.TopN partition order bound ranked) = known (λ port. partition)
+reads (op.Materialize key) = hashed (λ port. key) (all_rows false)
+reads op.Sink = forward (new_rows (λ port sink update key. sink_takes sink key))
+reads (op.LocalGroup keys aggs) = forward (all_rows true)
+reads (op.MultiJoin on) = known (chain_columns on)
+reads (op.SetOp except all columns) = hashed (λ port. first_columns columns) (all_rows true)
+
+-- the columns by which an operator asks for the rows of a port
+abbrev pub asked : Op → ℕ → Option (List ℕ)
+asked operator port = (reads operator).columns port
+
+-- the exchange of an edge whose rows are asked for by these
+abbrev pub by_columns : Option (List ℕ) → Exchange
+by_columns None = Forward
+by_columns (Some cols) = Hash cols
+
+abbrev pub needs_old : Taking → Bool
+needs_old (all_rows needed) = needed
+needs_old (new_rows taken) = false
+
 abbrev pub needs_old_rows : Op → Bool
-needs_old_rows (op.Scan source) = false
-needs_old_rows (op.Filter cond) = true
-needs_old_rows (op.Project items) = false
-needs_old_rows op.Union = true
-needs_old_rows (op.Normalize key) = false
-needs_old_rows (op.Group keys aggs) = true
-needs_old_rows (op.BatchGroup keys aggs) = true
-needs_old_rows (op.Join kind on rest) = false
-needs_old_rows (op.Semi anti on rest) = false
-needs_old_rows (op.TopN partition order bound ranked) = false
-needs_old_rows (op.Materialize key) = false
-needs_old_rows op.Sink = false
-needs_old_rows (op.LocalGroup keys aggs) = true
-needs_old_rows (op.MultiJoin on) = false
-needs_old_rows (op.SetOp except all columns) = true
+needs_old_rows operator = needs_old (reads operator).updates
+
+abbrev pub takes_new : Taking → ℕ → TableDef → Update → List ℕ → Bool
+takes_new (all_rows needed) port sink update key = false
+takes_new (new_rows taken) port sink update key = taken port sink update key
+
+-- whether an operator takes new rows alone by this key at a port, where its own edge tells updates so
+abbrev pub takes : TableDef → Op → ℕ → Update → List ℕ → Bool
+takes sink operator port update key = takes_new (reads operator).updates port sink update key
 
 -- ---- update keys
 
@@ -226,40 +268,6 @@ update_key_of width op.Sink inputs = None
 update_key_of width (op.LocalGroup keys aggs) inputs = None
 update_key_of width (op.MultiJoin on) inputs = None
 update_key_of width (op.SetOp except all columns) inputs = None
-
--- ---- who takes new rows alone
-
-abbrev pub same_key : Option (List ℕ) → List ℕ → Bool
-same_key None key = false
-same_key (Some other) key = same_set other key
-
--- an upsert sink by its own key
-abbrev pub sink_takes : TableDef → List ℕ → Bool
-sink_takes sink key = is_upsert sink.mode && same_key sink.key key
-
-abbrev pub is_after : Update → Option (List ℕ) → Bool
-is_after (After key) image = same_key image key
-is_after Absent image = false
-is_after Both image = false
-
--- whether an operator takes new rows alone by this key at a port, where its own edge tells updates so: where rows of one key come to
--- one subtask, which knows the row before; an upsert sink by its key; and a Project that hands them on
-abbrev pub takes : TableDef → Op → ℕ → Update → List ℕ → Bool
-takes sink (op.Scan source) port update key = false
-takes sink (op.Filter cond) port update key = false
-takes sink (op.Project items) port update key = is_after update (image (plain_columns items) key)
-takes sink op.Union port update key = false
-takes sink (op.Normalize by) port update key = false
-takes sink (op.Group keys aggs) port update key = false
-takes sink (op.BatchGroup keys aggs) port update key = false
-takes sink (op.Join kind on rest) port update key = is_within (side_columns on port) key
-takes sink (op.Semi anti on rest) port update key = is_within (side_columns on port) key
-takes sink (op.TopN partition order bound ranked) port update key = is_within partition key
-takes sink (op.Materialize shown) port update key = false
-takes sink op.Sink port update key = sink_takes sink key
-takes sink (op.LocalGroup keys aggs) port update key = false
-takes sink (op.MultiJoin on) port update key = is_within (chain_columns on port) key
-takes sink (op.SetOp except all columns) port update key = false
 
 -- ---- how they tell updates
 

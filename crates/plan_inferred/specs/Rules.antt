@@ -6,7 +6,7 @@ use Rattle.ct_change.specs.declared.kind.Declared.{Declared}
 use Rattle.ct_change.specs.declared.kind.Declared.TheVariants.{Append, Retract, Upsert}
 use Rattle.phys_plan.specs.declared.edge.Edge.{Edge}
 use Rattle.phys_plan.specs.declared.edge.Exchange.{Exchange}
-use Rattle.phys_plan.specs.declared.edge.Exchange.TheVariants.{Forward, Hash}
+use Rattle.phys_plan.specs.declared.edge.Exchange.TheVariants.{Forward}
 use Rattle.ct_change.specs.declared.update.Update.{Update}
 use Rattle.ct_change.specs.declared.update.Update.TheVariants.{Absent, After, Both}
 use Rattle.phys_plan.specs.declared.node.KeyInfo.{KeyInfo}
@@ -19,6 +19,7 @@ use Rattle.mode_infer.specs.declared.kinds.Flow.{Flow}
 use Rattle.mode_infer.specs.declared.modes.EdgeMode.{EdgeMode}
 use Rattle.ct_change.specs.Kinds.{has_more_than_inserts}
 use Rattle.mode_infer.specs.Kinds.{asked, needs_old_rows}
+pub use Rattle.mode_infer.specs.Kinds.{by_columns}
 use Rattle.mode_infer.specs.Updates.{is_input, port_of}
 use Rattle.plan_inferred.specs.declared.ways.Way.{Way}
 use Rattle.plan_inferred.specs.declared.ways.Way.TheVariants.{Forced, NewRows, Direct, Materialized, Refused}
@@ -70,10 +71,6 @@ abbrev pub has_update : Inferred → Plan → ℕ → Bool
 has_update inferred plan v = says_update (numbered inferred.modes v) (numbered plan.edges v) && has_old_rows plan.edges (numbered plan.nodes v)
 
 -- ---- Exchanged: its edge goes as its consumer asks for it
-
-abbrev pub by_columns : Option (List ℕ) → Exchange
-by_columns None = Forward
-by_columns (Some cols) = Hash cols
 
 abbrev pub exchange_by : ℕ → Option Node → Exchange
 exchange_by v None = Forward

@@ -3,7 +3,7 @@ use Rattle.std.specs.Prelude.{◌≡◌, ℕ, ◌+◌, false, true, List, [], �
 use Rattle.ct_change.specs.declared.kind.KindSet.{KindSet}
 use Rattle.rel_algebra.specs.declared.agg.Agg.{Agg}
 use Rattle.rel_algebra.specs.Rel.{Rel, Rels, Scan, One, Two, Many}
-use Rattle.emission_rules.specs.GroupFits.{first_columns}
+use Rattle.column_sets.specs.Places.{first_columns}
 use Rattle.mode_infer.specs.declared.kinds.Flow.{Flow}
 use Rattle.mode_infer.specs.Kinds.{flow_of, group_kinds, inserts, sent_of}
 use Rattle.phys_plan.specs.declared.edge.Exchange.{Exchange}

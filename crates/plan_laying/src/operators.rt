@@ -9,7 +9,8 @@ ghost use Rattle.plan_laying.specs.Laying.{Phased, PushedAs, Tops, bundles_of};
 
 use crate::laying::{Laid, Laying};
 use crate::laying_fault::LayingFault;
-use crate::parts::{dup_rest, first_columns};
+use crate::parts::dup_rest;
+use column_sets::first_columns;
 use ct_change::KindSet;
 use ct_expr::{Expr, Exprs, dup_exprs};
 use ct_value::Cols;

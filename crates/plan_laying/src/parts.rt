@@ -2,8 +2,6 @@
 ghost use Rattle.std.specs.Prelude.{◌≡◌, ℕ, List as Seq, [], ◌∷◌, option_map, unwrap_or, IfOk};
 ghost use Rattle.ct_change.specs.Changelog.{retract, upsert, kinds_of};
 ghost use Rattle.ct_expr.specs.View.{expr_view};
-ghost use Rattle.emission_rules.specs.GroupFits.{first_columns};
-ghost use Rattle.emission_rules.specs.JoinFits.{left_pairs, right_pairs};
 ghost use Rattle.phys_plan.specs.Reading.{no_keys};
 
 use ct_catalog::TableDef;
@@ -11,7 +9,6 @@ use ct_change::KindSet;
 use ct_expr::Expr;
 use ct_value::{Cols, List, Memory, Numbers};
 use phys_plan::KeyInfo;
-use rel_algebra::Pairs;
 use std::alloc::Global;
 
 pub(crate) fn no_keys(alloc: Global) -> KeyInfo
@@ -54,39 +51,6 @@ pub(crate) fn key_of(alloc: Global, table: &TableDef) -> Result<Cols, Memory>
         Some(key) => key.dup(),
         None => Ok(Cols::new(alloc)),
     }
-}
-
-// So many first columns.
-pub(crate) fn first_columns(alloc: Global, keys: u32) -> Result<Cols, Memory>
-    ensures { IfOk result (λ columns. columns ≡ first_columns keys) }
-{
-    let mut columns = Cols::new(alloc);
-    for column in 0..keys {
-        columns.push(column)?;
-    }
-    Ok(columns)
-}
-
-// The left sides' columns of pairs.
-pub(crate) fn left_columns(alloc: Global, on: &Pairs) -> Result<Cols, Memory>
-    ensures { IfOk result (λ columns. columns ≡ left_pairs on.now) }
-{
-    let mut columns = Cols::new(alloc);
-    for pair in on.as_slice() {
-        columns.push(pair.left)?;
-    }
-    Ok(columns)
-}
-
-// The right sides' columns of pairs.
-pub(crate) fn right_columns(alloc: Global, on: &Pairs) -> Result<Cols, Memory>
-    ensures { IfOk result (λ columns. columns ≡ right_pairs on.now) }
-{
-    let mut columns = Cols::new(alloc);
-    for pair in on.as_slice() {
-        columns.push(pair.right)?;
-    }
-    Ok(columns)
 }
 
 pub(crate) fn two_numbers(alloc: Global, first: u32, second: u32) -> Result<Numbers, Memory>

@@ -3,8 +3,8 @@ ghost use Rattle.std.specs.Prelude.{◌≡◌, Some, option_map, IfOk, IfErr};
 ghost use Rattle.rel_algebra.specs.Rel.{rels};
 ghost use Rattle.rel_algebra.specs.Rel as r;
 ghost use Rattle.rel_algebra.specs.View.{rel_view, rels_view};
-ghost use Rattle.emission_rules.specs.GroupFits.{first_columns};
-ghost use Rattle.emission_rules.specs.JoinFits.{right_pairs};
+ghost use Rattle.column_sets.specs.Places.{first_columns};
+ghost use Rattle.phys_plan.specs.Columns.{right_columns};
 ghost use Rattle.phys_plan.specs.declared.edge.Exchange.TheVariants.{Hash as ByHash};
 ghost use Rattle.phys_plan.specs.declared.node.Op.TheVariants as op;
 ghost use Rattle.plan_laying.specs.Laying.{Lays, LaysAll, Fails, FailsAll, Tops};
@@ -12,11 +12,12 @@ ghost use Rattle.plan_laying.specs.Ways.{asked_for, asked_view, first_input};
 
 use crate::laying::{Laid, Laying};
 use crate::laying_fault::LayingFault;
-use crate::parts::{all_kinds, first_columns, left_columns, right_columns};
+use crate::parts::all_kinds;
 use crate::way::{Asked, way_down};
+use column_sets::first_columns;
 use ct_value::{List, Memory, Numbers};
 use mode_infer::{Flow, plain};
-use phys_plan::{Exchange, Op};
+use phys_plan::{Exchange, Op, left_columns, right_columns};
 use rel_algebra::{Pairs, Rel};
 use std::alloc::Global;
 
@@ -110,10 +111,10 @@ impl Laying {
     // The right side of a join, hashed by its columns of the pairs.
     #[cycle(tree)]
     fn lay_right(&mut self, right: &Rel, on: &Pairs, levels: u32) -> Result<Laid, LayingFault>
-        ensures laid { IfOk result (λ root. Lays self.old self.new (ByHash (right_pairs on.now)) (rel_view right.now) root) }
+        ensures laid { IfOk result (λ root. Lays self.old self.new (ByHash (right_columns on.now)) (rel_view right.now) root) }
         ensures fails { IfErr result (λ fault. Fails self.old (rel_view right.now) fault) }
     {
-        let columns = right_columns(self.alloc, on)?;
+        let columns = right_columns(self.alloc, on.as_slice())?;
         self.lay(right, Exchange::Hash(columns), levels)
     }
 
@@ -191,11 +192,11 @@ pub(crate) fn first_input<'a>(alloc: Global, rel: &'a Rel) -> Result<Option<Aske
             Ok(input_for(input, Exchange::Hash(columns)))
         }
         Rel::Join { left, on, .. } => {
-            let columns = left_columns(alloc, on)?;
+            let columns = left_columns(alloc, on.as_slice())?;
             Ok(input_for(left, Exchange::Hash(columns)))
         }
         Rel::Semi { left, on, .. } => {
-            let columns = left_columns(alloc, on)?;
+            let columns = left_columns(alloc, on.as_slice())?;
             Ok(input_for(left, Exchange::Hash(columns)))
         }
         Rel::SetOp { left, columns, .. } => {

@@ -9,6 +9,7 @@ use Rattle.ct_change.specs.declared.update.Update.{Update}
 use Rattle.ct_change.specs.declared.update.Update.TheVariants.{Absent, After, Both}
 use Rattle.ct_expr.specs.Expr.{Expr}
 use Rattle.rel_algebra.specs.declared.agg.Agg.{Agg}
+use Rattle.rel_algebra.specs.declared.join.JoinKind.{JoinKind}
 use Rattle.rel_algebra.specs.declared.join.Pair.{Pair}
 use Rattle.rel_algebra.specs.declared.sort.SortCol.{SortCol}
 use Rattle.emission_rules.specs.Changes.{after_key}
@@ -18,7 +19,7 @@ use Rattle.emission_rules.specs.Union.{Union}
 use Rattle.emission_rules.specs.Normalize.{Normalize}
 use Rattle.emission_rules.specs.Sink.{Sink}
 use Rattle.emission_rules.specs.Grouping.{Grouping}
-use Rattle.emission_rules.specs.Joining.{Shape, Joining}
+use Rattle.emission_rules.specs.Joining.{Shape, joins, matched, Joining}
 use Rattle.emission_rules.specs.Ranking.{Ranking}
 use Rattle.phase_rules.specs.LocalGrouping.{LocalGrouping}
 use Rattle.phase_rules.specs.Merging.{Merging}
@@ -101,6 +102,13 @@ joining_of shape on rest around = record {
   left = mode_read around.kinds around.input;
   right = mode_read (second around).kinds (second around).input;
 }
+
+-- of a join, and of a semi join or an anti join
+abbrev pub join_of : JoinKind → List Pair → Option Expr → Around → Joining
+join_of kind on rest around = joining_of (joins kind) on rest around
+
+abbrev pub semi_of : Bool → List Pair → Option Expr → Around → Joining
+semi_of anti on rest around = joining_of (matched anti) on rest around
 
 abbrev pub ranking_of : List ℕ → List SortCol → ℕ → Bool → Around → Ranking
 ranking_of partition order bound ranked around = record {

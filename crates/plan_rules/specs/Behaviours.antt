@@ -14,7 +14,7 @@ use Rattle.emission_rules.specs.Materialize.{materialize_rule}
 use Rattle.emission_rules.specs.SetOps.{set_rule}
 use Rattle.emission_rules.specs.Sink.{sink_rule}
 use Rattle.emission_rules.specs.Grouping.{Grouping, group_rule, IsSound as GroupsWell}
-use Rattle.emission_rules.specs.Joining.{joins, matched, join_rule}
+use Rattle.emission_rules.specs.Joining.{join_rule}
 use Rattle.emission_rules.specs.Ranking.{topn_rule, IsSound as RanksWell}
 use Rattle.rel_algebra.specs.declared.agg.Agg.{Agg}
 use Rattle.phase_rules.specs.LocalFits.{IsOfBags}
@@ -22,7 +22,7 @@ use Rattle.phase_rules.specs.LocalGrouping.{LocalGrouping, SumsUp, local_rule}
 use Rattle.phase_rules.specs.Merging.{in_one_phase, merge_rule}
 use Rattle.phys_plan.specs.declared.node.Op.{Op}
 use Rattle.phys_plan.specs.declared.node.Op.TheVariants as op
-use Rattle.plan_rules.specs.Around.{Around, mode_told, second, filter_of, project_of, union_of, normalize_of, grouping_of, local_of, merging_of, joining_of, ranking_of, sink_of}
+use Rattle.plan_rules.specs.Around.{Around, mode_told, second, filter_of, project_of, union_of, normalize_of, grouping_of, local_of, merging_of, join_of, semi_of, ranking_of, sink_of}
 use Rattle.plan_rules.specs.Plans.{Doing, scan_of}
 use Rattle.plan_rules.specs.Roles.{Role, role, batch_by, part_by, range_by}
 
@@ -42,8 +42,8 @@ rule_of op.Union = Some (λ around. union_rule (union_of around))
 rule_of (op.Normalize key) = Some (λ around. normalize_rule (normalize_of key around))
 rule_of (op.Group keys aggs) = Some (λ around. group_rule (grouping_of keys aggs around))
 rule_of (op.BatchGroup keys aggs) = Some (λ around. bundled_rule keys aggs around around.partial)
-rule_of (op.Join kind on rest) = Some (λ around. join_rule (joining_of (joins kind) on (option_map expr_view rest) around))
-rule_of (op.Semi anti on rest) = Some (λ around. join_rule (joining_of (matched anti) on (option_map expr_view rest) around))
+rule_of (op.Join kind on rest) = Some (λ around. join_rule (join_of kind on (option_map expr_view rest) around))
+rule_of (op.Semi anti on rest) = Some (λ around. join_rule (semi_of anti on (option_map expr_view rest) around))
 rule_of (op.TopN partition order bound ranked) = Some (λ around. topn_rule (ranking_of partition order bound ranked around))
 rule_of (op.Materialize key) = Some (λ around. materialize_rule key)
 rule_of op.Sink = Some (λ around. sink_rule (sink_of around))

@@ -8,11 +8,10 @@ use Rattle.ct_expr.specs.Views.{expr_of}
 use Rattle.rel_algebra.specs.declared.agg.Agg.{Agg}
 use Rattle.rel_algebra.specs.Batch.{unary_answer, binary_answer}
 use Rattle.rel_algebra.specs.Rel.{Unary, filter_by, project_on, group_by, rank_in, Binary, join_on, semi_on, set_by, Rel, Scan, One, Two, Many, no_rels, rels}
-use Rattle.emission_rules.specs.GroupFits.{first_columns, part}
-use Rattle.emission_rules.specs.JoinFits.{left_pairs, right_pairs}
+use Rattle.emission_rules.specs.GroupFits.{part}
 use Rattle.emission_rules.specs.Union.{union_answer}
+use Rattle.mode_infer.specs.Kinds.{asked, by_columns}
 use Rattle.phys_plan.specs.declared.edge.Exchange.{Exchange}
-use Rattle.phys_plan.specs.declared.edge.Exchange.TheVariants.{Forward, Hash}
 use Rattle.phys_plan.specs.declared.node.Op.{Op}
 use Rattle.phys_plan.specs.declared.node.Op.TheVariants as op
 use Rattle.plan_rules.specs.Around.{Around, second, union_of, grouping_of}
@@ -56,18 +55,19 @@ pub record UnaryWay : Type 0 where
   pub op : ℕ → Op
   pub asks : Exchange
 
-abbrev pub way : (ℕ → Op) → Exchange → UnaryWay
-way operator asks = record { op = operator; asks = asks }
+-- it asks for the same with bundles and without
+abbrev pub way : (ℕ → Op) → UnaryWay
+way operator = record { op = operator; asks = by_columns (asked (operator 0) 0) }
 
 -- a group by keys keeps bundles where there are any, and a group of all rows never does
 abbrev pub group_op : ℕ → ℕ → List Agg → Op
 group_op mini_batch keys aggs = cond (mini_batch == 0 || keys == 0) (op.Group keys aggs) (op.BatchGroup keys aggs)
 
 abbrev pub unary_way : Unary → UnaryWay
-unary_way (filter_by condition) = way (λ mini_batch. op.Filter (expr_of condition)) Forward
-unary_way (project_on items) = way (λ mini_batch. op.Project (map expr_of items)) Forward
-unary_way (group_by keys aggs) = way (λ mini_batch. group_op mini_batch keys aggs) (Hash (first_columns keys))
-unary_way (rank_in partition order bound ranked) = way (λ mini_batch. op.TopN partition order bound ranked) (Hash partition)
+unary_way (filter_by condition) = way (λ mini_batch. op.Filter (expr_of condition))
+unary_way (project_on items) = way (λ mini_batch. op.Project (map expr_of items))
+unary_way (group_by keys aggs) = way (λ mini_batch. group_op mini_batch keys aggs)
+unary_way (rank_in partition order bound ranked) = way (λ mini_batch. op.TopN partition order bound ranked)
 
 -- one with two, and the exchanges that it asks of both
 pub record BinaryWay : Type 0 where
@@ -75,13 +75,13 @@ pub record BinaryWay : Type 0 where
   pub left : Exchange
   pub right : Exchange
 
-abbrev pub way_of_both : Op → Exchange → Exchange → BinaryWay
-way_of_both operator left right = record { op = operator; left = left; right = right }
+abbrev pub way_of_both : Op → BinaryWay
+way_of_both operator = record { op = operator; left = by_columns (asked operator 0); right = by_columns (asked operator 1) }
 
 abbrev pub binary_way : Binary → BinaryWay
-binary_way (join_on kind pairs rest) = way_of_both (op.Join kind pairs (option_map expr_of rest)) (Hash (left_pairs pairs)) (Hash (right_pairs pairs))
-binary_way (semi_on anti pairs rest) = way_of_both (op.Semi anti pairs (option_map expr_of rest)) (Hash (left_pairs pairs)) (Hash (right_pairs pairs))
-binary_way (set_by except all columns) = way_of_both (op.SetOp except all columns) (Hash (first_columns columns)) (Hash (first_columns columns))
+binary_way (join_on kind pairs rest) = way_of_both (op.Join kind pairs (option_map expr_of rest))
+binary_way (semi_on anti pairs rest) = way_of_both (op.Semi anti pairs (option_map expr_of rest))
+binary_way (set_by except all columns) = way_of_both (op.SetOp except all columns)
 
 -- ---- what follows from a role
 

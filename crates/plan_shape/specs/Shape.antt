@@ -76,32 +76,11 @@ op_in (Some node) = Some node.op
 abbrev pub consumer : ℕ → List Node → Option Op
 consumer v nodes = op_in (find (has_input v) nodes)
 
--- ---- what an operator asks of the tables and of the sizes
+-- ---- keys of the tables
 
 abbrev pub is_sink_key : TableDef → List ℕ → Option (List ℕ) → Bool
 is_sink_key sink key None = false
 is_sink_key sink key (Some of_sink) = is_upsert sink.mode && same_numbers key of_sink
-
--- a scan's table is there; a materializer shows an upsert sink, by its key; bundles hold something, and those of a group in
--- bundles are of keys
-abbrev pub suits_plan : Plan → Op → Bool
-suits_plan plan (op.Scan source) = nat_lt source (length plan.sources)
-suits_plan plan (op.Filter cond) = true
-suits_plan plan (op.Project items) = true
-suits_plan plan op.Union = true
-suits_plan plan (op.Normalize key) = true
-suits_plan plan (op.Group keys aggs) = true
-suits_plan plan (op.BatchGroup keys aggs) = nat_lt 0 plan.mini_batch && nat_lt 0 keys
-suits_plan plan (op.Join kind on rest) = true
-suits_plan plan (op.Semi anti on rest) = true
-suits_plan plan (op.TopN partition order bound ranked) = true
-suits_plan plan (op.Materialize key) = is_sink_key plan.sink key plan.sink.key
-suits_plan plan op.Sink = true
-suits_plan plan (op.LocalGroup keys aggs) = nat_lt 0 plan.mini_batch
-suits_plan plan (op.MultiJoin on) = true
-suits_plan plan (op.SetOp except all columns) = true
-
--- ---- what it asks of its input
 
 abbrev pub is_keyed_by : List ℕ → Option (List ℕ) → Bool
 is_keyed_by key None = false
@@ -117,26 +96,7 @@ abbrev pub scans_by : List TableDef → List ℕ → Option Op → Bool
 scans_by sources key (Some (op.Scan source)) = is_upsert_by key (slice_get sources source)
 scans_by sources key _ = false
 
--- by the input's operator and the kinds of its edge: a normalizer stands on a scan of an upsert table, by its key, and a local
--- group sums up parts
-abbrev pub suits_input : List TableDef → Op → Option Op → KindSet → Bool
-suits_input sources (op.Scan source) below kinds = true
-suits_input sources (op.Filter cond) below kinds = true
-suits_input sources (op.Project items) below kinds = true
-suits_input sources op.Union below kinds = true
-suits_input sources (op.Normalize key) below kinds = scans_by sources key below
-suits_input sources (op.Group keys aggs) below kinds = true
-suits_input sources (op.BatchGroup keys aggs) below kinds = true
-suits_input sources (op.Join kind on rest) below kinds = true
-suits_input sources (op.Semi anti on rest) below kinds = true
-suits_input sources (op.TopN partition order bound ranked) below kinds = true
-suits_input sources (op.Materialize shown) below kinds = true
-suits_input sources op.Sink below kinds = true
-suits_input sources (op.LocalGroup keys aggs) below kinds = list_all (λ agg. has_parts kinds agg.call) aggs
-suits_input sources (op.MultiJoin on) below kinds = true
-suits_input sources (op.SetOp except all columns) below kinds = true
-
--- ---- what it asks of its consumer
+-- ---- calls and consumers
 
 abbrev pub same_call : AggCall → AggCall → Bool
 same_call CountAll CountAll = true
@@ -179,24 +139,49 @@ abbrev pub is_read : Option TableDef → Option Op → Bool
 is_read None above = true
 is_read (Some table) above = not (is_upsert table.mode) || normalizes_by table.key above
 
--- a scan of an upsert table is normalized by its key, a materializer stands under the sink, and a local group under the group
--- in bundles whose parts it sums up
+-- ---- what an operator asks, beside its number of inputs
+
+-- of the plan's tables and sizes; of the operator that it stands on and the kinds of the edge between; and of the one that it feeds
+pub record Asks : Type 0 where
+  pub of_plan : Plan → Bool
+  pub of_input : List TableDef → Option Op → KindSet → Bool
+  pub of_consumer : List TableDef → Option Op → Bool
+
+abbrev pub nothing_more : Asks
+nothing_more = record { of_plan = λ plan. true; of_input = λ sources below kinds. true; of_consumer = λ sources above. true }
+
+-- a scan's table is there, and one of upserts is normalized by its key, above the scan; bundles hold something, and those of a group
+-- are of keys; a materializer shows an upsert sink by its key, and stands under it; a local group sums up parts, and stands under the
+-- group in bundles that merges them
+abbrev pub asks : Op → Asks
+asks (op.Scan source) = record nothing_more { of_plan = λ plan. nat_lt source (length plan.sources); of_consumer = λ sources above. is_read (slice_get sources source) above }
+asks (op.Filter cond) = nothing_more
+asks (op.Project items) = nothing_more
+asks op.Union = nothing_more
+asks (op.Normalize key) = record nothing_more { of_input = λ sources below kinds. scans_by sources key below }
+asks (op.Group keys aggs) = nothing_more
+asks (op.BatchGroup keys aggs) = record nothing_more { of_plan = λ plan. nat_lt 0 plan.mini_batch && nat_lt 0 keys }
+asks (op.Join kind on rest) = nothing_more
+asks (op.Semi anti on rest) = nothing_more
+asks (op.TopN partition order bound ranked) = nothing_more
+asks (op.Materialize key) = record nothing_more { of_plan = λ plan. is_sink_key plan.sink key plan.sink.key; of_consumer = λ sources above. is_sink above }
+asks op.Sink = nothing_more
+asks (op.LocalGroup keys aggs) = record {
+  of_plan = λ plan. nat_lt 0 plan.mini_batch;
+  of_input = λ sources below kinds. list_all (λ agg. has_parts kinds agg.call) aggs;
+  of_consumer = λ sources above. merges keys aggs above;
+}
+asks (op.MultiJoin on) = nothing_more
+asks (op.SetOp except all columns) = nothing_more
+
+abbrev pub suits_plan : Plan → Op → Bool
+suits_plan plan operator = (asks operator).of_plan plan
+
+abbrev pub suits_input : List TableDef → Op → Option Op → KindSet → Bool
+suits_input sources operator below kinds = (asks operator).of_input sources below kinds
+
 abbrev pub suits_consumer : List TableDef → Op → Option Op → Bool
-suits_consumer sources (op.Scan source) above = is_read (slice_get sources source) above
-suits_consumer sources (op.Filter cond) above = true
-suits_consumer sources (op.Project items) above = true
-suits_consumer sources op.Union above = true
-suits_consumer sources (op.Normalize key) above = true
-suits_consumer sources (op.Group keys aggs) above = true
-suits_consumer sources (op.BatchGroup keys aggs) above = true
-suits_consumer sources (op.Join kind on rest) above = true
-suits_consumer sources (op.Semi anti on rest) above = true
-suits_consumer sources (op.TopN partition order bound ranked) above = true
-suits_consumer sources (op.Materialize key) above = is_sink above
-suits_consumer sources op.Sink above = true
-suits_consumer sources (op.LocalGroup keys aggs) above = merges keys aggs above
-suits_consumer sources (op.MultiJoin on) above = true
-suits_consumer sources (op.SetOp except all columns) above = true
+suits_consumer sources operator above = (asks operator).of_consumer sources above
 
 -- ---- nodes
 

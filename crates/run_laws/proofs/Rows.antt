@@ -37,7 +37,7 @@ use Rattle.plan_rules.specs.Plans.{change_fits, inputs_in, kinds_in, local_in, s
 use Rattle.plan_rules.specs.Phases.{fits_sent, local_by}
 use Rattle.phys_plan.specs.Reading.{numbered, first_input}
 use Rattle.plan_rules.specs.Columns.{columns_at}
-use Rattle.plan_rules.specs.Around.{Around, first_side, second, filter_of, project_of, grouping_of, joining_of, local_of, merging_of, mode_read, sink_of}
+use Rattle.plan_rules.specs.Around.{Around, first_side, second, filter_of, project_of, grouping_of, join_of, local_of, merging_of, mode_read, semi_of, sink_of}
 use Rattle.plan_rules.specs.Behaviours.{behaviour, bundled_rule, BundlesWell, Suits, TakesBy}
 use Rattle.plan_rules.specs.Doings.{other_inputs, side_of, around_of, doing_by, doing_in, network}
 use Rattle.plan_shape.specs.Shape.{takes as ports_of}
@@ -51,7 +51,7 @@ use Rattle.sound_plans.proofs.laws.Outputs.{local_at}
 use Rattle.sound_plans.proofs.laws.Shapes.{input_there, plain_below, takes_parts}
 use Rattle.sound_plans.proofs.laws.Stands.{proper_inputs, sends_rows}
 use Rattle.sound_plans.proofs.laws.Theorems.{nodes_fit}
-use Rattle.emission_rules.specs.Joining.{joins, matched, Joining, emits, join_rule}
+use Rattle.emission_rules.specs.Joining.{Joining, emits, join_rule}
 use Rattle.run_laws.proofs.Answers.{not_err, err_same, OutsAt, outs_both}
 use Rattle.run_laws.proofs.Joins.{all_arrive, joins_out, Arrives, IsTold, Left, Right}
 use Rattle.run_laws.proofs.Whole.{Fit, group_fits, whole_fits}
@@ -342,8 +342,8 @@ module _ (plan : Plan) (ruled : IsRuled plan) (takes : SoundPortsTake) (suited :
         group_outs keys aggs (taken (op.Group keys aggs) own refl) (rows_come (ap takes_parts own)) suits.keeps
     op_outs (op.BatchGroup keys aggs) own = bundle_outs keys aggs own around.partial refl
     op_outs (op.LocalGroup keys aggs) own = local_outs keys aggs own
-    op_outs (op.Join kind on rest) own = let j = joining_of (joins kind) on (option_map expr_view rest) around in both_out j (both_fit j (taken (op.Join kind on rest) own refl) (rows_come (ap takes_parts own)) refl refl)
-    op_outs (op.Semi anti on rest) own = let j = joining_of (matched anti) on (option_map expr_view rest) around in both_out j (both_fit j (taken (op.Semi anti on rest) own refl) (rows_come (ap takes_parts own)) refl refl)
+    op_outs (op.Join kind on rest) own = let j = join_of kind on (option_map expr_view rest) around in both_out j (both_fit j (taken (op.Join kind on rest) own refl) (rows_come (ap takes_parts own)) refl refl)
+    op_outs (op.Semi anti on rest) own = let j = semi_of anti on (option_map expr_view rest) around in both_out j (both_fit j (taken (op.Semi anti on rest) own refl) (rows_come (ap takes_parts own)) refl refl)
     op_outs op.Sink own =
         outs_each (Fit around.columns) (sink_change (sink_of around)) (changes_of piece) (all_any (λ change. OutsAt (Fit around.columns) (sink_change (sink_of around) change)) (λ change row e. not_err _ row e) (changes_of piece))
     -- all others calculate nothing

@@ -10,25 +10,24 @@ use Rattle.op_rules.specs.Edges.{IsKeyedBy}
 use Rattle.ct_change.specs.declared.update.Update.{Update}
 use Rattle.phys_plan.specs.declared.node.Op.{Op}
 use Rattle.phys_plan.specs.declared.node.Op.TheVariants as op
-use Rattle.emission_rules.specs.Joining.{joins, matched}
 use Rattle.emission_rules.specs.JoinFits.{JoinFits}
 use Rattle.emission_rules.specs.SetOps.{SetFits}
 use Rattle.emission_rules.specs.TopFits.{TopNFits}
 use Rattle.column_sets.specs.Places.{first_columns}
 use Rattle.plan_rules.specs.Plans.{exchange_of, meaning_by}
-use Rattle.plan_rules.specs.Around.{joining_of, ranking_of}
+use Rattle.plan_rules.specs.Around.{join_of, ranking_of, semi_of}
 use Rattle.sound_plans.specs.Outputs.{Output, IsProper, around_by, edge_of, edges_of}
 use Rattle.sound_plans.specs.Agrees.{Agrees, IsAsked}
 
 abbrev pub JoinsFit : Type 0
 JoinsFit = (many : ℕ) → 0 < many → (sources : List TableDef) (sink : TableDef) (kind : JoinKind) (on : List Pair) (rest : Option Expr) (left right own : Output)
     → Agrees sources sink (op.Join kind on rest) (left ∷ (right ∷ [])) own
-    → JoinFits many (joining_of (joins kind) on (option_map expr_view rest) (around_by sink (left ∷ (right ∷ [])) own)) (edges_of many (left ∷ (right ∷ []))) (edge_of many own) × IsProper own
+    → JoinFits many (join_of kind on (option_map expr_view rest) (around_by sink (left ∷ (right ∷ [])) own)) (edges_of many (left ∷ (right ∷ []))) (edge_of many own) × IsProper own
 
 abbrev pub SemisFit : Type 0
 SemisFit = (many : ℕ) → 0 < many → (sources : List TableDef) (sink : TableDef) (anti : Bool) (on : List Pair) (rest : Option Expr) (left right own : Output)
     → Agrees sources sink (op.Semi anti on rest) (left ∷ (right ∷ [])) own
-    → JoinFits many (joining_of (matched anti) on (option_map expr_view rest) (around_by sink (left ∷ (right ∷ [])) own)) (edges_of many (left ∷ (right ∷ []))) (edge_of many own) × IsProper own
+    → JoinFits many (semi_of anti on (option_map expr_view rest) (around_by sink (left ∷ (right ∷ [])) own)) (edges_of many (left ∷ (right ∷ []))) (edge_of many own) × IsProper own
 
 abbrev pub SetOperationsFit : Type 0
 SetOperationsFit = (many : ℕ) → 0 < many → (sources : List TableDef) (sink : TableDef) (except all : Bool) (columns : ℕ) (left right own : Output)

@@ -1,12 +1,10 @@
 -- What a node of a laid tree asks of its inputs, by its operator.
-use Rattle.std.specs.Prelude.{◌≡◌, ℕ, ◌+◌, ◌<◌, ◌==◌, ◌&&◌, Bool, List, ◌++◌, length, map, slice_get, slice_index_or, Option}
-use Rattle.std.proofs.Common.{zero, suc, true, false, [], ◌∷◌, refl, sym, ap, subst, ◌∙◌, arith, Some}
-use Rattle.std.specs.List.{AllByRecursion, range_with_len}
+use Rattle.std.specs.Prelude.{◌≡◌, ℕ, ◌<◌, ◌==◌, ◌&&◌, Bool, List, length, map, slice_get, slice_index_or, Option}
+use Rattle.std.proofs.Common.{zero, suc, true, false, [], ◌∷◌, refl, sym, subst, ◌∙◌, arith, Some}
+use Rattle.std.specs.List.{AllByRecursion}
 use Rattle.std.proofs.lemmas.Bool.{and_parts}
 use Rattle.ct_value.specs.declared.ty.ColTy.{ColTy}
 use Rattle.ct_change.specs.declared.kind.KindSet.{KindSet}
-use Rattle.emission_rules.specs.GroupFits as g
-use Rattle.column_sets.specs.Places.{first_columns}
 use Rattle.phys_plan.specs.declared.edge.Edge.{Edge}
 use Rattle.phys_plan.specs.declared.node.Node.{Node}
 use Rattle.phys_plan.specs.declared.node.Op.{Op}
@@ -25,20 +23,6 @@ use Rattle.plan_rules.specs.Phases.{sends_parts}
 use Rattle.plan_rules.specs.Roles.{Role, reads_table, one_of, two_of, all_of, same_as, part_of, not_told, role}
 use Rattle.plan_rules.proofs.laws.Numbers.{read_at}
 use Rattle.sound_plans.proofs.laws.Columns.{types_made}
-
--- ---- the first columns, made from the last and from the first
-
--- one column more, at the end
-range_more : (from n : ℕ) → range_with_len from (suc n) ≡ range_with_len from n ++ (from + n) ∷ []
-range_more from zero = let e : from ≡ from + 0 = omega arith in ap (λ k. k ∷ []) e
-range_more from (suc n) =
-    let e : from + 1 + n ≡ from + suc n = omega arith in
-    ap (λ (ks : List ℕ). from ∷ ks) (range_more (from + 1) n ∙ ap (λ k. range_with_len (from + 1) n ++ k ∷ []) e)
-
--- a group's and an edge's first columns are the same
-pub same_first : (n : ℕ) → first_columns n ≡ g.first_columns n
-same_first zero = refl
-same_first (suc n) = let z : 0 + n ≡ n = omega arith in range_more 0 n ∙ (λ i. same_first n i ++ z i ∷ [])
 
 module _ (plan : Plan) where
   -- ---- what a node asks

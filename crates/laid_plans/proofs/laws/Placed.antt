@@ -1,14 +1,13 @@
 -- The pieces of a tree, wherever they stand in a plan, as it is seen, are the tree laid.
-use Rattle.std.specs.Prelude.{◌≡◌, ℕ, ◌+◌, ◌==◌, Bool, ◌&&◌, ◌||◌, not, cond, List, ◌++◌, length, map, slice_get, Option, unwrap_or}
-use Rattle.std.proofs.Common.{zero, suc, true, false, [], ◌∷◌, refl, sym, ap, subst, ◌∙◌, arith, Some, None, length-append}
-use Rattle.std.specs.List.{list_all}
+use Rattle.std.specs.Prelude.{◌≡◌, ℕ, ◌+◌, Bool, List, ◌++◌, length, map, slice_get, Option, unwrap_or}
+use Rattle.std.proofs.Common.{zero, suc, [], ◌∷◌, refl, sym, ap, subst, ◌∙◌, arith, Some, None, length-append}
 use Rattle.std.proofs.lemmas.List.{length-map}
 use Rattle.ct_change.specs.Changelog.{append, retract, upsert, kinds_of}
 use Rattle.ct_change.specs.declared.kind.Declared.{Declared}
 use Rattle.ct_change.specs.declared.kind.Declared.TheVariants.{Append, Retract, Upsert}
 use Rattle.ct_change.specs.declared.kind.KindSet.{KindSet}
 use Rattle.ct_catalog.specs.declared.table.TableDef.{TableDef}
-use Rattle.rel_algebra.specs.Rel.{Unary, filter_by, project_on, group_by, rank_in, Rel, Rels, Scan, One, Two, Many, no_rels, rel_and}
+use Rattle.rel_algebra.specs.Rel.{Unary, Rel, Rels, Scan, One, Two, Many, no_rels, rel_and}
 use Rattle.phys_plan.specs.declared.edge.Edge.{Edge}
 use Rattle.phys_plan.specs.declared.edge.Exchange.{Exchange}
 use Rattle.phys_plan.specs.declared.edge.Exchange.TheVariants.{Forward, Hash}
@@ -20,11 +19,13 @@ use Rattle.phys_plan.specs.declared.node.Op.TheVariants as op
 use Rattle.phys_plan.specs.declared.plan.Plan.{Plan}
 use Rattle.phys_plan.specs.Reading.{numbered}
 use Rattle.mode_infer.specs.Kinds.{inserts, no_kinds}
-use Rattle.plan_rules.specs.Phases.{Bundles, has_parts, local_below}
+use Rattle.plan_rules.specs.Phases.{Bundles, local_below}
 use Rattle.plan_rules.specs.TreeKinds.{tree_kinds}
 use Rattle.plan_rules.specs.Pieces.{Piece, node_of, edge_of, piece, full_piece, one_pieces, topped, topped_both, scan_pieces, source_pieces, pieces_of, pieces_of_all, roots_of, Top, bare, shown, asks_of, with_top, with_sink, nodes_in, edges_in}
 use Rattle.plan_rules.specs.Roles.{unary_way, binary_way}
 use Rattle.plan_rules.specs.Seen.{op_as_seen, node_as_seen}
+use Rattle.plan_rules.proofs.laws.Erasing.{of_local}
+use Rattle.plan_rules.proofs.laws.Seen.{seen_same}
 use Rattle.laid_plans.specs.Shapes.{bundles_in, IsLaidWith, IsLaidOut}
 use Rattle.laid_plans.proofs.laws.LaidTrees.{IsUnary, IsBinary, HasNode, HasEdge, IsOver, ScanLaid, SourceLaid, OneLaid, IsLaid, AreLaid, TopLaid, LaysOut}
 use Rattle.laid_plans.proofs.laws.Places.{one_longer, Stand, front_stands, back_stands, stand_alone}
@@ -37,22 +38,6 @@ seen_at : (nodes : List Node) (m : ℕ) (seen : Node) → slice_get (map node_as
 seen_at [] m seen e = absurd (cc)
 seen_at (node ∷ nodes) zero seen e = (node, refl, some_same (node_as_seen node) seen e)
 seen_at (node ∷ nodes) (suc m) seen e = seen_at nodes m seen e
-
--- an operator that holds expressions
-abbrev holds : Op → Bool
-holds (op.Filter cond) = true
-holds (op.Project items) = true
-holds (op.Join kind on rest) = true
-holds (op.Semi anti on rest) = true
-holds _ = false
-
--- another is what is seen of it
-plain : (o q : Op) → holds o ≡ false → op_as_seen q ≡ o → q ≡ o
-plain o (op.Filter cond) h e = absurd (let k : true ≡ holds o = ap holds e in cc (h, k))
-plain o (op.Project items) h e = absurd (let k : true ≡ holds o = ap holds e in cc (h, k))
-plain o (op.Join kind on rest) h e = absurd (let k : true ≡ holds o = ap holds e in cc (h, k))
-plain o (op.Semi anti on rest) h e = absurd (let k : true ≡ holds o = ap holds e in cc (h, k))
-plain o _ h e = e
 
 module _ (plan : Plan) where
   abbrev Placed : ℕ → List Piece → Type 0
@@ -89,20 +74,20 @@ module _ (plan : Plan) where
 
   scan_laid : (n : ℕ) (x : Exchange) (source : ℕ) (mode : Declared) (key : List ℕ) → Placed n (scan_pieces n x source mode key)
       → ScanLaid plan n x source mode key (n + length (scan_pieces n x source mode key))
-  scan_laid n x source Append key s = (refl, has_node n (n + 1) refl (λ o. o ≡ op.Scan source) [] (op.Scan source) (λ q e. plain (op.Scan source) q refl e) s.0, has_edge n (n + 1) refl x (kinds_of append) Both s.1)
-  scan_laid n x source Retract key s = (refl, has_node n (n + 1) refl (λ o. o ≡ op.Scan source) [] (op.Scan source) (λ q e. plain (op.Scan source) q refl e) s.0, has_edge n (n + 1) refl x (kinds_of retract) Both s.1)
+  scan_laid n x source Append key s = (refl, has_node n (n + 1) refl (λ o. o ≡ op.Scan source) [] (op.Scan source) (λ q e. seen_same (op.Scan source) q refl e) s.0, has_edge n (n + 1) refl x (kinds_of append) Both s.1)
+  scan_laid n x source Retract key s = (refl, has_node n (n + 1) refl (λ o. o ≡ op.Scan source) [] (op.Scan source) (λ q e. seen_same (op.Scan source) q refl e) s.0, has_edge n (n + 1) refl x (kinds_of retract) Both s.1)
   scan_laid n x source Upsert key s =
       let next : n + 2 ≡ suc n + 1 = omega arith in (
         refl,
-        has_node n (n + 1) refl (λ o. o ≡ op.Scan source) [] (op.Scan source) (λ q e. plain (op.Scan source) q refl e) s.0,
+        has_node n (n + 1) refl (λ o. o ≡ op.Scan source) [] (op.Scan source) (λ q e. seen_same (op.Scan source) q refl e) s.0,
         has_edge n (n + 1) refl (Hash key) (kinds_of (upsert key)) (After key) s.1,
-        has_node (suc n) (n + 2) next (λ o. o ≡ op.Normalize key) ((n + 1) ∷ []) (op.Normalize key) (λ q e. plain (op.Normalize key) q refl e) s.2.0,
+        has_node (suc n) (n + 2) next (λ o. o ≡ op.Normalize key) ((n + 1) ∷ []) (op.Normalize key) (λ q e. seen_same (op.Normalize key) q refl e) s.2.0,
         has_edge (suc n) (n + 2) next x (kinds_of retract) Both s.2.1,
       )
 
   source_laid : (n : ℕ) (x : Exchange) (source : ℕ) (table : Option TableDef) → Placed n (source_pieces n x source table)
       → SourceLaid plan n x source table (n + length (source_pieces n x source table))
-  source_laid n x source None s = (refl, has_node n (n + 1) refl (λ o. o ≡ op.Scan source) [] (op.Scan source) (λ q e. plain (op.Scan source) q refl e) s.0, has_edge n (n + 1) refl x no_kinds Both s.1)
+  source_laid n x source None s = (refl, has_node n (n + 1) refl (λ o. o ≡ op.Scan source) [] (op.Scan source) (λ q e. seen_same (op.Scan source) q refl e) s.0, has_edge n (n + 1) refl x no_kinds Both s.1)
   source_laid n x source (Some table) s = scan_laid n x source table.mode (unwrap_or table.key []) s
 
   -- the pieces of both sides of a join, and a node of this operator over them
@@ -144,15 +129,8 @@ module _ (plan : Plan) where
   under n ps o x kinds s = front_stands (map node_as_seen plan.nodes) plan.edges n ps (full_piece o ((n + length ps) ∷ []) x kinds ∷ []) s
 
   -- a local group is what is seen of it
-  local_holds : (how : Unary) (b : Bundles) (kinds : KindSet) (local : Op) → local_below b how kinds ≡ Some local → holds local ≡ false
-  local_holds (group_by keys aggs) b kinds local e = by (b.two_phase && (not (b.size == 0 || keys == 0) && list_all (λ agg. has_parts kinds agg.call) aggs)) e
-    where
-      by : (t : Bool) → cond t (Some (op.LocalGroup keys aggs)) None ≡ Some local → holds local ≡ false
-      by true h = let same : op.LocalGroup keys aggs ≡ local = cc in subst (λ (o : Op). holds o ≡ false) same refl
-      by false h = absurd (cc)
-  local_holds (filter_by condition) b kinds local e = absurd (cc)
-  local_holds (project_on items) b kinds local e = absurd (cc)
-  local_holds (rank_in partition order bound ranked) b kinds local e = absurd (cc)
+  local_is : (how : Unary) (b : Bundles) (kinds : KindSet) (local : Op) → local_below b how kinds ≡ Some local → (q : Op) → op_as_seen q ≡ local → q ≡ local
+  local_is how b kinds local e = of_local (λ o. (q : Op) → op_as_seen q ≡ o → q ≡ o) (λ keys aggs q f. seen_same (op.LocalGroup keys aggs) q refl f) b how kinds local e
 
   -- the pieces of a node with one input, whose pieces are laid so
   one_laid : (two_phase : Bool) (n : ℕ) (how : Unary) (input : Rel)
@@ -172,7 +150,7 @@ module _ (plan : Plan) where
         n + length ps,
         n + length qs,
         below Forward (under n ps local (unary_way how).asks inserts t),
-        over n ps local (unary_way how).asks inserts t (λ o. o ≡ local) (λ q f. plain local q (local_holds how (bundles_in plan two_phase) (tree_kinds plan.sources input) local e) f),
+        over n ps local (unary_way how).asks inserts t (λ o. o ≡ local) (local_is how (bundles_in plan two_phase) (tree_kinds plan.sources input) local e),
         over n qs o x kinds s (IsUnary plan.mini_batch how) (λ q e. e),
       )
 
@@ -199,7 +177,7 @@ module _ (plan : Plan) where
             n + length ps,
             all_laid n inputs (front_stands (map node_as_seen plan.nodes) plan.edges n ps (full_piece op.Union roots x (tree_kinds plan.sources (Many inputs)) ∷ []) s),
             last_number n ps op.Union roots x (tree_kinds plan.sources (Many inputs)) Both s,
-            last_has n ps op.Union roots x (tree_kinds plan.sources (Many inputs)) Both s (λ o. o ≡ op.Union) (λ q e. plain op.Union q refl e),
+            last_has n ps op.Union roots x (tree_kinds plan.sources (Many inputs)) Both s (λ o. o ≡ op.Union) (λ q e. seen_same op.Union q refl e),
             last_told n ps op.Union roots x (tree_kinds plan.sources (Many inputs)) Both s,
           )
 
@@ -236,7 +214,7 @@ module _ (plan : Plan) where
         tree = laid two_phase 0 (Hash key) rel (front_stands (map node_as_seen plan.nodes) plan.edges 0 ps (full_piece (op.Materialize key) inputs Forward (kinds_of (upsert key)) ∷ []) s);
         between = (
           last_number 0 ps (op.Materialize key) inputs Forward (kinds_of (upsert key)) Both s,
-          last_has 0 ps (op.Materialize key) inputs Forward (kinds_of (upsert key)) Both s (λ o. o ≡ op.Materialize key) (λ q e. plain (op.Materialize key) q refl e),
+          last_has 0 ps (op.Materialize key) inputs Forward (kinds_of (upsert key)) Both s (λ o. o ≡ op.Materialize key) (λ q e. seen_same (op.Materialize key) q refl e),
           last_told 0 ps (op.Materialize key) inputs Forward (kinds_of (upsert key)) Both s,
         );
       }
@@ -253,7 +231,7 @@ lays_out_with plan two_phase top rel is =
     let all : Stand (map node_as_seen plan.nodes) plan.edges 0 (with_sink ps) =
     subst (λ (ns : List Node). Stand ns plan.edges 0 (with_sink ps)) (sym nodes) (subst (λ (es : List Edge). Stand (nodes_in (with_sink ps)) es 0 (with_sink ps)) (sym edges) (stand_alone (with_sink ps))) in
     let last : 0 + length (with_sink ps) ≡ root + 1 = last_number plan 0 ps op.Sink (length ps ∷ []) Forward (kinds_of retract) Absent all in
-    let has = last_has plan 0 ps op.Sink (length ps ∷ []) Forward (kinds_of retract) Absent all (λ o. o ≡ op.Sink) (λ q e. plain op.Sink q refl e) in
+    let has = last_has plan 0 ps op.Sink (length ps ∷ []) Forward (kinds_of retract) Absent all (λ o. o ≡ op.Sink) (λ q e. seen_same op.Sink q refl e) in
     let told = last_told plan 0 ps op.Sink (length ps ∷ []) Forward (kinds_of retract) Absent all in
     let node_count : length plan.nodes ≡ length (with_sink ps) = sym (length-map plan.nodes node_as_seen) ∙ ap length nodes ∙ length-map (with_sink ps) (λ p. p.node) in
     let edge_count : length plan.edges ≡ length (with_sink ps) = ap length edges ∙ length-map (with_sink ps) (λ p. p.edge) in

@@ -1,7 +1,6 @@
 -- The plan of a tree is what is seen of it.
-use Rattle.std.specs.Prelude.{◌≡◌, ℕ, ◌+◌, ◌==◌, Bool, ◌&&◌, ◌||◌, not, cond, List, ◌++◌, length, map, slice_get, Option, unwrap_or}
-use Rattle.std.proofs.Common.{true, false, [], ◌∷◌, refl, sym, ap, subst, ◌∙◌, Some, None}
-use Rattle.std.specs.List.{list_all}
+use Rattle.std.specs.Prelude.{◌≡◌, ℕ, ◌+◌, List, ◌++◌, length, map, slice_get, Option, unwrap_or}
+use Rattle.std.proofs.Common.{[], ◌∷◌, refl, sym, ap, ◌∙◌, Some, None}
 use Rattle.std.proofs.lemmas.List.{map-append}
 use Rattle.ct_change.specs.Changelog.{retract, upsert, kinds_of}
 use Rattle.ct_change.specs.declared.kind.KindSet.{KindSet}
@@ -9,17 +8,18 @@ use Rattle.ct_change.specs.declared.kind.Declared.{Declared}
 use Rattle.ct_change.specs.declared.kind.Declared.TheVariants.{Append, Retract, Upsert}
 use Rattle.ct_change.specs.declared.update.Update.TheVariants.{Absent}
 use Rattle.ct_catalog.specs.declared.table.TableDef.{TableDef}
-use Rattle.rel_algebra.specs.Rel.{Unary, filter_by, project_on, group_by, rank_in, Rel, Rels, Scan, One, Two, Many, no_rels, rel_and}
+use Rattle.rel_algebra.specs.Rel.{Unary, Rel, Rels, Scan, One, Two, Many, no_rels, rel_and}
 use Rattle.phys_plan.specs.declared.edge.Exchange.{Exchange}
 use Rattle.phys_plan.specs.declared.edge.Exchange.TheVariants.{Forward, Hash}
 use Rattle.phys_plan.specs.declared.node.Op.{Op}
 use Rattle.phys_plan.specs.declared.node.Op.TheVariants as op
 use Rattle.mode_infer.specs.Kinds.{inserts}
-use Rattle.plan_rules.specs.Phases.{Bundles, has_parts, local_below}
+use Rattle.plan_rules.specs.Phases.{Bundles, local_below}
 use Rattle.plan_rules.specs.TreeKinds.{tree_kinds}
 use Rattle.plan_rules.specs.Pieces.{Piece, node_of, piece, full_piece, one_pieces, topped, scan_pieces, source_pieces, pieces_of, pieces_of_all, roots_of, Top, bare, shown, asks_of, with_top, with_sink, nodes_in, edges_in, plan_of_tree}
 use Rattle.plan_rules.specs.Roles.{unary_way, binary_way}
 use Rattle.plan_rules.specs.Seen.{op_as_seen, node_as_seen, plan_as_seen}
+use Rattle.plan_rules.proofs.laws.Erasing.{of_local}
 use Rattle.laid_plans.proofs.laws.Trees.{unary_is, binary_is}
 
 abbrev AreSeen : List Piece → Type 0
@@ -43,14 +43,7 @@ source_seen n x source None = refl
 source_seen n x source (Some table) = scan_seen n x source table.mode (unwrap_or table.key [])
 
 local_seen : (b : Bundles) (how : Unary) (kinds : KindSet) (local : Op) → local_below b how kinds ≡ Some local → op_as_seen local ≡ local
-local_seen b (group_by keys aggs) kinds local e = by (b.two_phase && (not (b.size == 0 || keys == 0) && list_all (λ agg. has_parts kinds agg.call) aggs)) e
-  where
-    by : (t : Bool) → cond t (Some (op.LocalGroup keys aggs)) None ≡ Some local → op_as_seen local ≡ local
-    by true h = let same : op.LocalGroup keys aggs ≡ local = cc in subst (λ (o : Op). op_as_seen o ≡ o) same refl
-    by false h = absurd (cc)
-local_seen b (filter_by condition) kinds local e = absurd (cc)
-local_seen b (project_on items) kinds local e = absurd (cc)
-local_seen b (rank_in partition order bound ranked) kinds local e = absurd (cc)
+local_seen b how kinds local e = of_local (λ o. op_as_seen o ≡ o) (λ keys aggs. refl) b how kinds local e
 
 -- a node with one input, whose pieces are seen as they are
 one_seen : (n : ℕ) (b : Bundles) (how : Unary) (kinds_below : KindSet) (below : Exchange → List Piece) → ((asks : Exchange) → AreSeen (below asks)) → (x : Exchange) (kinds : KindSet) (local : Option Op) → local_below b how kinds_below ≡ local

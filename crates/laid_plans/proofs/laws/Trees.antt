@@ -23,7 +23,7 @@ use Rattle.rel_algebra.specs.Rel.{Unary, filter_by, project_on, group_by, rank_i
 use Rattle.rel_algebra.specs.Types.{columns_if, is_column, common_columns, columns_of, common_from, unary_columns, binary_columns}
 use Rattle.phys_plan.specs.declared.edge.Edge.{Edge}
 use Rattle.phys_plan.specs.declared.edge.Exchange.{Exchange}
-use Rattle.phys_plan.specs.declared.edge.Exchange.TheVariants.{Forward, Hash}
+use Rattle.phys_plan.specs.declared.edge.Exchange.TheVariants.{Forward}
 use Rattle.phys_plan.specs.declared.node.Node.{Node}
 use Rattle.phys_plan.specs.declared.node.Op.{Op}
 use Rattle.phys_plan.specs.declared.node.Op.TheVariants as op
@@ -51,9 +51,9 @@ use Rattle.plan_rules.specs.Plans.{kinds_in}
 use Rattle.plan_rules.specs.Seen.{op_as_seen}
 use Rattle.plan_rules.specs.TreeKinds.{kinds_declared, table_kinds, tree_kinds, trees_kinds}
 use Rattle.laid_plans.specs.Shapes.{bundles_in, types_of}
-use Rattle.plan_rules.proofs.laws.Seen.{role_seen}
+use Rattle.plan_rules.proofs.laws.Seen.{role_seen, seen_same}
 use Rattle.laid_plans.proofs.laws.Laid.{both_parts, each_as_seen, rest_as_seen, renamed}
-use Rattle.laid_plans.proofs.laws.LaidNodes.{IsFed, IsInner, OpMeets, flow_at, flow_from, inner, same_first, types_from}
+use Rattle.laid_plans.proofs.laws.LaidNodes.{IsFed, IsInner, OpMeets, flow_at, flow_from, inner, types_from}
 use Rattle.laid_plans.proofs.laws.Same.{both_hold}
 use Rattle.laid_plans.proofs.laws.Sent.{flow_seen, way_sends, ways_send}
 use Rattle.laid_plans.proofs.laws.Parts.{Part, next_part, no_part, two_parts}
@@ -222,15 +222,15 @@ module _ (plan : Plan) where
         told = refl;
         made = λ inputs. refl;
         is_inner = inner plan (op.Group keys aggs) refl;
-        asks = ap (λ cols. Hash cols) (same_first keys);
-        other_asks = ap (λ cols. Hash cols) (same_first keys);
+        asks = refl;
+        other_asks = refl;
       })
       (λ some keyed. record {
         told = refl;
         made = λ inputs. refl;
         is_inner = inner plan (op.BatchGroup keys aggs) (λ i. lt-ltb 0 plan.mini_batch some i && lt-ltb 0 keys keyed i);
-        asks = ap (λ cols. Hash cols) (same_first keys);
-        other_asks = ap (λ cols. Hash cols) (same_first keys);
+        asks = refl;
+        other_asks = refl;
       })
   unary_way_fits (rank_in partition order bound ranked) = record {
     told = refl;
@@ -259,8 +259,8 @@ module _ (plan : Plan) where
     told = refl;
     made = λ inputs. refl;
     is_inner = inner plan (op.SetOp except all columns) refl;
-    asks = ap (λ cols. Hash cols) (same_first columns);
-    other_asks = ap (λ cols. Hash cols) (same_first columns);
+    asks = refl;
+    other_asks = refl;
   }
 
   -- one fits as it does as it is seen
@@ -508,14 +508,6 @@ module _ (plan : Plan) where
       (both_hold (same_column agg.arg agg.arg) (same_column agg.filter agg.filter) (columns_same agg.arg) (columns_same agg.filter)))
       (aggs_same aggs)
 
-  -- the operator of such a group
-  seen_bundled : (o : Op) (keys : ℕ) (aggs : List Agg) → op_as_seen o ≡ op.BatchGroup keys aggs → o ≡ op.BatchGroup keys aggs
-  seen_bundled (op.Filter cond) keys aggs e = absurd (cc)
-  seen_bundled (op.Project items) keys aggs e = absurd (cc)
-  seen_bundled (op.Join kind on rest) keys aggs e = absurd (cc)
-  seen_bundled (op.Semi anti on rest) keys aggs e = absurd (cc)
-  seen_bundled _ keys aggs e = e
-
   -- a local group on a tree's root, and the group that merges its partial rows
   module _ (n below mid root : ℕ) (x : Exchange) (keys : ℕ) (aggs : List Agg) (own columns : List ColTy) (kinds : KindSet) (two_phase : Bool) (local : Op) (is : InPhases two_phase keys aggs kinds local)
       (t : Told n Forward below own kinds) (typed : group_columns keys own aggs ≡ Some columns) (l : IsOver plan below (λ o. o ≡ local) mid (unary_way (group_by keys aggs)).asks inserts)
@@ -532,7 +524,7 @@ module _ (plan : Plan) where
     merged_has : HasNode plan root (λ o. o ≡ op.BatchGroup keys aggs) (mid ∷ [])
     merged_has =
         renamed plan root (IsUnary plan.mini_batch (group_by keys aggs)) (mid ∷ []) (op.BatchGroup keys aggs) m.1
-        (seen_bundled m.1.node.op keys aggs (m.1.is_op ∙ ap (λ b. cond b (op.Group keys aggs) (op.BatchGroup keys aggs)) is.bundled))
+        (seen_same (op.BatchGroup keys aggs) m.1.node.op refl (m.1.is_op ∙ ap (λ b. cond b (op.Group keys aggs) (op.BatchGroup keys aggs)) is.bundled))
 
     lower : below < mid
     lower = omega (arith, l.0)
@@ -584,7 +576,7 @@ module _ (plan : Plan) where
           suits = ap (λ (p : Op). suits_consumer plan.sources p (Some merged)) local_has.is_op ∙ both_hold (keys == keys) (same_aggs aggs aggs) (eq-eqb keys keys refl) (aggs_same aggs);
           edge = _;
           is_edge = l.2;
-          exchanged = ap (λ cols. Hash cols) (same_first keys);
+          exchanged = refl;
         }))
 
 -- ---- the tree

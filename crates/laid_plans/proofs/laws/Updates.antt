@@ -17,7 +17,7 @@ use Rattle.phys_plan.specs.declared.plan.Plan.{Plan}
 use Rattle.phys_plan.specs.Reading.{at, numbered as item, wires, numbered}
 use Rattle.mode_infer.specs.declared.kinds.Flow.{Flow}
 use Rattle.mode_infer.specs.declared.modes.EdgeMode.{EdgeMode}
-use Rattle.mode_infer.specs.Kinds.{flows, needs_old_rows, no_flow}
+use Rattle.mode_infer.specs.Kinds.{Taking, all_rows, new_rows, flows, needs_old, needs_old_rows, no_flow, reads, takes_new}
 use Rattle.plan_rules.specs.Plans.{kinds_in}
 use Rattle.mode_infer.specs.Modes.{edge_kinds, edge_modes, mode, moded, modes_of, no_mode, updates, with_sink}
 use Rattle.mode_infer.specs.UpdateKeys.{update_keys}
@@ -39,13 +39,11 @@ use Rattle.laid_plans.proofs.laws.Tables.{flows_many, updates_many}
 
 -- an operator that needs old rows takes no new rows alone
 takes_none : (sink : TableDef) (o : Op) (port : ℕ) (update : Update) (key : List ℕ) → needs_old_rows o ≡ true → takes sink o port update key ≡ false
-takes_none sink (op.Project items) port update key n = absurd (cc)
-takes_none sink (op.Join kind on rest) port update key n = absurd (cc)
-takes_none sink (op.Semi anti on rest) port update key n = absurd (cc)
-takes_none sink (op.TopN partition order bound ranked) port update key n = absurd (cc)
-takes_none sink op.Sink port update key n = absurd (cc)
-takes_none sink (op.MultiJoin on) port update key n = absurd (cc)
-takes_none sink _ port update key n = refl
+takes_none sink o port update key n = by (reads o).updates n
+  where
+    by : (updates : Taking) → needs_old updates ≡ true → takes_new updates port sink update key ≡ false
+    by (all_rows needed) e = refl
+    by (new_rows taken) e = absurd (cc)
 
 -- in full the old rows are told
 full_tells : (kinds : KindSet) → tells_old_rows (in_full kinds) ≡ true

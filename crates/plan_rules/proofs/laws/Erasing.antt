@@ -1,6 +1,5 @@
 -- The tree of the plan of a tree is that tree.
-use Rattle.std.proofs.Common.{◌≡◌, ℕ, zero, suc, ◌+◌, ◌<◌, ◌==◌, ◌||◌, ◌&&◌, Bool, true, false, cond, not, List, [], ◌∷◌, ◌++◌, length, map, slice_get, Option, Some, None, option_map, refl, sym, ap, subst, ◌∙◌, arith, append_assoc, append-nil, length-append}
-use Rattle.std.specs.List.{list_all}
+use Rattle.std.proofs.Common.{◌≡◌, ℕ, zero, suc, ◌+◌, ◌<◌, ◌==◌, ◌||◌, Bool, true, false, cond, List, [], ◌∷◌, ◌++◌, length, map, slice_get, Option, Some, None, option_map, refl, sym, ap, subst, ◌∙◌, arith, append_assoc, append-nil, length-append}
 use Rattle.std.specs.Option.{unwrap_or}
 use Rattle.std.proofs.lemmas.Bool.{eqb-false}
 use Rattle.std.proofs.lemmas.List.{length-map, map-append}
@@ -25,7 +24,7 @@ use Rattle.phys_plan.specs.declared.node.Op.{Op}
 use Rattle.phys_plan.specs.declared.node.Op.TheVariants as op
 use Rattle.phys_plan.proofs.laws.Reading.{read_append}
 use Rattle.plan_rules.specs.Answers.{TreesAreErased}
-use Rattle.plan_rules.specs.Phases.{Bundles, has_parts, local_below}
+use Rattle.plan_rules.specs.Phases.{Bundles, in_phases, local_below}
 use Rattle.plan_rules.specs.Pieces.{Piece, piece, scan_pieces, source_pieces, topped, topped_both, one_pieces, pieces_of, pieces_of_all, roots_of, nodes_in, Top, bare, shown, asks_of, with_top, with_sink}
 use Rattle.plan_rules.specs.Roles.{nothing, one_of, two_of, same_as, role, tree_of, group_op, unary_way, binary_way}
 use Rattle.plan_rules.specs.TreeKinds.{tree_kinds}
@@ -54,6 +53,17 @@ of_groups Holds mini_batch keys aggs plain bundles = by (mini_batch == 0) (keys 
     by true global e f = plain
     by false true e f = plain
     by false false e f = bundles (some_held mini_batch e) (some_held keys f)
+
+-- what is said of local groups is said of the one below a group of a tree
+pub of_local : (Holds : Op → Type 0) → ((keys : ℕ) (aggs : List Agg) → Holds (op.LocalGroup keys aggs)) → (b : Bundles) (how : Unary) (kinds : KindSet) (local : Op) → local_below b how kinds ≡ Some local → Holds local
+of_local Holds said b (group_by keys aggs) kinds local e = by (in_phases b keys aggs kinds) e
+  where
+    by : (t : Bool) → cond t (Some (op.LocalGroup keys aggs)) None ≡ Some local → Holds local
+    by true h = let same : op.LocalGroup keys aggs ≡ local = cc in subst Holds same (said keys aggs)
+    by false h = absurd (cc)
+of_local Holds said b (filter_by condition) kinds local e = absurd (cc)
+of_local Holds said b (project_on items) kinds local e = absurd (cc)
+of_local Holds said b (rank_in partition order bound ranked) kinds local e = absurd (cc)
 
 -- the operator of a tree's way is the tree's
 pub unary_told : (mini_batch : ℕ) (how : Unary) → role ((unary_way how).op mini_batch) ≡ one_of how
@@ -163,14 +173,7 @@ source_ends n done size x source (Some table) = scan_ends n done size x source t
 
 -- a local group's tree is its input's
 pub local_told : (b : Bundles) (how : Unary) (kinds : KindSet) (local : Op) (input : Rel) → local_below b how kinds ≡ Some local → tree_of (role local) (input ∷ []) ≡ input
-local_told b (group_by keys aggs) kinds local input e = by (b.two_phase && (not (b.size == 0 || keys == 0) && list_all (λ agg. has_parts kinds agg.call) aggs)) e
-  where
-    by : (t : Bool) → cond t (Some (op.LocalGroup keys aggs)) None ≡ Some local → tree_of (role local) (input ∷ []) ≡ input
-    by true h = let same : op.LocalGroup keys aggs ≡ local = cc in subst (λ o. tree_of (role o) (input ∷ []) ≡ input) same refl
-    by false h = absurd (cc)
-local_told b (filter_by condition) kinds local input e = absurd (cc)
-local_told b (project_on items) kinds local input e = absurd (cc)
-local_told b (rank_in partition order bound ranked) kinds local input e = absurd (cc)
+local_told b how kinds local input e = of_local (λ o. tree_of (role o) (input ∷ []) ≡ input) (λ keys aggs. refl) b how kinds local e
 
 module _ (sources : List TableDef) (b : Bundles) where
   -- a node with one input, over a local group or not

@@ -8,7 +8,6 @@ use Rattle.ct_change.specs.Changelog.{Mode}
 use Rattle.ct_change.specs.declared.change.Change.{Change}
 use Rattle.ct_expr.specs.View.{expr_view}
 use Rattle.rel_algebra.specs.declared.agg.Agg.{Agg}
-use Rattle.emission_rules.specs.Joining.{joins, matched}
 use Rattle.phase_rules.specs.LocalGrouping.{LocalGrouping}
 use Rattle.phys_plan.specs.declared.node.Op.{Op}
 use Rattle.phys_plan.specs.declared.node.Op.TheVariants as op
@@ -22,7 +21,7 @@ use Rattle.op_rules.specs.Tasks.{IsReady}
 use Rattle.op_rules.proofs.laws.Histories.{all-each}
 use Rattle.stream_model.specs.Machine.{is_number, size_of}
 use Rattle.stream_model.specs.Network.{Feed, IsWired, task}
-use Rattle.plan_rules.specs.Around.{Around, mode_read, filter_of, project_of, union_of, normalize_of, grouping_of, local_of, merging_of, joining_of, ranking_of, sink_of}
+use Rattle.plan_rules.specs.Around.{Around, mode_read, filter_of, project_of, union_of, normalize_of, grouping_of, local_of, merging_of, join_of, semi_of, ranking_of, sink_of}
 use Rattle.plan_rules.specs.Behaviours.{Behaviour, BundlesWell, Suits, TakesBy, behaviour, bundled_rule, doing_of}
 use Rattle.plan_rules.specs.Columns.{columns_at}
 use Rattle.plan_rules.specs.Doings.{around_of, doing_in, network}
@@ -92,8 +91,8 @@ module _ (most limit : ℕ) (small : limit < 9223372036854775808) where
   does (op.Group keys aggs) around tame suits counted = rows _ around.partial (groups_stay (grouping_of keys aggs around) tame)
   does (op.BatchGroup keys aggs) around tame suits counted = bundled keys aggs around around.partial tame suits counted
   does (op.LocalGroup keys aggs) around tame suits counted = local_groups_stay (local_of keys aggs around) suits.0 tame most limit around.partial
-  does (op.Join kind on rest) around tame suits counted = rows _ around.partial (joins_stay (joining_of (joins kind) on (option_map expr_view rest) around) tame)
-  does (op.Semi anti on rest) around tame suits counted = rows _ around.partial (joins_stay (joining_of (matched anti) on (option_map expr_view rest) around) tame)
+  does (op.Join kind on rest) around tame suits counted = rows _ around.partial (joins_stay (join_of kind on (option_map expr_view rest) around) tame)
+  does (op.Semi anti on rest) around tame suits counted = rows _ around.partial (joins_stay (semi_of anti on (option_map expr_view rest) around) tame)
   does (op.SetOp except all columns) around tame suits counted = rows _ around.partial (set_operations_stay (record { except = except; all = all }))
   does (op.TopN partition order bound ranked) around tame suits counted = rows _ around.partial (topns_stay (ranking_of partition order bound ranked around))
   does (op.Materialize key) around tame suits counted = rows _ around.partial (materializes_stay key)

@@ -32,7 +32,7 @@ use Rattle.mode_infer.specs.Kinds.{asked}
 use Rattle.mode_infer.specs.Modes.{edge_kinds}
 use Rattle.mode_infer.specs.Updates.{in_full, told}
 use Rattle.plan_rules.specs.Plans.{meaning_by}
-use Rattle.plan_rules.specs.Around.{joining_of}
+use Rattle.plan_rules.specs.Around.{join_of, joining_of, semi_of}
 use Rattle.sound_plans.specs.Agrees.{Agrees, Carries, IsAsked}
 use Rattle.sound_plans.specs.Outputs.{AreWithin, IsProper, Output, around_by, edge_of, edges_of, seen}
 use Rattle.sound_plans.proofs.laws.KeyFamilies.{each_family, of_family}
@@ -149,7 +149,7 @@ module _ (many : ℕ) (some : 0 < many) (sources : List TableDef) (sink : TableD
   right_asked = agrees.inputs_asked.1.0
 
   abbrev j : Joining
-  j = joining_of (joins kind) on condition (around_by sink (left ∷ (right ∷ [])) own)
+  j = join_of kind on condition (around_by sink (left ∷ (right ∷ [])) own)
 
   -- the pairs fit, and the columns are those of both sides
   typed : (match_fits left.columns right.columns on condition ≡ true) × (join_columns kind left.columns right.columns ≡ own.columns)
@@ -263,7 +263,7 @@ module _ (many : ℕ) (some : 0 < many) (sources : List TableDef) (sink : TableD
   looked_up = agrees.inputs_asked.1.0
 
   abbrev k : Joining
-  k = joining_of (matched anti) on kept_if (around_by sink (left ∷ (right ∷ [])) own)
+  k = semi_of anti on kept_if (around_by sink (left ∷ (right ∷ [])) own)
 
   -- the pairs fit, and the columns are those of the left
   kept_typed : (match_fits left.columns right.columns on kept_if ≡ true) × (left.columns ≡ own.columns)

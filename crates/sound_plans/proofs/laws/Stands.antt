@@ -23,7 +23,6 @@ use Rattle.emission_rules.specs.Grouping.{Grouping, group_rule}
 use Rattle.emission_rules.specs.GroupFits.{batch, group_task, part}
 use Rattle.emission_rules.proofs.laws.GroupFacts.{group_stands as groups_stand}
 use Rattle.emission_rules.proofs.laws.Theorems.{groups_take}
-use Rattle.emission_rules.specs.Joining.{joins, matched}
 use Rattle.emission_rules.proofs.laws.Nodes.{joins_stand, joins_take}
 use Rattle.emission_rules.specs.SetOps.{SetOperation}
 use Rattle.emission_rules.proofs.laws.SetFacts.{set_operations_stand, set_operations_take}
@@ -47,7 +46,7 @@ use Rattle.plan_rules.specs.Columns.{columns_at}
 use Rattle.plan_rules.specs.Phases.{local_by}
 use Rattle.plan_rules.specs.Plans.{inputs_in, kinds_in, local_in, scan_of, table_of, update_in}
 use Rattle.phys_plan.specs.Reading.{first_input, numbered}
-use Rattle.plan_rules.specs.Around.{Around, filter_of, grouping_of, joining_of, local_of, merging_of, mode_read, mode_told, normalize_of, project_of, ranking_of, sink_of, union_of}
+use Rattle.plan_rules.specs.Around.{Around, filter_of, grouping_of, join_of, local_of, merging_of, mode_read, mode_told, normalize_of, project_of, ranking_of, semi_of, sink_of, union_of}
 use Rattle.plan_rules.specs.Behaviours.{behaviour, has_rule, TakesBy}
 use Rattle.plan_rules.specs.Doings.{around_of, doing_by, doing_in, network}
 use Rattle.plan_shape.specs.Shape.{is_sink, takes as ports_of}
@@ -210,13 +209,13 @@ module _ (many : ℕ) (some : 0 < many) (sources : List TableDef) (sink : TableD
   join_works : (kind : JoinKind) (on : List Pair) (rest : Option Expr) (left right own : Output) → Agrees sources sink (op.Join kind on rest) (left ∷ (right ∷ [])) own → Works (op.Join kind on rest) (left ∷ (right ∷ [])) own
   join_works kind on rest left right own agrees =
       let f = joins_fit many some sources sink kind on rest left right own agrees in
-      let j = joining_of (joins kind) on (option_map expr_view rest) (around_by sink (left ∷ (right ∷ [])) own) in
+      let j = join_of kind on (option_map expr_view rest) (around_by sink (left ∷ (right ∷ [])) own) in
       ((joins_stand many j (edges_of many (left ∷ (right ∷ []))) (edge_of many own) f.0, joins_take many j (edges_of many (left ∷ (right ∷ []))) (edge_of many own) f.0), f.1)
 
   semi_works : (anti : Bool) (on : List Pair) (rest : Option Expr) (left right own : Output) → Agrees sources sink (op.Semi anti on rest) (left ∷ (right ∷ [])) own → Works (op.Semi anti on rest) (left ∷ (right ∷ [])) own
   semi_works anti on rest left right own agrees =
       let f = semis_fit many some sources sink anti on rest left right own agrees in
-      let j = joining_of (matched anti) on (option_map expr_view rest) (around_by sink (left ∷ (right ∷ [])) own) in
+      let j = semi_of anti on (option_map expr_view rest) (around_by sink (left ∷ (right ∷ [])) own) in
       ((joins_stand many j (edges_of many (left ∷ (right ∷ []))) (edge_of many own) f.0, joins_take many j (edges_of many (left ∷ (right ∷ []))) (edge_of many own) f.0), f.1)
 
   set_works : (except all : Bool) (columns : ℕ) (left right own : Output) → Agrees sources sink (op.SetOp except all columns) (left ∷ (right ∷ [])) own → Works (op.SetOp except all columns) (left ∷ (right ∷ [])) own
