@@ -7,9 +7,7 @@ use Rattle.ct_value.specs.Abbreviations.{value_abbreviation}
 use Rattle.ct_value.specs.Order.{row_cmp}
 use Rattle.ct_value.specs.declared.value.Value.{Value}
 use Rattle.ct_value.proofs.laws.Abbreviations.{value_first, value_small}
-use Rattle.op_topn.specs.declared.key.Directed.{Directed}
-use Rattle.op_topn.specs.declared.key.Directed.TheVariants.{Up, Down}
-use Rattle.op_topn.specs.Keys.{Key, key_cmp, key_total, directed_cmp, directed_abbreviation, first_abbreviation}
+use Rattle.op_topn.specs.Keys.{Directed, Up, Down, Key, key_cmp, key_total, directed_cmp, directed_abbreviation, first_abbreviation}
 
 half_less : (m n : ℕ) → m / 2 < n / 2 → m < n
 half_less m n h = let a = div-add-mod' m 2 in let b = div-add-mod' n 2 in let c : m % 2 < 2 = mod_below m 2 (omega arith) in omega arith

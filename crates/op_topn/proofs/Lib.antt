@@ -2,6 +2,7 @@ pub mod Abbreviations
 pub mod Behind
 pub mod Beyond
 pub mod Cells
+pub mod Columns
 pub mod FirstRows
 pub mod Links
 pub mod Members

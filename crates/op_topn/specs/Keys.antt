@@ -12,8 +12,12 @@ use Rattle.ct_value.specs.declared.value.Value.{Value}
 use Rattle.ct_value.specs.declared.value.Value.TheVariants.{Null}
 use Rattle.ct_field.specs.Typed.{cell}
 use Rattle.rel_algebra.specs.declared.sort.SortCol.{SortCol}
-use Rattle.op_topn.specs.declared.key.Directed.{Directed}
-use Rattle.op_topn.specs.declared.key.Directed.TheVariants.{Up, Down}
+
+-- the value of a sort column, and whether the column runs up or down; NULL stands lowest, so it comes first where the column runs up, and
+-- last where it runs down
+pub data Directed : Type 0 where
+  Up : Value → Directed
+  Down : Value → Directed
 
 abbrev pub is_down : Directed → Bool
 is_down (Up value) = false

@@ -9,6 +9,7 @@
 
 mod compare;
 mod key;
+mod order;
 mod partitions;
 mod ranks;
 mod rows;
@@ -16,7 +17,8 @@ mod telling;
 mod topn;
 
 pub use compare::rank_compare;
-pub use key::{Directed, RankKey};
+pub use key::RankKey;
+pub use order::RankOrder;
 pub use partitions::{Firsts, TopBy, turn_partition, turn_rows};
 pub use rows::{RankedRows, rows_of};
 pub use telling::tell;

@@ -11,10 +11,9 @@ ghost use Rattle.op_topn.specs.Kept.{HasRow, firsts_of, unless_empty, AreFirsts,
 ghost use Rattle.op_topn.specs.Tells.{AreRanked};
 
 use crate::rows::rows_of;
-use crate::{RankKey, RankedRows, rank_compare};
+use crate::{RankKey, RankOrder, RankedRows, rank_compare};
 use ct_change::Steps;
 use ct_value::{ColTys, Cols, Memory, Row};
-use rel_algebra::Sorts;
 use std::alloc::Global;
 use std::collections::BTreeMap;
 use std::sync::ledger::Ledger;
@@ -25,7 +24,7 @@ use std::sync::ledger::Ledger;
 pub struct TopBy {
     pub alloc: Global,
     pub partition: Cols,
-    pub order: Sorts,
+    pub order: RankOrder,
     pub bound: u32,
     pub ranked: bool,
     pub columns: ColTys,
@@ -171,7 +170,7 @@ fn olds_if_told<L: Ledger>(
 }
 
 // Whether a row, if there is one, stands behind the first rows, which are as many as they may be.
-fn is_behind(order: &Sorts, firsts: &[&RankKey], bound: usize, row: &Option<Row>) -> bool
+fn is_behind(order: &RankOrder, firsts: &[&RankKey], bound: usize, row: &Option<Row>) -> bool
     ensures { result ≡ true → AreRanked order.now (map (λ key. key.now.1) firsts.now) → IsBehind order.now bound (map (λ key. key.now.1) firsts.now) row.now }
 {
     let Some(row) = row else {
@@ -180,7 +179,7 @@ fn is_behind(order: &Sorts, firsts: &[&RankKey], bound: usize, row: &Option<Row>
     let Some(last) = firsts.last() else {
         return false;
     };
-    firsts.len() == bound && rank_compare(order, row, last.row()).is_gt()
+    firsts.len() == bound && rank_compare(order.as_slice(), row, last.row()).is_gt()
 }
 
 // Takes away a row, if there is one, which has to stand.
@@ -191,7 +190,7 @@ fn let_go(by: &TopBy, kept: &mut RankedRows, gone: Option<Row>) -> Result<(), Me
     match gone {
         None => Ok(()),
         Some(row) => {
-            let key = RankKey::new(by.alloc, &by.order, row)?;
+            let key = RankKey::new(&by.order, row)?;
             kept.remove(key)?;
             Ok(())
         }
@@ -206,7 +205,7 @@ fn take_in(by: &TopBy, kept: &mut RankedRows, come: Option<Row>) -> Result<(), M
     match come {
         None => Ok(()),
         Some(row) => {
-            let key = RankKey::new(by.alloc, &by.order, row)?;
+            let key = RankKey::new(&by.order, row)?;
             kept.add(key)?;
             Ok(())
         }

@@ -12,7 +12,7 @@ use crate::rank_compare;
 use crate::ranks::tell_ranks;
 use ct_change::{Change, Changes, Kind, OutMode};
 use ct_value::{Memory, Row};
-use rel_algebra::Sorts;
+use rel_algebra::SortCol;
 use std::cmp::Ordering;
 
 /// Puts the changes that lead from the first rows of a partition before a change to those after it behind what stands in `to`:
@@ -31,12 +31,12 @@ pub fn tell<O: OutMode>(
     if by.ranked || by.bound == 1 {
         tell_ranks(by.ranked, output, firsts, to)
     } else {
-        tell_rows(&by.order, &firsts, to)
+        tell_rows(by.order.as_slice(), &firsts, to)
     }
 }
 
 // Tells what left and then what entered.
-fn tell_rows(order: &Sorts, firsts: &Firsts, to: &mut Changes) -> Result<(), Memory>
+fn tell_rows(order: &[SortCol], firsts: &Firsts, to: &mut Changes) -> Result<(), Memory>
     requires { AreRanked order.now firsts.now.olds.items × AreRanked order.now firsts.now.news.items }
     ensures { OnOk result (to.new ≡ to.old ++ told_by_row firsts.now.olds.items firsts.now.news.items) }
 {
@@ -47,7 +47,7 @@ fn tell_rows(order: &Sorts, firsts: &Firsts, to: &mut Changes) -> Result<(), Mem
 
 // Tells, as changes of this kind, the rows beyond those of another list, both in rank order.
 fn tell_beyond(
-    order: &Sorts,
+    order: &[SortCol],
     kind: Kind,
     rows: &[Row],
     others: &[Row],
@@ -69,7 +69,7 @@ fn tell_beyond(
 }
 
 // The place, from this one on, of the first of the others that doesn't stand before the row.
-fn past(order: &Sorts, row: &Row, others: &[Row], from: usize) -> usize
+fn past(order: &[SortCol], row: &Row, others: &[Row], from: usize) -> usize
     requires { from ≤ length others.now }
     ensures rest { drop result others.now ≡ t.past order.now row.now (drop from others.now) }
     ensures within { result ≤ length others.now }

@@ -3,9 +3,9 @@ ghost use Rattle.std.specs.Prelude.{◌≡◌, ℕ, ◌+◌, ◌*◌, ◌≤◌,
 ghost use Rattle.ct_change.specs.Changelog.{Rows, apply};
 ghost use Rattle.ct_change.specs.Emission as e;
 
-use crate::RankedRows;
 use crate::partitions::{TopBy, turn_partition};
 use crate::telling::tell;
+use crate::{RankOrder, RankedRows};
 use ct_change::{Change, Changes, InMode, OutMode, Steps};
 use ct_value::{ColTys, Cols, Memory, Row};
 use op_rules::{OpFault, Operator};
@@ -50,6 +50,7 @@ impl<I: InMode, O: OutMode> TopN<I, O> {
         ensures stands { IfOk result (λ made. ⟦<TopN<I, O> as Operator>⟧.stands_for made []) }
         ensures whole { IfOk result (λ made. ⟦<TopN<I, O> as Operator>⟧.broken made ≡ false) }
     {
+        let order = RankOrder::new(alloc, order)?;
         let rows = input.fresh()?;
         Ok(TopN {
             by: TopBy {
