@@ -4,4 +4,5 @@ mod Outs
 mod Rows
 mod Types
 mod Whole
+mod early
 pub mod laws

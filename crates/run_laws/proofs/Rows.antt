@@ -20,7 +20,7 @@ use Rattle.emission_rules.specs.Filter.{kept_where, filter_change, filter_rule}
 use Rattle.emission_rules.specs.Project.{with_row, row_made, row_after, row_gone, project_change, project_rule}
 use Rattle.emission_rules.specs.Union.{union_change}
 use Rattle.emission_rules.specs.Sink.{sink_change}
-use Rattle.emission_rules.specs.Grouping.{Grouping, KeepsGroups, answers, group_emits, group_rule, groups_of}
+use Rattle.emission_rules.specs.Grouping.{KeepsGroups, answers, group_emits, group_rule, groups_of}
 use Rattle.rel_algebra.specs.Clauses.{holds}
 use Rattle.rel_algebra.specs.declared.agg.Agg.{Agg}
 use Rattle.phase_rules.specs.LocalFits.{IsOfBags}

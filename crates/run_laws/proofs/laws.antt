@@ -1,4 +1,5 @@
 pub mod Answered
+pub mod Early
 pub mod Faults
 pub mod Going
 pub mod Lines

@@ -1,3 +1,4 @@
+pub mod Early
 pub mod Headline
 pub mod Rows
 pub mod Runs

@@ -7,9 +7,9 @@
 //! does so at a subtask of a node that is out of range, by what the node does, on changes on which that subtask may rely, and the row at
 //! which it stops has the columns that the stop names, whose types exist; a run each of whose lines may be taken goes to its end, or halts
 //! at a line of its order, out of range or by the limit (`specs/Stops`). A run over a sound plan that calculates nothing never stops out of
-//! range, and the plan of a tree that calculates nothing is such a plan, with what is inferred of it (`specs/Runs`). Three functions stand
-//! for the main theorems, which are their contracts; the rest are lemmas. It stands on the machine, on the lines of change files and on
-//! what is known of sound plans, and has no code.
+//! range, and the plan of a tree that calculates nothing is such a plan, with what is inferred of it (`specs/Runs`). Moves may be made
+//! early, and lead to the same state (`specs/Early`). Three functions stand for the main theorems, which are their contracts; the rest are
+//! lemmas. It stands on the machine, on the lines of change files and on what is known of sound plans, and has no code.
 #![tactic(auto)]
 
 mod stopped_runs;
