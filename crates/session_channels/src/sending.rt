@@ -10,8 +10,8 @@ use ct_value::{Cols, Memory};
 use std::alloc::Global;
 use std::mem::swap;
 
-/// A subtask sends changes through an edge, each to the subtask that the edge's exchange says. Where they are two at most, their list
-/// keeps its memory.
+/// A subtask sends changes through an edge, each to the subtask that the edge's exchange says, and leaves their list empty; where they
+/// are two at most, it keeps its memory.
 pub fn send_all(
     alloc: Global,
     channels: &mut Channels,
@@ -24,6 +24,7 @@ pub fn send_all(
     requires from { from < channels.old.width }
     requires room { channels.old.sent + length changes.old < 2 ^ 32 }
     requires wide { All (λ change. IsWide route.now change.row) changes.old }
+    ensures emptied { OnOk result (changes.new ≡ []) }
     ensures ok { OnOk result ((of : Edge) (flight : ℕ → ℕ → ℕ → List Change) → RoutesFor channels.old.width route.now of → Carry channels.old flight → Carry channels.new (sent_by of flight edge from changes.old)) }
     ensures sent { OnOk result (channels.new.sent ≡ channels.old.sent + length changes.old) }
     ensures width { channels.new.width ≡ channels.old.width }

@@ -58,9 +58,10 @@ impl Emitted {
         self.due = true;
     }
 
-    /// The changes are moved out, if any were due. It takes no memory.
+    /// The changes are moved out, if any were due, and then nothing is due. It takes no memory.
     pub fn take(&mut self) -> Option<Changes>
-        ensures { result ≡ self.old }
+        ensures taken { result ≡ self.old }
+        ensures none { self.new ≡ None }
     {
         if !self.due {
             return None;
