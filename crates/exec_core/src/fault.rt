@@ -21,7 +21,7 @@ pub enum RunFault {
 }
 
 /// Why the last line that was read isn't taken, where the job stopped at it.
-pub(crate) fn fault_at(cause: StepFault, lines: &ChangeLines) -> RunFault
+pub(crate) fn fault_at(cause: StepFault, lines: &ChangeLines<'_>) -> RunFault
     ensures { IsFaultAt cause result lines.now }
 {
     match cause {
@@ -31,7 +31,7 @@ pub(crate) fn fault_at(cause: StepFault, lines: &ChangeLines) -> RunFault
 }
 
 /// That the last line that was read is refused.
-pub(crate) fn refused(code: ChangeCode, lines: &ChangeLines) -> RunFault
+pub(crate) fn refused(code: ChangeCode, lines: &ChangeLines<'_>) -> RunFault
     ensures { RefusesLast result code lines.now }
 {
     match table_told(lines.feed()) {

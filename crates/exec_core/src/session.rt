@@ -8,7 +8,7 @@ ghost use Rattle.stream_model.specs.Machine.{IsQuiet, opened};
 ghost use Rattle.stream_model.specs.Drain.{StopsBy, stages};
 ghost use Rattle.stream_model.specs.Looks.{in_flight, taken_of};
 ghost use Rattle.stream_model.specs.declared.events.StepFault.TheVariants.{Memory as Wanting};
-ghost use Rattle.session_core.specs.LaidOut.{IsStageThere, is_at_sink, stage_of};
+ghost use Rattle.session_core.specs.LaidOut.{IsStageThere, stage_of, taker_of};
 ghost use Rattle.session_core.specs.Stands.{HasAnswered, buffer_at};
 ghost use Rattle.session_open.specs.Opening.{IsTooMany};
 ghost use Rattle.exec_core.specs.Stands.{ForRuns, ForSteps, HasDrained, HasMoved, HasStage, HasStepped, HasTold, MayStep, Stands, StandsForSome, StopsDraining, StopsMoving, reached};
@@ -142,7 +142,17 @@ impl Session {
         }
     }
 
-    /// Hands out the items that were printed and not yet handed out. It takes no memory.
+    /// Hands out the items that were printed and not yet handed out, into a list that is empty, whose room is kept for what is printed
+    /// next. It takes no memory.
+    pub fn hand_over(&mut self, to: &mut PrintList)
+        requires empty { to.old ≡ [] }
+        ensures items { ForRuns self.old (λ plan limit handed items. (reached plan limit items).printed ≡ handed ++ to.new) }
+        ensures stands { ForRuns self.old (λ plan limit handed items. Stands self.new plan limit (handed ++ to.new) items) }
+    {
+        self.job.hand_over(to)
+    }
+
+    /// The same, into a list of its own. It takes no memory.
     pub fn take_printed(&mut self) -> PrintList
         ensures items { ForRuns self.old (λ plan limit handed items. (reached plan limit items).printed ≡ handed ++ result) }
         ensures stands { ForRuns self.old (λ plan limit handed items. Stands self.new plan limit (handed ++ result) items) }
@@ -161,11 +171,12 @@ impl Session {
         self.job.is_quiet()
     }
 
-    /// Whether a stage of a drain is one of the sink, which prints and sends nothing. It takes no memory.
-    pub fn is_at_sink(&self, stage: Stage) -> bool
-        ensures { ForRuns self.now (λ plan limit handed items. result ≡ is_at_sink (network plan) (stage_of stage)) }
+    /// The subtask that takes what a stage of a drain delivers, or whose bundle is flushed: its node, and its number there. `None`
+    /// exactly where it delivers a channel of an edge that feeds no node. It takes no memory.
+    pub fn taker(&self, stage: Stage) -> Option<(u32, u32)>
+        ensures { ForRuns self.now (λ plan limit handed items. result ≡ taker_of (network plan) (stage_of stage)) }
     {
-        self.job.is_at_sink(stage)
+        self.job.taker(stage)
     }
 
     /// How many changes were taken of a table, and `None` exactly where there is no such table. It takes no memory.

@@ -39,7 +39,7 @@ fn take_line<L: Ledger>(
 /// that is told; a stop where it stops, or for want of memory.
 pub fn take_next<L: Ledger>(
     session: Session,
-    lines: &mut ChangeLines,
+    lines: &mut ChangeLines<'_>,
     sources: &NamedSources<'_>,
     steps: &mut Steps<L>,
 ) -> Result<Session, RunFault>

@@ -1,5 +1,5 @@
 //! Sums over bytes as they come.
-ghost use Rattle.std.specs.Prelude.{◌≡◌, ◌+◌, ◌-◌, ◌++◌, ◌∷◌, ◌≤◌, ◌<◌, [], ℕ, List, true, false, length, take, Ok, IfOk, IfErr, OnOk, OnErr};
+ghost use Rattle.std.specs.Prelude.{◌≡◌, ◌+◌, ◌-◌, ◌++◌, ◌≤◌, ◌<◌, [], ℕ, List, true, false, length, take, Ok, IfOk, IfErr, OnOk, OnErr};
 ghost use Rattle.std.specs.List.{fold};
 ghost use Rattle.route.specs.Routing.{with_byte};
 ghost use Rattle.job_text.specs.Ends.{may_cut};
@@ -260,7 +260,7 @@ fn more_taken(script: Accepted, feed: FeedFold, part: Bytes) -> Taking
     ensures { (records : List Record) → TakesAs (Taking.Going script feed) records → TakesAs result (records ++ records_of part) }
 {
     let mut feed = feed;
-    match feed.take(part) {
+    match feed.take(part.as_slice()) {
         Ok(()) => Taking::Going(script, feed),
         Err(TakeFault::Refused { code, line, table }) => {
             Taking::Halted(Halt::Change { code, line, table })

@@ -1,22 +1,15 @@
 -- Items of a run in pieces.
-use Rattle.std.specs.Prelude.{◌≡◌, ℕ, ◌+◌, Bool, List, ◌++◌, drop, length, Result}
-use Rattle.std.proofs.Common.{zero, suc, [], ◌∷◌, refl, sym, ap, subst, ◌∙◌, Ok, Err, append_assoc, append-nil, arith}
+use Rattle.std.specs.Prelude.{◌≡◌, ℕ, ◌+◌, Bool, List, ◌++◌}
+use Rattle.std.proofs.Common.{[], ◌∷◌, refl, ap, ◌∙◌}
 use Rattle.ct_catalog.specs.declared.table.TableDef.{TableDef}
-use Rattle.stream_model.specs.declared.events.Event.TheVariants.{Move}
-use Rattle.stream_model.specs.declared.events.StepFault.{StepFault}
 use Rattle.stream_model.specs.Network.{Network}
 use Rattle.stream_model.specs.Machine.{State}
-use Rattle.stream_model.specs.Runs.{Item, after, happens, quiet, step_item}
+use Rattle.stream_model.specs.Runs.{Item, after, quiet, step_item}
 use Rattle.stream_model.specs.Drain.{Stage, drain, drain_stages, moves, stage_items, stages}
 use Rattle.source_lines.specs.Run as run
 use Rattle.source_lines.specs.Run.{At, Went, and_then, halts, job_of, on}
 use Rattle.source_lines.proofs.laws.Along.{along_leads, leads_after}
-
--- the first of so many moves
-pub moves_first : (e i j first rest all : ℕ) → all ≡ first + rest → moves e i j all ≡ moves e i j first ++ moves e i j rest
-moves_first e i j zero rest all is = let same : all ≡ rest = omega (arith, is) in ap (moves e i j) same
-moves_first e i j (suc first) rest zero is = absurd (omega (arith, is))
-moves_first e i j (suc first) rest (suc all) is = let same : all ≡ first + rest = omega (arith, is) in ap (λ items. happens (Move e i j) ∷ items) (moves_first e i j first rest all same)
+use Rattle.run_laws.proofs.laws.Early.{moves_first}
 
 module _ (g : Network) (limit : ℕ) (sources : List TableDef) (by_table : Bool) where
   abbrev Along : At State → List Item → Went (At State)

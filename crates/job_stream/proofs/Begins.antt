@@ -1,6 +1,6 @@
 -- What was printed stays, along each part of a run.
 use Rattle.std.specs.Prelude.{◌≡◌, ℕ, Bool, List, ◌++◌, Option, Result, length, slice_get}
-use Rattle.std.proofs.Common.{zero, suc, true, false, [], ◌∷◌, refl, sym, ap, ◌∙◌, Some, None, Ok, Err, append_assoc, append-nil}
+use Rattle.std.proofs.Common.{zero, suc, [], ◌∷◌, sym, ap, ◌∙◌, Some, None, Ok, Err, append_assoc, append-nil}
 use Rattle.ct_value.specs.declared.codes.ChangeCode.{ChangeCode}
 use Rattle.ct_value.specs.declared.codes.OrderCode.{OrderCode}
 use Rattle.ct_catalog.specs.declared.table.TableDef.{TableDef}
@@ -102,6 +102,3 @@ module _ (g : Network) (limit : ℕ) (sources : List TableDef) (by_table : Bool)
   begins_end p =
       begins_then p.state.printed (run.take_rest (job_of g limit) sources by_table p 0 (length p.files)) (λ q. run.go_along (job_of g limit) sources by_table q ((job_of g limit).drain q.state))
       (begins_rest p 0 (length p.files)) (λ q. begins_along g limit sources by_table q ((job_of g limit).drain q.state))
-
-  pub begins_opened : (p : At State) (orders : List OrderLine) → Ran p (run.goes (job_of g limit) sources by_table p orders)
-  begins_opened p orders = begins_then p.state.printed (run.follow (job_of g limit) sources by_table p orders) (λ q. run.finishes (job_of g limit) sources by_table q) (begins_orders p orders) begins_end

@@ -1,5 +1,5 @@
 -- How code goes along parts of a run, from each place where its session stands.
-use Rattle.std.specs.Prelude.{◌≡◌, ℕ, Bool, List, ◌++◌}
+use Rattle.std.specs.Prelude.{◌≡◌, ℕ, Bool, List}
 use Rattle.std.proofs.Common.{refl, ap, ◌∙◌}
 use Rattle.ct_catalog.specs.declared.table.TableDef.{TableDef}
 use Rattle.job_text.specs.Lines.{LinesLeft}

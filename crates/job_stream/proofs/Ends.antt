@@ -1,54 +1,39 @@
 -- How a run ends, behind its opening.
-use Rattle.std.specs.Prelude.{◌≡◌, ℕ, ◌<◌, ◌≤◌, nat_le, cond, Bool, List, ◌++◌, Option, Result}
-use Rattle.std.proofs.Common.{[], true, false, refl, sym, ap, subst, ◌∙◌, Ok, Err, arith}
-use Rattle.std.proofs.lemmas.Bool.{le-leb, leb-true}
+use Rattle.std.specs.Prelude.{◌≡◌, ℕ, ◌≤◌, cond, Bool, List, ◌++◌, Option, Result}
+use Rattle.std.proofs.Common.{[], sym, ap, subst, ◌∙◌, Ok, Err}
+use Rattle.std.proofs.lemmas.Bool.{le-leb}
 use Rattle.ct_io.specs.Counts.{Rose}
 use Rattle.ct_io.specs.Written.{Appends}
-use Rattle.ct_io.proofs.laws.Appending.{appends_nothing, part_none, part_of_whole}
+use Rattle.ct_io.proofs.laws.Appending.{part_none, part_of_whole}
 use Rattle.ct_value.specs.declared.ty.Ty.{Ty}
 use Rattle.ct_catalog.specs.declared.table.TableDef.{TableDef}
 use Rattle.job_text.specs.declared.orders.OrderLine.{OrderLine}
-use Rattle.job_text.specs.Lines.{LinesLeft}
 use Rattle.job_text.specs.Printed.{item_lines}
-use Rattle.phys_plan.specs.declared.plan.Plan.{Plan}
-use Rattle.plan_rules.specs.Doings.{network}
 use Rattle.stream_model.specs.declared.events.StepFault.TheVariants as fault
 use Rattle.stream_model.specs.declared.events.PrintItem.{PrintItem}
 use Rattle.stream_model.specs.Network.{Network}
 use Rattle.stream_model.specs.Machine.{State, opened}
 use Rattle.source_lines.specs.Run.{At, Went, and_then, goes, halts, job_of, on, printed_by, stopped, whole_run}
-use Rattle.source_lines.specs.Supply.{all_unread, is_by_table}
+use Rattle.source_lines.specs.Supply.{is_by_table}
 use Rattle.source_lines.specs.declared.supply.ChangeFiles.{ChangeFiles}
-use Rattle.exec_core.specs.declared.session.Session.{Session}
 use Rattle.job_ending.specs.declared.halt.Halt.{Halt}
 use Rattle.job_ending.specs.declared.halt.Halt.TheVariants as h
-use Rattle.job_ending.specs.declared.ending.LimitName.TheVariants.{Sent}
 use Rattle.job_ending.specs.Outcome.{Outcome}
 use Rattle.job_ending.specs.Runs.{RunsThere}
 use Rattle.job_stream.specs.declared.sheet.Sheet.{Sheet}
 use Rattle.job_stream.specs.Stream.{ending_of_run, outcome_of, sink_key, sink_types}
-use Rattle.job_stream.specs.Writing.{Ahead, Halts, IsSheetOf, Told, lines_on, outcome_on}
+use Rattle.job_stream.specs.Early.{EndsWell, opening}
+use Rattle.job_stream.specs.Writing.{Halts, IsSheetOf, Told, lines_on, outcome_on}
 
 -- ---- the opening
 
--- the place at which an opened job stands
-abbrev pub at_opening : Network → ChangeFiles → At State
-at_opening g files = record { state = opened g; files = all_unread files }
-
 module _ (g : Network) (limit : ℕ) (sources : List TableDef) (files : ChangeFiles) (orders : List OrderLine) where
   abbrev Begun : Bool → Went (At State)
-  Begun b = and_then (cond b (on (at_opening g files)) (halts (stopped fault.Limit) (at_opening g files))) (λ p. goes (job_of g limit) sources (is_by_table files) p orders)
+  Begun b = and_then (cond b (on (opening g files)) (halts (stopped fault.Limit) (opening g files))) (λ p. goes (job_of g limit) sources (is_by_table files) p orders)
 
   -- behind an opening within the limit
-  pub whole_opened : (opened g).sends ≤ limit → whole_run g limit sources files orders ≡ goes (job_of g limit) sources (is_by_table files) (at_opening g files) orders
+  pub whole_opened : (opened g).sends ≤ limit → whole_run g limit sources files orders ≡ goes (job_of g limit) sources (is_by_table files) (opening g files) orders
   whole_opened within = ap Begun (le-leb (opened g).sends limit within)
-
-  beyond : (n m : ℕ) (b : Bool) → nat_le n m ≡ b → m < n → b ≡ false
-  beyond n m true e l = absurd (omega (arith, leb-true n m e, l))
-  beyond n m false e l = refl
-
-  pub whole_too_many : limit < (opened g).sends → whole_run g limit sources files orders ≡ halts (stopped fault.Limit) (at_opening g files)
-  whole_too_many many = ap Begun (beyond (opened g).sends limit (nat_le (opened g).sends limit) refl many)
 
 -- ---- the ending
 
@@ -65,11 +50,11 @@ module _ (sink : TableDef) (sheet : Sheet) (by_table : Bool) (is : IsSheetOf sin
       ∙ ap (λ (key : Option (List ℕ)). item_lines by_table (sink_types sink) key (printed_by went)) is.key_is)
 
   -- it went to its end
-  pub ends_well : (write : Type 0) (plan : Plan) (limit : ℕ) (session : Session) (files : List LinesLeft) → Ahead sheet plan limit went on p session files old new → let result : Result (Unit {0}) Halt = Ok tt in RunsThere There write old.written new.written result
-  ends_well write plan limit session files ahead =
-      let same = all_lines ahead.more (ap printed_by ahead.goes ∙ ahead.printed) in
-      let put : Appends old.written new.written There.bytes = subst (λ (o : Outcome). Appends old.written new.written o.bytes) same ahead.written in
-      record { cause = ap ending_of_run ahead.goes; part = part_of_whole put; whole = λ free. put }
+  pub ends_well : (write : Type 0) → EndsWell sheet went p old new → let result : Result (Unit {0}) Halt = Ok tt in RunsThere There write old.written new.written result
+  ends_well write well =
+      let same = all_lines well.more (ap printed_by well.goes ∙ well.printed) in
+      let put : Appends old.written new.written There.bytes = subst (λ (o : Outcome). Appends old.written new.written o.bytes) same well.written in
+      record { cause = ap ending_of_run well.goes; part = part_of_whole put; whole = λ free. put }
 
   -- it halted
   pub ends_halted : (halt : Halt) → Halts sheet went p old new halt → let result : Result (Unit {0}) Halt = Err halt in RunsThere There (Rose old.faults new.faults) old.written new.written result
@@ -79,14 +64,3 @@ module _ (sink : TableDef) (sheet : Sheet) (by_table : Bool) (is : IsSheetOf sin
 -- memory was wanting before anything was written
 pub ends_wanting : (there : Outcome) (write : Type 0) (o : Option (List ℕ)) → let result : Result (Unit {0}) Halt = Err h.Memory in RunsThere there write o o result
 ends_wanting there write o = record { cause = tt; part = part_none o there.bytes; whole = λ free. absurd (cc (free)) }
-
--- the rows of the opening are too many
-pub ends_limited : (by_table : Bool) (tys : List Ty) (key : Option (List ℕ)) (went : Went (At State)) (p : At State) (write : Type 0) (o : Option (List ℕ)) → went ≡ halts (stopped fault.Limit) p → p.state.printed ≡ []
-    → let result : Result (Unit {0}) Halt = Err (h.Limit Sent) in RunsThere (outcome_of by_table tys key went) write o o result
-ends_limited by_table tys key went p write o is nothing =
-    let none : (outcome_of by_table tys key went).bytes ≡ [] = ap (item_lines by_table tys key) (ap printed_by is ∙ nothing) in
-    record {
-      cause = ap ending_of_run is;
-      part = part_none o (outcome_of by_table tys key went).bytes;
-      whole = λ free. subst (Appends o o) (sym none) (appends_nothing o);
-    }

@@ -1,6 +1,6 @@
 -- How code goes along one part of a run after the other.
-use Rattle.std.specs.Prelude.{◌≡◌, ℕ, ◌≤◌, ◌+◌, ◌^◌, ◌-◌, min, Bool, List, ◌++◌, Option, Result}
-use Rattle.std.proofs.Common.{[], true, false, refl, sym, ap, subst, ◌∙◌, Ok, Err, append_assoc, append-nil, arith}
+use Rattle.std.specs.Prelude.{◌≡◌, ℕ, ◌≤◌, ◌+◌, ◌-◌, List, ◌++◌, Option, Result}
+use Rattle.std.proofs.Common.{[], true, refl, sym, ap, subst, ◌∙◌, Err, append_assoc, append-nil, arith}
 use Rattle.ct_io.specs.Counts.{Rose}
 use Rattle.ct_io.specs.Written.{Appends, AppendsPart}
 use Rattle.ct_io.proofs.laws.Appending.{appends_both, appends_nothing, part_none, part_of_whole}
@@ -16,7 +16,7 @@ use Rattle.exec_core.specs.Goes.{StandsAt}
 use Rattle.job_ending.specs.declared.halt.Halt.{Halt}
 use Rattle.job_ending.specs.declared.halt.Halt.TheVariants as h
 use Rattle.job_ending.specs.Outcome.{Outcome}
-use Rattle.job_ending.specs.Runs.{IsCausedThere, RunsThere, ending_of_halt, is_free}
+use Rattle.job_ending.specs.Runs.{IsCausedThere, ending_of_halt, is_free}
 use Rattle.job_stream.specs.declared.sheet.Sheet.{Sheet}
 use Rattle.job_stream.specs.Stops.{halt_of}
 use Rattle.job_stream.specs.Stream.{ending_of_run}
@@ -177,6 +177,20 @@ module _ (sheet : Sheet) where
   halts_and (on q) rest p old new (h.Range node subtask row tys) begins halted = absurd (let e = halted.runs.cause in cc (e))
   halts_and (on q) rest p old new (h.Limit name) begins halted = absurd (let e = halted.runs.cause in cc (e))
 
+  -- it halts behind what was printed before, which is written
+  pub halts_later : (went rest : Went (At State)) (p q : At State) (more : List PrintItem) (old now new : Told) (halt : Halt) → went ≡ rest → q.state.printed ≡ p.state.printed ++ more → Appends old.written now.written (Lines more) → old.faults ≤ now.faults
+      → Halts sheet rest q now new halt → Halts sheet went p old new halt
+  halts_later went rest p q more old now new halt is printed written later halted = record {
+    more = more ++ halted.more;
+    printed = ap printed_by is ∙ halted.printed ∙ ap (λ l. l ++ halted.more) printed ∙ append_assoc p.state.printed more halted.more;
+    runs = record {
+      cause = caused_by (Unit {0}) (outcome_on sheet rest halted.more) (outcome_on sheet went (more ++ halted.more)) (Rose now.faults new.faults) (Rose old.faults new.faults) halt
+          (ap ending_of_run (sym is)) (rose_later old.faults now.faults new.faults later) halted.runs.cause;
+      part = subst (AppendsPart old.written new.written) (sym (both_lines more halted.more)) (part_behind old.written now.written new.written (Lines more) (Lines halted.more) written halted.runs.part);
+      whole = λ free. subst (Appends old.written new.written) (sym (both_lines more halted.more)) (appends_both written (halted.runs.whole free));
+    };
+  }
+
   -- ---- what was gone along
 
   module _ (plan : Plan) (limit : ℕ) where
@@ -207,16 +221,7 @@ module _ (sheet : Sheet) where
 
       -- no further
       pub ahead_halts : (new : Told) (halt : Halt) → Halts sheet (rest so_far.place) so_far.place now new halt → Halts sheet went p old new halt
-      ahead_halts new halt halted = record {
-        more = so_far.more ++ halted.more;
-        printed = ap printed_by so_far.goes ∙ halted.printed ∙ ap (λ l. l ++ halted.more) so_far.printed ∙ append_assoc p.state.printed so_far.more halted.more;
-        runs = record {
-          cause = caused_by (Unit {0}) (outcome_on sheet (rest so_far.place) halted.more) (outcome_on sheet went (so_far.more ++ halted.more)) (Rose now.faults new.faults) (Rose old.faults new.faults) halt
-              (ap ending_of_run (sym so_far.goes)) (rose_later old.faults now.faults new.faults so_far.later) halted.runs.cause;
-          part = subst (AppendsPart old.written new.written) (sym (both_lines so_far.more halted.more)) (part_behind old.written now.written new.written (Lines so_far.more) (Lines halted.more) so_far.written halted.runs.part);
-          whole = λ free. subst (Appends old.written new.written) (sym (both_lines so_far.more halted.more)) (appends_both so_far.written (halted.runs.whole free));
-        };
-      }
+      ahead_halts new halt halted = halts_later went (rest so_far.place) p so_far.place so_far.more old now new halt so_far.goes so_far.printed so_far.written so_far.later halted
 
     pub ahead_same : (went other : Went (At State)) (rest : At State → Went (At State)) (p : At State) (session : Session) (files : List LinesLeft) (old new : Told) → other ≡ went → Ahead sheet plan limit went rest p session files old new → Ahead sheet plan limit other rest p session files old new
     ahead_same went other rest p session files old new is ahead = subst (λ w. Ahead sheet plan limit w rest p session files old new) (sym is) ahead

@@ -1,5 +1,6 @@
 -- Lines of items, one after the other.
-use Rattle.std.proofs.Common.{◌≡◌, ℕ, Bool, List, [], ◌∷◌, ◌++◌, Option, refl, sym, ap, subst, ◌∙◌, append_assoc}
+use Rattle.std.proofs.Common.{◌≡◌, ◌<◌, ◌+◌, ℕ, Bool, List, [], ◌∷◌, ◌++◌, drop, get_or, length, Option, refl, sym, ap, subst, ◌∙◌, append_assoc}
+use Rattle.std.proofs.lemmas.List.{drop_more}
 use Rattle.std.specs.List.{AllByRecursion}
 use Rattle.ct_io.specs.Written.{Appends, AppendsUpTo, AppendsPart}
 use Rattle.ct_value.specs.declared.ty.Ty.{Ty}
@@ -18,6 +19,10 @@ module _ (sheet : Sheet) (a b c : Option (List ℕ)) (whole : List ℕ) (old lef
 
   pub item_part : AppendsPart b c Line → AppendsPart a c whole
   item_part more = part_in_piece a b c whole (lines_on sheet old) Line (lines_on sheet left) so_far (ap (lines_on sheet) is) more
+
+-- the item at an index stands before those behind it
+pub item_next : {A : Type 0} (items : List A) (i : ℕ) (item : A) → i < length items → item ≡ get_or items i item → drop i items ≡ item ∷ drop (i + 1) items
+item_next items i item below is = drop_more items i item below ∙ ap (λ x. x ∷ drop (i + 1) items) (sym is)
 
 pub item_wide : (width : ℕ) (old left : List PrintItem) (item : PrintItem) → old ≡ item ∷ left → AllByRecursion (IsWide width) old → IsWide width item × AllByRecursion (IsWide width) left
 item_wide width old left item is wide = subst (AllByRecursion (IsWide width)) is wide

@@ -11,6 +11,6 @@ pub mod Stages
 pub mod Stepped
 pub mod Taken
 pub mod Unfold
-pub mod Passing
-pub mod Sooner
+pub mod EarlyEnds
 pub mod EarlyRuns
+pub mod EarlyStages

@@ -4,6 +4,7 @@ use Rattle.std.proofs.Common.{zero, suc, true, false, [], ◌∷◌, refl, sym, 
 use Rattle.std.specs.List.{AllByRecursion}
 use Rattle.phys_plan.specs.declared.plan.Plan.{Plan}
 use Rattle.plan_rules.specs.Doings.{network}
+use Rattle.sound_plans.proofs.laws.SentTypes.{all_both}
 use Rattle.stream_model.specs.declared.events.Event.TheVariants.{Flush}
 use Rattle.stream_model.specs.Network.{Feed, Network}
 use Rattle.stream_model.specs.Runs.{happens}
@@ -31,10 +32,6 @@ module _ (g : Network) where
   abbrev AreChannels : List Stage → Type 0
   AreChannels all = AllByRecursion IsChannel all
 
-  both_all : (xs ys : List Stage) → AreChannels xs → AreChannels ys → AreChannels (xs ++ ys)
-  both_all [] ys h k = k
-  both_all (x ∷ xs) ys h k = (h.0, both_all xs ys h.1 k)
-
   to_next : (e i j : ℕ) (feed : Feed) (others : List Stage) (b : Bool) → g.fed e ≡ Some feed → is_channel g e i j ≡ b → AreChannels others → AreChannels (cond b (delivers e i j ∷ others) others)
   to_next e i j feed others true fed is h = ((feed, fed, is), h)
   to_next e i j feed others false fed is h = h
@@ -45,14 +42,14 @@ module _ (g : Network) where
 
   all_from : (e i n : ℕ) (feed : Feed) → g.fed e ≡ Some feed → AreChannels (channels_from g e i n)
   all_from e i zero feed fed = tt
-  all_from e i (suc n) feed fed = both_all (channels_to g e i 0 g.subtasks) (channels_from g e (i + 1) n) (all_to e i 0 g.subtasks feed fed) (all_from e (i + 1) n feed fed)
+  all_from e i (suc n) feed fed = all_both IsChannel (channels_to g e i 0 g.subtasks) (channels_from g e (i + 1) n) (all_to e i 0 g.subtasks feed fed) (all_from e (i + 1) n feed fed)
 
   into_next : (v e : ℕ) (others : List Stage) (o : Option Feed) → g.fed e ≡ o → AreChannels others → AreChannels (cond (feeds_node v o) (channels_from g e 0 g.subtasks ++ others) others)
   into_next v e others None fed h = h
   into_next v e others (Some feed) fed h = by (feed.node == v)
     where
       by : (b : Bool) → AreChannels (cond b (channels_from g e 0 g.subtasks ++ others) others)
-      by true = both_all (channels_from g e 0 g.subtasks) others (all_from e 0 g.subtasks feed fed) h
+      by true = all_both IsChannel (channels_from g e 0 g.subtasks) others (all_from e 0 g.subtasks feed fed) h
       by false = h
 
   all_into : (v e n : ℕ) → AreChannels (channels_into g v e n)
@@ -69,7 +66,7 @@ module _ (g : Network) where
 
   all_stages : (v n : ℕ) → AreChannels (stages_from g v n)
   all_stages v zero = tt
-  all_stages v (suc n) = both_all (channels_into g v 1 g.count ++ bundles_at g v (g.bundle v)) (stages_from g (v + 1) n) (both_all (channels_into g v 1 g.count) (bundles_at g v (g.bundle v)) (all_into v 1 g.count) (all_at v (g.bundle v))) (all_stages (v + 1) n)
+  all_stages v (suc n) = all_both IsChannel (channels_into g v 1 g.count ++ bundles_at g v (g.bundle v)) (stages_from g (v + 1) n) (all_both IsChannel (channels_into g v 1 g.count) (bundles_at g v (g.bundle v)) (all_into v 1 g.count) (all_at v (g.bundle v))) (all_stages (v + 1) n)
 
   all_behind : (n : ℕ) (all : List Stage) → AreChannels all → AreChannels (drop n all)
   all_behind zero all h = h

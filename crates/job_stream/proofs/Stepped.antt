@@ -1,9 +1,8 @@
 -- One step of a run, and what it printed.
-use Rattle.std.specs.Prelude.{◌≡◌, ℕ, Bool, List, ◌++◌, Result, length}
-use Rattle.std.proofs.Common.{zero, suc, [], ◌∷◌, refl, sym, ap, subst, ◌∙◌, Ok, Err, inl, inr}
+use Rattle.std.specs.Prelude.{◌≡◌, ℕ, List, ◌++◌, Result, length}
+use Rattle.std.proofs.Common.{zero, suc, [], ◌∷◌, refl, sym, ap, subst, ◌∙◌, Ok, inl, inr}
 use Rattle.std.specs.List.{AllByRecursion}
 use Rattle.ct_value.specs.declared.ty.Ty.{Ty}
-use Rattle.ct_catalog.specs.declared.table.TableDef.{TableDef}
 use Rattle.job_text.specs.Lines.{LinesLeft}
 use Rattle.job_text.specs.Printed.{IsWide}
 use Rattle.phys_plan.specs.declared.plan.Plan.{Plan}
@@ -18,7 +17,7 @@ use Rattle.stream_model.specs.Runs.{AreTyped, Item, happens, step_item}
 use Rattle.stream_model.specs.Drain.{Leads, StopsAlong, StopsBy, moves}
 use Rattle.sound_plans.specs.Sound.{IsRuled}
 use Rattle.source_lines.specs.Run as run
-use Rattle.source_lines.specs.Run.{At, Went, halts, job_of, on, printed_by, stopped}
+use Rattle.source_lines.specs.Run.{At, Went, job_of, on, printed_by, stopped}
 use Rattle.source_lines.proofs.laws.Along.{typed_both}
 use Rattle.exec_core.specs.declared.session.Session.{Session}
 use Rattle.exec_core.specs.Goes.{StandsAt, StandsIn}

@@ -1,6 +1,6 @@
 -- A line of a change file, along a run.
 use Rattle.std.specs.Prelude.{◌≡◌, ℕ, ◌<◌, Bool, List, length, set, slice_get, Option}
-use Rattle.std.proofs.Common.{zero, suc, [], ◌∷◌, refl, sym, ap, subst, ◌∙◌, Some, None, append-nil, arith}
+use Rattle.std.proofs.Common.{zero, suc, [], ◌∷◌, refl, sym, ap, ◌∙◌, Some, None, append-nil, arith}
 use Rattle.ct_io.proofs.laws.Appending.{appends_nothing}
 use Rattle.job_text.specs.Lines.{LinesLeft}
 use Rattle.phys_plan.specs.declared.plan.Plan.{Plan}

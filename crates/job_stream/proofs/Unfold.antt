@@ -1,19 +1,19 @@
 -- How the parts of a run that the code goes along begin.
-use Rattle.std.specs.Prelude.{◌≡◌, ℕ, ◌+◌, ◌<◌, ◌-◌, Bool, List, ◌++◌, drop, get_or, length, slice_get, Option}
-use Rattle.std.proofs.Common.{zero, suc, [], ◌∷◌, refl, sym, ap, ◌∙◌, arith, Some, None}
+use Rattle.std.specs.Prelude.{◌≡◌, ℕ, ◌+◌, ◌<◌, ◌-◌, Bool, List, drop, get_or, length, slice_get}
+use Rattle.std.proofs.Common.{zero, suc, [], ◌∷◌, refl, sym, ap, ◌∙◌, arith}
 use Rattle.job_text.specs.Lines.{LinesLeft}
 use Rattle.job_text.specs.declared.orders.OrderLine.{OrderLine}
 use Rattle.phys_plan.specs.declared.plan.Plan.{Plan}
 use Rattle.plan_rules.specs.Doings.{network}
 use Rattle.stream_model.specs.Machine.{State}
-use Rattle.stream_model.specs.Runs.{Item, after, quiet}
+use Rattle.stream_model.specs.Runs.{after, quiet}
 use Rattle.stream_model.specs.Drain.{Stage, drain_stages, moves, stage_items, stages}
 use Rattle.source_lines.specs.Run as run
 use Rattle.source_lines.specs.Run.{At, Went, and_then, job_of, on}
 use Rattle.source_lines.proofs.laws.Along.{begins_along}
 use Rattle.job_stream.specs.Parts.{drain_run, end_run, first_run, item_run, line_run, lines_left, lines_run, moves_run, opened_run, order_run, orders_run, rest_run, stage_run, stages_run}
 use Rattle.job_stream.specs.Writing.{Part}
-use Rattle.job_stream.proofs.Along.{along_both, along_moves, along_one, behind_is, behind_stage, drain_next, staged_next, then_quiet}
+use Rattle.job_stream.proofs.Along.{along_moves, along_one, behind_is, behind_stage, drain_next, staged_next, then_quiet}
 use Rattle.job_stream.proofs.Begins.{begins_end, begins_many, begins_orders, begins_rest}
 use Rattle.job_stream.proofs.Chains.{AllUnfold, Unfolds, unfolds_so}
 
@@ -30,7 +30,7 @@ no_moves e i j left is by_table plan limit p = ap (λ n. moves_run e i j n by_ta
 
 -- ---- stages
 
-drop_more : {A : Type 0} (xs : List A) (n : ℕ) (x : A) (ys : List A) → drop n xs ≡ x ∷ ys → drop (suc n) xs ≡ ys
+pub drop_more : {A : Type 0} (xs : List A) (n : ℕ) (x : A) (ys : List A) → drop n xs ≡ x ∷ ys → drop (suc n) xs ≡ ys
 drop_more [] zero x ys e = absurd (cc (e))
 drop_more [] (suc n) x ys e = absurd (cc (e))
 drop_more (z ∷ xs) zero x ys e = cc (e)

@@ -1,99 +1,142 @@
--- A drain that makes moves into the sink early: as soon as something is in flight to it, and not at the sink's own stage. Where it has come along
--- is told by the run that makes them at their stage, and what they printed is kept until then.
-use Rattle.std.specs.Prelude.{◌≡◌, ℕ, ◌<◌, ◌≤◌, ◌+◌, ◌==◌, true, false, List, ◌∷◌, ◌++◌, drop, length}
+-- A run without an order whose moves are made early. Where its session has come along is told by the run that makes them in their place; what
+-- they printed is kept, stage by stage of the drain.
+use Rattle.std.specs.Prelude.{◌≡◌, ℕ, ◌≤◌, ◌+◌, List, [], ◌∷◌, ◌++◌, drop, length, map, slice_get, take, Some, true}
+use Rattle.std.specs.List.{AllByRecursion}
+use Rattle.ct_catalog.specs.declared.table.TableDef.{TableDef}
 use Rattle.phys_plan.specs.declared.plan.Plan.{Plan}
 use Rattle.plan_rules.specs.Doings.{network}
 use Rattle.job_text.specs.Lines.{LinesLeft}
 use Rattle.stream_model.specs.declared.events.PrintItem.{PrintItem}
-use Rattle.stream_model.specs.Machine.{State}
-use Rattle.stream_model.specs.Runs.{Item}
-use Rattle.stream_model.specs.Drain.{Leads, Stage, delivers, feeds_node, moves, stages}
-use Rattle.source_lines.specs.Run.{At, Went}
-use Rattle.session_core.specs.LaidOut.{is_at_sink}
-use Rattle.session_core.specs.declared.wiring.Lane.{Lane}
-use Rattle.exec_core.specs.declared.session.Session.{Session}
-use Rattle.exec_core.specs.Goes.{StandsAt, StandsIn}
-use Rattle.exec_core.specs.Stands.{Stands}
-use Rattle.job_ending.specs.declared.halt.Halt.{Halt}
-use Rattle.job_ending.specs.declared.halt.Halt.TheVariants as h
+use Rattle.stream_model.specs.Network.{Network}
+use Rattle.stream_model.specs.Machine.{State, opened}
+use Rattle.stream_model.specs.Drain.{Stage, stages}
+use Rattle.source_lines.specs.Run.{At, Went, and_then, on}
+use Rattle.source_lines.specs.Supply.{all_unread}
+use Rattle.source_lines.specs.declared.supply.ChangeFiles.{ChangeFiles}
+use Rattle.run_laws.specs.Early.{AreOrdered, Early, Made, hushed}
+use Rattle.exec_core.specs.Goes.{StandsAt}
 use Rattle.job_stream.specs.declared.early.EarlySession.{EarlySession}
+use Rattle.job_stream.specs.declared.early.EarlyStage.{EarlyStage}
 use Rattle.job_stream.specs.declared.sheet.Sheet.{Sheet}
-use Rattle.job_stream.specs.Writing.{Halts, IsSheetOf, Part, Told, lines_on}
+use Rattle.job_stream.specs.Parts.{rest_run, stage_run, stages_run}
+use Rattle.job_stream.specs.Writing.{IsSheetOf, Part, Told, lines_on}
+use Rattle.ct_io.specs.Written.{Appends}
 
--- a channel that leads to the sink, and one that doesn't
-abbrev pub IsToSink : Plan → Lane → Type 0
-IsToSink plan lane = feeds_node (network plan).count ((network plan).fed lane.edge) ≡ true
+-- what a stage has printed is kept, as lines
+pub record IsKept (sheet : Sheet) (x : Early) (stage : EarlyStage) : Type 0 where
+  pub early : x.early ≡ stage.early
+  pub lines : stage.kept.bytes ≡ lines_on sheet x.out
 
-abbrev pub IsElsewhere : Lane → Plan → Type 0
-IsElsewhere lane plan = feeds_node (network plan).count ((network plan).fed lane.edge) ≡ false
+abbrev pub AreKept : Sheet → List Early → List EarlyStage → Type 0
+AreKept sheet [] [] = Unit {0}
+AreKept sheet (x ∷ xs) (stage ∷ kept) = IsKept sheet x stage × AreKept sheet xs kept
+AreKept sheet [] (stage ∷ kept) = ⊥
+AreKept sheet (x ∷ xs) [] = ⊥
 
-abbrev pub IsNodeElsewhere : ℕ → Plan → Type 0
-IsNodeElsewhere node plan = (node == (network plan).count) ≡ false
+-- the stage at a place is early
+abbrev pub IsEarlyAt : List EarlyStage → ℕ → Type 0
+IsEarlyAt kept number = (stage : EarlyStage) → slice_get kept number ≡ Some stage → stage.early ≡ true
 
--- the stage of this number, and each before it, isn't one of the sink
-abbrev pub IsStageElsewhere : ℕ → Plan → Type 0
-IsStageElsewhere number plan = (stage : Stage) (others : List Stage) → drop number (stages (network plan)) ≡ stage ∷ others → is_at_sink (network plan) stage ≡ false
+abbrev pub kept_lines : List EarlyStage → List ℕ
+kept_lines [] = []
+kept_lines (stage ∷ kept) = stage.kept.bytes ++ kept_lines kept
 
-abbrev pub AreElsewhere : ℕ → Plan → Type 0
-AreElsewhere number plan = (k : ℕ) → k < number → IsStageElsewhere k plan
+-- stages of a drain of which nothing was made yet
+abbrev pub begun : List Stage → List EarlyStage → List Early
+begun (stage ∷ stages) (x ∷ xs) = record { stage = stage; early = x.early; count = 0; out = [] } ∷ begun stages xs
+begun [] xs = []
+begun (stage ∷ stages) [] = []
 
--- so many stages are there, none of which is one of the sink
-pub record BeginsElsewhere (number : ℕ) (plan : Plan) : Type 0 where
-  pub within : number ≤ length (stages (network plan))
-  pub elsewhere : AreElsewhere number plan
+pub record AreBegun (kept : List EarlyStage) (plan : Plan) : Type 0 where
+  pub long : length kept ≡ length (stages (network plan))
+  pub empty : AllByRecursion (λ stage. stage.kept.bytes ≡ []) kept
+  pub ordered : AreOrdered (network plan) (begun (stages (network plan)) kept)
 
--- the session has made so many moves into the sink more than the run has that stands at this place, and what they printed is kept
-pub record IsEarly (sheet : Sheet) (plan : Plan) (limit : ℕ) (p : At State) (early : EarlySession) (files : List LinesLeft) (before : List ℕ) : Type 0 where
+-- the session stands where the run does at this place, but for the early moves of the stages from this number on
+pub record IsEarly (sheet : Sheet) (sources : List TableDef) (plan : Plan) (limit number : ℕ) (p : At State) (early : EarlySession) (files : List LinesLeft) : Type 0 where
   pub sheet_is : IsSheetOf plan.sink sheet
-  pub to_sink : IsToSink plan early.sink
-  pub count : ℕ
+  pub sources_are : plan.sources ≡ sources
+  pub left : List Early
+  pub stages_are : map (λ x. x.stage) left ≡ drop number (stages (network plan))
+  pub kept : AreKept sheet left (drop number early.stages.items)
+  pub ordered : AreOrdered (network plan) left
+  pub few : p.state.sends ≤ limit
   pub state : State
-  pub leads : Leads (network plan) limit p.state (moves early.sink.edge early.sink.from early.sink.to count) state
+  pub made : Made (network plan) limit left p.state state
   pub stands : StandsAt early.session plan limit files (record p { state = state })
-  pub more : List PrintItem
-  pub printed : state.printed ≡ p.state.printed ++ more
-  pub kept_is : early.kept.bytes ≡ before ++ lines_on sheet more
 
--- a part of the run goes on from a place behind which it has printed nothing, and there the session is early
-pub record HasGoneEarly (sheet : Sheet) (plan : Plan) (limit : ℕ) (went : Went (At State)) (rest : At State → Went (At State)) (p : At State) (later : EarlySession) (files : List LinesLeft) (before : List ℕ) : Type 0 where
+abbrev pub MayBeEarly : Sheet → ℕ → EarlySession → Type 0
+MayBeEarly sheet number early = (sources : List TableDef) × (files : List LinesLeft) × (plan : Plan) × (limit : ℕ) × (p : At State) × IsEarly sheet sources plan limit number p early files
+
+abbrev pub MayTakeEarly : Sheet → List TableDef → EarlySession → List LinesLeft → Type 0
+MayTakeEarly sheet sources early files = (plan : Plan) × (limit : ℕ) × (p : At State) × IsEarly sheet sources plan limit 0 p early files
+
+abbrev pub ForEarly : Sheet → ℕ → EarlySession → (List TableDef → Plan → ℕ → At State → List LinesLeft → Type 0) → Type 0
+ForEarly sheet number early P = (sources : List TableDef) (files : List LinesLeft) (plan : Plan) (limit : ℕ) (p : At State) → IsEarly sheet sources plan limit number p early files → P sources plan limit p files
+
+-- moves were made, and the run is where it was
+abbrev pub StaysEarly : Sheet → EarlySession → EarlySession → Type 0
+StaysEarly sheet early later = ForEarly sheet 0 early (λ sources plan limit p files. IsEarly sheet sources plan limit 0 p later files)
+
+-- a part of the run in which lines are taken, and behind which the rest goes on
+pub record HasTakenEarly (sheet : Sheet) (sources : List TableDef) (plan : Plan) (limit : ℕ) (went : Went (At State)) (rest : At State → Went (At State)) (p : At State) (later : EarlySession) (files : List LinesLeft) : Type 0 where
   pub place : At State
   pub goes : went ≡ rest place
   pub silent : place.state.printed ≡ p.state.printed
-  pub early : IsEarly sheet plan limit place later files before
+  pub early : IsEarly sheet sources plan limit 0 place later files
 
--- it is by the same channel, and in each plan in which the one session stands the other does
-pub record StaysIn (sheet : Sheet) (early later : EarlySession) : Type 0 where
-  pub sink_is : later.sink ≡ early.sink
-  pub stands : (plan : Plan) (limit : ℕ) (s : State) → IsSheetOf plan.sink sheet → StandsIn early.session plan limit s.printed s → (t : State) × StandsIn later.session plan limit t.printed t
+abbrev pub TakesEarly : Sheet → List TableDef → EarlySession → List LinesLeft → Part → Part → EarlySession → List LinesLeft → Type 0
+TakesEarly sheet sources early files part rest later left = (plan : Plan) (limit : ℕ) (p : At State) → IsEarly sheet sources plan limit 0 p early files
+    → HasTakenEarly sheet sources plan limit (part sheet.by_table plan limit p) (rest sheet.by_table plan limit) p later left
 
--- what holds of each place where a session is early
-abbrev pub ForEarly : (Plan → Type 0) → Sheet → EarlySession → (Plan → ℕ → At State → List LinesLeft → List ℕ → Type 0) → Type 0
-ForEarly of_plan sheet early P = (plan : Plan) (limit : ℕ) (p : At State) (files : List LinesLeft) (before : List ℕ) → of_plan plan → IsEarly sheet plan limit p early files before → P plan limit p files before
+-- stages of the drain were gone through up to this number, and the lines of what they printed are kept
+pub record HasDrainedEarly (sheet : Sheet) (sources : List TableDef) (plan : Plan) (limit number : ℕ) (went : Went (At State)) (rest : At State → Went (At State)) (p : At State) (before : List ℕ) (later : EarlySession) (files : List LinesLeft) : Type 0 where
+  pub place : At State
+  pub goes : went ≡ rest place
+  pub more : List PrintItem
+  pub printed : place.state.printed ≡ p.state.printed ++ more
+  pub lines : kept_lines (take number later.stages.items) ≡ before ++ lines_on sheet more
+  pub early : IsEarly sheet sources plan limit number place later files
 
--- from there it goes along the part to where the rest of it goes on
-pub record GoesEarly (of_plan : Plan → Type 0) (sheet : Sheet) (early : EarlySession) (part rest : Part) (later : EarlySession) : Type 0 where
-  pub stays : StaysIn sheet early later
-  pub goes : ForEarly of_plan sheet early (λ plan limit p files before. HasGoneEarly sheet plan limit (part sheet.by_table plan limit p) (rest sheet.by_table plan limit) p later files before)
+abbrev pub FinishesStage : Sheet → ℕ → EarlySession → EarlySession → Type 0
+FinishesStage sheet number early later = ForEarly sheet number early (λ sources plan limit p files.
+    HasDrainedEarly sheet sources plan limit (number + 1) (stage_run number sheet.by_table plan limit p) on p (kept_lines (take number early.stages.items)) later files)
 
--- it halts along the part, before which nothing more was written
-abbrev pub HaltsEarly : (Plan → Type 0) → Sheet → EarlySession → Part → Halt → Type 0
-HaltsEarly of_plan sheet early part halt = ForEarly of_plan sheet early (λ plan limit p files before. (at : Told) → Halts sheet (part sheet.by_table plan limit p) p at at halt)
+abbrev pub FinishesStages : Sheet → ℕ → EarlySession → EarlySession → Type 0
+FinishesStages sheet number early later = ForEarly sheet 0 early (λ sources plan limit p files.
+    HasDrainedEarly sheet sources plan limit number (stages_run 0 sheet.by_table plan limit p) (stages_run number sheet.by_table plan limit) p [] later files)
 
--- what is kept is written by nobody: that there was no room for it is want of memory
-abbrev pub unwritten : Halt → Halt
-unwritten h.WriteFault = h.Memory
-unwritten halt = halt
+-- ---- the whole run, but for the quiet item
 
--- ---- the first stages of each plan in which a session stands
+abbrev pub lines_and_stages : Part
+lines_and_stages by_table plan limit p = and_then (rest_run by_table plan limit p) (stages_run 0 by_table plan limit)
 
-abbrev pub ForPlans : Session → (Plan → Type 0) → Type 0
-ForPlans session P = (plan : Plan) (limit : ℕ) (handed : List PrintItem) (items : List Item) → Stands session plan limit handed items → P plan
+-- the run goes to its end, what it has printed is kept, and the session stands there but for that
+pub record IsFinished (sheet : Sheet) (plan : Plan) (limit : ℕ) (went : Went (At State)) (p : At State) (later : EarlySession) (files : List LinesLeft) : Type 0 where
+  pub place : At State
+  pub goes : went ≡ on place
+  pub more : List PrintItem
+  pub printed : place.state.printed ≡ p.state.printed ++ more
+  pub lines : kept_lines later.stages.items ≡ lines_on sheet more
+  pub state : State
+  pub same : hushed place.state ≡ hushed state
+  pub stands : StandsAt later.session plan limit files (record place { state = state })
 
--- the stage of this number delivers the channel, which leads to the sink
-pub record IsFirst (number : ℕ) (lane : Lane) (plan : Plan) : Type 0 where
-  pub sink : IsToSink plan lane
-  pub next : drop number (stages (network plan)) ≡ delivers lane.edge lane.from lane.to ∷ drop (number + 1) (stages (network plan))
+-- the run goes to its end, and the lines of what it has printed since are written
+pub record EndsWell (sheet : Sheet) (went : Went (At State)) (p : At State) (old new : Told) : Type 0 where
+  pub place : At State
+  pub goes : went ≡ on place
+  pub more : List PrintItem
+  pub printed : place.state.printed ≡ p.state.printed ++ more
+  pub written : Appends old.written new.written (lines_on sheet more)
 
--- there is such a place, and so many stages at least
-abbrev pub MayMoveStages : Sheet → Session → ℕ → Type 0
-MayMoveStages sheet session number = (plan : Plan) × (limit : ℕ) × (s : State) × IsSheetOf plan.sink sheet × (number ≤ length (stages (network plan))) × StandsIn session plan limit s.printed s
+-- what may be written, and what holds of each run of which that is
+abbrev pub MayWrite : Sheet → EarlySession → Type 0
+MayWrite sheet early = (plan : Plan) × (limit : ℕ) × (went : Went (At State)) × (p : At State) × (files : List LinesLeft) × IsSheetOf plan.sink sheet × IsFinished sheet plan limit went p early files
+
+abbrev pub ForFinished : Sheet → EarlySession → (Plan → ℕ → At State → Type 0) → Type 0
+ForFinished sheet early P = (plan : Plan) (limit : ℕ) (p : At State) (files : List LinesLeft) → IsSheetOf plan.sink sheet → IsFinished sheet plan limit (lines_and_stages sheet.by_table plan limit p) p early files → P plan limit p
+
+-- where a job opens
+abbrev pub opening : Network → ChangeFiles → At State
+opening g files = record { state = opened g; files = all_unread files }

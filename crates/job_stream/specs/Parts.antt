@@ -10,7 +10,7 @@ use Rattle.stream_model.specs.Machine.{State}
 use Rattle.stream_model.specs.Runs.{Item, step_item}
 use Rattle.stream_model.specs.Drain.{Stage, drain, drain_stages, moves, stage_items, stages}
 use Rattle.source_lines.specs.Run as run
-use Rattle.source_lines.specs.Run.{At, Went, job_of, on}
+use Rattle.source_lines.specs.Run.{At, job_of, on}
 use Rattle.job_stream.specs.Writing.{Part}
 
 -- one item

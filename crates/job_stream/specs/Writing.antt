@@ -114,10 +114,6 @@ HaltsOn sheet sources session files part old new halt = ForPlaces sheet sources 
 abbrev pub Moves : Sheet → Session → Part → Session → Told → Told → Type 0
 Moves sheet session part next old new = (sources : List TableDef) (files : List LinesLeft) → Goes sheet sources session files part next files old new
 
--- along a first part of it, behind which the rest goes on
-abbrev pub MovesOn : Sheet → Session → Part → Part → Session → Told → Told → Type 0
-MovesOn sheet session part rest next old new = (sources : List TableDef) (files : List LinesLeft) → GoesOn sheet sources session files part rest next files old new
-
 abbrev pub HaltsMoving : Sheet → Session → Part → Told → Told → Halt → Type 0
 HaltsMoving sheet session part old new halt = (sources : List TableDef) (files : List LinesLeft) → HaltsOn sheet sources session files part old new halt
 

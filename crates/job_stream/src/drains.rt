@@ -1,13 +1,11 @@
 //! Moves, and the drain: its stages one after the other, and the quiet moment behind them.
-ghost use Rattle.std.specs.Prelude.{◌≤◌, IfOk, IfErr};
+ghost use Rattle.std.specs.Prelude.{IfOk, IfErr};
 ghost use Rattle.job_stream.specs.Parts.{drain_run, moves_run, stage_run, stages_run};
-ghost use Rattle.job_stream.specs.Early.{BeginsElsewhere, ForPlans, MayMoveStages};
-ghost use Rattle.job_stream.specs.Writing.{HaltsMoving, MayMove, MayMoveStage, Moves, MovesOn, told};
+ghost use Rattle.job_stream.specs.Writing.{HaltsMoving, MayMove, MayMoveStage, Moves, told};
 
-use crate::early::{EarlySession, sink_lane, stages_before_sink};
 use crate::sheet::{Sheet, Tools};
 use crate::steps::{go_moves, go_step, tell_quiet};
-use ct_io::{GrowingSink, Sink, put_all};
+use ct_io::Sink;
 use exec_core::Session;
 use job_ending::Halt;
 use session_core::{Lane, Stage};
@@ -15,7 +13,7 @@ use std::sync::ledger::Ledger;
 use stream_model::Event;
 
 // So many moves at most are made before what they print is written.
-pub(crate) const TOGETHER: u32 = 64;
+const TOGETHER: u32 = 64;
 
 /// So many changes leave the front of a channel, one after the other.
 pub(crate) fn move_all<K: Sink, L: Ledger>(
@@ -40,8 +38,8 @@ pub(crate) fn move_all<K: Sink, L: Ledger>(
     Ok(moved)
 }
 
-// The stage of this number: what is in flight in its channel is delivered whole, or its bundle is flushed.
-fn deliver<K: Sink, L: Ledger>(
+/// The stage of this number: what is in flight in its channel is delivered whole, or its bundle is flushed.
+pub(crate) fn deliver<K: Sink, L: Ledger>(
     session: Session,
     number: usize,
     sheet: &Sheet,
@@ -63,56 +61,6 @@ fn deliver<K: Sink, L: Ledger>(
     }
 }
 
-// The stages from a number on, below another, in the order of a drain.
-fn deliver_some<K: Sink, L: Ledger>(
-    session: Session,
-    first: usize,
-    end: usize,
-    sheet: &Sheet,
-    tools: &mut Tools<L>,
-    out: &mut K,
-) -> Result<Session, Halt>
-    requires ready { MayMoveStages sheet.now session end }
-    requires order { first ≤ end }
-    ensures ok { IfOk result (λ next. MovesOn sheet.now session (stages_run first) (stages_run end) next (told K.written K.faults out.old) (told K.written K.faults out.new)) }
-    ensures halts { IfErr result (λ halt. HaltsMoving sheet.now session (stages_run first) (told K.written K.faults out.old) (told K.written K.faults out.new) halt) }
-{
-    let mut drained = session;
-    'stages: for number in first..end {
-        drained = deliver(drained, number, sheet, tools, out)?;
-    }
-    Ok(drained)
-}
-
-// The stages before the sink's, so many, with moves into the sink made early where the next stage delivers a channel to it. What these print
-// is written behind the last of the stages.
-fn deliver_first<K: Sink, L: Ledger>(
-    session: Session,
-    count: usize,
-    sheet: &Sheet,
-    tools: &mut Tools<L>,
-    out: &mut K,
-) -> Result<Session, Halt>
-    requires ready { MayMoveStages sheet.now session count }
-    requires elsewhere { ForPlans session (BeginsElsewhere count) }
-    ensures ok { IfOk result (λ next. MovesOn sheet.now session (stages_run 0) (stages_run count) next (told K.written K.faults out.old) (told K.written K.faults out.new)) }
-    ensures halts { IfErr result (λ halt. HaltsMoving sheet.now session (stages_run 0) (told K.written K.faults out.old) (told K.written K.faults out.new) halt) }
-{
-    let Some(sink) = sink_lane(&session, count) else {
-        return deliver_some(session, 0, count, sheet, tools, out);
-    };
-    let start = EarlySession {
-        session,
-        sink,
-        kept: GrowingSink::new(sheet.alloc),
-    };
-    let early = start.deliver_before(count, sheet, tools)?;
-    match put_all(out, early.kept.written()) {
-        Ok(()) => Ok(early.session),
-        Err(_) => Err(Halt::WriteFault),
-    }
-}
-
 // All stages, in the order of a drain.
 fn deliver_all<K: Sink, L: Ledger>(
     session: Session,
@@ -124,10 +72,12 @@ fn deliver_all<K: Sink, L: Ledger>(
     ensures ok { IfOk result (λ next. Moves sheet.now session (stages_run 0) next (told K.written K.faults out.old) (told K.written K.faults out.new)) }
     ensures halts { IfErr result (λ halt. HaltsMoving sheet.now session (stages_run 0) (told K.written K.faults out.old) (told K.written K.faults out.new) halt) }
 {
-    let count = session.stage_count();
-    let before = stages_before_sink(&session);
-    let drained = deliver_first(session, before, sheet, tools, out)?;
-    deliver_some(drained, before, count, sheet, tools, out)
+    let mut drained = session;
+    let count = drained.stage_count();
+    'stages: for number in 0..count {
+        drained = deliver(drained, number, sheet, tools, out)?;
+    }
+    Ok(drained)
 }
 
 /// Every channel is delivered whole and every bundle flushed, in the order of a drain, and the job is told to be quiet.
@@ -142,5 +92,5 @@ pub(crate) fn drain<K: Sink, L: Ledger>(
     ensures halts { IfErr result (λ halt. HaltsMoving sheet.now session drain_run (told K.written K.faults out.old) (told K.written K.faults out.new) halt) }
 {
     let drained = deliver_all(session, sheet, tools, out)?;
-    tell_quiet(drained, sheet, &mut tools.writer, out)
+    tell_quiet(drained, sheet, tools, out)
 }

@@ -33,20 +33,20 @@ impl From<Memory> for PutFault {
 
 /// Puts the lines of items whose changes are as wide as the sheet.
 pub(crate) fn put_items<K: Sink>(
-    items: PrintList,
+    items: &PrintList,
     sheet: &Sheet,
     writer: &mut LineWriter,
     out: &mut K,
 ) -> Result<(), PutFault>
-    requires wide { AllByRecursion (IsWide (length sheet.now.tys.items)) items }
+    requires wide { AllByRecursion (IsWide (length sheet.now.tys.items)) items.now }
     requires types { AllByRecursion (λ ty. IsTrue (is_type ty)) sheet.now.tys.items }
-    ensures whole { OnOk result (Appends (K.written out.old) (K.written out.new) (lines_on sheet.now items)) }
-    ensures part { AppendsPart (K.written out.old) (K.written out.new) (lines_on sheet.now items) }
+    ensures whole { OnOk result (Appends (K.written out.old) (K.written out.new) (lines_on sheet.now items.now)) }
+    ensures part { AppendsPart (K.written out.old) (K.written out.new) (lines_on sheet.now items.now) }
     ensures later { K.faults out.old ≤ K.faults out.new }
     ensures failed { IsErrOf result PutFault.Failed → Rose (K.faults out.old) (K.faults out.new) }
 {
-    for item in items.into_vec() {
-        put_item(&item, sheet, writer, out)?;
+    for item in items.as_slice() {
+        put_item(item, sheet, writer, out)?;
     }
     Ok(())
 }

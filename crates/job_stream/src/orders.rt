@@ -34,7 +34,7 @@ fn file_named(by_table: bool, table: u32) -> Option<usize>
 }
 
 // Why so many lines can't be taken of the file at a place.
-fn take_refusal(files: &Vec<ChangeLines>, place: Option<usize>, count: u32) -> Option<OrderCode>
+fn take_refusal(files: &Vec<ChangeLines<'_>>, place: Option<usize>, count: u32) -> Option<OrderCode>
     ensures { (plan : Plan) (limit : ℕ) (by_table : Bool) → result ≡ lines_refusal place count by_table plan limit files.now.items }
 {
     let Some(place) = place else {
@@ -82,7 +82,7 @@ fn flush_refusal(buffer: Buffer) -> Option<OrderCode>
 // Why a line of an order can't begin.
 fn refusal(
     session: &Session,
-    files: &Vec<ChangeLines>,
+    files: &Vec<ChangeLines<'_>>,
     verb: Verb,
     sheet: &Sheet,
 ) -> Option<OrderCode>
@@ -107,7 +107,7 @@ fn refusal(
 // So many next lines of a file, if it is named.
 fn take_named<L: Ledger>(
     session: Session,
-    files: &mut Vec<ChangeLines>,
+    files: &mut Vec<ChangeLines<'_>>,
     place: Option<usize>,
     count: u32,
     sources: &NamedSources<'_>,
@@ -126,7 +126,7 @@ fn take_named<L: Ledger>(
 // What a line of an order asks for.
 fn act<K: Sink, L: Ledger>(
     session: Session,
-    files: &mut Vec<ChangeLines>,
+    files: &mut Vec<ChangeLines<'_>>,
     verb: Verb,
     sources: &NamedSources<'_>,
     sheet: &Sheet,
@@ -158,7 +158,7 @@ fn act<K: Sink, L: Ledger>(
 // A line of an order, unless it can't begin.
 fn follow_one<K: Sink, L: Ledger>(
     session: Session,
-    files: &mut Vec<ChangeLines>,
+    files: &mut Vec<ChangeLines<'_>>,
     order: &OrderLine,
     sources: &NamedSources<'_>,
     sheet: &Sheet,
@@ -181,7 +181,7 @@ fn follow_one<K: Sink, L: Ledger>(
 // The lines of an order, one after the other.
 fn follow<K: Sink, L: Ledger>(
     session: Session,
-    files: &mut Vec<ChangeLines>,
+    files: &mut Vec<ChangeLines<'_>>,
     orders: &Orders,
     sources: &NamedSources<'_>,
     sheet: &Sheet,
@@ -203,7 +203,7 @@ fn follow<K: Sink, L: Ledger>(
 // What is left of the files is taken, and the job is drained.
 fn finish<K: Sink, L: Ledger>(
     session: Session,
-    files: &mut Vec<ChangeLines>,
+    files: &mut Vec<ChangeLines<'_>>,
     sources: &NamedSources<'_>,
     sheet: &Sheet,
     tools: &mut Tools<L>,
@@ -220,7 +220,7 @@ fn finish<K: Sink, L: Ledger>(
 /// The lines of an order, and then the end.
 pub(crate) fn go_over<K: Sink, L: Ledger>(
     session: Session,
-    files: &mut Vec<ChangeLines>,
+    files: &mut Vec<ChangeLines<'_>>,
     orders: &Orders,
     sources: &NamedSources<'_>,
     sheet: &Sheet,

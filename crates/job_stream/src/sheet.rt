@@ -1,6 +1,6 @@
 //! How items are written, and what a run keeps at hand.
 ghost use Rattle.std.specs.Prelude.{◌≡◌, map, IfOk};
-ghost use Rattle.job_stream.specs.Stream.{sink_key, sink_types};
+ghost use Rattle.job_stream.specs.Stream.{sink_key};
 ghost use Rattle.job_stream.specs.Writing.{IsSheetOf};
 
 use ct_catalog::{ColDef, TableDef};
@@ -9,6 +9,7 @@ use ct_value::{Cols, Memory, Ty};
 use job_text::LineWriter;
 use std::alloc::{AllocError, Global};
 use std::sync::ledger::Ledger;
+use stream_model::PrintList;
 
 /// How items are written: by the types of the columns of a sink, by its key where it is an upsert table, and whether a quiet moment tells
 /// what was taken of each table.
@@ -20,11 +21,13 @@ pub(crate) struct Sheet {
     pub by_table: bool,
 }
 
-/// What a run keeps at hand from step to step: the counter of its steps, and the room in which its lines are made.
+/// What a run keeps at hand from step to step: the counter of its steps, the room in which its lines are made, and the items that it
+/// hands out.
 #[derive(Drop)]
 pub(crate) struct Tools<L: Ledger> {
     pub steps: Steps<L>,
     pub writer: LineWriter,
+    pub printed: PrintList,
 }
 
 /// The sheet of a sink.

@@ -12,16 +12,15 @@ use crate::sheet::{Sheet, Tools};
 use ct_io::Sink;
 use exec_core::Session;
 use job_ending::{Halt, LimitName};
-use job_text::LineWriter;
 use session_core::Lane;
 use std::sync::ledger::Ledger;
 use stream_model::{Event, StepFault};
 
 // What was printed and not yet handed out is handed out and written.
-fn hand_out<K: Sink>(
+fn hand_out<K: Sink, L: Ledger>(
     session: Session,
     sheet: &Sheet,
-    writer: &mut LineWriter,
+    tools: &mut Tools<L>,
     out: &mut K,
 ) -> Result<Session, Halt>
     requires ready { MayHandOut sheet.now session }
@@ -29,7 +28,9 @@ fn hand_out<K: Sink>(
     ensures halts { IfErr result (λ halt. StopsHandingOut sheet.now session (told K.written K.faults out.old) (told K.written K.faults out.new) halt) }
 {
     let mut left = session;
-    match put_items(left.take_printed(), sheet, writer, out) {
+    tools.printed.truncate(0);
+    left.hand_over(&mut tools.printed);
+    match put_items(&tools.printed, sheet, &mut tools.writer, out) {
         Ok(()) => Ok(left),
         Err(PutFault::Failed) => Err(Halt::WriteFault),
         Err(PutFault::Memory) => Err(Halt::Memory),
@@ -77,7 +78,7 @@ pub(crate) fn go_step<K: Sink, L: Ledger>(
     ensures halts { IfErr result (λ halt. HaltsMoving sheet.now session (item_run (happens event)) (told K.written K.faults out.old) (told K.written K.faults out.new) halt) }
 {
     match session.step(event, &mut tools.steps) {
-        Ok(next) => hand_out(next, sheet, &mut tools.writer, out),
+        Ok(next) => hand_out(next, sheet, tools, out),
         Err(stopped) => Err(halt_of(stopped.cause)),
     }
 }
@@ -96,8 +97,8 @@ pub(crate) fn go_moves<K: Sink, L: Ledger>(
     ensures halts { IfErr result (λ halt. HaltsMoving sheet.now session (moves_run lane.edge lane.from lane.to count) (told K.written K.faults out.old) (told K.written K.faults out.new) halt) }
 {
     match session.move_all(lane, count, &mut tools.steps) {
-        Ok(next) => hand_out(next, sheet, &mut tools.writer, out),
-        Err(stopped) => match put_items(stopped.printed, sheet, &mut tools.writer, out) {
+        Ok(next) => hand_out(next, sheet, tools, out),
+        Err(stopped) => match put_items(&stopped.printed, sheet, &mut tools.writer, out) {
             Ok(()) => Err(halt_of(stopped.cause)),
             Err(PutFault::Failed) => Err(Halt::WriteFault),
             Err(PutFault::Memory) => Err(Halt::Memory),
@@ -106,10 +107,10 @@ pub(crate) fn go_moves<K: Sink, L: Ledger>(
 }
 
 /// The job is told to be quiet.
-pub(crate) fn tell_quiet<K: Sink>(
+pub(crate) fn tell_quiet<K: Sink, L: Ledger>(
     session: Session,
     sheet: &Sheet,
-    writer: &mut LineWriter,
+    tools: &mut Tools<L>,
     out: &mut K,
 ) -> Result<Session, Halt>
     requires ready { MayMove sheet.now session }
@@ -117,7 +118,7 @@ pub(crate) fn tell_quiet<K: Sink>(
     ensures halts { IfErr result (λ halt. HaltsMoving sheet.now session (item_run quiet) (told K.written K.faults out.old) (told K.written K.faults out.new) halt) }
 {
     match session.tell_quiet() {
-        Ok(next) => hand_out(next, sheet, writer, out),
+        Ok(next) => hand_out(next, sheet, tools, out),
         Err(stopped) => Err(halt_of(stopped.cause)),
     }
 }

@@ -1,20 +1,25 @@
 //! The run, to its ending.
-ghost use Rattle.std.specs.Prelude.{◌≡◌, ◌<◌};
+ghost use Rattle.std.specs.Prelude.{◌≡◌, ◌<◌, ◌≤◌, [], List, IfSome};
 ghost use Rattle.ct_io.specs.Counts.{Rose};
 ghost use Rattle.sound_plans.specs.Sound.{IsRuled};
 ghost use Rattle.source_lines.specs.declared.supply.ChangeFiles.{ChangeFiles as Files};
-ghost use Rattle.source_lines.specs.Supply.{AreWithin, all_unread, is_by_table};
+ghost use Rattle.source_lines.specs.Supply.{AreWithin, is_by_table};
+ghost use Rattle.job_text.specs.Lines.{LinesLeft};
+ghost use Rattle.plan_rules.specs.Doings.{network};
+ghost use Rattle.stream_model.specs.Machine.{opened};
+ghost use Rattle.job_stream.specs.Early.{ForFinished, IsFinished, MayWrite, lines_and_stages, opening};
 ghost use Rattle.job_ending.specs.Runs.{RunsThere};
 ghost use Rattle.job_stream.specs.Stream.{streamed, streamed_within};
 ghost use Rattle.job_stream.specs.Writing.{IsSheetOf};
 
+use crate::early::{EarlySession, run_early};
 use crate::orders::go_over;
 use crate::sheet::{Sheet, Tools, sheet_of};
 use ct_change::Steps;
 use ct_io::Sink;
 use exec_core::Session;
 use job_ending::{Halt, LimitName};
-use job_text::{ChangeLines, LineWriter, NamedSources, Orders};
+use job_text::{LineWriter, NamedSources, Orders};
 use phys_plan::Plan;
 use session_open::OpenFault;
 use source_lines::{ChangeFiles, read_files};
@@ -22,14 +27,16 @@ use std::alloc::Global;
 use std::marker::Brand;
 use std::mem::forget;
 use std::sync::ledger::{Blank, Ledger};
+use stream_model::PrintList;
 
 const MOST_SENT: u32 = 4294967295;
 
 /// Runs a sound plan over change files of at most 67,108,864 bytes each, and an order: each line of the order is steps of the job, or lines
 /// that are taken; then all lines that are left are taken, file by file, and the job is drained. What a step printed is written on `out`
 /// behind it, or behind at most 63 more moves from the same channel, each item as a line by the types of the sink's columns, and a `-D` into
-/// an upsert sink by its key. In a drain the changes of the sink's first channel are taken there as they are sent, and the lines that this
-/// prints are kept in memory until its stage. It sends at most 4,294,967,295 changes. Where the process ends with `out`, what the job keeps isn't freed.
+/// an upsert sink by its key. Without an order, what is printed is kept in memory and written at the end, since moves are made early; where
+/// such a run halts, it is made anew in its order. It sends at most 4,294,967,295 changes. Where the process ends with `out`, what the job
+/// keeps isn't freed.
 pub fn stream<K: Sink>(
     alloc: Global,
     plan: &Plan,
@@ -61,10 +68,7 @@ pub fn stream_within<K: Sink>(
     let Ok(sheet) = sheet_of(alloc, &plan.sink, by_table) else {
         return Err(Halt::Memory);
     };
-    let Ok(lines) = read_files(alloc, files) else {
-        return Err(Halt::Memory);
-    };
-    run_job::<K, Brand>(plan, lines, orders, sent_limit, &sheet, Blank::new(1), out)
+    run_job::<K, Brand>(plan, &files, orders, sent_limit, &sheet, Blank::new(1), out)
 }
 
 // Whether each source has a change file of its own.
@@ -77,10 +81,10 @@ fn is_by_table(files: &ChangeFiles) -> bool
     }
 }
 
-// The job opens, and goes over its files, of which no line was read, by an order. Nobody reads how many steps that takes.
+// The job is run, without an order with its moves made early if it can be. Nobody reads how many steps that takes.
 fn run_job<K: Sink, L: Ledger>(
     plan: &Plan,
-    files: Vec<ChangeLines>,
+    files: &ChangeFiles,
     orders: &Orders,
     sent_limit: u32,
     sheet: &Sheet,
@@ -91,20 +95,98 @@ fn run_job<K: Sink, L: Ledger>(
     requires parts { blank.parts ≡ L.parts }
     requires some { 0 < L.parts }
     requires ruled { IsRuled plan.now }
+    requires within { AreWithin files.now }
     requires sheet { IsSheetOf plan.now.sink sheet.now }
-    ensures { (all : Files) → files.items ≡ all_unread all → sheet.now.by_table ≡ is_by_table all
-        → RunsThere (streamed_within sent_limit plan.now all orders.now) (Rose (K.faults out.old) (K.faults out.new)) (K.written out.old) (K.written out.new) result }
+    requires by_table { sheet.now.by_table ≡ is_by_table files.now }
+    ensures { RunsThere (streamed_within sent_limit plan.now files.now orders.now) (Rose (K.faults out.old) (K.faults out.new)) (K.written out.old) (K.written out.new) result }
 {
     let Ok(sources) = NamedSources::new(sheet.alloc, &plan.sources) else {
         return Err(Halt::Memory);
     };
-    let mut left = files;
     let mut tools = Tools::<L> {
         steps: Steps::new(blank),
         writer: LineWriter::new(sheet.alloc),
+        printed: PrintList::new(sheet.alloc),
+    };
+    if orders.is_empty() {
+        if let Some(early) = try_early(plan, files, sent_limit, &sources, sheet, &mut tools) {
+            return write_early(early, sheet, &mut tools, out);
+        }
+    }
+    run_by_order(
+        plan, files, orders, sent_limit, &sources, sheet, &mut tools, out,
+    )
+}
+
+// The job opens, and goes over its files without an order, with its moves made early.
+fn try_early<L: Ledger>(
+    plan: &Plan,
+    files: &ChangeFiles,
+    sent_limit: u32,
+    sources: &NamedSources<'_>,
+    sheet: &Sheet,
+    tools: &mut Tools<L>,
+) -> Option<EarlySession>
+    requires ruled { IsRuled plan.now }
+    requires within { AreWithin files.now }
+    requires sheet { IsSheetOf plan.now.sink sheet.now }
+    requires sources { sources.now ≡ plan.now.sources }
+    ensures within { IfSome result (λ early. (opened (network plan.now)).sends ≤ sent_limit) }
+    ensures finished { IfSome result (λ early. (left : List LinesLeft)
+        × IsFinished sheet.now plan.now sent_limit (lines_and_stages sheet.now.by_table plan.now sent_limit (opening (network plan.now) files.now)) (opening (network plan.now) files.now) early left) }
+{
+    let Ok(mut lines) = read_files(sheet.alloc, files) else {
+        return None;
     };
     match Session::open_job(sheet.alloc, plan, sent_limit) {
-        Ok(session) => match go_over(session, &mut left, orders, &sources, sheet, &mut tools, out) {
+        Ok(session) => run_early(session, &mut lines, sources, sheet, tools),
+        Err(_) => None,
+    }
+}
+
+// What such a run kept is written.
+fn write_early<K: Sink, L: Ledger>(
+    early: EarlySession,
+    sheet: &Sheet,
+    tools: &mut Tools<L>,
+    out: &mut K,
+) -> Result<(), Halt>
+    requires ready { MayWrite sheet.now early }
+    ensures { (files : Files) → ForFinished sheet.now early (λ plan limit p. p ≡ opening (network plan) files → sheet.now.by_table ≡ is_by_table files → (opened (network plan)).sends ≤ limit
+        → RunsThere (streamed_within limit plan files []) (Rose (K.faults out.old) (K.faults out.new)) (K.written out.old) (K.written out.new) result) }
+{
+    match early.write(sheet, tools, out) {
+        Ok(ended) => {
+            let_go(ended, out);
+            Ok(())
+        }
+        Err(halt) => Err(halt),
+    }
+}
+
+// The job opens, and goes over its files by an order.
+fn run_by_order<K: Sink, L: Ledger>(
+    plan: &Plan,
+    files: &ChangeFiles,
+    orders: &Orders,
+    sent_limit: u32,
+    sources: &NamedSources<'_>,
+    sheet: &Sheet,
+    tools: &mut Tools<L>,
+    out: &mut K,
+) -> Result<(), Halt>
+    requires ruled { IsRuled plan.now }
+    requires within { AreWithin files.now }
+    requires sheet { IsSheetOf plan.now.sink sheet.now }
+    requires by_table { sheet.now.by_table ≡ is_by_table files.now }
+    requires sources { sources.now ≡ plan.now.sources }
+    ensures { RunsThere (streamed_within sent_limit plan.now files.now orders.now) (Rose (K.faults out.old) (K.faults out.new)) (K.written out.old) (K.written out.new) result }
+{
+    let Ok(mut lines) = read_files(sheet.alloc, files) else {
+        return Err(Halt::Memory);
+    };
+    match Session::open_job(sheet.alloc, plan, sent_limit) {
+        Ok(session) => match go_over(session, &mut lines, orders, sources, sheet, tools, out) {
             Ok(ended) => {
                 let_go(ended, out);
                 Ok(())

@@ -25,7 +25,7 @@ fn halt_at(fault: RunFault) -> Halt
 // The next line of the file at a place, where there is one.
 fn take_line<L: Ledger>(
     session: Session,
-    files: &mut Vec<ChangeLines>,
+    files: &mut Vec<ChangeLines<'_>>,
     place: usize,
     sources: &NamedSources<'_>,
     steps: &mut Steps<L>,
@@ -47,7 +47,7 @@ fn take_line<L: Ledger>(
 /// So many next lines of the file at a place, as far as there are any.
 pub(crate) fn take_many<L: Ledger>(
     session: Session,
-    files: &mut Vec<ChangeLines>,
+    files: &mut Vec<ChangeLines<'_>>,
     place: usize,
     count: u32,
     sources: &NamedSources<'_>,
@@ -67,8 +67,8 @@ pub(crate) fn take_many<L: Ledger>(
     Ok(taken)
 }
 
-// How many lines the file at a place has left.
-fn left_at(files: &Vec<ChangeLines>, place: usize) -> u32
+/// How many lines the file at a place has left.
+pub(crate) fn left_at(files: &Vec<ChangeLines<'_>>, place: usize) -> u32
     ensures { (plan : Plan) (limit : ℕ) (by_table : Bool) → result ≡ lines_left by_table plan limit (slice_get files.now.items place) }
 {
     match files.get(place) {
@@ -80,7 +80,7 @@ fn left_at(files: &Vec<ChangeLines>, place: usize) -> u32
 /// All that is left of the files, one file after the other.
 pub(crate) fn take_rest<L: Ledger>(
     session: Session,
-    files: &mut Vec<ChangeLines>,
+    files: &mut Vec<ChangeLines<'_>>,
     sources: &NamedSources<'_>,
     steps: &mut Steps<L>,
 ) -> Result<Session, Halt>

@@ -7,7 +7,6 @@ use Rattle.csv.specs.Reading.{Ready, default_config, has_failed, is_flexible, re
 use Rattle.csv.specs.declared.parser.State.{State}
 use Rattle.csv.specs.declared.reader.Reader.{Reader}
 use Rattle.csv.specs.declared.reader.Trim.TheVariants as trim
-use Rattle.job_text.specs.declared.read.FileBytes.{FileBytes}
 use Rattle.job_text.specs.Lines.{LinesLeft, Record}
 
 -- the records of a text, from a state between two records
@@ -29,24 +28,24 @@ abbrev pub left_in : {R : Type 0} → (R → Option (List ℕ)) → Reader R →
 left_in rem rdr = records_after (reader_state rdr) (unwrap_or (source_of rem rdr) [])
 
 -- the bytes that a cursor over a file has left
-abbrev pub bytes_left : Cursor FileBytes → Option (List ℕ)
-bytes_left = cursor_remaining (λ (file : FileBytes). Some file.bytes)
+abbrev pub bytes_left : Cursor (List ℕ) → Option (List ℕ)
+bytes_left = cursor_remaining Some
 
 -- what a reader of change lines keeps: how many records are left, which it reads on from where there are some
-pub record IsCounted (rdr : Reader (Cursor FileBytes)) (left : ℕ) : Type 0 where
+pub record IsCounted (rdr : Reader (Cursor (List ℕ))) (left : ℕ) : Type 0 where
   pub counted : left ≡ length (left_in bytes_left rdr)
   pub good : IsReading bytes_left rdr
 
 -- the records that it has left: none once it was given up
-abbrev pub records_left : Reader (Cursor FileBytes) → ℕ → List Record
+abbrev pub records_left : Reader (Cursor (List ℕ)) → ℕ → List Record
 records_left rdr left = if left == 0 then [] else left_in bytes_left rdr
 
 -- the lines that it has left, behind those that were read
-abbrev pub lines_left : Option ℕ → ℕ → Reader (Cursor FileBytes) → ℕ → LinesLeft
+abbrev pub lines_left : Option ℕ → ℕ → Reader (Cursor (List ℕ)) → ℕ → LinesLeft
 lines_left feed read rdr left = record { feed = feed; read = read; records = records_left rdr left }
 
 -- it reads on from where records are left, and no file has more than so many
-pub record IsWithin (read : ℕ) (rdr : Reader (Cursor FileBytes)) (left : ℕ) : Type 0 where
+pub record IsWithin (read : ℕ) (rdr : Reader (Cursor (List ℕ))) (left : ℕ) : Type 0 where
   pub within : read + left ≤ 67108864
   pub reads_on : 0 < left → IsCounted rdr left
 

@@ -8,24 +8,32 @@ use crate::counting::count_records;
 use crate::line::{Line, LineFault, line_in};
 use crate::named::NamedSources;
 use csv::{ByteRecord, Reader, ReaderBuilder};
-use ct_value::{Bytes, Memory};
+use ct_value::Memory;
 use std::alloc::Global;
 use std::io::{AsBytes, Cursor, Read};
 use std::marker::Model;
 
 // The bytes of a change file, as a cursor goes over them.
 #[derive(Drop)]
-struct FileBytes {
-    bytes: Bytes,
+struct FileBytes<'a> {
+    bytes: &'a [u8],
 }
 
-impl AsBytes for FileBytes {
+impl<'a> Model for FileBytes<'a> {
+    ghost use Rattle.std.specs.Prelude.{List, ℕ};
+
+    ghost Value = { List ℕ };
+
+    ghost view = { λ file. file.bytes.now };
+}
+
+impl<'a> AsBytes for FileBytes<'a> {
     ghost use Rattle.std.specs.Prelude.{Some};
 
-    ghost bytes = { λ file. Some file.bytes };
+    ghost bytes = { λ file. Some file };
 
     fn as_byte_slice(&self) -> &[u8] {
-        self.bytes.as_slice()
+        self.bytes
     }
 }
 
@@ -52,18 +60,18 @@ fn try_record<R: Read>(reader: &mut Reader<R>, fields: &mut ByteRecord) -> Resul
     Ok(found)
 }
 
-/// The lines of a change file, of which some were read. It is seen as how many were read and the list of the records that are left.
+/// The lines of a change file, whose bytes are borrowed, and of which some were read. It is seen as how many were read and the list of the records that are left.
 #[derive(Drop)]
-pub struct ChangeLines {
+pub struct ChangeLines<'a> {
     alloc: Global,
-    reader: Reader<Cursor<FileBytes>>,
+    reader: Reader<Cursor<FileBytes<'a>>>,
     fields: ByteRecord,
     feed: Option<u32>,
     read: u32,
     left: u32,
 }
 
-impl Model for ChangeLines {
+impl<'a> Model for ChangeLines<'a> {
     ghost use Rattle.job_text.specs.Lines.{LinesLeft};
     ghost use Rattle.job_text.specs.Reading.{IsWithin, lines_left};
 
@@ -74,12 +82,12 @@ impl Model for ChangeLines {
     ghost invariant = { λ a. IsWithin a.read a.reader a.left };
 }
 
-impl ChangeLines {
+impl<'a> ChangeLines<'a> {
     /// The lines of a file of at most 67,108,864 bytes, none of which was read. They are all of the source of the feed's place, from 0,
     /// where there is a feed; else each names its source.
-    pub fn new(alloc: Global, bytes: Bytes, feed: Option<u32>) -> Result<ChangeLines, Memory>
-        requires { length bytes ≤ 67108864 }
-        ensures { IfOk result (λ lines. lines ≡ record { feed = feed; read = 0; records = records_of bytes }) }
+    pub fn new(alloc: Global, bytes: &'a [u8], feed: Option<u32>) -> Result<ChangeLines<'a>, Memory>
+        requires { length bytes.now ≤ 67108864 }
+        ensures { IfOk result (λ lines. lines ≡ record { feed = feed; read = 0; records = records_of bytes.now }) }
     {
         ChangeLines::behind(alloc, bytes, feed, 0)
     }
@@ -87,14 +95,14 @@ impl ChangeLines {
     /// The lines of a part of such a file, before which so many lines were read.
     pub fn behind(
         alloc: Global,
-        bytes: Bytes,
+        bytes: &'a [u8],
         feed: Option<u32>,
         read: u32,
-    ) -> Result<ChangeLines, Memory>
-        requires { read + length bytes ≤ 67108864 }
-        ensures { IfOk result (λ lines. lines ≡ record { feed = feed; read = read; records = records_of bytes }) }
+    ) -> Result<ChangeLines<'a>, Memory>
+        requires { read + length bytes.now ≤ 67108864 }
+        ensures { IfOk result (λ lines. lines ≡ record { feed = feed; read = read; records = records_of bytes.now }) }
     {
-        let left = count_records(bytes.as_slice())?;
+        let left = count_records(bytes)?;
         Ok(ChangeLines {
             alloc,
             reader: reader_of(alloc, Cursor::new(FileBytes { bytes })),

@@ -8,7 +8,7 @@ use Rattle.stream_model.specs.Network as network
 use Rattle.stream_model.specs.Network.{Network, IsWired}
 use Rattle.stream_model.specs.Machine.{is_place, is_scan_of}
 use Rattle.stream_model.specs.Drain as drain
-use Rattle.stream_model.specs.Drain.{delivers, feeds_node, flushes, stages}
+use Rattle.stream_model.specs.Drain.{delivers, flushes, stages}
 use Rattle.session_channels.specs.Routes.{SpreadsBy}
 use Rattle.session_channels.specs.Sending.{AllRoute}
 use Rattle.session_core.specs.declared.wiring.Feed.{Feed}
@@ -31,10 +31,14 @@ abbrev pub stage_of : Stage → drain.Stage
 stage_of (Deliver lane) = delivers lane.edge lane.from lane.to
 stage_of (Flush node subtask) = flushes node subtask
 
--- whether a stage of a drain is one of the sink: a channel that leads there, or its bundle
-abbrev pub is_at_sink : Network → drain.Stage → Bool
-is_at_sink g (delivers e i j) = feeds_node g.count (g.fed e)
-is_at_sink g (flushes v j) = v == g.count
+-- the subtask that takes what a stage of a drain delivers, or whose bundle is flushed: its node, and its number there
+abbrev pub fed_at : ℕ → Option network.Feed → Option (ℕ × ℕ)
+fed_at j None = None
+fed_at j (Some feed) = Some (feed.node, j)
+
+abbrev pub taker_of : Network → drain.Stage → Option (ℕ × ℕ)
+taker_of g (delivers e i j) = fed_at j (g.fed e)
+taker_of g (flushes v j) = Some (v, j)
 
 -- the scans of a table among the nodes below a number, in order
 abbrev pub scans_below : Network → ℕ → ℕ → List ℕ

@@ -1,4 +1,4 @@
-ghost use Rattle.std.specs.Prelude.{◌≡◌, ◌++◌, map, length, take, OnOk, OnErr};
+ghost use Rattle.std.specs.Prelude.{◌≡◌, ◌++◌, [], map, length, take, OnOk, OnErr};
 ghost use Rattle.stream_model.specs.declared.events.PrintItem.TheVariants.{Change as Printed};
 
 use ct_change::Changes;
@@ -6,8 +6,9 @@ use ct_value::Memory;
 use std::mem::swap;
 use stream_model::{PrintItem, PrintList};
 
-/// The sink prints changes. Where it is one, its list keeps its memory. After want of memory nothing is printed.
+/// The sink prints changes, and leaves their list empty; where it is one, the list keeps its memory. After want of memory nothing is printed.
 pub fn print_all(printed: &mut PrintList, changes: &mut Changes) -> Result<(), Memory>
+    ensures emptied { OnOk result (changes.new ≡ []) }
     ensures ok { OnOk result (printed.new ≡ printed.old ++ map Printed changes.old) }
     ensures err { OnErr result (printed.new ≡ printed.old) }
 {

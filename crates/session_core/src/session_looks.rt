@@ -1,9 +1,9 @@
-ghost use Rattle.std.specs.Prelude.{◌≡◌, ◌++◌, true};
+ghost use Rattle.std.specs.Prelude.{◌≡◌, ◌++◌, [], true};
 ghost use Rattle.ct_change.specs.Changelog.{Mode};
 ghost use Rattle.stream_model.specs.Network.{MeetsFacts};
 ghost use Rattle.stream_model.specs.Machine.{IsQuiet};
 ghost use Rattle.stream_model.specs.Looks.{in_flight, taken_of};
-ghost use Rattle.session_core.specs.LaidOut.{is_at_sink, stage_of};
+ghost use Rattle.session_core.specs.LaidOut.{stage_of, taker_of};
 ghost use Rattle.session_core.specs.Stands.{ForRuns, HasAnswered, PrintsIn, StandsFor, StandsForSome, buffer_at, reached};
 
 use crate::{Buffer, Session, SourceCheck, Stage};
@@ -12,13 +12,23 @@ use std::mem::swap;
 use stream_model::PrintList;
 
 impl<O: PieceOperator + Drop, S: SourceCheck> Session<O, S> {
-    /// Hands out the items that were printed and not yet handed out. It takes no memory.
+    /// Hands out the items that were printed and not yet handed out, into a list that is empty, whose room is kept for what is printed
+    /// next. It takes no memory.
+    pub fn hand_over(&mut self, to: &mut PrintList)
+        requires empty { to.old ≡ [] }
+        ensures items { to.new ≡ self.old.traffic.printed }
+        ensures stands { ForRuns O.rule O.broken O.stands_for O.takes_pieces S.stands_for self.old (λ g limit handed items. StandsFor O.rule O.broken O.stands_for O.takes_pieces S.stands_for g limit self.new (handed ++ to.new) items) }
+    {
+        swap(to, &mut self.traffic.printed);
+    }
+
+    /// The same, into a list of its own. It takes no memory.
     pub fn take_printed(&mut self) -> PrintList
         ensures items { result ≡ self.old.traffic.printed }
         ensures stands { ForRuns O.rule O.broken O.stands_for O.takes_pieces S.stands_for self.old (λ g limit handed items. StandsFor O.rule O.broken O.stands_for O.takes_pieces S.stands_for g limit self.new (handed ++ result) items) }
     {
         let mut items = PrintList::new(self.wiring.alloc);
-        swap(&mut items, &mut self.traffic.printed);
+        self.hand_over(&mut items);
         items
     }
 
@@ -43,11 +53,12 @@ impl<O: PieceOperator + Drop, S: SourceCheck> Session<O, S> {
         }
     }
 
-    /// Whether a stage of a drain is one of the sink, which prints and sends nothing. It takes no memory.
-    pub fn is_at_sink(&self, stage: Stage) -> bool
-        ensures { ForRuns O.rule O.broken O.stands_for O.takes_pieces S.stands_for self.now (λ g limit handed items. result ≡ is_at_sink g (stage_of stage)) }
+    /// The subtask that takes what a stage of a drain delivers, or whose bundle is flushed: its node, and its number there. `None`
+    /// exactly where it delivers a channel of an edge that feeds no node. It takes no memory.
+    pub fn taker(&self, stage: Stage) -> Option<(u32, u32)>
+        ensures { ForRuns O.rule O.broken O.stands_for O.takes_pieces S.stands_for self.now (λ g limit handed items. result ≡ taker_of g (stage_of stage)) }
     {
-        self.wiring.is_at_sink(stage)
+        self.wiring.taker(stage)
     }
 
     /// How many changes were taken of a table, and `None` exactly where there is no such table. It takes no memory.

@@ -1,4 +1,4 @@
-ghost use Rattle.std.specs.Prelude.{◌≡◌, ◌+◌, ◌<◌, ◌≤◌, ◌&&◌, ◌^◌, nat_lt, nat_le, length, get_or, set, ℕ, List, OnOk, OnErr, IfOk, IfErr};
+ghost use Rattle.std.specs.Prelude.{◌≡◌, ◌+◌, ◌<◌, ◌≤◌, ◌&&◌, ◌^◌, nat_lt, nat_le, [], length, get_or, set, ℕ, List, OnOk, OnErr, IfOk, IfErr};
 ghost use Rattle.stream_model.specs.Network.{Network};
 ghost use Rattle.stream_model.specs.Machine as machine;
 ghost use Rattle.stream_model.specs.Machine.{State};
@@ -51,7 +51,7 @@ impl Traffic {
         }
     }
 
-    /// What a subtask emits is printed by the sink, and sent by any other node unless that would pass the limit.
+    /// What a subtask emits is printed by the sink, and sent by any other node unless that would pass the limit; its list is left empty.
     pub fn hand_on(
         &mut self,
         wiring: &Wiring,
@@ -60,6 +60,7 @@ impl Traffic {
         changes: &mut Changes,
     ) -> Result<(), StepFault>
         requires ready { ForSome (MayHandOn wiring.now self.old node subtask changes.old) }
+        ensures emptied { OnOk result (changes.new ≡ []) }
         ensures ok { OnOk result (ForEach (MayHandOn wiring.now self.old node subtask changes.old) (HasHandedOn self.new node subtask changes.old)) }
         ensures err { IfErr result (λ fault. ForEach (MayHandOn wiring.now self.old node subtask changes.old) (λ g limit handed s. StopsBy (machine.hand_on g limit node subtask changes.old s) fault)) }
         ensures printed { OnErr result (self.new.printed ≡ self.old.printed) }

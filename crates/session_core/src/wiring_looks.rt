@@ -2,7 +2,7 @@ ghost use Rattle.std.specs.Prelude.{◌≡◌, ℕ, ◌+◌, ◌<◌, ◌∷◌,
 ghost use Rattle.stream_model.specs.Network.{Network};
 ghost use Rattle.stream_model.specs.Machine as machine;
 ghost use Rattle.stream_model.specs.Drain.{stages};
-ghost use Rattle.session_core.specs.LaidOut.{IsLaidOut, IsStageThere, feed_of, is_at_sink, stage_of};
+ghost use Rattle.session_core.specs.LaidOut.{IsLaidOut, IsStageThere, feed_of, stage_of, taker_of};
 
 use crate::{Feed, Stage, TableWiring, Wiring};
 use ct_value::{ColTys, Memory};
@@ -67,16 +67,17 @@ impl Wiring {
         }
     }
 
-    /// Whether a stage of a drain is one of the sink.
-    pub fn is_at_sink(&self, stage: Stage) -> bool
-        ensures { (g : Network) (limit : ℕ) → IsLaidOut self.now g limit → result ≡ is_at_sink g (stage_of stage) }
+    /// The subtask that takes what a stage of a drain delivers, or whose bundle is flushed: its node, and its number there. `None`
+    /// exactly where it delivers a channel of an edge that feeds no node.
+    pub fn taker(&self, stage: Stage) -> Option<(u32, u32)>
+        ensures { (g : Network) (limit : ℕ) → IsLaidOut self.now g limit → result ≡ taker_of g (stage_of stage) }
     {
         match stage {
             Stage::Deliver(lane) => match self.feed(lane.edge) {
-                Some(feed) => feed.node == self.nodes,
-                None => false,
+                Some(feed) => Some((feed.node, lane.to)),
+                None => None,
             },
-            Stage::Flush { node, .. } => node == self.nodes,
+            Stage::Flush { node, subtask } => Some((node, subtask)),
         }
     }
 

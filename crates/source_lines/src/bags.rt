@@ -27,7 +27,7 @@ pub fn bags_of(
     ensures ok { IfOk result (λ bags. (taken : Taken) × (taken_of sources.now first files ≡ Ok taken) × (bags ≡ rows_of sources.now taken)) }
     ensures refused { IfErr result (λ fault. IsRefused fault (taken_of sources.now first files)) }
 {
-    let readers = read_files(alloc, files)?;
+    let readers = read_files(alloc, &files)?;
     let named = NamedSources::new(alloc, sources)?;
     let folds = take_files(alloc, readers, &named, first)?;
     Ok(rows_of(alloc, folds)?)

@@ -9,7 +9,7 @@ use crate::bags::rows_of;
 use crate::take::{folds_of, take_first};
 use crate::{Bags, SourceFold, TakeFault};
 use ct_catalog::Sources;
-use ct_value::{Bytes, Memory};
+use ct_value::Memory;
 use job_text::{ChangeLines, NamedSources};
 use std::alloc::Global;
 
@@ -39,10 +39,10 @@ impl FeedFold {
 
     /// Takes the lines of the next part. `Refused` comes exactly where one of them is refused behind those of the parts before, and
     /// names the first such line by its number in the file; after an error nothing more can be taken.
-    pub fn take(&mut self, part: Bytes) -> Result<(), TakeFault>
-        requires { (sources : List Table) × (records : List Record) × FeedStands self.old sources records × (length records + length part ≤ 67108864) }
-        ensures ok { OnOk result ((sources : List Table) (records : List Record) → FeedStands self.old sources records → FeedStands self.new sources (records ++ records_of part)) }
-        ensures refused { IfErr result (λ fault. (sources : List Table) (records : List Record) → FeedStands self.old sources records → IsRefused fault (feed_taken sources (records ++ records_of part))) }
+    pub fn take(&mut self, part: &[u8]) -> Result<(), TakeFault>
+        requires { (sources : List Table) × (records : List Record) × FeedStands self.old sources records × (length records + length part.now ≤ 67108864) }
+        ensures ok { OnOk result ((sources : List Table) (records : List Record) → FeedStands self.old sources records → FeedStands self.new sources (records ++ records_of part.now)) }
+        ensures refused { IfErr result (λ fault. (sources : List Table) (records : List Record) → FeedStands self.old sources records → IsRefused fault (feed_taken sources (records ++ records_of part.now))) }
     {
         let lines = ChangeLines::behind(self.alloc, part, Some(0), self.read)?;
         let named = NamedSources::new(self.alloc, &self.sources)?;

@@ -63,7 +63,7 @@ fn take_line(
 
 // Takes the next line of a file.
 fn take_next(
-    file: &mut ChangeLines,
+    file: &mut ChangeLines<'_>,
     sources: &NamedSources<'_>,
     folds: &mut Vec<SourceFold>,
 ) -> Result<(), TakeFault>
@@ -93,14 +93,14 @@ fn first_lines(left: u32, first: Option<u64>) -> u32
 
 // Takes the first lines of a file, or all.
 pub(crate) fn take_first(
-    file: ChangeLines,
+    file: ChangeLines<'_>,
     sources: &NamedSources<'_>,
     folds: &mut Vec<SourceFold>,
     first: Option<u64>,
 ) -> Result<(), TakeFault>
     requires { (taken : Taken) × StandAll sources.now folds.old.items taken × ((source : ℕ) → length (taken source) + 4294967295 < 2 ^ 64) }
-    ensures ok { OnOk result ((taken : Taken) → StandAll sources.now folds.old.items taken → TookFile sources.now (first_of first file) taken folds.new.items) }
-    ensures refused { IfErr result (λ fault. (taken : Taken) → StandAll sources.now folds.old.items taken → IsRefused fault (take_file sources.now taken (first_of first file))) }
+    ensures ok { OnOk result ((taken : Taken) → StandAll sources.now folds.old.items taken → TookFile sources.now (first_of first file.entry) taken folds.new.items) }
+    ensures refused { IfErr result (λ fault. (taken : Taken) → StandAll sources.now folds.old.items taken → IsRefused fault (take_file sources.now taken (first_of first file.entry))) }
 {
     let count = first_lines(file.left(), first);
     let mut left = file;
@@ -113,12 +113,12 @@ pub(crate) fn take_first(
 // Takes the first lines of each file, or all, file by file.
 pub(crate) fn take_files(
     alloc: Global,
-    files: Vec<ChangeLines>,
+    files: Vec<ChangeLines<'_>>,
     sources: &NamedSources<'_>,
     first: Option<u64>,
 ) -> Result<Vec<SourceFold>, TakeFault>
-    ensures ok { IfOk result (λ folds. (taken : Taken) × (take_files sources.now nothing_taken (map (first_of first) files.items) ≡ Ok taken) × StandAll sources.now folds.items taken) }
-    ensures refused { IfErr result (λ fault. IsRefused fault (take_files sources.now nothing_taken (map (first_of first) files.items))) }
+    ensures ok { IfOk result (λ folds. (taken : Taken) × (take_files sources.now nothing_taken (map (first_of first) files.entry.items) ≡ Ok taken) × StandAll sources.now folds.items taken) }
+    ensures refused { IfErr result (λ fault. IsRefused fault (take_files sources.now nothing_taken (map (first_of first) files.entry.items))) }
 {
     if u32::try_from(files.len()).is_err() {
         return Err(TakeFault::Memory);

@@ -1,4 +1,4 @@
-use Rattle.std.proofs.Common.{◌+◌, ◌-◌, ◌≡◌, min, arith, [], refl}
+use Rattle.std.proofs.Common.{◌+◌, ◌-◌, ◌≡◌, arith, [], refl}
 use Rattle.std.proofs.lemmas.Result.{err_from_is_err_and}
 use Rattle.stream_model.specs.Machine.{State}
 use Rattle.source_lines.specs.Run.{At}

@@ -1,4 +1,4 @@
-use Rattle.std.proofs.Common.{sym, ap, ◌∙◌, None}
+use Rattle.std.proofs.Common.{sym, ◌∙◌, None}
 use Rattle.job_stream.proofs.Ordered.{order_refused, order_begins}
 use Rattle.job_stream.specs.Parts.{order_run, verb_run}
 use Rattle.job_stream.specs.Writing.{nothing}

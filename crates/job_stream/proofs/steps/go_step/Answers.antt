@@ -1,5 +1,4 @@
 use Rattle.std.proofs.Common.{◌≡◌, Ok, subst}
-use Rattle.std.proofs.lemmas.Result.{err_from_is_err_and}
 use Rattle.plan_rules.specs.Doings.{network}
 use Rattle.stream_model.specs.Drain.{StopsBy}
 use Rattle.stream_model.specs.Machine.{State}

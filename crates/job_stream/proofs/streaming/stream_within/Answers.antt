@@ -3,6 +3,3 @@ use Rattle.job_stream.proofs.streaming.stream_within.Goals as goal
 
 pub returns-in_default : goal.returns-in_default
 returns-in_default g c = ends_wanting _ _ _
-
-pub returns-in_default-read_files : goal.returns-in_default-read_files
-returns-in_default-read_files g c = ends_wanting _ _ _

@@ -1,4 +1,4 @@
-use Rattle.std.proofs.Common.{◌≡◌, ◌<◌, Some, List, length, slice_get, refl, ap, sym, subst, ◌∙◌, arith, [], ◌∷◌, false}
+use Rattle.std.proofs.Common.{◌≡◌, ◌<◌, Some, length, slice_get, refl, ap, sym, subst, ◌∙◌, arith, [], ◌∷◌, false}
 use Rattle.std.proofs.lemmas.Option.{slice_get-get_or}
 use Rattle.job_ending.specs.declared.halt.Halt.{Halt}
 use Rattle.job_stream.specs.Parts.{line_run}

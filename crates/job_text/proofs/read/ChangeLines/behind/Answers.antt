@@ -5,8 +5,7 @@ use Rattle.job_text.proofs.read.ChangeLines.behind.Goals as goal
 pub invariant_of-result : goal.invariant_of-result
 invariant_of-result c =
     let counted = c.in_ok-left.ensures in
-    let same : length c.as_slice.result.now ≡ length c.args.bytes = search rules in
     record {
-      within = omega (arith, counted, same, c.requires, few_records c.as_slice.result.now);
+      within = omega (arith, counted, c.requires, few_records c.args.bytes.now);
       reads_on = λ some. record { counted = search rules; good = c.reader_of.ensures.reading };
     }

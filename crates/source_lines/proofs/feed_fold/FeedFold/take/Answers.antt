@@ -26,13 +26,13 @@ returns-in_err-take_first-clause-refused c =
     let p = err_from_is_err_and c.from_residual-in_err-take_first.result c.from_residual-in_err-take_first.ensures.1 in
     rw (p.1, p.2) (λ sources records stands.
     let named_is = c.in_ok-named.ensures ∙ stands.of_sources in
-    subst (IsRefused c.in_err-take_first.field-0.0) (same_part sources c.in_ok-named.named records (records_of c.args.part) stands.taken c.args.self.now.read c.in_ok-lines.lines named_is c.in_ok-lines.ensures stands.accepted stands.read_is)
+    subst (IsRefused c.in_err-take_first.field-0.0) (same_part sources c.in_ok-named.named records (records_of c.args.part.now) stands.taken c.args.self.now.read c.in_ok-lines.lines named_is c.in_ok-lines.ensures stands.accepted stands.read_is)
     (c.in_err-take_first.ensures.refused stands.taken (subst (λ (tables : List TableDef). StandAll tables c.args.self.now.folds.items stands.taken) (sym named_is) stands.stand)))
 
 pub returns-clause-ok : goal.returns-clause-ok
 returns-clause-ok c = λ sources records stands.
     let named_is = c.in_ok-named.ensures ∙ stands.of_sources in
-    let part = records_of c.args.part in
+    let part = records_of c.args.part.now in
     let told = c.in_ok-take_first.ensures.ok stands.taken (subst (λ (tables : List TableDef). StandAll tables c.args.self.now.folds.items stands.taken) (sym named_is) stands.stand) in
     let same = same_part sources c.in_ok-named.named records part stands.taken c.args.self.now.read c.in_ok-lines.lines named_is c.in_ok-lines.ensures stands.accepted stands.read_is in
     let count = c.left-count.ensures ∙ ap (λ (lines : LinesLeft). length lines.records) c.in_ok-lines.ensures in
