@@ -49,9 +49,9 @@ impl Session {
     }
 
     /// The session after one event. A change that is taken has to fit its table: as many values as columns, each NULL or of
-    /// its column's type, and in a `-D` of an upsert table NULL in every column outside the key. A stop comes exactly where the machine stops, with its cause, NULL where none may stand among them,
-    /// or for want of memory; it consumes the session, adds nothing to what was printed, and hands back what was printed and
-    /// not yet handed out.
+    /// its column's type, and in a `-D` of an upsert table NULL in every column outside the key. A stop comes exactly where
+    /// the machine stops, with its cause, NULL where none may stand among them, or for want of memory; it consumes the
+    /// session, adds nothing to what was printed, and hands back what was printed and not yet handed out.
     pub fn step<L: Ledger>(mut self, event: Event, steps: &mut Steps<L>) -> Result<Session, Stopped>
         requires ready { MayStep self event }
         ensures ok { IfOk result (λ next. HasStepped self event next) }

@@ -60,7 +60,8 @@ fn try_record<R: Read>(reader: &mut Reader<R>, fields: &mut ByteRecord) -> Resul
     Ok(found)
 }
 
-/// The lines of a change file, whose bytes are borrowed, and of which some were read. It is seen as how many were read and the list of the records that are left.
+/// The lines of a change file, whose bytes are borrowed, and of which some were read. It is seen as how many were read and the list of the
+/// records that are left.
 #[derive(Drop)]
 pub struct ChangeLines<'a> {
     alloc: Global,
