@@ -2,8 +2,8 @@
 ghost use Rattle.std.specs.Prelude.{◌≡◌, ◌<◌, length, IfOk};
 
 use ct_value::{
-    Bytes, ChangeCode, ColTy, ColTys, Cols, Memory, OrderCode, Row, ScriptCode, Text, TextFault,
-    Ty, Value, Values,
+    Boxed, Bytes, ChangeCode, ColTy, ColTys, Cols, Memory, OrderCode, Row, ScriptCode, Text,
+    TextFault, Ty, Value, Values,
 };
 use std::alloc::Global;
 use std::cmp::Ordering;
@@ -185,11 +185,13 @@ const WHOLE: [Cell; 3] = [Cell::Text("a"), Cell::Num(-7), Cell::Bool(true)];
 
 const PREFIXES: [(u32, &[Cell]); 4] = [(0, &[]), (1, &[Cell::Text("a")]), (3, &WHOLE), (4, &WHOLE)];
 
-// Whether the prefix is this, both of a row that stays and of one that goes.
+// Whether the prefix is this, of a row that stays, also in the memory of another row, and of one that goes.
 fn is_cut(alloc: Global, count: u32, wanted: &[Cell]) -> Result<bool, Memory> {
     let whole = row(alloc, &WHOLE)?;
     let prefix = whole.prefix(count)?;
-    Ok(prefix == row(alloc, wanted)? && whole.into_prefix(count) == prefix)
+    let mut other = row(alloc, &[Cell::Bool(false), Cell::Null])?;
+    whole.prefix_into(count, &mut other)?;
+    Ok(prefix == row(alloc, wanted)? && other == prefix && whole.into_prefix(count) == prefix)
 }
 
 // The values of two columns, in this order.
@@ -203,12 +205,28 @@ fn two_of(alloc: Global, row: &Row, first: u32, second: u32) -> Result<Row, Memo
     row.project(&cols)
 }
 
+// The same in the memory of another row.
+fn two_into(alloc: Global, row: &Row, first: u32, second: u32, to: &mut Row) -> Result<(), Memory>
+    requires first { first < length row.now }
+    requires second { second < length row.now }
+{
+    let mut cols = Cols::new(alloc);
+    cols.push(first)?;
+    cols.push(second)?;
+    row.project_into(&cols, to)
+}
+
 fn is_projected(alloc: Global) -> Result<bool, Memory> {
     let whole = row(alloc, &WHOLE)?;
+    let mut other = row(alloc, &[Cell::Null])?;
     if whole.len() != 3 {
         return Ok(false);
     }
-    Ok(two_of(alloc, &whole, 2, 0)? == row(alloc, &[Cell::Bool(true), Cell::Text("a")])?)
+    two_into(alloc, &whole, 2, 0, &mut other)?;
+    Ok(
+        two_of(alloc, &whole, 2, 0)? == row(alloc, &[Cell::Bool(true), Cell::Text("a")])?
+            && other == row(alloc, &[Cell::Bool(true), Cell::Text("a")])?,
+    )
 }
 
 fn is_widened(alloc: Global) -> Result<bool, Memory> {
@@ -223,6 +241,14 @@ fn rows_are_cut_projected_and_widened(rt: HostRuntime) -> Result<(), Fail> {
     }
     assert!(rt; is_projected(rt.alloc())?);
     assert!(rt; is_widened(rt.alloc())?);
+    Ok(())
+}
+
+#[test]
+fn a_box_holds_what_was_put_in(rt: HostRuntime) -> Result<(), Fail> {
+    let boxed = Boxed::new(rt.alloc(), 7)?;
+    let held: u32 = boxed.into_inner();
+    assert!(rt; held == 7);
     Ok(())
 }
 

@@ -7,6 +7,7 @@
 #![tactic(auto)]
 
 mod abbreviation;
+mod boxed;
 mod bytes;
 mod codes;
 mod dup;
@@ -18,6 +19,7 @@ mod text;
 mod ty;
 mod value;
 
+pub use boxed::Boxed;
 pub use bytes::Bytes;
 pub use codes::{ChangeCode, OrderCode, ScriptCode};
 pub use dup::Dup;

@@ -10,6 +10,7 @@ use std::alloc::Global;
 use std::cmp::Ordering;
 use std::hash::{Hash, Hasher};
 use std::marker::Model;
+use std::mem::replace;
 
 /// Column positions, counted from 0.
 pub type Cols = List<u32>;
@@ -124,6 +125,43 @@ impl Row {
         Ok(Row::from_values(Values::from_vec(values)))
     }
 
+    /// Makes `to` the first values, `count` of them, or all where there are fewer, in the memory that it has where that is enough. For
+    /// want of memory it is left without values.
+    pub fn prefix_into(&self, count: u32, to: &mut Row) -> Result<(), Memory>
+        ensures { OnOk result (to.new ≡ take count self.now) }
+    {
+        let nothing = Row::from_values(self.values.beside());
+        let room = replace(to, nothing);
+        let end = count as usize;
+        if self.values.len() <= end {
+            // All values, and so the same abbreviation.
+            *to = Row {
+                values: refilled(room, self.values.as_slice())?,
+                abbreviation: self.abbreviation,
+            };
+            return Ok(());
+        }
+        *to = Row::from_values(refilled(room, &self.values.as_slice()[..end])?);
+        Ok(())
+    }
+
+    /// Makes `to` the values of these columns, in that order, in the memory that it has where that is enough. For want of memory it is
+    /// left without values.
+    pub fn project_into(&self, cols: &Cols, to: &mut Row) -> Result<(), Memory>
+        requires { All (λ col. col < length self.now) cols.now }
+        ensures { OnOk result (to.new ≡ project cols.now self.now) }
+    {
+        let nothing = Row::from_values(self.values.beside());
+        let Row { mut values, .. } = replace(to, nothing);
+        let cells = self.values.as_slice();
+        values.truncate(0);
+        for col in cols.as_slice() {
+            values.push(cells[*col as usize].dup()?)?;
+        }
+        *to = Row::from_values(values);
+        Ok(())
+    }
+
     /// The row cut to its first values, `count` of them, or all where there are fewer. It takes no memory.
     pub fn into_prefix(self, count: u32) -> Row
         ensures { result ≡ take count self }
@@ -155,6 +193,18 @@ impl Row {
         }
         compare_each(self.values.as_slice(), other.values.as_slice())
     }
+}
+
+// Copies of these values, in the memory of a row where that is enough.
+fn refilled(room: Row, from: &[Value]) -> Result<Values, Memory>
+    ensures { IfOk result (λ values. values ≡ from.now) }
+{
+    let Row { mut values, .. } = room;
+    values.truncate(0);
+    for value in from {
+        values.push(value.dup()?)?;
+    }
+    Ok(values)
 }
 
 impl PartialEq for Row {
