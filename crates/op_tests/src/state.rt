@@ -42,6 +42,13 @@ fn put(bag: &mut Bag, row: Row) -> Result<(), Memory> {
     Ok(())
 }
 
+fn put_copy(bag: &mut Bag, row: &Row) -> Result<(), Memory> {
+    if bag.count(row) < 9 {
+        bag.add_copy(row)?;
+    }
+    Ok(())
+}
+
 fn put_again(bag: &mut Bag, row: &Row) {
     let count = bag.count(row);
     if count > 0 && count < 9 {
@@ -55,13 +62,15 @@ fn take(bag: &mut Bag, row: &Row) {
     }
 }
 
-// The greater row comes first and twice, and goes.
+// The greater row comes first and twice, and goes; the less one comes, once where a row that stood came before it.
 fn counts_rows(alloc: Global, less: &Row, greater: &Row) -> Result<bool, Memory> {
     let mut bag = Bag::new(alloc);
     put(&mut bag, greater.dup()?)?;
-    put(&mut bag, less.dup()?)?;
-    put_again(&mut bag, greater);
-    let there = has_counts(&bag, 1, 2);
+    put_copy(&mut bag, less)?;
+    put_copy(&mut bag, greater)?;
+    put_copy(&mut bag, less)?;
+    put_again(&mut bag, less);
+    let there = has_counts(&bag, 3, 2);
     take(&mut bag, greater);
     let once = bag.count(greater) == 1;
     take(&mut bag, greater);

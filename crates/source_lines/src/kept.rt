@@ -128,7 +128,7 @@ fn take_row(rows: &mut Bag, change: &Change) -> Result<(), SourceFault>
     ensures err { OnErr result (rows.new ≡ rows.old) }
 {
     if change.kind.is_addition() {
-        rows.add(change.row.dup()?)?;
+        rows.add_copy(&change.row)?;
         return Ok(());
     }
     if rows.count(&change.row) == 0 {
