@@ -56,8 +56,8 @@ pub(crate) fn halt_of(cause: StepFault) -> Halt
         } => Halt::Range {
             node,
             subtask,
-            row,
-            tys,
+            row: row.into_inner(),
+            tys: tys.into_inner(),
         },
         StepFault::Limit => Halt::Limit(LimitName::Sent),
         StepFault::Memory => Halt::Memory,

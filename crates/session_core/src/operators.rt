@@ -1,4 +1,4 @@
-ghost use Rattle.std.specs.Prelude.{◌≡◌, ℕ, ◌<◌, ◌+◌, ◌*◌, Bool, true, length, OnOk, IfErr};
+ghost use Rattle.std.specs.Prelude.{◌≡◌, ℕ, ◌<◌, ◌+◌, ◌*◌, Bool, true, length, OnOk, IfOk, IfErr};
 ghost use Rattle.op_rules.specs.Faults.{IfRange};
 ghost use Rattle.op_rules.specs.Rules.{Answer};
 ghost use Rattle.stream_model.specs.Network.{Network};
@@ -8,7 +8,7 @@ ghost use Rattle.session_core.specs.Runs.{AreEmpty, ForAllRun, HasConsumed, HasF
 
 use crate::{Feed, Wiring};
 use ct_change::{Change, Steps};
-use ct_value::{Memory, Row};
+use ct_value::{Boxed, Memory, Row};
 use op_rules::{OpFault, PieceOperator};
 use session_subtasks::{Emitted, Subtask};
 use std::sync::ledger::Ledger;
@@ -185,7 +185,7 @@ pub fn consume_at<O: PieceOperator, L: Ledger>(
 {
     match operators.consume(size, feed, subtask, change, to, steps) {
         Ok(()) => Ok(()),
-        Err(OpFault::Range(row)) => Err(range_at(wiring, feed.node, subtask, row)),
+        Err(OpFault::Range(row)) => Err(range_or_memory(wiring, feed.node, subtask, row)),
         Err(OpFault::Memory) => Err(StepFault::Memory),
     }
 }
@@ -210,23 +210,34 @@ pub fn flush_at<O: PieceOperator, L: Ledger>(
 {
     match operators.flush(node, subtask, to, steps) {
         Ok(()) => Ok(()),
-        Err(OpFault::Range(row)) => Err(range_at(wiring, node, subtask, row)),
+        Err(OpFault::Range(row)) => Err(range_or_memory(wiring, node, subtask, row)),
         Err(OpFault::Memory) => Err(StepFault::Memory),
     }
 }
 
-// The fault of a subtask that is out of range at a row.
-fn range_at(wiring: &Wiring, node: u32, subtask: u32, row: Row) -> StepFault
+// The fault of a subtask that is out of range at a row, unless memory is wanting.
+fn range_or_memory(wiring: &Wiring, node: u32, subtask: u32, row: Row) -> StepFault
     requires typed { node < length wiring.now.types.items }
     ensures { (g : Network) (limit : ℕ) (due : Bool) (answer : Answer) → IsLaidOut wiring.now g limit → IsOutOf due answer row → IsOutAt g node subtask due answer result }
 {
-    match wiring.types_of(node) {
-        Ok(tys) => StepFault::Range {
-            node,
-            subtask,
-            row,
-            tys,
-        },
+    match range_at(wiring, node, subtask, row) {
+        Ok(fault) => fault,
         Err(Memory) => StepFault::Memory,
     }
+}
+
+// The same fault, which lies in memory of its own.
+fn range_at(wiring: &Wiring, node: u32, subtask: u32, row: Row) -> Result<StepFault, Memory>
+    requires typed { node < length wiring.now.types.items }
+    ensures { IfOk result (λ fault. (g : Network) (limit : ℕ) (due : Bool) (answer : Answer) → IsLaidOut wiring.now g limit → IsOutOf due answer row → IsOutAt g node subtask due answer fault) }
+{
+    let types = wiring.types_of(node)?;
+    let row = Boxed::new(wiring.alloc, row)?;
+    let tys = Boxed::new(wiring.alloc, types)?;
+    Ok(StepFault::Range {
+        node,
+        subtask,
+        row,
+        tys,
+    })
 }

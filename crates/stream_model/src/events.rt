@@ -1,5 +1,5 @@
 use ct_change::Change;
-use ct_value::{ChangeCode, ColTys, List, Memory, Numbers, OrderCode, Row};
+use ct_value::{Boxed, ChangeCode, ColTys, List, Memory, Numbers, OrderCode, Row};
 
 /// What may come next in a job: a change of a table is taken, the front of a channel is delivered, or a subtask's
 /// bundle is flushed. Tables are numbered from 0, nodes and edges from 1, subtasks from 0.
@@ -10,7 +10,8 @@ pub enum Event {
     Flush { node: u32, subtask: u32 },
 }
 
-/// Why an event can't be. A `Range` has the row at which the node is out of range, and the types of its columns.
+/// Why an event can't be. A `Range` has the row at which the node is out of range, and the types of its columns; they are boxed, since
+/// every step answers a fault or none.
 #[derive(Debug, Drop)]
 pub enum StepFault {
     Change(ChangeCode),
@@ -18,8 +19,8 @@ pub enum StepFault {
     Range {
         node: u32,
         subtask: u32,
-        row: Row,
-        tys: ColTys,
+        row: Boxed<Row>,
+        tys: Boxed<ColTys>,
     },
     Limit,
     Memory,
