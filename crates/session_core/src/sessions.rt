@@ -76,16 +76,8 @@ impl<O: PieceOperator + Drop, S: SourceCheck> Session<O, S> {
         ensures err { IfErr result (λ fault. ForPending O.rule O.broken O.stands_for O.takes_pieces S.stands_for self.old node subtask self.old.emitted (λ g limit handed next. StopsBy next fault)) }
         ensures printed { OnErr result (self.new.traffic.printed ≡ self.old.traffic.printed) }
     {
-        match self.emitted.take() {
-            Some(mut changes) => {
-                let handed = self
-                    .traffic
-                    .hand_on(&self.wiring, node, subtask, &mut changes);
-                self.emitted.keep(changes);
-                handed
-            }
-            None => Ok(()),
-        }
+        self.traffic
+            .hand_emitted(&self.wiring, node, subtask, &mut self.emitted)
     }
 
     // One change of a table enters the channels of its scans.

@@ -1,4 +1,5 @@
-ghost use Rattle.std.specs.Prelude.{◌≡◌, ◌+◌, ◌<◌, ◌≤◌, ◌&&◌, ◌^◌, nat_lt, nat_le, [], length, get_or, set, ℕ, List, OnOk, OnErr, IfOk, IfErr};
+ghost use Rattle.std.specs.Prelude.{◌≡◌, ◌+◌, ◌<◌, ◌≤◌, ◌&&◌, ◌^◌, nat_lt, nat_le, [], length, get_or, set, ℕ, List, Some, None, Ok, OnOk, OnErr, IfOk, IfErr};
+ghost use Rattle.ct_change.specs.declared.change.Change.{Change as Told};
 ghost use Rattle.stream_model.specs.Network.{Network};
 ghost use Rattle.stream_model.specs.Machine as machine;
 ghost use Rattle.stream_model.specs.Machine.{State};
@@ -14,6 +15,7 @@ use crate::{Feed, Lane, Wiring};
 use ct_change::{Change, Changes};
 use ct_value::{Memory, OrderCode};
 use session_channels::{Channels, scan_all, send_all};
+use session_subtasks::Emitted;
 use stream_model::{Counts, PrintItem, PrintList, StepFault};
 
 /// What is in flight, what was printed and not yet handed out, and how many changes were taken, in all and of each table.
@@ -82,6 +84,27 @@ impl Traffic {
             changes,
         )?;
         Ok(())
+    }
+
+    /// The same of what it emitted for its bundle, if that was due.
+    pub fn hand_emitted(
+        &mut self,
+        wiring: &Wiring,
+        node: u32,
+        subtask: u32,
+        emitted: &mut Emitted,
+    ) -> Result<(), StepFault>
+        requires ready { (changes : List Told) → emitted.old ≡ Some changes → ForSome (MayHandOn wiring.now self.old node subtask changes) }
+        ensures idle { emitted.old ≡ None → (result ≡ Ok tt) × (self.new ≡ self.old) }
+        ensures ok { OnOk result ((changes : List Told) → emitted.old ≡ Some changes → ForEach (MayHandOn wiring.now self.old node subtask changes) (HasHandedOn self.new node subtask changes)) }
+        ensures err { IfErr result (λ fault. (changes : List Told) → emitted.old ≡ Some changes → ForEach (MayHandOn wiring.now self.old node subtask changes) (λ g limit handed s. StopsBy (machine.hand_on g limit node subtask changes s) fault)) }
+        ensures printed { OnErr result (self.new.printed ≡ self.old.printed) }
+    {
+        if !emitted.due {
+            return Ok(());
+        }
+        emitted.due = false;
+        self.hand_on(wiring, node, subtask, &mut emitted.changes)
     }
 
     /// The scans of a table send a change, unless that would pass the limit.

@@ -42,10 +42,11 @@ impl<O: PieceOperator> Subtask<O> {
         ensures ok { OnOk result (ForTaken O.rule O.broken O.stands_for O.takes_pieces self.old None port change (λ g v history bundle. HasRun O.rule O.broken O.stands_for O.takes_pieces (is_full g v bundle) g v self.new history bundle to.new)) }
         ensures range { IfRange result (λ row. ForTaken O.rule O.broken O.stands_for O.takes_pieces self.old None port change (λ g v history bundle. IsOutOf (is_full g v bundle) (g.emits v history bundle) row)) }
     {
-        let mut changes = to.room();
-        match self.operator.consume(port, change, &mut changes, steps) {
+        to.changes.truncate(0);
+        to.due = false;
+        match self.operator.consume(port, change, &mut to.changes, steps) {
             Ok(()) => {
-                to.put(changes);
+                to.due = true;
                 Ok(())
             }
             Err(fault) => Err(fault),

@@ -30,10 +30,9 @@ returns-in-Ok-clause-ok b c = λ g v j history bundle from m.
     let told = c.in-Ok.ensures.ok history from m.stands_as.runs.stands_for may few in
     let rule = b.O.Operator.rule old.operator in
     let a = arrival c.args.port from c.args.change in
-    let emits = emits_alone rule history a c.consume.new.to (subst (λ (l : List Change). EmitsOnto rule history a l c.consume.new.to) c.room-changes.ensures told.0) in
-    subst (HasRun b.O.Operator.rule b.O.Operator.broken b.O.Operator.stands_for b.O.PieceOperator.takes_pieces (is_full g v (bundle ++ a ∷ [])) g v _ history (bundle ++ a ∷ [])) (sym c.put.ensures)
-    (alone_ok b.O.Operator.rule b.O.Operator.broken b.O.Operator.stands_for b.O.PieceOperator.takes_pieces old c.args.port c.args.change g v j history bundle from m
-    _ c.consume.new.to c.consume.ensures.rule_stays c.in-Ok.ensures.stays_whole refl emits told.1)
+    let emits = emits_alone rule history a c.consume.new.to (subst (λ (l : List Change). EmitsOnto rule history a l c.consume.new.to) c.truncate.ensures told.0) in
+    alone_ok b.O.Operator.rule b.O.Operator.broken b.O.Operator.stands_for b.O.PieceOperator.takes_pieces old c.args.port c.args.change g v j history bundle from m
+    _ c.consume.new.to c.consume.ensures.rule_stays c.in-Ok.ensures.stays_whole refl emits told.1
 
 pub returns-in-Err-clause-range : goal.returns-in-Err-clause-range
 returns-in-Err-clause-range b c = range_of (Unit {0}) (Unit {0}) _ _ c.in-Err.fault c.in-Err.ensures.range (λ row told g v j history bundle from m.
