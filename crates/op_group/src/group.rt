@@ -10,7 +10,7 @@ use crate::groups::{GroupBy, Results, first_row, turn_group};
 use crate::kept::Kept;
 use crate::pieces::take_changes;
 use ct_change::{Change, Changes, InMode, Kind, OutMode, Steps};
-use ct_value::{ColTys, Memory, Row};
+use ct_value::{ColTys, Memory, Row, Values};
 use op_rules::{OpFault, Operator, PieceOperator};
 use rel_algebra::Aggs;
 use std::alloc::Global;
@@ -27,6 +27,8 @@ pub struct Group<I: InMode, O: OutMode> {
     output: O,
     rows: I::Kept,
     groups: BTreeMap<Row, Kept>,
+    // The key of the row that was taken last, whose memory is kept for the next one's.
+    key: Row,
     broken: bool,
 }
 
@@ -66,6 +68,7 @@ impl<I: InMode, O: OutMode> Group<I, O> {
             output,
             rows,
             groups: BTreeMap::new(alloc),
+            key: Row::from_values(Values::new(alloc)),
             broken: false,
         })
     }
@@ -116,10 +119,10 @@ impl<I: InMode, O: OutMode> Group<I, O> {
         ensures range { IfRange result (λ row. (rows : Rows) (held : ℕ) → I.stands_for self.old.input self.old.rows rows → MayTake self.old.by (grouping self.old.by (I.mode self.old.input) (O.mode self.old.output)) rows self.old.groups held change → group_emits (grouping self.old.by (I.mode self.old.input) (O.mode self.old.output)) rows (change ∷ []) (take self.old.by.keys change.row) ≡ Err row) }
         ensures same { (self.new.by ≡ self.old.by) × (self.new.input ≡ self.old.input) × (self.new.output ≡ self.old.output) × (self.new.broken ≡ self.old.broken) }
     {
-        let key = change.row.prefix(self.by.keys)?;
+        change.row.prefix_into(self.by.keys, &mut self.key)?;
         let diff = self.input.absorb(&mut self.rows, change)?;
         let (gone, come) = (row_of(&diff.gone), row_of(&diff.come));
-        let results = match turn_group(&self.by, &mut self.groups, key, gone, come) {
+        let results = match turn_group(&self.by, &mut self.groups, &self.key, gone, come) {
             Ok(results) => results,
             Err(fault) => return Err(fault),
         };

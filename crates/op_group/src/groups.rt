@@ -53,26 +53,26 @@ pub fn first_row(by: &GroupBy) -> Result<Option<Row>, Memory>
 pub fn turn_group(
     by: &GroupBy,
     groups: &mut BTreeMap<Row, Kept>,
-    key: Row,
+    key: &Row,
     gone: Option<&Row>,
     come: Option<&Row>,
 ) -> Result<Results, OpFault>
-    requires kept { MayTurn by.now groups.old key (option_copied gone) }
+    requires kept { MayTurn by.now groups.old key.now (option_copied gone) }
     requires retracts { IsSome (option_copied gone) → by.now.retracting ≡ true }
-    ensures told { IfOk result (λ results. ForTurned by.now groups.old key (option_copied gone.entry) (option_copied come.entry) (λ before after. IsTold by.now key before after results)) }
-    ensures kept { OnOk result ((of after : Row → Rows) → AreKept by.now groups.old of → HasRow (of key) (option_copied gone.entry) → IsTurned key of after (option_copied gone.entry) (option_copied come.entry) → AreKept by.now groups.new after) }
-    ensures range { IfRange result (λ row. (row ≡ key) × ForTurned by.now groups.old key (option_copied gone.entry) (option_copied come.entry) (λ before after. all_counted by.now.tys by.now.aggs before ≡ true → in_range by.now after ≡ false)) }
+    ensures told { IfOk result (λ results. ForTurned by.now groups.old key.now (option_copied gone.entry) (option_copied come.entry) (λ before after. IsTold by.now key.now before after results)) }
+    ensures kept { OnOk result ((of after : Row → Rows) → AreKept by.now groups.old of → HasRow (of key.now) (option_copied gone.entry) → IsTurned key.now of after (option_copied gone.entry) (option_copied come.entry) → AreKept by.now groups.new after) }
+    ensures range { IfRange result (λ row. (row ≡ key.now) × ForTurned by.now groups.old key.now (option_copied gone.entry) (option_copied come.entry) (λ before after. all_counted by.now.tys by.now.aggs before ≡ true → in_range by.now after ≡ false)) }
 {
-    let Some(kept) = groups.get_mut(&key) else {
+    let Some(kept) = groups.get_mut(key) else {
         return start_group(by, groups, key, gone, come);
     };
-    let results = match take_turn(kept, &key, by.keys, gone, come) {
+    let results = match take_turn(kept, key, by.keys, gone, come) {
         Ok(results) => results,
-        Err(AccFault::Out) => return Err(OpFault::Range(key)),
+        Err(AccFault::Out) => return Err(OpFault::Range(key.dup()?)),
         Err(AccFault::Memory) => return Err(OpFault::Memory),
     };
     if kept.rows == 0 {
-        forget(groups, &key);
+        forget(groups, key);
     }
     Ok(results)
 }
@@ -81,23 +81,24 @@ pub fn turn_group(
 fn start_group(
     by: &GroupBy,
     groups: &mut BTreeMap<Row, Kept>,
-    key: Row,
+    key: &Row,
     gone: Option<&Row>,
     come: Option<&Row>,
 ) -> Result<Results, OpFault>
-    requires kept { MayTurn by.now groups.old key (option_copied gone) }
+    requires kept { MayTurn by.now groups.old key.now (option_copied gone) }
     requires retracts { IsSome (option_copied gone) → by.now.retracting ≡ true }
-    ensures told { IfOk result (λ results. ForTurned by.now groups.old key (option_copied gone.entry) (option_copied come.entry) (λ before after. IsTold by.now key before after results)) }
-    ensures kept { OnOk result ((of after : Row → Rows) → AreKept by.now groups.old of → HasRow (of key) (option_copied gone.entry) → IsTurned key of after (option_copied gone.entry) (option_copied come.entry) → AreKept by.now groups.new after) }
-    ensures range { IfRange result (λ row. (row ≡ key) × ForTurned by.now groups.old key (option_copied gone.entry) (option_copied come.entry) (λ before after. all_counted by.now.tys by.now.aggs before ≡ true → in_range by.now after ≡ false)) }
+    ensures told { IfOk result (λ results. ForTurned by.now groups.old key.now (option_copied gone.entry) (option_copied come.entry) (λ before after. IsTold by.now key.now before after results)) }
+    ensures kept { OnOk result ((of after : Row → Rows) → AreKept by.now groups.old of → HasRow (of key.now) (option_copied gone.entry) → IsTurned key.now of after (option_copied gone.entry) (option_copied come.entry) → AreKept by.now groups.new after) }
+    ensures range { IfRange result (λ row. (row ≡ key.now) × ForTurned by.now groups.old key.now (option_copied gone.entry) (option_copied come.entry) (λ before after. all_counted by.now.tys by.now.aggs before ≡ true → in_range by.now after ≡ false)) }
 {
-    let mut kept = take_out(by, groups, &key)?;
-    let results = match take_turn(&mut kept, &key, by.keys, gone, come) {
+    let mut kept = take_out(by, groups, key)?;
+    let results = match take_turn(&mut kept, key, by.keys, gone, come) {
         Ok(results) => results,
-        Err(AccFault::Out) => return Err(OpFault::Range(key)),
+        Err(AccFault::Out) => return Err(OpFault::Range(key.dup()?)),
         Err(AccFault::Memory) => return Err(OpFault::Memory),
     };
-    put_back(groups, key, kept)?;
+    let own = key.dup()?;
+    put_back(groups, own, kept)?;
     Ok(results)
 }
 

@@ -42,22 +42,22 @@ pub struct Firsts {
 pub fn turn_partition<L: Ledger>(
     by: &TopBy,
     partitions: &mut BTreeMap<Row, RankedRows>,
-    key: Row,
+    key: &Row,
     gone: Option<Row>,
     come: Option<Row>,
     steps: &mut Steps<L>,
 ) -> Result<Option<Firsts>, Memory>
-    requires kept { (of : Row → Rows) × AreKept by.now.order partitions.old of × HasRow (of key) gone × (total (λ _. 1) (of key) + 1 < 2 ^ 64) }
-    ensures firsts { IfOk result (λ firsts. (of : Row → Rows) → AreKept by.now.order partitions.old of → HasRow (of key) gone → AreFirsts firsts (firsts_of by.now (of key)) (firsts_of by.now (replaced (of key) gone come))) }
-    ensures kept { OnOk result ((of after : Row → Rows) → AreKept by.now.order partitions.old of → HasRow (of key) gone → IsTurned key of after gone come → AreKept by.now.order partitions.new after) }
+    requires kept { (of : Row → Rows) × AreKept by.now.order partitions.old of × HasRow (of key.now) gone × (total (λ _. 1) (of key.now) + 1 < 2 ^ 64) }
+    ensures firsts { IfOk result (λ firsts. (of : Row → Rows) → AreKept by.now.order partitions.old of → HasRow (of key.now) gone → AreFirsts firsts (firsts_of by.now (of key.now)) (firsts_of by.now (replaced (of key.now) gone come))) }
+    ensures kept { OnOk result ((of after : Row → Rows) → AreKept by.now.order partitions.old of → HasRow (of key.now) gone → IsTurned key.now of after gone come → AreKept by.now.order partitions.new after) }
     ensures cost { steps.new ≤ steps.old + 2 * by.now.bound }
 {
-    let Some(kept) = partitions.get_mut(&key) else {
+    let Some(kept) = partitions.get_mut(key) else {
         return start_partition(by, partitions, key, gone, come, steps);
     };
     let firsts = turn_rows(by, kept, gone, come, steps)?;
     if kept.is_empty() {
-        forget(partitions, &key);
+        forget(partitions, key);
     }
     Ok(firsts)
 }
@@ -66,20 +66,21 @@ pub fn turn_partition<L: Ledger>(
 fn start_partition<L: Ledger>(
     by: &TopBy,
     partitions: &mut BTreeMap<Row, RankedRows>,
-    key: Row,
+    key: &Row,
     gone: Option<Row>,
     come: Option<Row>,
     steps: &mut Steps<L>,
 ) -> Result<Option<Firsts>, Memory>
-    requires absent { get row_cmp partitions.old key ≡ None }
-    requires kept { (of : Row → Rows) × AreKept by.now.order partitions.old of × HasRow (of key) gone × (total (λ _. 1) (of key) + 1 < 2 ^ 64) }
-    ensures firsts { IfOk result (λ firsts. (of : Row → Rows) → AreKept by.now.order partitions.old of → HasRow (of key) gone → AreFirsts firsts (firsts_of by.now (of key)) (firsts_of by.now (replaced (of key) gone come))) }
-    ensures kept { OnOk result ((of after : Row → Rows) → AreKept by.now.order partitions.old of → HasRow (of key) gone → IsTurned key of after gone come → AreKept by.now.order partitions.new after) }
+    requires absent { get row_cmp partitions.old key.now ≡ None }
+    requires kept { (of : Row → Rows) × AreKept by.now.order partitions.old of × HasRow (of key.now) gone × (total (λ _. 1) (of key.now) + 1 < 2 ^ 64) }
+    ensures firsts { IfOk result (λ firsts. (of : Row → Rows) → AreKept by.now.order partitions.old of → HasRow (of key.now) gone → AreFirsts firsts (firsts_of by.now (of key.now)) (firsts_of by.now (replaced (of key.now) gone come))) }
+    ensures kept { OnOk result ((of after : Row → Rows) → AreKept by.now.order partitions.old of → HasRow (of key.now) gone → IsTurned key.now of after gone come → AreKept by.now.order partitions.new after) }
     ensures cost { steps.new ≤ steps.old + 2 * by.now.bound }
 {
     let mut kept = RankedRows::new(by.alloc);
     let firsts = turn_rows(by, &mut kept, gone, come, steps)?;
-    put_in(partitions, key, kept)?;
+    let own = key.dup()?;
+    put_in(partitions, own, kept)?;
     Ok(firsts)
 }
 

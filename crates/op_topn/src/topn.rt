@@ -7,7 +7,7 @@ use crate::partitions::{TopBy, turn_partition};
 use crate::telling::tell;
 use crate::{RankOrder, RankedRows};
 use ct_change::{Change, Changes, InMode, OutMode, Steps};
-use ct_value::{ColTys, Cols, Memory, Row};
+use ct_value::{ColTys, Cols, Memory, Row, Values};
 use op_rules::{OpFault, Operator};
 use rel_algebra::Sorts;
 use std::alloc::Global;
@@ -24,6 +24,8 @@ pub struct TopN<I: InMode, O: OutMode> {
     output: O,
     rows: I::Kept,
     partitions: BTreeMap<Row, RankedRows>,
+    // The key of the row that was taken last, whose memory is kept for the next one's.
+    key: Row,
     broken: bool,
 }
 
@@ -65,6 +67,7 @@ impl<I: InMode, O: OutMode> TopN<I, O> {
             output,
             rows,
             partitions: BTreeMap::new(alloc),
+            key: Row::from_values(Values::new(alloc)),
             broken: false,
         })
     }
@@ -82,10 +85,10 @@ impl<I: InMode, O: OutMode> TopN<I, O> {
         ensures same { (self.new.by ≡ self.old.by) × (self.new.input ≡ self.old.input) × (self.new.output ≡ self.old.output) × (self.new.broken ≡ self.old.broken) }
         ensures cost { steps.new ≤ steps.old + 2 * self.old.by.bound }
     {
-        let key = change.row.project(&self.by.partition)?;
+        change.row.project_into(&self.by.partition, &mut self.key)?;
         let diff = self.input.absorb(&mut self.rows, change)?;
         let (gone, come) = (row_of(diff.gone), row_of(diff.come));
-        let firsts = turn_partition(&self.by, &mut self.partitions, key, gone, come, steps)?;
+        let firsts = turn_partition(&self.by, &mut self.partitions, &self.key, gone, come, steps)?;
         match firsts {
             None => Ok(()),
             Some(firsts) => {

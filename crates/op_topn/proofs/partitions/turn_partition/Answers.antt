@@ -16,22 +16,22 @@ start_partition-requires-clause-kept g c =
 pub returns-in_default-clause-kept : goal.returns-in_default-clause-kept
 returns-in_default-clause-kept g c =
     let order = c.args.by.now.order in
-    subst (λ m. OnOk c.start_partition.result ((of after : Row → Rows) → AreKept order m of → HasRow (of c.args.key) c.args.gone → IsTurned c.args.key of after c.args.gone c.args.come → AreKept order c.start_partition.new.partitions after))
+    subst (λ m. OnOk c.start_partition.result ((of after : Row → Rows) → AreKept order m of → HasRow (of c.args.key.now) c.args.gone → IsTurned c.args.key.now of after c.args.gone c.args.come → AreKept order c.start_partition.new.partitions after))
     c.get_mut.follows.holds-at-none c.start_partition.ensures.kept
 
 pub turn_rows-requires : goal.turn_rows-requires
 turn_rows-requires g c =
     let r = c.requires.kept in
-    (r.0 c.args.key, kept_there c.args.by.now.order c.args.partitions.now r.0 r.1 c.args.key c.in-Some.kept.now (sym c.in-Some.ensures.value), r.2, r.3)
+    (r.0 c.args.key.now, kept_there c.args.by.now.order c.args.partitions.now r.0 r.1 c.args.key.now c.in-Some.kept.now (sym c.in-Some.ensures.value), r.2, r.3)
 
 pub returns-clause-firsts : goal.returns-clause-firsts
 returns-clause-firsts g c = λ of all has.
-    c.in_ok-firsts.ensures.firsts (of c.args.key) (kept_there c.args.by.now.order c.args.partitions.now of all c.args.key c.in-Some.kept.now (sym c.in-Some.ensures.value)) has
+    c.in_ok-firsts.ensures.firsts (of c.args.key.now) (kept_there c.args.by.now.order c.args.partitions.now of all c.args.key.now c.in-Some.kept.now (sym c.in-Some.ensures.value)) has
 
 pub returns-clause-kept : goal.returns-clause-kept
 returns-clause-kept g c = λ of after all has turned.
     let order = c.args.by.now.order in
-    let key = c.args.key in
+    let key = c.args.key.now in
     let before = kept_there order c.args.partitions.now of all key c.in-Some.kept.now (sym c.in-Some.ensures.value) in
     let kept : RankedRows = c.turn_rows.new.kept in
     let is = c.in_ok-firsts.ensures.kept (of key) before has in
