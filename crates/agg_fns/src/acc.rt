@@ -1,4 +1,4 @@
-ghost use Rattle.std.specs.Prelude.{◌≡◌, ◌+◌, ◌<◌, ◌^◌, true, false, cond, not, None, Some, IfOk, IfErr, OnErr, OnOk};
+ghost use Rattle.std.specs.Prelude.{◌≡◌, ◌+◌, ◌<◌, ◌^◌, true, false, None, Some, IfOk, IfErr, OnErr};
 ghost use Rattle.ct_value.specs.Bag as bag;
 ghost use Rattle.ct_value.specs.declared.value.Value.{Value};
 ghost use Rattle.ct_value.specs.declared.ty.Ty.{Ty};

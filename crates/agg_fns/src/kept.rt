@@ -1,5 +1,5 @@
 //! The values that accumulators keep: the least, the greatest, or all that aren't NULL.
-ghost use Rattle.std.specs.Prelude.{◌≡◌, ◌+◌, ◌<◌, ◌^◌, false, not, unwrap_or, option_copied, IfOk, OnOk, OnErr};
+ghost use Rattle.std.specs.Prelude.{◌≡◌, ◌+◌, ◌<◌, ◌^◌, false, unwrap_or, option_copied, IfOk, OnOk, OnErr};
 ghost use Rattle.ct_value.specs.Bag as bag;
 ghost use Rattle.ct_value.specs.declared.value.Value.{Value};
 ghost use Rattle.ct_value.specs.declared.value.Value.TheVariants.{Null};

@@ -1,6 +1,5 @@
 //! Numbers of the values that a call takes: how many, and how much above and below 0.
-ghost use Rattle.std.specs.Prelude.{◌≡◌, ◌+◌, ◌*◌, ◌<◌, ◌≤◌, ◌^◌, ◌-◌, length, option_copied, unsigned_abs, ℤ, cond};
-ghost use Rattle.std.specs.Int.{is_negative};
+ghost use Rattle.std.specs.Prelude.{◌≡◌, ◌+◌, ◌*◌, ◌<◌, ◌≤◌, ◌^◌, ◌-◌, option_copied, unsigned_abs};
 ghost use Rattle.ct_field.specs.Typed as typed;
 ghost use Rattle.ct_value.specs.Order.{number_of};
 ghost use Rattle.rel_algebra.specs.Aggregates as a;

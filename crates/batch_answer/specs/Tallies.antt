@@ -1,5 +1,5 @@
 -- Rows with their counts as the program keeps them, and answers that it can't give.
-use Rattle.std.specs.Prelude.{ℕ, zero, suc, ◌<◌, ◌≤◌, ◌^◌, List, Option, Some, None}
+use Rattle.std.specs.Prelude.{ℕ, zero, suc, ◌≤◌, ◌^◌, List, Option, Some, None}
 use Rattle.std.specs.BTreeMap.{BTreeMap, IsOrdered, get}
 use Rattle.std.specs.Option.{unwrap_or}
 pub use Rattle.agg_results.specs.Taken.{AreCounted}

@@ -1,5 +1,5 @@
 //! Top-N: the first rows of each partition in rank order.
-ghost use Rattle.std.specs.Prelude.{◌≡◌, ◌≤◌, Bool, List as Seq, Some, IfOk, OnOk, IsErrOf, IsPermutation, option_copied};
+ghost use Rattle.std.specs.Prelude.{◌≡◌, List as Seq, Some, IfOk, OnOk, IsErrOf, IsPermutation, option_copied};
 ghost use Rattle.std.specs.List.Sorted.{IsSortedBy};
 ghost use Rattle.std.specs.Ordering.{is_lt};
 ghost use Rattle.ct_change.specs.Counts.{repeated};

@@ -1,6 +1,6 @@
 //! FROM, and conditions as one.
 ghost use Rattle.bind_names.specs.declared.fault.BindFault.TheVariants as f;
-ghost use Rattle.std.specs.Prelude.{◌≡◌, ◌+◌, ℕ, Ok, Err, Some, map, option_map, IfOk, IsErrOf};
+ghost use Rattle.std.specs.Prelude.{◌≡◌, Ok, Err, Some, map, option_map, IfOk, IsErrOf};
 ghost use Rattle.ct_value.specs.declared.codes.ScriptCode.{ScriptCode};
 ghost use Rattle.ct_expr.specs.View.{expr_view, exprs_view};
 ghost use Rattle.query_answer.specs.Answer.{table_scope, renamed_scope, under};

@@ -1,5 +1,5 @@
 //! What a list with a rank lists, and the names under which that is found from outside.
-ghost use Rattle.std.specs.Prelude.{◌≡◌, Some, length, map, IfOk};
+ghost use Rattle.std.specs.Prelude.{◌≡◌, Some, IfOk};
 ghost use Rattle.rel_algebra.specs.Ranks.{rank_column};
 ghost use Rattle.query_answer.specs.Answer as a;
 ghost use Rattle.bind_names.specs.Entries.{entries_view, entry_view};

@@ -1,5 +1,5 @@
 -- The calls of the code, as those of the definitions.
-use Rattle.std.specs.Prelude.{Bool, not, ◌==◌, List, length, option_map}
+use Rattle.std.specs.Prelude.{Bool, not, ◌==◌, length, option_map}
 use Rattle.sql_syntax.specs.Tree as t
 use Rattle.sql_syntax.specs.View.{view}
 use Rattle.query_answer.specs.Calls.{Call}

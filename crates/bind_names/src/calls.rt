@@ -1,5 +1,5 @@
 //! The aggregate calls of trees.
-ghost use Rattle.std.specs.Prelude.{◌≡◌, ◌++◌, ◌∷◌, [], map, option_map, OnOk};
+ghost use Rattle.std.specs.Prelude.{◌≡◌, ◌++◌, map, option_map, OnOk};
 ghost use Rattle.sql_syntax.specs.View.{view, trees_view, args_view, over_view, whens_view};
 ghost use Rattle.sql_syntax.specs.Tree.{optional_over, optional_tree, trees as tree_list, tree_whens};
 ghost use Rattle.query_answer.specs.Calls.{aggregate_of, agg_call, agg_arg, call_at, call_of, calls, all_calls, when_calls, optional_calls, args_calls};

@@ -1,5 +1,5 @@
 //! What a select list lists.
-ghost use Rattle.std.specs.Prelude.{◌≡◌, ◌++◌, ◌∷◌, [], map, Some, IfOk, OnOk};
+ghost use Rattle.std.specs.Prelude.{◌≡◌, ◌∷◌, [], Some, IfOk};
 ghost use Rattle.sql_syntax.specs.Tree.{items as item_list};
 ghost use Rattle.sql_syntax.specs.View.{view, item_view, items_view};
 ghost use Rattle.query_answer.specs.Answer.{entries, entries_of, or_no_source, placed_from, placed_of};

@@ -1,5 +1,5 @@
 -- What was bound so far, and then what is left.
-use Rattle.std.proofs.Common.{◌≡◌, List, [], ◌∷◌, ◌++◌, Ok, Err, refl, ap, sym, ◌∙◌, append_assoc}
+use Rattle.std.proofs.Common.{◌≡◌, List, [], ◌∷◌, ◌++◌, Ok, Err, refl, ap, sym, append_assoc}
 use Rattle.binding.specs.Checked.{Checked, ◌>>=◌}
 
 -- these, and then those that are left

@@ -1,5 +1,5 @@
 -- Lists of one operand and of two.
-use Rattle.std.proofs.Common.{◌≡◌, ℕ, suc, ◌+◌, List, [], ◌∷◌, ◌++◌, Some, None, Err, length, length-append, refl, ap, ◌∙◌, arith}
+use Rattle.std.proofs.Common.{◌≡◌, ℕ, suc, ◌+◌, List, [], ◌∷◌, ◌++◌, Err, length, length-append, refl, ap, ◌∙◌, arith}
 use Rattle.ct_value.specs.declared.codes.ScriptCode.TheVariants.{TypeMismatch}
 use Rattle.query_answer.specs.declared.function.Function.TheVariants.{NullIf, CharLength}
 use Rattle.binding.specs.Nodes.{applied}

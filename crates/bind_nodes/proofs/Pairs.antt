@@ -1,6 +1,5 @@
 -- Two conditions as a list.
-use Rattle.std.proofs.Common.{◌≡◌, List, [], ◌∷◌, ◌++◌, refl, ap}
-use Rattle.binding.specs.Nodes as n
+use Rattle.std.proofs.Common.{◌≡◌, List, [], ◌∷◌, ◌++◌, ap}
 use Rattle.bind_nodes.specs.declared.bound.Bound.{Bound}
 use Rattle.bind_nodes.specs.Views.{bound_view, bounds_view}
 

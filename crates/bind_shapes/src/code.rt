@@ -1,4 +1,4 @@
-ghost use Rattle.std.specs.Prelude.{◌≡◌, ◌∷◌, ◌++◌, [], suc, option_map, IfOk, OnOk};
+ghost use Rattle.std.specs.Prelude.{◌≡◌, ◌∷◌, ◌++◌, [], option_map, IfOk, OnOk};
 ghost use Rattle.sql_syntax.specs.Tree.{optional_tree, trees as tree_list, sum_tails, product_tails, tree_whens};
 ghost use Rattle.sql_syntax.specs.View.{view, trees_view, args_view, over_view, sum_tails_view, product_tails_view, whens_view};
 ghost use Rattle.query_answer.specs.Names.{find};

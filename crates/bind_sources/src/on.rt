@@ -1,6 +1,6 @@
 //! Two sources and their ON.
 ghost use Rattle.bind_names.specs.declared.fault.BindFault.TheVariants as f;
-ghost use Rattle.std.specs.Prelude.{◌≡◌, ◌++◌, length, Ok, Err, option_map, IfOk, IsErrOf};
+ghost use Rattle.std.specs.Prelude.{◌≡◌, Ok, Err, option_map, IfOk, IsErrOf};
 ghost use Rattle.ct_value.specs.declared.codes.ScriptCode.{ScriptCode};
 ghost use Rattle.ct_expr.specs.View.{expr_view};
 ghost use Rattle.rel_algebra.specs.Rel as r;

@@ -1,5 +1,5 @@
 //! The Group below a grouped select, and its HAVING.
-ghost use Rattle.std.specs.Prelude.{◌≡◌, ◌++◌, ◌+◌, length, map, option_map, IfOk};
+ghost use Rattle.std.specs.Prelude.{◌≡◌, ◌++◌, ◌+◌, map, option_map, IfOk};
 ghost use Rattle.sql_syntax.specs.View.{view};
 ghost use Rattle.rel_algebra.specs.Rel as r;
 ghost use Rattle.rel_algebra.specs.View.{rel_view};

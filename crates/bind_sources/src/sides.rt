@@ -1,5 +1,5 @@
 //! The columns of both sides.
-ghost use Rattle.std.specs.Prelude.{◌≡◌, ◌==◌, cond, option_map, IfOk, IsTrue};
+ghost use Rattle.std.specs.Prelude.{◌≡◌, ◌==◌, option_map, IfOk, IsTrue};
 ghost use Rattle.std.specs.List.{list_any};
 ghost use Rattle.query_answer.specs.Names as q;
 ghost use Rattle.rel_algebra.specs.Joins as j;

@@ -1,3 +1,3 @@
-mod Ranges
 pub mod Halving
 pub mod Stays
+pub mod laws

@@ -1,5 +1,5 @@
 //! Where columns stand in a row that is made of other rows.
-ghost use Rattle.std.specs.Prelude.{◌≡◌, ◌+◌, ℕ, List, Option, Some, cond, OnOk, IfOk};
+ghost use Rattle.std.specs.Prelude.{◌≡◌, ℕ, List, Option, Some, cond, OnOk, IfOk};
 ghost use Rattle.std.specs.BTreeMap.{get};
 ghost use Rattle.std.specs.Ordering.{nat_cmp};
 ghost use Rattle.column_sets.specs.Places as p;
@@ -14,7 +14,7 @@ use std::collections::BTreeMap;
 type Places = BTreeMap<u32, usize>;
 
 /// So many columns, from the first on.
-#[tactic(auto, using(crate::proofs::Ranges::columns_more))]
+#[tactic(auto, using(crate::proofs::laws::Ranges::columns_more))]
 pub fn first_columns(alloc: Global, count: u32) -> Result<Cols, Memory>
     ensures { IfOk result (λ cols. cols ≡ p.first_columns count) }
 {

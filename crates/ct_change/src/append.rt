@@ -1,4 +1,3 @@
-ghost use Rattle.std.specs.Prelude.{◌≡◌};
 ghost use Rattle.ct_change.specs.Changelog.{append};
 
 use crate::{Change, ChangeMode, Changes, Diff, InMode, Kind, OutMode};

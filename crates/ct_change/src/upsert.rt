@@ -1,4 +1,4 @@
-ghost use Rattle.std.specs.Prelude.{◌≡◌, IfOk, OnOk, OnErr, All, ◌<◌, length};
+ghost use Rattle.std.specs.Prelude.{◌≡◌, IfOk, OnOk, OnErr, ◌<◌};
 ghost use Rattle.std.specs.FinMap as map;
 ghost use Rattle.ct_value.specs.Rows.{project};
 ghost use Rattle.ct_change.specs.Changelog.{upsert, HasKey};

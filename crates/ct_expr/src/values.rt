@@ -1,5 +1,5 @@
 //! The values of expressions, of the values of their operands.
-ghost use Rattle.std.specs.Prelude.{◌≡◌, ◌≤◌, ◌*ℤ◌, ◌+ℤ◌, ◌-ℤ◌, ◌^◌, pos, neg_ℤ, Some, None, length, IfOk};
+ghost use Rattle.std.specs.Prelude.{◌≡◌, ◌≤◌, ◌*ℤ◌, ◌+ℤ◌, ◌-ℤ◌, ◌^◌, pos, Some, None, length, IfOk};
 ghost use Rattle.std.specs.Str.{chars};
 ghost use Rattle.ct_field.specs.Numbers.{has_38_digits};
 ghost use Rattle.std.specs.Ordering.{int_cmp};

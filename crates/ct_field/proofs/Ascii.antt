@@ -1,5 +1,5 @@
 -- The texts of numbers are ASCII.
-use Rattle.std.proofs.Common.{◌≡◌, ℕ, suc, zero, ◌+◌, ◌*◌, ◌/◌, ◌%◌, ◌^◌, ◌<◌, ◌≤◌, ℤ, pos, negsuc, List, [], ◌∷◌, ◌++◌, true, false, cond, arith, lit<, lit≤, refl}
+use Rattle.std.proofs.Common.{ℕ, suc, zero, ◌+◌, ◌/◌, ◌%◌, ◌^◌, ◌<◌, ◌≤◌, ℤ, [], ◌∷◌, ◌++◌, true, false, cond, arith, lit<}
 use Rattle.std.specs.Prelude.{unsigned_abs, ◌==◌}
 use Rattle.std.specs.Int.{w128, is_negative}
 use Rattle.std.specs.Int.RustNames.{FitsSigned}

@@ -1,5 +1,5 @@
 //! Numbers of types and of scales.
-ghost use Rattle.std.specs.Prelude.{◌≡◌, ◌<◌, ◌≤◌, ◌+◌, ◌*◌, ◌/◌, ◌-◌, ◌^◌, ℕ, ℤ, nat_lt, unsigned_abs, Some, cond};
+ghost use Rattle.std.specs.Prelude.{◌≡◌, ◌<◌, ◌≤◌, ◌+◌, ◌/◌, ◌-◌, ◌^◌, nat_lt, unsigned_abs, Some};
 ghost use Rattle.ct_field.specs.Numbers.{is_type, in_range, rescale, raised, nearest, nearest_magnitude, signed};
 
 use ct_value::Ty;

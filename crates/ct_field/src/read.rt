@@ -1,8 +1,8 @@
 //! The value that a text spells.
-ghost use Rattle.std.specs.Prelude.{◌≡◌, ◌<◌, ◌≤◌, ◌*◌, ◌^◌, Some, None, true, cond, nat_lt, nat_le, length, position, option_map, option_and_then, IsTrue, IfOk, IfSome, IsErrOf};
+ghost use Rattle.std.specs.Prelude.{◌≡◌, ◌<◌, ◌≤◌, ◌*◌, ◌^◌, Some, None, true, cond, nat_le, length, position, option_map, IsTrue, IfOk, IfSome, IsErrOf};
 ghost use Rattle.std.specs.List.{list_all};
 ghost use Rattle.std.specs.Char.{is_ascii_digit};
-ghost use Rattle.std.specs.Str.Parse.{digits_value, starts_with_minus, without_leading_sign};
+ghost use Rattle.std.specs.Str.Parse.{digits_value, without_leading_sign};
 ghost use Rattle.ct_field.specs.Numbers.{is_type};
 ghost use Rattle.ct_field.specs.Fields.{field_value, digits_spelled, scaled, is_point, pointed, unsigned_spelled, number_of_type, truth_spelled, text_spelled, unescaped};
 ghost use Rattle.ct_field.specs.Numbers.{bounded, bounded_number};

@@ -1,5 +1,5 @@
 -- What a shelf holds, and what a load of it gives.
-use Rattle.std.specs.Prelude.{ℕ, ◌≤◌, Bool, true, false, List, [], length, Option, Some, None, nat_le, cond}
+use Rattle.std.specs.Prelude.{ℕ, Bool, true, false, List, [], length, Option, Some, None, nat_le, cond}
 use Rattle.std.specs.Ordering.{nat_cmp}
 use Rattle.std.specs.Cmp.Lexicographic.{slice_cmp}
 use Rattle.std.specs.FinMap.{FinMap, get, code}

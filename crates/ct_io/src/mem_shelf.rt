@@ -1,4 +1,4 @@
-ghost use Rattle.std.specs.Prelude.{◌≡◌, ◌⊎◌, ◌≤◌, [], Some, true, false, length, IfOk, IfSome, IsErrOf, IsSomeAnd};
+ghost use Rattle.std.specs.Prelude.{◌≡◌, ◌≤◌, Some, true, false, length, IfOk, IsErrOf};
 ghost use Rattle.ct_io.specs.Holdings.{loaded, Whole, Long, Missing};
 ghost use Rattle.ct_io.specs.InMemory.{after_load, fails_next, holdings_of};
 

@@ -1,5 +1,5 @@
 // Texts, lists, rows, their order and the texts of codes.
-ghost use Rattle.std.specs.Prelude.{◌≡◌, ◌<◌, length, IfOk};
+ghost use Rattle.std.specs.Prelude.{◌<◌, length};
 
 use ct_value::{
     Boxed, Bytes, ChangeCode, ColTy, ColTys, Cols, Memory, OrderCode, Row, ScriptCode, Text,

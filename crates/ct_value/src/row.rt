@@ -6,7 +6,6 @@ ghost use Rattle.std.proofs.Common.{refl};
 use crate::abbreviation::abbreviation_of;
 use crate::each::compare_each;
 use crate::{List, Memory, Value};
-use std::alloc::Global;
 use std::cmp::Ordering;
 use std::hash::{Hash, Hasher};
 use std::marker::Model;
@@ -128,7 +127,8 @@ impl Row {
     /// Makes `to` the first values, `count` of them, or all where there are fewer, in the memory that it has where that is enough. For
     /// want of memory it is left without values.
     pub fn prefix_into(&self, count: u32, to: &mut Row) -> Result<(), Memory>
-        ensures { OnOk result (to.new ≡ take count self.now) }
+        ensures ok { OnOk result (to.new ≡ take count self.now) }
+        ensures err { OnErr result (to.new ≡ []) }
     {
         let nothing = Row::from_values(self.values.beside());
         let room = replace(to, nothing);
@@ -149,7 +149,8 @@ impl Row {
     /// left without values.
     pub fn project_into(&self, cols: &Cols, to: &mut Row) -> Result<(), Memory>
         requires { All (λ col. col < length self.now) cols.now }
-        ensures { OnOk result (to.new ≡ project cols.now self.now) }
+        ensures ok { OnOk result (to.new ≡ project cols.now self.now) }
+        ensures err { OnErr result (to.new ≡ []) }
     {
         let nothing = Row::from_values(self.values.beside());
         let Row { mut values, .. } = replace(to, nothing);

@@ -1,5 +1,5 @@
 -- A group between its edges, as it runs in several subtasks, and what it needs of the edges.
-use Rattle.std.specs.Prelude.{◌≡◌, ℕ, zero, suc, ◌<◌, ◌==◌, Bool, true, false, not, cond, ◌&&◌, ◌||◌, List, [], ◌∷◌, ◌++◌, Option, Some}
+use Rattle.std.specs.Prelude.{◌≡◌, ℕ, ◌<◌, ◌==◌, Bool, true, false, not, cond, ◌&&◌, ◌||◌, List, [], ◌∷◌, Option, Some}
 use Rattle.std.specs.List.{Contains}
 use Rattle.ct_value.specs.Bag.{none}
 use Rattle.ct_value.specs.declared.row.Row.{Row}
@@ -15,14 +15,10 @@ use Rattle.rel_algebra.specs.Batch.{group_answer}
 use Rattle.op_rules.specs.Edges.{meaning_of, hash, Edge, LiesIn}
 use Rattle.op_rules.specs.Ports.{task_of, TakesAll}
 use Rattle.op_rules.specs.Tasks.{Task, Facts}
+use Rattle.column_sets.specs.Places.{first_columns}
 use Rattle.emission_rules.specs.Arriving.{FitsIn}
 use Rattle.emission_rules.specs.Grouping.{Grouping, group_rule, IsSound}
 use Rattle.ct_change.specs.Kinds.{has_more_than_inserts}
-
--- so many first columns
-abbrev pub first_columns : ℕ → List ℕ
-first_columns zero = []
-first_columns (suc n) = first_columns n ++ n ∷ []
 
 -- ---- answers
 

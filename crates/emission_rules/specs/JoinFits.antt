@@ -9,9 +9,8 @@ use Rattle.ct_change.specs.declared.kind.KindSet.{KindSet}
 use Rattle.ct_change.specs.declared.change.Change.{Change}
 use Rattle.ct_change.specs.Changelog.{Mode, append, retract, upsert, HasKey, has, admits}
 use Rattle.rel_algebra.specs.declared.join.JoinKind.TheVariants.{Inner, Left, Right, Full}
-use Rattle.rel_algebra.specs.declared.join.Pair.{Pair}
 use Rattle.rel_algebra.specs.Clauses.{Fits}
-use Rattle.rel_algebra.specs.Joins.{join_columns}
+use Rattle.rel_algebra.specs.Joins.{join_columns, left_columns, right_columns}
 use Rattle.op_rules.specs.Edges.{bag, meaning_of, hash, Edge, LiesIn, HoldsOver, IsSeen}
 use Rattle.op_rules.specs.Ports.{task_of, TakesAll}
 use Rattle.op_rules.specs.Tasks.{Task, Facts}
@@ -23,13 +22,6 @@ abbrev pub join_task : ℕ → Joining → (ℕ → Edge) → Edge → Task
 join_task many j from to = task_of (join_rule j) many from to (λ subtask rows. joined_answer j (rows 0) (rows 1)) (λ rows. joined_answer j (rows 0) (rows 1))
 
 -- ---- columns and kinds
-
--- the columns of the pairs on each side
-abbrev pub left_pairs : List Pair → List ℕ
-left_pairs on = map (λ pair. pair.left) on
-
-abbrev pub right_pairs : List Pair → List ℕ
-right_pairs on = map (λ pair. pair.right) on
 
 -- the columns of what is joined
 abbrev pub columns_by : Shape → List ColTy → List ColTy → List ColTy
@@ -79,10 +71,10 @@ abbrev pub HasBoth : (List ℕ → Type 0) → (List ℕ → Type 0) → ℕ →
 HasBoth L R width key = LeftKey L width key × RightKey R width key
 
 abbrev pub HasLeft : (List ℕ → Type 0) → (List ℕ → Type 0) → Joining → List ℕ → Type 0
-HasLeft L R j key = LeftKey L (length j.left_columns) key × MatchesOne R (right_pairs j.on)
+HasLeft L R j key = LeftKey L (length j.left_columns) key × MatchesOne R (right_columns j.on)
 
 abbrev pub HasRight : (List ℕ → Type 0) → (List ℕ → Type 0) → Joining → List ℕ → Type 0
-HasRight L R j key = RightKey R (length j.left_columns) key × MatchesOne L (left_pairs j.on)
+HasRight L R j key = RightKey R (length j.left_columns) key × MatchesOne L (left_columns j.on)
 
 -- padded rows of the two sides are told apart by a column of the one side's key
 abbrev pub HasBothApart : (List ℕ → Type 0) → (List ℕ → Type 0) → Joining → List ℕ → Type 0
@@ -98,11 +90,11 @@ IsKeyBy (matched anti) L R j key = (columns : List ℕ) × L columns × LiesIn c
 
 -- a set that fixes the subtask
 abbrev pub FixesBy : Shape → Joining → List ℕ → Type 0
-FixesBy (joins Inner) j set = LiesIn (left_pairs j.on) set ⊎ LiesIn (behind (length j.left_columns) (right_pairs j.on)) set
-FixesBy (joins Left) j set = LiesIn (left_pairs j.on) set
-FixesBy (joins Right) j set = LiesIn (behind (length j.left_columns) (right_pairs j.on)) set
-FixesBy (joins Full) j set = LiesIn (left_pairs j.on) set × LiesIn (behind (length j.left_columns) (right_pairs j.on)) set
-FixesBy (matched anti) j set = LiesIn (left_pairs j.on) set
+FixesBy (joins Inner) j set = LiesIn (left_columns j.on) set ⊎ LiesIn (behind (length j.left_columns) (right_columns j.on)) set
+FixesBy (joins Left) j set = LiesIn (left_columns j.on) set
+FixesBy (joins Right) j set = LiesIn (behind (length j.left_columns) (right_columns j.on)) set
+FixesBy (joins Full) j set = LiesIn (left_columns j.on) set × LiesIn (behind (length j.left_columns) (right_columns j.on)) set
+FixesBy (matched anti) j set = LiesIn (left_columns j.on) set
 
 -- ---- what is needed
 
@@ -124,10 +116,10 @@ pub record SideFits (many : ℕ) (mode : Mode) (columns : List ColTy) (pairs : L
   pub holds : (row : Row) → from.holds row ≡ true → Fits columns row
 
 pub record JoinFits (many : ℕ) (j : Joining) (from : ℕ → Edge) (to : Edge) : Type 0 where
-  pub left : SideFits many j.left j.left_columns (left_pairs j.on) (from 0)
-  pub right : SideFits many j.right j.right_columns (right_pairs j.on) (from 1)
+  pub left : SideFits many j.left j.left_columns (left_columns j.on) (from 0)
+  pub right : SideFits many j.right j.right_columns (right_columns j.on) (from 1)
   pub together : (key : Row) → (from 0).route key ≡ (from 1).route key
-  pub within : AllByRecursion (λ column. column < length j.left_columns) (left_pairs j.on)
+  pub within : AllByRecursion (λ column. column < length j.left_columns) (left_columns j.on)
   -- what leaves
   pub writes : to.meaning ≡ bag
   pub out_kinds : (kind : Kind) → has (kinds_by j.shape (from 0).kinds (from 1).kinds) kind ≡ true → has to.kinds kind ≡ true

@@ -1,5 +1,5 @@
 -- A Top-N between its edges, as it runs in several subtasks, and what it needs of the edges.
-use Rattle.std.specs.Prelude.{◌≡◌, ℕ, ◌<◌, ◌⊎◌, Bool, true, false, cond, ◌||◌, List, length}
+use Rattle.std.specs.Prelude.{◌≡◌, ℕ, ◌<◌, ◌⊎◌, Bool, true, false, cond, List, length}
 use Rattle.std.specs.List.{Contains, AllByRecursion}
 use Rattle.ct_value.specs.declared.row.Row.{Row}
 use Rattle.ct_change.specs.declared.kind.Kind.{Kind}

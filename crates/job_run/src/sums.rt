@@ -26,8 +26,8 @@ const LOAD_SCRIPT: &str =
     "CREATE TABLE t (word STRING NOT NULL, v INT NOT NULL) WITH ('changelog' = 'retract'); CREATE TABLE out_t (word STRING PRIMARY KEY NOT ENFORCED, n BIGINT, s INT) WITH ('changelog' = 'upsert'); SET 'table.exec.resource.default-parallelism' = '4'; INSERT INTO out_t SELECT word, COUNT(*), SUM(v) FROM t GROUP BY word;";
 
 /// Runs a script on so many lines that are made from a seed, and writes one line: the number of lines, that of the changes that were
-/// printed, the rows that these leave and the sum of their counts, and a hash of all that was printed. No more of that is kept than its
-/// last bytes, some 128 KiB.
+/// printed, the rows that these leave and the sum of their counts, and a hash of all that was printed. Of that the last bytes are kept,
+/// some 128 KiB, beside the lines that the run keeps until its end.
 pub fn load_lines<K: Sink>(alloc: Global, seed: u64, lines: u64, out: &mut K) -> Result<(), Halt>
     ensures runs { RunsThere (load_of seed lines) (Rose (K.faults out.old) (K.faults out.new)) (K.written out.old) (K.written out.new) result }
     ensures printable { IsPrintable (ending_of result) }

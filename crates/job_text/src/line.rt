@@ -1,4 +1,4 @@
-ghost use Rattle.std.specs.Prelude.{◌≡◌, ◌+◌, ◌-◌, ◌<◌, ◌≤◌, ◌^◌, ◌∷◌, ◌⊎◌, ◌||◌, [], length, drop, slice_index_or, unwrap_or, true, cond, Some, None, Ok, Err, IfOk, IsErrOf};
+ghost use Rattle.std.specs.Prelude.{◌≡◌, ◌+◌, ◌-◌, ◌<◌, ◌≤◌, ◌^◌, ◌⊎◌, ◌||◌, [], length, drop, slice_index_or, unwrap_or, true, cond, Some, None, Ok, Err, IfOk, IsErrOf};
 ghost use Rattle.csv.specs.Records.{fields_of};
 ghost use Rattle.ct_value.specs.declared.codes.ChangeCode.{ChangeCode};
 ghost use Rattle.ct_value.specs.declared.codes.ChangeCode.TheVariants.{BadField};

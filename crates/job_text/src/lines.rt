@@ -1,4 +1,4 @@
-ghost use Rattle.std.specs.Prelude.{◌≡◌, ◌++◌, ◌∷◌, [], length, cond, IsTrue, List, ℕ, OnOk, IfOk, codes, option_copied};
+ghost use Rattle.std.specs.Prelude.{◌≡◌, ◌++◌, ◌∷◌, [], length, cond, IsTrue, List, ℕ, OnOk, IfOk, option_copied};
 ghost use Rattle.std.specs.List.{AllByRecursion};
 ghost use Rattle.ct_field.specs.Numbers.{is_type};
 ghost use Rattle.ct_field.specs.Fields.{field_text};

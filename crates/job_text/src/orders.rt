@@ -1,5 +1,5 @@
 //! Order files: how many changes are taken when, and which channel or bundle works in between.
-ghost use Rattle.std.specs.Prelude.{◌≡◌, ◌+◌, ◌≤◌, ◌<◌, ◌==◌, ◌∷◌, ◌++◌, [], ℕ, length, Some, None, Ok, Err, IfOk, IfErr, IfSome, IfNone, IsErrOf, OnOk, Result, List as Seq, true, option_map, option_and_then, position};
+ghost use Rattle.std.specs.Prelude.{◌≡◌, ◌+◌, ◌≤◌, ◌<◌, ◌==◌, ◌∷◌, [], ℕ, length, Some, None, Ok, Err, IfOk, IfSome, IfNone, IsErrOf, OnOk, Result, List as Seq, true, option_map, option_and_then, position};
 ghost use Rattle.std.specs.List.{slice_split};
 ghost use Rattle.std.specs.Str.Lines.{lines, strip_carriage_return};
 ghost use Rattle.job_text.specs.declared.orders.OrderFault.TheVariants.{BadLine};

@@ -1,4 +1,4 @@
-ghost use Rattle.std.specs.Prelude.{◌≡◌, ◌+◌, ◌∷◌, ◌≤◌, ◌<◌, ◌⊎◌, [], IfOk, OnErr, length, List, Some, None, Ok, Err, IsSome, ℕ};
+ghost use Rattle.std.specs.Prelude.{◌≡◌, ◌+◌, ◌∷◌, ◌≤◌, ◌<◌, ◌⊎◌, [], IfOk, length, List, Some, None, Ok, Err, IsSome, ℕ};
 ghost use Rattle.std.specs.Bool.{MatchBool};
 ghost use Rattle.csv.specs.Records.{fields_of};
 ghost use Rattle.job_text.specs.Lines.{LinesLeft, Record, answer_of, line_in, one_read, records_of};

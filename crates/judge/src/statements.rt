@@ -1,4 +1,4 @@
-ghost use Rattle.std.specs.Prelude.{◌≡◌, ◌≤◌, ◌+◌, ◌∷◌, ◌++◌, [], map, length, List, Ok, Err, OnOk, IfOk, IfErr};
+ghost use Rattle.std.specs.Prelude.{◌≡◌, ◌≤◌, ◌+◌, ◌∷◌, [], map, length, Ok, Err, OnOk, IfOk, IfErr};
 ghost use Rattle.sql_syntax.specs.Tree.{Query as QueryTree, Text as Word};
 ghost use Rattle.sql_syntax.specs.Tree as tree;
 ghost use Rattle.sql_syntax.specs.View.{statement_view};

@@ -1,5 +1,5 @@
 //! The first values of a row, in the place of a key.
-ghost use Rattle.std.specs.Prelude.{◌≡◌, Some, take, ⊤};
+ghost use Rattle.std.specs.Prelude.{◌≡◌, take, ⊤};
 ghost use Rattle.std.specs.Ordering.{eq_by_cmp};
 ghost use Rattle.std.specs.Cmp.{eq_by_cmp_equiv, on_per, on_equiv, partial_equiv_from_equiv};
 ghost use Rattle.ct_value.specs.Order.{row_cmp, row_total};

@@ -4,6 +4,7 @@ use Rattle.std.specs.Prelude.{ℕ, zero, suc, ◌==◌, Bool, true, false, cond,
 use Rattle.std.specs.List.{list_any}
 use Rattle.ct_change.specs.declared.kind.KindSet.{KindSet}
 use Rattle.ct_change.specs.Changelog as changelog
+use Rattle.rel_algebra.specs.Joins.{left_columns, right_columns}
 use Rattle.ct_catalog.specs.declared.table.TableDef.{TableDef}
 use Rattle.rel_algebra.specs.declared.agg.Agg.{Agg}
 use Rattle.rel_algebra.specs.declared.join.JoinKind.{JoinKind}
@@ -14,7 +15,7 @@ use Rattle.phys_plan.specs.declared.edge.Exchange.TheVariants.{Forward, Hash}
 use Rattle.phys_plan.specs.declared.node.Op.{Op}
 use Rattle.phys_plan.specs.declared.node.Op.TheVariants as op
 use Rattle.phys_plan.specs.Reading.{Wire, read_up}
-use Rattle.phys_plan.specs.Columns.{left_columns, plain_columns, right_columns}
+use Rattle.phys_plan.specs.Columns.{plain_columns}
 use Rattle.column_sets.specs.Places.{first_columns, image}
 use Rattle.mode_infer.specs.declared.kinds.Flow.{Flow}
 use Rattle.ct_change.specs.Kinds.{has_more_than_inserts, is_upsert}

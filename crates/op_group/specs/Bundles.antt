@@ -43,6 +43,10 @@ MayFoldAllSome by input output stands groups entries = (rows : Rows) × (held : 
 abbrev pub ForAllFolded : GroupBy → Mode → Mode → (Rows → Type 0) → BTreeMap Row Kept → Entries → (Grouping → Rows → ℕ → Type 0) → Type 0
 ForAllFolded by input output stands groups entries P = (rows : Rows) (held : ℕ) → stands rows → MayFoldAll by (grouping by input output) rows groups held entries → P (grouping by input output) rows held
 
+-- what is kept stands for the groups of the rows after these changes
+abbrev pub HoldsFolded : GroupBy → Grouping → Rows → BTreeMap Row Kept → ℕ → Entries → Type 0
+HoldsFolded by g rows groups held entries = IsGrouped by g (folded g.input rows entries) groups (held + held_in entries)
+
 -- what is kept stands for the groups of these rows, and each of these changes may come after those before it
 pub record MayTakeAll (by : GroupBy) (g : Grouping) (rows : Rows) (groups : BTreeMap Row Kept) (held : ℕ) (changes : List Change) : Type 0 where
   pub set : IsSet by g

@@ -1,5 +1,5 @@
 -- Changes of one group that are taken in turn, and told as one.
-use Rattle.std.specs.Prelude.{◌≡◌, ◌<◌, ◌≤◌, ◌+◌, ◌^◌, ◌&&◌, ℕ, true, List, length, take}
+use Rattle.std.specs.Prelude.{◌≡◌, ◌<◌, ◌≤◌, ◌+◌, ◌^◌, ◌&&◌, ℕ, Bool, true, List, length, take}
 use Rattle.std.specs.List.{AllByRecursion}
 use Rattle.std.specs.BTreeMap.{BTreeMap}
 use Rattle.ct_value.specs.declared.row.Row.{Row}
@@ -63,11 +63,15 @@ pub record MayFold (by : GroupBy) (g : Grouping) (rows : Rows) (groups : BTreeMa
   pub keyed : HaveKeys g changes
   pub few : held + length changes < 2 ^ 32
 
+-- whether no sum of a group leaves its limit along these changes, and no call is out of range behind them
+abbrev pub stays_in_range : Grouping → Rows → Row → List Change → Bool
+stays_in_range g rows key changes = fits_along g key rows changes && is_counted g (fold_from g.input rows changes) key
+
 -- the rows of the group with this key before and after these changes, where nothing is out of range
 pub record IsFolded (g : Grouping) (rows : Rows) (key : Row) (changes : List Change) (results : Results) : Type 0 where
   pub old : results.old ≡ group_row g rows key
   pub fresh : results.fresh ≡ group_row g (fold_from g.input rows changes) key
-  pub fine : (fits_along g key rows changes && is_counted g (fold_from g.input rows changes) key) ≡ true
+  pub fine : stays_in_range g rows key changes ≡ true
 
 -- what is kept may take them for some rows, of which this holds
 abbrev pub MayFoldSome : GroupBy → Mode → Mode → (Rows → Type 0) → BTreeMap Row Kept → Row → List Change → Type 0

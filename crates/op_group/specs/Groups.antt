@@ -1,15 +1,16 @@
 -- What is kept of all groups, and what a change of one of them makes of it.
-use Rattle.std.specs.Prelude.{◌≡◌, ◌≤◌, ◌<◌, ◌+◌, ◌^◌, ℕ, Bool, true, false, Option, Some, None}
+use Rattle.std.specs.Prelude.{◌≡◌, ◌≤◌, ◌<◌, ◌+◌, ◌^◌, ℕ, Bool, true, false, List, [], ◌∷◌, take, Option, Some, None, Ok}
 use Rattle.std.specs.BTreeMap.{BTreeMap, IsOrdered, get}
 use Rattle.ct_value.specs.Order.{row_cmp}
 use Rattle.ct_value.specs.declared.row.Row.{Row}
 use Rattle.ct_change.specs.declared.kind.Kind.TheVariants.{D}
 use Rattle.ct_change.specs.declared.change.Change.{Change}
-use Rattle.ct_change.specs.Changelog.{Mode, Rows, same_row, admits, MayCome, HasKey}
+use Rattle.ct_change.specs.Changelog.{Mode, Rows, same_row, admits, apply, MayCome, HasKey}
 use Rattle.ct_change.specs.Emission.{replaced}
+use Rattle.op_rules.specs.Rules.{Answer, appended}
 use Rattle.op_rules.specs.Values.{types_fit}
 use Rattle.rel_algebra.specs.GroupedCounts.{AreWide}
-use Rattle.emission_rules.specs.Grouping.{Grouping, members, row_count, sums_fit, is_counted, IsSound}
+use Rattle.emission_rules.specs.Grouping.{Grouping, group_emits, members, row_count, sums_fit, is_counted, IsSound}
 use Rattle.op_group.specs.declared.kept.Kept.{Kept}
 use Rattle.op_group.specs.declared.groups.GroupBy.{GroupBy}
 use Rattle.op_group.specs.declared.groups.Results.{Results}
@@ -66,6 +67,18 @@ pub record IsGrouped (by : GroupBy) (g : Grouping) (rows : Rows) (groups : BTree
 abbrev pub IsSet : GroupBy → Grouping → Type 0
 IsSet by g = IsSound g × (by.retracting ≡ admits g.input D)
 
+-- so it is a change later
+abbrev pub IsGroupedAfter : GroupBy → Grouping → Rows → BTreeMap Row Kept → ℕ → Change → Type 0
+IsGroupedAfter by g rows groups held change = IsGrouped by g (apply g.input rows change) groups (held + 1)
+
+-- what is emitted for one change
+abbrev pub told_for : Grouping → Rows → Change → Answer
+told_for g rows change = group_emits g rows (change ∷ []) (take g.keys change.row)
+
+-- behind these changes it makes those
+abbrev pub TellsOnto : Grouping → Rows → Change → List Change → List Change → Type 0
+TellsOnto g rows change old new = appended (Ok old) (told_for g rows change) ≡ Ok new
+
 -- a change may be taken: it may come, its row has values of the columns, and there is room for it
 pub record MayTake (by : GroupBy) (g : Grouping) (rows : Rows) (groups : BTreeMap Row Kept) (held : ℕ) (change : Change) : Type 0 where
   pub set : IsSet by g
@@ -74,3 +87,7 @@ pub record MayTake (by : GroupBy) (g : Grouping) (rows : Rows) (groups : BTreeMa
   pub fits : types_fit g.columns change.row ≡ true
   pub key : HasKey g.input change.row
   pub few : held + 1 < 2 ^ 32
+
+-- so it is of all rows for which what is kept stands, and to which a change may come
+abbrev pub ForChange : GroupBy → Mode → Mode → (Rows → Type 0) → BTreeMap Row Kept → Change → (Grouping → Rows → ℕ → Type 0) → Type 0
+ForChange by input output stands groups change P = (rows : Rows) (held : ℕ) → stands rows → MayTake by (grouping by input output) rows groups held change → P (grouping by input output) rows held

@@ -9,7 +9,10 @@ use Rattle.ct_value.specs.declared.value.Value.{Value}
 use Rattle.ct_change.specs.Changelog.{Rows}
 use Rattle.ct_change.specs.Emission.{replaced}
 use Rattle.rel_algebra.specs.declared.agg.Agg.{Agg}
+use Rattle.rel_algebra.specs.declared.agg.AggCall.{AggCall}
 use Rattle.rel_algebra.specs.Aggregates.{Values, values_of, type_in, ty_or_bigint, agg_results, sum_fits}
+use Rattle.agg_fns.specs.declared.acc.Acc.{Acc}
+use Rattle.agg_fns.specs.Picked.{picked}
 use Rattle.agg_fns.specs.Standing.{StandsFor, retracts}
 use Rattle.emission_rules.specs.Grouping.{row_count}
 use Rattle.op_group.specs.declared.counter.Counter.{Counter}
@@ -98,3 +101,17 @@ MayShift kept gone = (columns : List ColTy) × (rows : Rows) × IsKept columns (
 -- so it is of all rows for which what is kept stands, and of these after one went and another came
 abbrev pub ForShifted : Kept → Option Row → Option Row → (List ColTy → Rows → Rows → Type 0) → Type 0
 ForShifted kept gone come P = (columns : List ColTy) (rows : Rows) → IsKept columns (calls_of kept) kept rows → HasRow rows gone → P columns rows (replaced rows gone come)
+
+-- the same of rows for which counters stand
+abbrev pub ForCounted : List Counter → Option Row → Option Row → (List ColTy → Rows → Rows → Type 0) → Type 0
+ForCounted counters gone come P = (columns : List ColTy) (rows : Rows) → AllStand columns rows counters → HasRow rows gone → P columns rows (replaced rows gone come)
+
+-- ---- the values of a call before and after one goes and another comes
+
+-- so it is of all values for which an accumulator of a call stands, and of these after one went and another came
+abbrev pub ForValues : AggCall → Acc → Option Value → Option Value → (Ty → Values → Values → Type 0) → Type 0
+ForValues call acc gone come P = (ty : Ty) (values : Values) → StandsFor call ty acc values → HasValue values gone → P ty values (shifted values gone come)
+
+-- the same of what rows have for a counter's call
+abbrev pub ForPicked : Counter → Option Row → Option Row → (Ty → Values → Values → Type 0) → Type 0
+ForPicked counter gone come P = ForValues counter.agg.call counter.acc (picked counter.agg gone) (picked counter.agg come) P

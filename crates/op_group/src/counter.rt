@@ -1,4 +1,4 @@
-ghost use Rattle.std.specs.Prelude.{◌≡◌, ◌+◌, ◌<◌, ◌^◌, true, false, IsSome, IfOk, IfErr, OnOk, option_copied};
+ghost use Rattle.std.specs.Prelude.{◌≡◌, ◌+◌, ◌<◌, ◌^◌, true, false, IsSome, IfErr, OnOk, option_copied};
 ghost use Rattle.ct_value.specs.Bag as bag;
 ghost use Rattle.ct_value.specs.declared.ty.Ty.{Ty};
 ghost use Rattle.rel_algebra.specs.declared.agg.AggCall.{AggCall};
@@ -6,7 +6,7 @@ ghost use Rattle.rel_algebra.specs.Aggregates.{Values, size, sum_fits};
 ghost use Rattle.agg_fns.specs.Standing.{StandsFor, retracts};
 ghost use Rattle.agg_fns.specs.declared.acc.AccFault.TheVariants.{Out};
 ghost use Rattle.agg_fns.specs.Picked.{picked};
-ghost use Rattle.op_group.specs.Kept.{shifted, HasValue, type_among};
+ghost use Rattle.op_group.specs.Kept.{ForPicked, ForValues, HasValue, type_among};
 
 use agg_fns::{Acc, AccFault, picked};
 use ct_value::{ColTys, Row, Ty, Value};
@@ -39,9 +39,9 @@ impl Counter {
         requires retracts { IsSome (picked self.old.agg (option_copied gone)) → retracts self.old.acc ≡ true }
         requires stands { (ty : Ty) × (values : Values) × StandsFor self.old.agg.call ty self.old.acc values × HasValue values (picked self.old.agg (option_copied gone)) × (size values + 1 < 2 ^ 63) }
         ensures agg { self.new.agg ≡ self.old.agg }
-        ensures stands { OnOk result ((ty : Ty) (values : Values) → StandsFor self.old.agg.call ty self.old.acc values → HasValue values (picked self.old.agg (option_copied gone.entry)) → StandsFor self.old.agg.call ty self.new.acc (shifted values (picked self.old.agg (option_copied gone.entry)) (picked self.old.agg (option_copied come.entry)))) }
-        ensures fits { OnOk result ((ty : Ty) (values : Values) → StandsFor self.old.agg.call ty self.old.acc values → HasValue values (picked self.old.agg (option_copied gone.entry)) → sum_fits self.old.agg.call ty values ≡ true → sum_fits self.old.agg.call ty (shifted values (picked self.old.agg (option_copied gone.entry)) (picked self.old.agg (option_copied come.entry))) ≡ true) }
-        ensures out { IfErr result (λ fault. fault ≡ Out → (ty : Ty) (values : Values) → StandsFor self.old.agg.call ty self.old.acc values → HasValue values (picked self.old.agg (option_copied gone.entry)) → sum_fits self.old.agg.call ty (shifted values (picked self.old.agg (option_copied gone.entry)) (picked self.old.agg (option_copied come.entry))) ≡ false) }
+        ensures stands { OnOk result (ForPicked self.old (option_copied gone.entry) (option_copied come.entry) (λ ty before after. StandsFor self.old.agg.call ty self.new.acc after)) }
+        ensures fits { OnOk result (ForPicked self.old (option_copied gone.entry) (option_copied come.entry) (λ ty before after. sum_fits self.old.agg.call ty before ≡ true → sum_fits self.old.agg.call ty after ≡ true)) }
+        ensures out { IfErr result (λ fault. fault ≡ Out → ForPicked self.old (option_copied gone.entry) (option_copied come.entry) (λ ty before after. sum_fits self.old.agg.call ty after ≡ false)) }
         ensures retracts { retracts self.new.acc ≡ retracts self.old.acc }
     {
         let null = Value::Null;
@@ -58,9 +58,9 @@ impl Counter {
 fn shift_acc(acc: &mut Acc, old: Option<&Value>, fresh: Option<&Value>) -> Result<(), AccFault>
     requires retracts { IsSome (option_copied old) → retracts acc.old ≡ true }
     requires stands { (call : AggCall) × (ty : Ty) × (values : Values) × StandsFor call ty acc.old values × HasValue values (option_copied old) × (size values + 1 < 2 ^ 63) }
-    ensures stands { OnOk result ((call : AggCall) (ty : Ty) (values : Values) → StandsFor call ty acc.old values → HasValue values (option_copied old.entry) → StandsFor call ty acc.new (shifted values (option_copied old.entry) (option_copied fresh.entry))) }
-    ensures fits { OnOk result ((call : AggCall) (ty : Ty) (values : Values) → StandsFor call ty acc.old values → HasValue values (option_copied old.entry) → sum_fits call ty values ≡ true → sum_fits call ty (shifted values (option_copied old.entry) (option_copied fresh.entry)) ≡ true) }
-    ensures out { IfErr result (λ fault. fault ≡ Out → (call : AggCall) (ty : Ty) (values : Values) → StandsFor call ty acc.old values → HasValue values (option_copied old.entry) → sum_fits call ty (shifted values (option_copied old.entry) (option_copied fresh.entry)) ≡ false) }
+    ensures stands { OnOk result ((call : AggCall) → ForValues call acc.old (option_copied old.entry) (option_copied fresh.entry) (λ ty before after. StandsFor call ty acc.new after)) }
+    ensures fits { OnOk result ((call : AggCall) → ForValues call acc.old (option_copied old.entry) (option_copied fresh.entry) (λ ty before after. sum_fits call ty before ≡ true → sum_fits call ty after ≡ true)) }
+    ensures out { IfErr result (λ fault. fault ≡ Out → (call : AggCall) → ForValues call acc.old (option_copied old.entry) (option_copied fresh.entry) (λ ty before after. sum_fits call ty after ≡ false)) }
     ensures retracts { retracts acc.new ≡ retracts acc.old }
 {
     match (old, fresh) {

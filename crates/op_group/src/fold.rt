@@ -1,5 +1,5 @@
 //! Changes of one group that are taken in turn, and told as one.
-ghost use Rattle.std.specs.Prelude.{◌≡◌, ◌+◌, ◌&&◌, ◌∷◌, [], length, true, false, Ok, Err, IfOk, IfErr, OnOk};
+ghost use Rattle.std.specs.Prelude.{◌≡◌, ◌+◌, ◌∷◌, [], length, true, false, Ok, Err, IfOk, IfErr, OnOk};
 ghost use Rattle.ct_change.specs.Changelog.{Mode, apply, fold_from};
 ghost use Rattle.ct_value.specs.declared.row.Row.{Row as Line};
 ghost use Rattle.op_rules.specs.Faults.{IfRange};
@@ -8,7 +8,7 @@ ghost use Rattle.agg_fns.specs.declared.acc.AccFault.TheVariants.{Out};
 ghost use Rattle.emission_rules.specs.Grouping.{fits_along, is_counted, group_emits, members};
 ghost use Rattle.op_group.specs.Groups.{IsGrouped};
 ghost use Rattle.op_group.specs.Kept.{row_in};
-ghost use Rattle.op_group.specs.Folding.{ForFolded, ForShifted, HasShiftedAlong, IsFolded, MayFoldSome, MayShift};
+ghost use Rattle.op_group.specs.Folding.{ForFolded, ForShifted, HasShiftedAlong, IsFolded, MayFoldSome, MayShift, stays_in_range};
 
 use crate::group::{row_of, tell};
 use crate::groups::{GroupBy, Results, forget, put_back, take_out};
@@ -60,7 +60,7 @@ fn fold_group<I: InMode>(
     ensures rows { OnOk result ((output : Mode) → ForFolded by.now (I.mode input.now) output (I.stands_for input.now rows.old) groups.old key changes (λ g stood held. I.stands_for input.now rows.new (fold_from (I.mode input.now) stood changes))) }
     ensures kept { OnOk result ((output : Mode) → ForFolded by.now (I.mode input.now) output (I.stands_for input.now rows.old) groups.old key changes (λ g stood held. IsGrouped by.now g (fold_from g.input stood changes) groups.new (held + length changes))) }
     ensures key { IfRange result (λ row. row ≡ key) }
-    ensures range { IfRange result (λ row. (output : Mode) → ForFolded by.now (I.mode input.now) output (I.stands_for input.now rows.old) groups.old key changes (λ g stood held. (fits_along g key stood changes && is_counted g (fold_from g.input stood changes) key) ≡ false)) }
+    ensures range { IfRange result (λ row. (output : Mode) → ForFolded by.now (I.mode input.now) output (I.stands_for input.now rows.old) groups.old key changes (λ g stood held. stays_in_range g stood key changes ≡ false)) }
 {
     let Some(kept) = groups.get_mut(&key) else {
         return fold_anew(by, groups, input, rows, key, changes);
@@ -90,7 +90,7 @@ fn fold_anew<I: InMode>(
     ensures rows { OnOk result ((output : Mode) → ForFolded by.now (I.mode input.now) output (I.stands_for input.now rows.old) groups.old key changes (λ g stood held. I.stands_for input.now rows.new (fold_from (I.mode input.now) stood changes))) }
     ensures kept { OnOk result ((output : Mode) → ForFolded by.now (I.mode input.now) output (I.stands_for input.now rows.old) groups.old key changes (λ g stood held. IsGrouped by.now g (fold_from g.input stood changes) groups.new (held + length changes))) }
     ensures key { IfRange result (λ row. row ≡ key) }
-    ensures range { IfRange result (λ row. (output : Mode) → ForFolded by.now (I.mode input.now) output (I.stands_for input.now rows.old) groups.old key changes (λ g stood held. (fits_along g key stood changes && is_counted g (fold_from g.input stood changes) key) ≡ false)) }
+    ensures range { IfRange result (λ row. (output : Mode) → ForFolded by.now (I.mode input.now) output (I.stands_for input.now rows.old) groups.old key changes (λ g stood held. stays_in_range g stood key changes ≡ false)) }
 {
     let mut kept = take_out(by, groups, &key)?;
     let results = match fold_kept(&mut kept, &key, by.keys, input, rows, changes) {
@@ -117,7 +117,7 @@ fn fold_kept<I: InMode>(
     ensures old { IfOk result (λ results. ForShifted (I.mode input.now) (I.stands_for input.now rows.old) kept.old key.now changes (λ g stood. results.old ≡ row_in keys g.columns g.aggs key.now (members g key.now stood))) }
     ensures fresh { IfOk result (λ results. ForShifted (I.mode input.now) (I.stands_for input.now rows.old) kept.old key.now changes (λ g stood. results.fresh ≡ row_in keys g.columns g.aggs key.now (members g key.now (fold_from g.input stood changes)))) }
     ensures counted { OnOk result (ForShifted (I.mode input.now) (I.stands_for input.now rows.old) kept.old key.now changes (λ g stood. is_counted g (fold_from g.input stood changes) key.now ≡ true)) }
-    ensures out { IfErr result (λ fault. fault ≡ Out → ForShifted (I.mode input.now) (I.stands_for input.now rows.old) kept.old key.now changes (λ g stood. is_counted g stood key.now ≡ true → (fits_along g key.now stood changes && is_counted g (fold_from g.input stood changes) key.now) ≡ false)) }
+    ensures out { IfErr result (λ fault. fault ≡ Out → ForShifted (I.mode input.now) (I.stands_for input.now rows.old) kept.old key.now changes (λ g stood. is_counted g stood key.now ≡ true → stays_in_range g stood key.now changes ≡ false)) }
 {
     let old = match kept.row(key, keys) {
         Ok(old) => old,

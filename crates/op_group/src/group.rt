@@ -1,9 +1,8 @@
-ghost use Rattle.std.specs.Prelude.{◌≡◌, ◌≢◌, ℕ, ◌+◌, ◌++◌, List, [], ◌∷◌, length, take, true, false, Ok, Err, IfOk, OnOk, OnErr, option_copied};
+ghost use Rattle.std.specs.Prelude.{◌≡◌, ◌≢◌, ℕ, ◌+◌, ◌++◌, List, [], length, take, true, false, Ok, Err, IfOk, OnOk, OnErr, option_copied};
 ghost use Rattle.ct_change.specs.Changelog.{Rows, apply};
 ghost use Rattle.ct_change.specs.Emission.{emission, row_of, CanTell};
 ghost use Rattle.op_rules.specs.Faults.{IfRange};
 ghost use Rattle.op_rules.specs.History.{Arrival};
-ghost use Rattle.op_rules.specs.Rules.{appended};
 
 use crate::fold::take_group;
 use crate::groups::{GroupBy, Results, first_row, turn_group};
@@ -33,8 +32,8 @@ pub struct Group<I: InMode, O: OutMode> {
 }
 
 impl<I: InMode, O: OutMode> Group<I, O> {
-    ghost use Rattle.emission_rules.specs.Grouping.{Grouping, group_rule, group_emits, IsSound};
-    ghost use Rattle.op_group.specs.Groups.{grouping, MayTake, IsGrouped};
+    ghost use Rattle.emission_rules.specs.Grouping.{group_rule, IsSound};
+    ghost use Rattle.op_group.specs.Groups.{grouping, ForChange, IsGroupedAfter, MayTake, TellsOnto, told_for};
     ghost use Rattle.op_group.specs.Folding.{Answers, ForPieces, IsPieceOf};
 
     /// A group of no rows, by the first `keys` columns of rows with columns of these types, with these calls. The calls have
@@ -114,9 +113,10 @@ impl<I: InMode, O: OutMode> Group<I, O> {
     // Takes a change, and puts what is emitted for it behind what stands in `to`.
     fn take(&mut self, change: Change, to: &mut Changes) -> Result<(), OpFault>
         requires { (rows : Rows) × (held : ℕ) × I.stands_for self.old.input self.old.rows rows × MayTake self.old.by (grouping self.old.by (I.mode self.old.input) (O.mode self.old.output)) rows self.old.groups held change }
-        ensures sent { OnOk result ((rows : Rows) (held : ℕ) → I.stands_for self.old.input self.old.rows rows → MayTake self.old.by (grouping self.old.by (I.mode self.old.input) (O.mode self.old.output)) rows self.old.groups held change → appended (Ok to.old) (group_emits (grouping self.old.by (I.mode self.old.input) (O.mode self.old.output)) rows (change ∷ []) (take self.old.by.keys change.row)) ≡ Ok to.new) }
-        ensures kept { OnOk result ((rows : Rows) (held : ℕ) → I.stands_for self.old.input self.old.rows rows → MayTake self.old.by (grouping self.old.by (I.mode self.old.input) (O.mode self.old.output)) rows self.old.groups held change → I.stands_for self.new.input self.new.rows (apply (I.mode self.old.input) rows change) × IsGrouped self.old.by (grouping self.old.by (I.mode self.old.input) (O.mode self.old.output)) (apply (I.mode self.old.input) rows change) self.new.groups (held + 1)) }
-        ensures range { IfRange result (λ row. (rows : Rows) (held : ℕ) → I.stands_for self.old.input self.old.rows rows → MayTake self.old.by (grouping self.old.by (I.mode self.old.input) (O.mode self.old.output)) rows self.old.groups held change → group_emits (grouping self.old.by (I.mode self.old.input) (O.mode self.old.output)) rows (change ∷ []) (take self.old.by.keys change.row) ≡ Err row) }
+        ensures sent { OnOk result (ForChange self.old.by (I.mode self.old.input) (O.mode self.old.output) (I.stands_for self.old.input self.old.rows) self.old.groups change (λ g rows held. TellsOnto g rows change to.old to.new)) }
+        ensures rows { OnOk result (ForChange self.old.by (I.mode self.old.input) (O.mode self.old.output) (I.stands_for self.old.input self.old.rows) self.old.groups change (λ g rows held. I.stands_for self.new.input self.new.rows (apply g.input rows change))) }
+        ensures kept { OnOk result (ForChange self.old.by (I.mode self.old.input) (O.mode self.old.output) (I.stands_for self.old.input self.old.rows) self.old.groups change (λ g rows held. IsGroupedAfter self.old.by g rows self.new.groups held change)) }
+        ensures range { IfRange result (λ row. ForChange self.old.by (I.mode self.old.input) (O.mode self.old.output) (I.stands_for self.old.input self.old.rows) self.old.groups change (λ g rows held. told_for g rows change ≡ Err row)) }
         ensures same { (self.new.by ≡ self.old.by) × (self.new.input ≡ self.old.input) × (self.new.output ≡ self.old.output) × (self.new.broken ≡ self.old.broken) }
     {
         change.row.prefix_into(self.by.keys, &mut self.key)?;

@@ -2,11 +2,10 @@ ghost use Rattle.std.specs.Prelude.{◌≡◌, ◌+◌, ◌<◌, ◌^◌, ◌++�
 ghost use Rattle.ct_value.specs.Bag.{none};
 ghost use Rattle.ct_value.specs.declared.ty.ColTy.{ColTy};
 ghost use Rattle.ct_change.specs.Changelog.{Rows};
-ghost use Rattle.ct_change.specs.Emission.{replaced};
 ghost use Rattle.rel_algebra.specs.Aggregates.{agg_results};
 ghost use Rattle.agg_fns.specs.declared.acc.AccFault.TheVariants.{Out};
 ghost use Rattle.emission_rules.specs.Grouping.{row_count};
-ghost use Rattle.op_group.specs.Kept.{AllRetract, AllStand, ForRows, ForShifted, HasRow, IsKept, IsOfSome, MayShift, all_counted, all_fit, calls, calls_of, row_in};
+ghost use Rattle.op_group.specs.Kept.{AllRetract, AllStand, ForCounted, ForRows, ForShifted, HasRow, IsKept, IsOfSome, MayShift, all_counted, all_fit, calls, calls_of, row_in};
 
 use crate::counter::Counter;
 use agg_fns::AccFault;
@@ -118,9 +117,9 @@ fn shift_all(
 ) -> Result<(), AccFault>
     requires stand { (columns : List ColTy) × (rows : Rows) × AllStand columns rows counters.old × HasRow rows (option_copied gone) × (row_count rows + 1 < 2 ^ 63) }
     requires retract { IsSome (option_copied gone) → AllRetract counters.old }
-    ensures stand { OnOk result ((columns : List ColTy) (rows : Rows) → AllStand columns rows counters.old → HasRow rows (option_copied gone.entry) → AllStand columns (replaced rows (option_copied gone.entry) (option_copied come.entry)) counters.new) }
-    ensures fits { OnOk result ((columns : List ColTy) (rows : Rows) → AllStand columns rows counters.old → HasRow rows (option_copied gone.entry) → all_fit columns (calls counters.old) rows ≡ true → all_fit columns (calls counters.old) (replaced rows (option_copied gone.entry) (option_copied come.entry)) ≡ true) }
-    ensures out { IfErr result (λ fault. fault ≡ Out → (columns : List ColTy) (rows : Rows) → AllStand columns rows counters.old → HasRow rows (option_copied gone.entry) → all_fit columns (calls counters.old) (replaced rows (option_copied gone.entry) (option_copied come.entry)) ≡ false) }
+    ensures stand { OnOk result (ForCounted counters.old (option_copied gone.entry) (option_copied come.entry) (λ columns before after. AllStand columns after counters.new)) }
+    ensures fits { OnOk result (ForCounted counters.old (option_copied gone.entry) (option_copied come.entry) (λ columns before after. all_fit columns (calls counters.old) before ≡ true → all_fit columns (calls counters.old) after ≡ true)) }
+    ensures out { IfErr result (λ fault. fault ≡ Out → ForCounted counters.old (option_copied gone.entry) (option_copied come.entry) (λ columns before after. all_fit columns (calls counters.old) after ≡ false)) }
     ensures calls { OnOk result (calls counters.new ≡ calls counters.old) }
     ensures retract { OnOk result (AllRetract counters.old → AllRetract counters.new) }
 {

@@ -1,9 +1,8 @@
 //! The changes of a bundle, taken group by group.
-ghost use Rattle.std.specs.Prelude.{◌≡◌, ◌+◌, ◌<◌, ◌^◌, length, Ok, Err, IfOk, OnOk};
+ghost use Rattle.std.specs.Prelude.{◌≡◌, ◌+◌, ◌<◌, length, Ok, Err, IfOk, OnOk};
 ghost use Rattle.op_rules.specs.Faults.{IfRange};
-ghost use Rattle.mini_batch.specs.Held.{held_in};
 ghost use Rattle.op_group.specs.Groups.{IsGrouped};
-ghost use Rattle.op_group.specs.Bundles.{ForAllFolded, ForAllTaken, MayFoldAllSome, MayTakeAllSome, folded, told_along};
+ghost use Rattle.op_group.specs.Bundles.{ForAllFolded, ForAllTaken, MayFoldAllSome, MayTakeAllSome, folded, told_along, HoldsFolded};
 ghost use Rattle.ct_change.specs.Changelog.{fold_from};
 ghost use Rattle.emission_rules.specs.Grouping.{answers, group_emits, groups_of};
 
@@ -29,7 +28,7 @@ pub(crate) fn take_groups<I: InMode, O: OutMode>(
     requires { MayFoldAllSome by.now (I.mode input.now) (O.mode output.now) (I.stands_for input.now rows.old) groups.old bundle.entries }
     ensures sent { IfOk result (λ sent. ForAllFolded by.now (I.mode input.now) (O.mode output.now) (I.stands_for input.now rows.old) groups.old bundle.entries (λ g stood held. told_along g stood bundle.entries ≡ Ok sent)) }
     ensures rows { OnOk result (ForAllFolded by.now (I.mode input.now) (O.mode output.now) (I.stands_for input.now rows.old) groups.old bundle.entries (λ g stood held. I.stands_for input.now rows.new (folded g.input stood bundle.entries))) }
-    ensures kept { OnOk result (ForAllFolded by.now (I.mode input.now) (O.mode output.now) (I.stands_for input.now rows.old) groups.old bundle.entries (λ g stood held. IsGrouped by.now g (folded g.input stood bundle.entries) groups.new (held + held_in bundle.entries))) }
+    ensures kept { OnOk result (ForAllFolded by.now (I.mode input.now) (O.mode output.now) (I.stands_for input.now rows.old) groups.old bundle.entries (λ g stood held. HoldsFolded by.now g stood groups.new held bundle.entries)) }
     ensures range { IfRange result (λ row. ForAllFolded by.now (I.mode input.now) (O.mode output.now) (I.stands_for input.now rows.old) groups.old bundle.entries (λ g stood held. told_along g stood bundle.entries ≡ Err row)) }
 {
     let mut left = bundle;

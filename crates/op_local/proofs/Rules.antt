@@ -1,10 +1,10 @@
 -- Arrivals, each of which may come to a local group after those before it, as changes of which partial rows may be told.
-use Rattle.std.proofs.Common.{◌≡◌, ℕ, suc, ◌+◌, ◌*◌, ◌<◌, ◌≤◌, ◌^◌, Bool, true, false, cond, List, [], ◌∷◌, ◌++◌, length, map, refl, sym, ap, subst, ◌∙◌, arith}
+use Rattle.std.proofs.Common.{◌≡◌, ℕ, suc, ◌+◌, ◌*◌, ◌<◌, ◌≤◌, Bool, true, false, cond, List, [], ◌∷◌, ◌++◌, length, map, refl, sym, ap, subst, ◌∙◌, arith}
 use Rattle.std.proofs.lemmas.List.{length-map}
 use Rattle.std.proofs.lemmas.Bool.{eq-eqb, false≢true}
 use Rattle.std.specs.List.{AllByRecursion}
 use Rattle.ct_change.specs.declared.change.Change.{Change}
-use Rattle.ct_change.specs.Changelog.{Mode, append, retract, upsert, Rows, adds, admits, MayCome}
+use Rattle.ct_change.specs.Changelog.{Mode, append, Rows, adds, MayCome}
 use Rattle.ct_change.proofs.laws.Folds.{append_only}
 use Rattle.rel_algebra.specs.declared.agg.Agg.{Agg}
 use Rattle.agg_fns.specs.Partial.{is_signed}

@@ -1,5 +1,5 @@
 -- What tallies stand for with a row more, come or gone.
-use Rattle.std.proofs.Common.{◌≡◌, ℕ, zero, suc, ◌<◌, ◌≤◌, ◌+◌, ◌^◌, ◌&&◌, Bool, true, false, cond, List, [], ◌∷◌, ◌++◌, length, take, Option, Some, None, refl, sym, ap, subst, ◌∙◌, arith, slice_index_or}
+use Rattle.std.proofs.Common.{◌≡◌, ℕ, zero, suc, ◌<◌, ◌≤◌, ◌+◌, ◌^◌, ◌&&◌, Bool, true, false, cond, List, [], ◌∷◌, ◌++◌, length, take, Some, None, refl, sym, ap, subst, ◌∙◌, arith, slice_index_or}
 use Rattle.std.specs.Prelude.{ℤ, pos, neg_ℤ, ◌+ℤ◌, ◌-ℤ◌, ◌<ℤ◌, ◌≤ℤ◌, Result, Ok, Err, OnOk, IfErr}
 use Rattle.std.specs.List.{list_all, AllByRecursion}
 use Rattle.std.proofs.lemmas.Int.{ints}
@@ -24,7 +24,7 @@ use Rattle.agg_fns.proofs.laws.Upto.{Upto, fails_at}
 use Rattle.op_rules.proofs.laws.Histories.{all-append}
 use Rattle.emission_rules.specs.Grouping.{row_count}
 use Rattle.phase_rules.specs.LocalGrouping.{amounts_fit}
-use Rattle.phase_rules.proofs.laws.LocalWorths.{values_more, values_nothing}
+use Rattle.phase_rules.proofs.laws.LocalWorths.{values_more}
 use Rattle.op_local.specs.declared.tally.Tally.{Tally}
 use Rattle.op_local.specs.Amounting.{with_come, with_gone, Stands, AllStand, calls}
 

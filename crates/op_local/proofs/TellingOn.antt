@@ -1,5 +1,5 @@
 -- Groups that are told one after the other.
-use Rattle.std.proofs.Common.{◌≡◌, ℕ, ◌+◌, ◌<◌, ◌≤◌, ◌^◌, Bool, true, false, cond, List, [], ◌∷◌, ◌++◌, map, length, Ok, Err, refl, sym, ap, subst, ◌∙◌, arith, append_assoc, append-nil}
+use Rattle.std.proofs.Common.{◌≡◌, ℕ, ◌+◌, ◌≤◌, Bool, true, false, cond, List, [], ◌∷◌, ◌++◌, map, length, Ok, Err, refl, sym, ap, subst, ◌∙◌, arith, append_assoc, append-nil}
 use Rattle.std.specs.Prelude.{Result, IfOk}
 use Rattle.std.specs.List.{AllByRecursion}
 use Rattle.ct_value.specs.declared.row.Row.{Row}
@@ -8,7 +8,7 @@ use Rattle.ct_change.specs.declared.change.Change.{Change}
 use Rattle.ct_change.specs.Changelog.{adds}
 use Rattle.rel_algebra.specs.declared.agg.Agg.{Agg}
 use Rattle.rel_algebra.specs.GroupedCounts.{in_group}
-use Rattle.mini_batch.specs.Held.{Entries, held_in}
+use Rattle.mini_batch.specs.Held.{Entries}
 use Rattle.mini_batch.specs.Groups.{of_group, by_group}
 use Rattle.op_rules.specs.Rules.{Answer, appended}
 use Rattle.op_rules.specs.declared.operator.OpFault.{OpFault}

@@ -21,7 +21,7 @@ pub struct LocalGroup<M: InMode> {
 }
 
 impl<M: InMode> LocalGroup<M> {
-    ghost use Rattle.phase_rules.specs.LocalGrouping.{LocalGrouping, SumsUp, local_rule};
+    ghost use Rattle.phase_rules.specs.LocalGrouping.{SumsUp, local_rule};
 
     /// A local group by the first `keys` columns of rows with columns of these types, with these calls, of a changelog in this mode.
     /// There have to be key columns; the calls have to have partials and types, and rows to stay where values of a call can't go.
@@ -43,7 +43,7 @@ impl<M: InMode> LocalGroup<M> {
 }
 
 impl<M: InMode> Operator for LocalGroup<M> {
-    ghost use Rattle.phase_rules.specs.LocalGrouping.{LocalGrouping, SumsUp, local_rule};
+    ghost use Rattle.phase_rules.specs.LocalGrouping.{SumsUp, local_rule};
 
     ghost rule = { λ s. local_rule (record { keys = s.keys; aggs = s.aggs; columns = s.tys; input = M.mode s.mode }) };
 

@@ -1,5 +1,5 @@
 -- What is kept of all groups, and what partial rows of one of them make of it.
-use Rattle.std.specs.Prelude.{◌≡◌, ◌&&◌, ◌++◌, ℕ, Bool, true, false, cond, List, drop, map, Option, Some, None}
+use Rattle.std.specs.Prelude.{◌≡◌, ◌&&◌, ◌++◌, ℕ, Bool, true, false, cond, List, [], ◌∷◌, drop, map, take, Option, Some, None}
 use Rattle.std.specs.List.{AllByRecursion}
 use Rattle.std.specs.BTreeMap.{BTreeMap, IsOrdered, get}
 use Rattle.ct_value.specs.Order.{row_cmp}
@@ -8,9 +8,10 @@ use Rattle.ct_value.specs.declared.value.Value.{Value}
 use Rattle.ct_change.specs.declared.change.Change.{Change}
 use Rattle.ct_change.specs.Changelog.{Mode, append, retract, upsert, same_row}
 use Rattle.agg_fns.specs.Partial.{has_partial}
+use Rattle.op_rules.specs.Rules.{Answer}
 use Rattle.emission_rules.specs.Grouping.{TellsGroups}
 use Rattle.phase_rules.specs.LocalGrouping.{LocalGrouping}
-use Rattle.phase_rules.specs.Merging.{Merging, in_one_phase, merged, row_from, within_after}
+use Rattle.phase_rules.specs.Merging.{Merging, in_one_phase, merge_answer, merged, row_from, within_after}
 use Rattle.op_merge.specs.declared.kept.Kept.{Kept}
 use Rattle.op_merge.specs.declared.groups.MergeBy.{MergeBy}
 use Rattle.op_merge.specs.declared.groups.Results.{Results}
@@ -31,6 +32,10 @@ merging by output = record { local = local_of by; output = output }
 -- what these partial rows have behind their keys
 abbrev pub amounts_of : ℕ → List Change → List (List Value)
 amounts_of keys changes = map (λ change. drop keys change.row) changes
+
+-- what is emitted for a partial row, behind what came of each group
+abbrev pub merge_told : MergeBy → Mode → Amounts → Change → Answer
+merge_told by output of change = merge_answer (merging by output) (take by.keys change.row) (of (take by.keys change.row)) (amounts_of by.keys (change ∷ []))
 
 -- what is kept of each group, by its key, stands for what came of it
 pub record AreMerged (by : MergeBy) (groups : BTreeMap Row Kept) (of : Amounts) : Type 0 where

@@ -26,8 +26,8 @@ pub struct MergeGroup<O: OutMode> {
 }
 
 impl<O: OutMode> MergeGroup<O> {
-    ghost use Rattle.phase_rules.specs.Merging.{merge_answer, merge_rule};
-    ghost use Rattle.op_merge.specs.Groups.{Amounts, AreMerged, CanMerge, amounts_of, merging, with_more};
+    ghost use Rattle.phase_rules.specs.Merging.{merge_rule};
+    ghost use Rattle.op_merge.specs.Groups.{Amounts, AreMerged, CanMerge, amounts_of, merge_told, merging, with_more};
 
     /// A merging group of no partial rows: of rows with columns of these types, grouped by the first `keys`, with these
     /// calls, in whichever mode they came to the local groups. The calls have to have partials. The mode has to tell
@@ -57,9 +57,9 @@ impl<O: OutMode> MergeGroup<O> {
         requires can { CanMerge (merging self.old.by (O.mode self.old.output)) }
         requires are { (of : Amounts) × AreMerged self.old.by self.old.groups of }
         requires long { self.old.by.keys ≤ length change.row }
-        ensures sent { OnOk result ((of : Amounts) → AreMerged self.old.by self.old.groups of → appended (Ok to.old) (merge_answer (merging self.old.by (O.mode self.old.output)) (take self.old.by.keys change.row) (of (take self.old.by.keys change.row)) (amounts_of self.old.by.keys (change ∷ []))) ≡ Ok to.new) }
+        ensures sent { OnOk result ((of : Amounts) → AreMerged self.old.by self.old.groups of → appended (Ok to.old) (merge_told self.old.by (O.mode self.old.output) of change) ≡ Ok to.new) }
         ensures kept { OnOk result ((of : Amounts) → AreMerged self.old.by self.old.groups of → AreMerged self.old.by self.new.groups (with_more of (take self.old.by.keys change.row) (amounts_of self.old.by.keys (change ∷ [])))) }
-        ensures range { IfRange result (λ row. (of : Amounts) → AreMerged self.old.by self.old.groups of → merge_answer (merging self.old.by (O.mode self.old.output)) (take self.old.by.keys change.row) (of (take self.old.by.keys change.row)) (amounts_of self.old.by.keys (change ∷ [])) ≡ Err row) }
+        ensures range { IfRange result (λ row. (of : Amounts) → AreMerged self.old.by self.old.groups of → merge_told self.old.by (O.mode self.old.output) of change ≡ Err row) }
         ensures same { (self.new.by ≡ self.old.by) × (self.new.output ≡ self.old.output) × (self.new.broken ≡ self.old.broken) }
     {
         let key = change.row.prefix(self.by.keys)?;

@@ -6,7 +6,7 @@ ghost use Rattle.ct_change.specs.Changelog.{same_row};
 ghost use Rattle.agg_fns.specs.Partial.{has_partial};
 ghost use Rattle.op_rules.specs.Faults.{IfRange};
 ghost use Rattle.phase_rules.specs.Merging.{within_after};
-ghost use Rattle.op_merge.specs.Kept.{ForKept, IsKept, has_results, is_nothing};
+ghost use Rattle.op_merge.specs.Kept.{ForKept, has_results, is_nothing};
 ghost use Rattle.op_merge.specs.Groups.{Amounts, AreMerged, IsTold, amounts_of, local_of, unless_blank, with_more};
 
 use crate::kept::Kept;

@@ -3,7 +3,7 @@ use Rattle.std.specs.Prelude.{◌≡◌, ℕ, ◌+◌, ◌<◌, ◌^◌, Bool, t
 use Rattle.ct_value.specs.declared.row.Row.{Row}
 use Rattle.ct_change.specs.declared.change.Change.{Change}
 use Rattle.ct_change.specs.Changelog.{Mode, Rows, fold, MayCome, HasKey}
-use Rattle.op_rules.specs.History.{Arrival, at_port, joined}
+use Rattle.op_rules.specs.History.{Arrival, arrival, at_port}
 
 -- changes, or the row that is out of range
 abbrev pub Answer : Type 0
@@ -58,6 +58,10 @@ abbrev pub work_along : Rule → List Arrival → List Arrival → ℕ
 work_along rule before [] = 0
 work_along rule before (a ∷ others) = rule.work before a + work_along rule (before ++ a ∷ []) others
 
+-- so it is of a change that arrives at a port, from whatever subtask, after all that may have been taken before
+abbrev pub ForArriving : Rule → (List Arrival → Type 0) → ℕ → Change → (List Arrival → Arrival → Type 0) → Type 0
+ForArriving rule stands port change P = (before : List Arrival) (from : ℕ) → stands before → MayArrive rule before (arrival port from change) → (length before + 1 < 2 ^ 32) → P before (arrival port from change)
+
 -- behind these changes, what is emitted for an arrival after what was taken before makes those
 abbrev pub EmitsOnto : Rule → List Arrival → Arrival → List Change → List Change → Type 0
 EmitsOnto rule before a old new = appended (Ok old) (rule.emits before (a ∷ [])) ≡ Ok new
@@ -67,8 +71,3 @@ pub record MayTakePiece (rule : Rule) (before piece : List Arrival) (changes : L
   pub is : map (λ a. a.change) piece ≡ changes
   pub arrive : ArriveAfter rule before piece
   pub few : length before + length piece < 2 ^ 32
-
--- each change of the pieces may come where it comes, none is out of range, and this is all that is emitted for them
-pub record RunsAlong (rule : Rule) (subtask : ℕ) (pieces : List (List Arrival)) (sent : List Change) : Type 0 where
-  pub arrive : ArriveAfter rule [] (joined pieces)
-  pub in_range : emitted rule subtask pieces ≡ Ok sent

@@ -1,6 +1,6 @@
 -- A node with its edges, as it runs in several subtasks: what it emits, what a subtask may rely on of the changes that it
 -- took, and the facts that are then known of what was emitted.
-use Rattle.std.specs.Prelude.{◌≡◌, ℕ, zero, suc, ◌+◌, ◌<◌, ◌⊎◌, true, cond, List, [], ◌∷◌, ◌++◌, take, Option, Some, Ok}
+use Rattle.std.specs.Prelude.{◌≡◌, ℕ, zero, suc, ◌+◌, ◌<◌, ◌⊎◌, true, cond, List, [], take, Option, Some, Ok}
 use Rattle.std.specs.List.{Contains, AllByRecursion}
 use Rattle.ct_value.specs.Bag.{copies}
 use Rattle.ct_value.specs.declared.row.Row.{Row}

@@ -1,8 +1,9 @@
 //! The operator of set operations.
-ghost use Rattle.std.specs.Prelude.{◌≡◌, ◌++◌, ◌+◌, ◌<◌, ◌^◌, ◌==◌, [], ◌∷◌, cond, false, IfOk, OnOk};
+ghost use Rattle.std.specs.Prelude.{◌≡◌, ◌++◌, ◌+◌, ◌<◌, ◌^◌, ◌==◌, [], cond, false, OnOk};
 ghost use Rattle.ct_value.specs.Bag as bag;
 ghost use Rattle.ct_change.specs.Changelog.{retract, apply, MayCome};
 ghost use Rattle.emission_rules.specs.SetOps.{number_in, told_by_numbers};
+ghost use Rattle.op_setops.specs.Kept.{told_between};
 
 use ct_change::{Bag, Change, Changes, Kind, Steps};
 use ct_value::{Memory, Row};
@@ -73,7 +74,7 @@ impl SetOp {
     fn take(&mut self, port: u32, change: Change, to: &mut Changes) -> Result<(), Memory>
         requires may { MayCome retract (cond (port == 0) self.old.left self.old.right) change }
         requires room { bag.copies (cond (port == 0) self.old.left self.old.right) change.row + 1 < 2 ^ 64 }
-        ensures sent { OnOk result (to.new ≡ to.old ++ told_by_numbers (number_in (record { except = self.old.except; all = self.old.all }) self.old.left self.old.right change.row) (number_in (record { except = self.old.except; all = self.old.all }) self.new.left self.new.right change.row) change.row) }
+        ensures sent { OnOk result (to.new ≡ to.old ++ told_between (record { except = self.old.except; all = self.old.all }) self.old.left self.old.right self.new.left self.new.right change.row) }
         ensures left { OnOk result (self.new.left ≡ cond (port == 0) (apply retract self.old.left change) self.old.left) }
         ensures right { OnOk result (self.new.right ≡ cond (port == 0) self.old.right (apply retract self.old.right change)) }
         ensures same { (self.new.except ≡ self.old.except) × (self.new.all ≡ self.old.all) × (self.new.broken ≡ self.old.broken) }

@@ -102,23 +102,20 @@ fn kind_printed(split: bool, kind: Kind) -> Kind
     }
 }
 
-// The row that is printed for one that comes or goes.
-fn row_printed(
-    alloc: Global,
-    declared: Declared,
-    key: &Cols,
-    comes: bool,
-    row: Row,
-) -> Result<Row, Memory>
-    ensures { IfOk result (λ made. made ≡ row_told (mode_of declared key.now) comes row) }
+// A change that comes or goes gets the row that is printed for it.
+fn retell(alloc: Global, declared: Declared, key: &Cols, change: &mut Change) -> Result<(), Memory>
+    ensures { OnOk result (change.new ≡ record { kind = change.old.kind; row = row_told (mode_of declared key.now) (adds change.old.kind) change.old.row }) }
 {
-    if comes {
-        return Ok(row);
+    if change.kind.is_addition() {
+        return Ok(());
     }
     match declared {
-        Declared::Append => Ok(row),
-        Declared::Retract => Ok(row),
-        Declared::Upsert => key_row(alloc, &row, key),
+        Declared::Append => Ok(()),
+        Declared::Retract => Ok(()),
+        Declared::Upsert => {
+            change.row = key_row(alloc, &change.row, key)?;
+            Ok(())
+        }
     }
 }
 
@@ -133,7 +130,8 @@ fn print(
 ) -> Result<(), Memory>
     ensures { OnOk result (to.new ≡ to.old ++ record { kind = r.kind_printed split change.kind; row = row_told (mode_of declared key.now) (adds change.kind) change.row } ∷ []) }
 {
-    let Change { kind, row } = change;
-    let row = row_printed(alloc, declared, key, kind.is_addition(), row)?;
-    to.push(Change::new(kind_printed(split, kind), row))
+    let mut printed = change;
+    retell(alloc, declared, key, &mut printed)?;
+    printed.kind = kind_printed(split, printed.kind);
+    to.push(printed)
 }

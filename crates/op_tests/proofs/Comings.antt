@@ -1,5 +1,5 @@
 -- What may come first.
-use Rattle.std.proofs.Common.{◌≡◌, refl}
+use Rattle.std.proofs.Common.{refl}
 use Rattle.ct_change.specs.declared.kind.Kind.TheVariants.{I}
 use Rattle.ct_change.specs.Changelog.{Mode, append, retract, upsert, Rows, MayCome}
 use Rattle.ct_value.specs.declared.row.Row.{Row}

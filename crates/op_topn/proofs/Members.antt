@@ -1,5 +1,5 @@
 -- The rows of a change's own partition after the change: without what goes, and with what comes.
-use Rattle.std.proofs.Common.{◌≡◌, ◌<◌, true, false, cond, Option, Some, None, refl, sym, ap, subst, ◌∙◌}
+use Rattle.std.proofs.Common.{◌≡◌, ◌<◌, true, cond, Option, Some, None, refl, sym, ap, subst, ◌∙◌}
 use Rattle.ct_value.specs.Bag.{copies, add, remove}
 use Rattle.ct_value.proofs.laws.Bags.{add-remove, remove-add}
 use Rattle.ct_value.specs.Order.{row_total, row_exact}

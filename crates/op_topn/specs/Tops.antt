@@ -4,7 +4,7 @@ use Rattle.std.specs.BTreeMap.{BTreeMap}
 use Rattle.ct_value.specs.Bag.{copies, total}
 use Rattle.ct_value.specs.declared.row.Row.{Row}
 use Rattle.ct_change.specs.declared.change.Change.{Change}
-use Rattle.ct_change.specs.Changelog.{Mode, Rows, MayCome, HasKey}
+use Rattle.ct_change.specs.Changelog.{Mode, Rows, apply, MayCome, HasKey}
 use Rattle.op_rules.specs.Values.{types_fit}
 use Rattle.emission_rules.specs.Ranking.{Ranking, members, IsSound}
 use Rattle.op_topn.specs.declared.rows.RankedRows.{RankedRows}
@@ -29,3 +29,11 @@ pub record MayTake (r : Ranking) (rows : Rows) (partitions : BTreeMap Row Ranked
   pub fits : types_fit r.columns change.row ≡ true
   pub key : HasKey r.input change.row
   pub few : held + 1 < 2 ^ 32
+
+-- so it is of all rows for which what is kept stands, and to which a change may come
+abbrev pub ForChange : TopBy → Mode → Mode → (Rows → Type 0) → BTreeMap Row RankedRows → Change → (Ranking → Rows → ℕ → Type 0) → Type 0
+ForChange by input output stands partitions change P = (rows : Rows) (held : ℕ) → stands rows → MayTake (ranking by input output) rows partitions held change → P (ranking by input output) rows held
+
+-- what is kept stands for the partitions of the rows behind a change
+abbrev pub IsHeldAfter : Ranking → Rows → BTreeMap Row RankedRows → ℕ → Change → Type 0
+IsHeldAfter r rows partitions held change = IsHeld r (apply r.input rows change) partitions (held + 1)

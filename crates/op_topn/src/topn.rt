@@ -1,5 +1,5 @@
 //! The operator.
-ghost use Rattle.std.specs.Prelude.{◌≡◌, ℕ, ◌+◌, ◌*◌, ◌≤◌, ◌++◌, [], ◌∷◌, true, false, IfOk, OnOk};
+ghost use Rattle.std.specs.Prelude.{◌≡◌, ℕ, ◌+◌, ◌*◌, ◌≤◌, ◌++◌, [], true, false, IfOk, OnOk};
 ghost use Rattle.ct_change.specs.Changelog.{Rows, apply};
 ghost use Rattle.ct_change.specs.Emission as e;
 
@@ -31,7 +31,7 @@ pub struct TopN<I: InMode, O: OutMode> {
 
 impl<I: InMode, O: OutMode> TopN<I, O> {
     ghost use Rattle.emission_rules.specs.Ranking.{topn_rule, tells, IsSound};
-    ghost use Rattle.op_topn.specs.Tops.{ranking, IsHeld, MayTake};
+    ghost use Rattle.op_topn.specs.Tops.{ranking, ForChange, IsHeld, IsHeldAfter, MayTake};
 
     /// A Top-N of no rows: of rows of these columns the first `bound` of each partition in this order, with `ranked` their rank as
     /// the last column. The partition's columns have to be there and rows with one key of the input of one partition; into a
@@ -80,8 +80,9 @@ impl<I: InMode, O: OutMode> TopN<I, O> {
         steps: &mut Steps<L>,
     ) -> Result<(), Memory>
         requires { (rows : Rows) × (held : ℕ) × I.stands_for self.old.input self.old.rows rows × MayTake (ranking self.old.by (I.mode self.old.input) (O.mode self.old.output)) rows self.old.partitions held change }
-        ensures sent { OnOk result ((rows : Rows) (held : ℕ) → I.stands_for self.old.input self.old.rows rows → MayTake (ranking self.old.by (I.mode self.old.input) (O.mode self.old.output)) rows self.old.partitions held change → to.new ≡ to.old ++ tells (ranking self.old.by (I.mode self.old.input) (O.mode self.old.output)) rows change) }
-        ensures kept { OnOk result ((rows : Rows) (held : ℕ) → I.stands_for self.old.input self.old.rows rows → MayTake (ranking self.old.by (I.mode self.old.input) (O.mode self.old.output)) rows self.old.partitions held change → I.stands_for self.new.input self.new.rows (apply (I.mode self.old.input) rows change) × IsHeld (ranking self.old.by (I.mode self.old.input) (O.mode self.old.output)) (apply (I.mode self.old.input) rows change) self.new.partitions (held + 1)) }
+        ensures sent { OnOk result (ForChange self.old.by (I.mode self.old.input) (O.mode self.old.output) (I.stands_for self.old.input self.old.rows) self.old.partitions change (λ r rows held. to.new ≡ to.old ++ tells r rows change)) }
+        ensures rows { OnOk result (ForChange self.old.by (I.mode self.old.input) (O.mode self.old.output) (I.stands_for self.old.input self.old.rows) self.old.partitions change (λ r rows _. I.stands_for self.new.input self.new.rows (apply r.input rows change))) }
+        ensures kept { OnOk result (ForChange self.old.by (I.mode self.old.input) (O.mode self.old.output) (I.stands_for self.old.input self.old.rows) self.old.partitions change (λ r rows held. IsHeldAfter r rows self.new.partitions held change)) }
         ensures same { (self.new.by ≡ self.old.by) × (self.new.input ≡ self.old.input) × (self.new.output ≡ self.old.output) × (self.new.broken ≡ self.old.broken) }
         ensures cost { steps.new ≤ steps.old + 2 * self.old.by.bound }
     {

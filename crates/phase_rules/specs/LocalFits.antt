@@ -12,7 +12,7 @@ use Rattle.op_rules.specs.Values.{types_fit}
 use Rattle.op_rules.specs.Edges.{bag, partials, forward, hash, Edge}
 use Rattle.op_rules.specs.Ports.{task_of, TakesAll}
 use Rattle.op_rules.specs.Tasks.{Task, Facts}
-use Rattle.emission_rules.specs.GroupFits.{first_columns}
+use Rattle.column_sets.specs.Places.{first_columns}
 use Rattle.phase_rules.specs.LocalGrouping.{LocalGrouping, SumsUp, fit_after, local_rule, partial_row, partials_of}
 
 -- it stands for its input's rows

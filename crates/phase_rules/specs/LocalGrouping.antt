@@ -20,7 +20,7 @@ use Rattle.op_rules.specs.Values.{types_fit}
 use Rattle.op_rules.specs.History.{at_port}
 use Rattle.op_rules.specs.Partials.{Partials, Worth}
 use Rattle.op_rules.specs.Rules.{Answer, Rule}
-use Rattle.emission_rules.specs.GroupFits.{first_columns}
+use Rattle.column_sets.specs.Places.{first_columns}
 use Rattle.emission_rules.specs.Grouping.{answers, groups_of, row_count}
 
 -- rows of these columns are grouped by so many first ones, with calls over the rows of each group, from a changelog in this mode

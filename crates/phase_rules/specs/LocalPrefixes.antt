@@ -9,7 +9,7 @@ use Rattle.op_rules.specs.History.{Arrival, at_port, joined}
 use Rattle.op_rules.specs.Partials.{sum_of, worth_of}
 use Rattle.op_rules.specs.Rules.{along}
 use Rattle.op_rules.specs.Tasks.{Emitted}
-use Rattle.emission_rules.specs.GroupFits.{first_columns}
+use Rattle.column_sets.specs.Places.{first_columns}
 use Rattle.phase_rules.specs.LocalGrouping.{LocalGrouping, local_emits, members_of, partials_of}
 use Rattle.phase_rules.specs.LocalFits.{LocalFits, local_task}
 

@@ -11,7 +11,8 @@ use Rattle.ct_change.specs.Kinds.{has_more_than_inserts}
 use Rattle.op_rules.specs.Edges.{partials, hash, Edge}
 use Rattle.op_rules.specs.Ports.{task_of, TakesAll}
 use Rattle.op_rules.specs.Tasks.{Task, Facts}
-use Rattle.emission_rules.specs.GroupFits.{first_columns, batch, part, GroupFits}
+use Rattle.column_sets.specs.Places.{first_columns}
+use Rattle.emission_rules.specs.GroupFits.{batch, part, GroupFits}
 use Rattle.phase_rules.specs.LocalGrouping.{SumsUp, partials_of}
 use Rattle.phase_rules.specs.Merging.{Merging, in_one_phase, is_partial_row, merge_rule}
 

@@ -1,7 +1,8 @@
 //! The columns of which operators speak.
-ghost use Rattle.std.specs.Prelude.{◌≡◌, map, IfOk};
+ghost use Rattle.std.specs.Prelude.{◌≡◌, IfOk};
 ghost use Rattle.ct_expr.specs.View.{expr_view};
 ghost use Rattle.rel_algebra.specs.Items as i;
+ghost use Rattle.rel_algebra.specs.Joins.{left_columns, right_columns};
 ghost use Rattle.phys_plan.specs.Columns as c;
 
 use ct_expr::Expr;
@@ -32,7 +33,7 @@ fn plain_column(item: &Expr) -> Option<u32>
 
 /// The left columns of pairs.
 pub fn left_columns(alloc: Global, on: &[Pair]) -> Result<Cols, Memory>
-    ensures { IfOk result (λ cols. cols ≡ c.left_columns on.now) }
+    ensures { IfOk result (λ cols. cols ≡ left_columns on.now) }
 {
     let mut cols = Cols::new(alloc);
     for pair in on {
@@ -43,7 +44,7 @@ pub fn left_columns(alloc: Global, on: &[Pair]) -> Result<Cols, Memory>
 
 /// The right columns of pairs.
 pub fn right_columns(alloc: Global, on: &[Pair]) -> Result<Cols, Memory>
-    ensures { IfOk result (λ cols. cols ≡ c.right_columns on.now) }
+    ensures { IfOk result (λ cols. cols ≡ right_columns on.now) }
 {
     let mut cols = Cols::new(alloc);
     for pair in on {

@@ -1,5 +1,5 @@
 //! What is laid of a plan, and nodes that are put behind it.
-ghost use Rattle.std.specs.Prelude.{◌≡◌, ◌+◌, [], ◌∷◌, IfOk, IfErr, OnOk};
+ghost use Rattle.std.specs.Prelude.{◌≡◌, [], ◌∷◌, IfOk, IfErr, OnOk};
 ghost use Rattle.ct_change.specs.Changelog.{retract, upsert, kinds_of};
 ghost use Rattle.phys_plan.specs.declared.edge.Exchange.TheVariants.{Forward as ToSame, Hash as ByHash};
 ghost use Rattle.ct_change.specs.declared.update.Update.TheVariants.{Absent as NoUpdate, After as AfterKey};

@@ -13,7 +13,7 @@ use Rattle.emission_rules.specs.Normalize.{normalize_rule, TellsKey}
 use Rattle.emission_rules.specs.Materialize.{materialize_rule}
 use Rattle.emission_rules.specs.SetOps.{set_rule}
 use Rattle.emission_rules.specs.Sink.{sink_rule}
-use Rattle.emission_rules.specs.Grouping.{Grouping, group_rule, IsSound as GroupsWell}
+use Rattle.emission_rules.specs.Grouping.{group_rule, IsSound as GroupsWell}
 use Rattle.emission_rules.specs.Joining.{join_rule}
 use Rattle.emission_rules.specs.Ranking.{topn_rule, IsSound as RanksWell}
 use Rattle.rel_algebra.specs.declared.agg.Agg.{Agg}

@@ -1,6 +1,6 @@
 -- What operators are in the algebra, and which operators the algebra's are in a plan. From an operator's role follow the number of its
 -- inputs, the tree of a node, its batch answer and the types of the row at which it is out of range.
-use Rattle.std.specs.Prelude.{ℕ, ◌==◌, ◌&&◌, ◌||◌, nat_le, cond, Bool, false, List, [], ◌∷◌, ◌++◌, map, take, Option, Some, None, option_map}
+use Rattle.std.specs.Prelude.{ℕ, ◌==◌, ◌&&◌, ◌||◌, nat_le, cond, Bool, List, [], ◌∷◌, ◌++◌, map, take, Option, Some, None, option_map}
 use Rattle.ct_value.specs.declared.ty.ColTy.{ColTy}
 use Rattle.ct_change.specs.Changelog.{Rows}
 use Rattle.ct_expr.specs.View.{expr_view}

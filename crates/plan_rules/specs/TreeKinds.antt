@@ -1,5 +1,5 @@
 -- The kinds that the plan of a tree sends, as long as no edge leaves out old rows.
-use Rattle.std.specs.Prelude.{ℕ, true, List, [], ◌∷◌, fold, slice_get, Option, Some, None}
+use Rattle.std.specs.Prelude.{true, List, [], ◌∷◌, fold, slice_get, Option, Some, None}
 use Rattle.ct_change.specs.declared.kind.Declared.{Declared}
 use Rattle.ct_change.specs.declared.kind.Declared.TheVariants.{Append, Retract, Upsert}
 use Rattle.ct_change.specs.declared.kind.KindSet.{KindSet}

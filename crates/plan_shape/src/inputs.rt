@@ -1,5 +1,5 @@
 //! What an operator asks of its inputs.
-ghost use Rattle.std.specs.Prelude.{◌≡◌, length, option_copied};
+ghost use Rattle.std.specs.Prelude.{◌≡◌, option_copied};
 ghost use Rattle.std.specs.List.{list_all};
 ghost use Rattle.plan_rules.specs.Plans.{kinds_in};
 ghost use Rattle.phys_plan.specs.Reading.{numbered, first_input};

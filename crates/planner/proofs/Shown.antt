@@ -33,12 +33,11 @@ use Rattle.plan_inferred.specs.Rules.{comes_by, comes_keyed, is_shown, suits_tab
 use Rattle.plan_inferred.specs.declared.inferred.Inferred.{Inferred}
 use Rattle.plan_inferred.specs.declared.ways.Way.TheVariants.{Forced, NewRows, Direct, Materialized, Refused}
 use Rattle.plan_rules.specs.Pieces.{bare, shown, node_of, edge_of}
-use Rattle.plan_rules.specs.Behaviours.{has_rule}
 use Rattle.plan_shape.specs.Shape.{is_sink_key}
 use Rattle.plan_shape.specs.Shaped.{ShapedPlansHaveShape}
 use Rattle.plan_check.specs.Sound.{inferred_of, Meets, sent_columns}
 use Rattle.plan_check.specs.Types.{all_types}
-use Rattle.sound_plans.proofs.laws.Lists.{of_each, the_same, within}
+use Rattle.sound_plans.proofs.laws.Lists.{of_each, within}
 use Rattle.sound_plans.proofs.laws.Shapes.{input_there}
 use Rattle.laid_plans.specs.Shapes.{HasTreeShape, IsLaidWell, LaidPlansHaveShape}
 use Rattle.laid_plans.proofs.laws.LaidTrees.{LaysOut}
@@ -48,7 +47,7 @@ use Rattle.planner.specs.Planned.{IsLaidPlan}
 use Rattle.planner.specs.Refusals.{below_sink, has_materializer, is_forced, is_large_with, refusal, sink_way, way_into}
 use Rattle.plan_laying.specs.Topped.{all_but_last, topped_plan}
 use Rattle.planner.proofs.Refused.{below_is, both_true, fits, meets_sink_key, not_large}
-use Rattle.planner.proofs.laws.Ahead.{IsAlike, at_last, columns_ahead, in_front, keys_ahead, read_many}
+use Rattle.planner.proofs.laws.Ahead.{IsAlike, columns_ahead, in_front, keys_ahead, read_many}
 use Rattle.plan_laying.proofs.laws.LastEdges.{has_last}
 use Rattle.planner.proofs.laws.Topped.{edges_ahead, laid_with}
 

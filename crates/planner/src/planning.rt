@@ -1,5 +1,5 @@
 //! A plan made and checked.
-ghost use Rattle.std.specs.Prelude.{◌≡◌, false, None, IfOk, IfErr, OnOk};
+ghost use Rattle.std.specs.Prelude.{◌≡◌, None, IfOk, IfErr, OnOk};
 ghost use Rattle.ct_catalog.specs.declared.settings.Materialize.{Materialize as Setting};
 ghost use Rattle.rel_algebra.specs.Rel.{Rel};
 ghost use Rattle.laid_plans.specs.Inferred.{with_inferred};

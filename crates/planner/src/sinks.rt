@@ -1,5 +1,5 @@
 //! How a sink takes what comes.
-ghost use Rattle.std.specs.Prelude.{◌≡◌, map, option_copied, IfOk};
+ghost use Rattle.std.specs.Prelude.{◌≡◌, IfOk};
 ghost use Rattle.std.specs.List.{list_any};
 ghost use Rattle.planner.specs.Refusals as r;
 ghost use Rattle.planner.specs.Tops.{shown_key};

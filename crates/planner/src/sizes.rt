@@ -1,5 +1,5 @@
 //! Plans that are refused for their size, whatever is inferred of them.
-ghost use Rattle.std.specs.Prelude.{◌≡◌, ◌<◌, false, true, length, map, IfOk};
+ghost use Rattle.std.specs.Prelude.{◌≡◌, ◌<◌, false, true, map, IfOk};
 ghost use Rattle.std.specs.List.{list_all, list_any};
 ghost use Rattle.ct_catalog.specs.declared.settings.Materialize.{Materialize};
 ghost use Rattle.ct_value.specs.declared.codes.ScriptCode.TheVariants.{TooManyNodes};

@@ -1,5 +1,5 @@
 //! Rows that may tie.
-ghost use Rattle.std.specs.Prelude.{◌≡◌, ◌++◌, map, option_copied, IfOk};
+ghost use Rattle.std.specs.Prelude.{◌≡◌, ◌++◌, option_copied, IfOk};
 ghost use Rattle.planner.specs.Refusals as r;
 
 use column_sets::has_within;

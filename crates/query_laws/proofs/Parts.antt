@@ -1,5 +1,5 @@
 -- WHERE: what its conjuncts are bound to keeps the rows that they keep, those with a subquery by semi joins.
-use Rattle.std.proofs.Common.{◌≡◌, ℕ, suc, ◌+◌, Bool, true, false, ◌&&◌, ◌||◌, List, [], ◌∷◌, ◌++◌, map, filter, length, Option, Some, None, cond, Ok, Err, IfOk, refl, sym, ap, ◌∙◌, subst, option_and_then, option_map, slice_get, arith}
+use Rattle.std.proofs.Common.{◌≡◌, ℕ, ◌+◌, Bool, true, false, ◌&&◌, ◌||◌, List, [], ◌∷◌, ◌++◌, map, filter, length, Option, Some, None, cond, Ok, Err, IfOk, refl, sym, ap, ◌∙◌, subst, option_and_then, option_map, slice_get}
 use Rattle.std.specs.List.{list_all}
 use Rattle.ct_value.specs.declared.codes.ScriptCode.TheVariants.{TypeMismatch}
 use Rattle.ct_value.specs.declared.ty.ColTy.{ColTy}

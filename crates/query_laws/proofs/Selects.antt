@@ -28,7 +28,7 @@ use Rattle.query_answer.specs.Groups.{meanings}
 use Rattle.query_answer.specs.Names.{Scope, column_at}
 use Rattle.query_answer.specs.Stands as s
 use Rattle.query_answer.specs.Table.{Typed}
-use Rattle.binding.specs.Checked.{◌>>=◌, or_code}
+use Rattle.binding.specs.Checked.{or_code}
 use Rattle.binding.specs.Expressions.{Leaf, column}
 use Rattle.binding.specs.Nodes.{Bound, expr_list}
 use Rattle.binding.specs.Queries.{Relation, Lister, projected, in_turn, few, list_bound, plain_listed}

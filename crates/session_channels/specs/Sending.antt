@@ -1,5 +1,5 @@
 -- What is in flight after changes were sent.
-use Rattle.std.specs.Prelude.{◌≡◌, ℕ, ◌<◌, List, [], ◌∷◌, ◌++◌, slice_get, Some}
+use Rattle.std.specs.Prelude.{◌≡◌, ℕ, ◌+◌, ◌<◌, List, [], ◌∷◌, ◌++◌, slice_get, take, Some}
 use Rattle.std.specs.List.{filter, fold}
 use Rattle.ct_value.specs.declared.row.Row.{Row}
 use Rattle.ct_change.specs.declared.change.Change.{Change}
@@ -32,3 +32,11 @@ pub record MayScan (edges : ℕ) (routes : List Route) (e : ℕ) (row : Row) : T
   pub route : Route
   pub is : slice_get routes e ≡ Some route
   pub wide : IsWide route row
+
+-- behind changes that a subtask sent through an edge it sent one more
+abbrev pub SendsMore : Channels → Channels → Route → ℕ → ℕ → Change → Type 0
+SendsMore old new route e i change = (of : Edge) (flight : ℕ → ℕ → ℕ → List Change) (before : List Change) → RoutesFor old.width route of → Carry old (sent_by of flight e i before) → Carry new (sent_by of flight e i (before ++ change ∷ []))
+
+-- behind so many first scans the next one sent a change
+abbrev pub ScansMore : Channels → Channels → List Route → List ℕ → ℕ → ℕ → Change → Type 0
+ScansMore old new routes scans number i change = (edges : ℕ → Edge) (flight : ℕ → ℕ → ℕ → List Change) → AllRoute old.width routes edges → Carry old (scanned_by edges i change flight (take number scans)) → Carry new (scanned_by edges i change flight (take (number + 1) scans))

@@ -1,8 +1,8 @@
-ghost use Rattle.std.specs.Prelude.{◌≡◌, ◌<◌, ◌+◌, ◌^◌, [], ◌∷◌, ◌++◌, ℕ, All, List, Some, length, slice_get, take, OnOk};
+ghost use Rattle.std.specs.Prelude.{◌≡◌, ◌<◌, ◌+◌, ◌^◌, [], ℕ, All, List, Some, length, OnOk};
 ghost use Rattle.ct_change.specs.declared.change.Change.{Change};
 ghost use Rattle.op_rules.specs.Edges.{Edge};
 ghost use Rattle.session_channels.specs.Routes.{IsWide, RoutesFor};
-ghost use Rattle.session_channels.specs.Sending.{AllRoute, Carry, MayScan, scanned_by, sent_by};
+ghost use Rattle.session_channels.specs.Sending.{AllRoute, Carry, MayScan, ScansMore, SendsMore, scanned_by, sent_by};
 
 use crate::{Channels, Route, goes_to};
 use ct_change::{Change, Changes};
@@ -85,7 +85,7 @@ fn send_one(
     requires from { from < channels.old.width }
     requires room { channels.old.sent + 1 < 2 ^ 32 }
     requires wide { IsWide route.now change.row }
-    ensures ok { OnOk result ((of : Edge) (flight : ℕ → ℕ → ℕ → List Change) (before : List Change) → RoutesFor channels.old.width route.now of → Carry channels.old (sent_by of flight edge from before) → Carry channels.new (sent_by of flight edge from (before ++ change ∷ []))) }
+    ensures ok { OnOk result (SendsMore channels.old channels.new route.now edge from change) }
     ensures sent { OnOk result (channels.new.sent ≡ channels.old.sent + 1) }
     ensures width { channels.new.width ≡ channels.old.width }
     ensures edges { channels.new.edges ≡ channels.old.edges }
@@ -139,7 +139,7 @@ fn scan_one(
     requires room { channels.old.sent + 1 < 2 ^ 32 }
     requires number { number < length scans.now }
     requires scans { All (λ scan. MayScan channels.old.edges routes.now.items scan change.row) scans.now }
-    ensures ok { OnOk result ((edges : ℕ → Edge) (flight : ℕ → ℕ → ℕ → List Change) → AllRoute channels.old.width routes.now.items edges → Carry channels.old (scanned_by edges from change flight (take number scans.now)) → Carry channels.new (scanned_by edges from change flight (take (number + 1) scans.now))) }
+    ensures ok { OnOk result (ScansMore channels.old channels.new routes.now.items scans.now number from change) }
     ensures sent { OnOk result (channels.new.sent ≡ channels.old.sent + 1) }
     ensures width { channels.new.width ≡ channels.old.width }
     ensures edges { channels.new.edges ≡ channels.old.edges }

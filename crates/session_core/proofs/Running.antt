@@ -1,20 +1,15 @@
 -- One operator of many takes a change.
-use Rattle.std.proofs.Common.{◌≡◌, ℕ, ◌+◌, ◌*◌, ◌/◌, ◌<◌, ◌==◌, ◌&&◌, Bool, true, false, List, [], ◌∷◌, ◌++◌, length, get_or, set, Option, Some, None, Result, Ok, Err, IfOk, IfErr, OnOk, OnErr, refl, sym, ap, subst, ◌∙◌, arith, inl, inr, ◌⊎◌, eqb}
+use Rattle.std.proofs.Common.{◌≡◌, ℕ, ◌+◌, ◌*◌, ◌/◌, ◌<◌, ◌==◌, ◌&&◌, Bool, true, false, List, [], ◌∷◌, ◌++◌, length, get_or, set, Option, Some, None, refl, sym, ap, subst, ◌∙◌, arith, inl, inr, ◌⊎◌, eqb}
 use Rattle.std.proofs.lemmas.Nat.{div-mul-add}
 use Rattle.std.proofs.lemmas.List.{get_or-set_same, get_or-set_other, get_or_default, append_assoc, append-nil}
 use Rattle.std.proofs.lemmas.Bool.{cases_eq, eq-eqb, ne_eqb, and_from, false≢true}
 use Rattle.ct_change.specs.declared.change.Change.{Change}
 use Rattle.op_rules.specs.History.{Arrival, joined}
 use Rattle.op_rules.specs.Rules.{Rule}
-use Rattle.op_rules.specs.Ports.{TakesAll}
-use Rattle.op_rules.specs.declared.operator.OpFault.{OpFault}
-use Rattle.op_rules.specs.declared.operator.OpFault.TheVariants.{Range, Memory}
-use Rattle.op_rules.specs.Faults.{IfRange}
-use Rattle.ct_value.specs.declared.row.Row.{Row}
-use Rattle.stream_model.specs.Network.{Network, task}
+use Rattle.stream_model.specs.Network.{Network}
 use Rattle.stream_model.specs.Machine.{put}
 use Rattle.session_subtasks.specs.declared.subtask.Subtask.{Subtask}
-use Rattle.session_subtasks.specs.Subtasks.{RunsAs, HasRun, is_full}
+use Rattle.session_subtasks.specs.Subtasks.{HasRun, is_full}
 use Rattle.session_core.specs.Runs.{HasRunning, AllRun, AllHaveRun, bundle_after, pieces_after}
 
 -- at the place, or the test is false

@@ -15,12 +15,13 @@ use Rattle.stream_model.specs.Tables.{Table}
 use Rattle.stream_model.specs.Network.{Network, task, IsAnswer, MeetsFacts}
 use Rattle.stream_model.specs.Machine.{State, consumed, flushed, opened, is_place, step, IsQuiet}
 use Rattle.stream_model.specs.Runs.{Item, happens, quiet, after, changes_in, AreTyped, IsTyped}
-use Rattle.stream_model.specs.Drain.{Leads, IsSafe, StopsAlong, IsDrainFault, drain, moves, stages}
+use Rattle.stream_model.specs.Drain.{Leads, IsSafe, StopsAlong, IsDrainFault, drain, moves, stage_items, stages}
 use Rattle.stream_model.specs.Theorem.{table_rows}
-use Rattle.session_core.specs.LaidOut.{IsLaidOut}
+use Rattle.session_core.specs.LaidOut.{IsLaidOut, IsStageThere, stage_of}
 use Rattle.session_core.specs.Kept.{Carries, AllFit}
 use Rattle.session_core.specs.declared.traffic.Traffic.{Traffic}
 use Rattle.session_core.specs.declared.wiring.Lane.{Lane}
+use Rattle.session_core.specs.declared.wiring.Stage.{Stage}
 use Rattle.session_core.specs.declared.wiring.Wiring.{Wiring}
 use Rattle.session_core.specs.declared.operators.Operators.{Operators}
 use Rattle.session_core.specs.declared.session.Buffer.{Buffer}
@@ -126,6 +127,29 @@ module _ {O S : Type 0} (rule_is : O → Rule) (is_broken : O → Bool) (stands 
   -- a session keeps a state to which items lead
   abbrev pub KeepsAlong : List Item → Session O S → Network → ℕ → List PrintItem → State → Type 0
   KeepsAlong items session g limit handed s = (next : State) × Leads g limit s items next × Keeps g limit session handed next
+
+  -- wherever a session keeps a state, another one keeps the state that the machine answers there
+  abbrev pub KeepsNext : Session O S → (Network → ℕ → State → Result State StepFault) → Session O S → Type 0
+  KeepsNext old next new = ForKept old (λ g limit handed s. KeepsAnswer (next g limit s) new g limit handed)
+
+  -- the same where an event comes whose change fits its table
+  abbrev pub KeepsApplied : Session O S → Event → (Network → ℕ → State → Result State StepFault) → Session O S → Type 0
+  KeepsApplied old event next new = ForApplied old event (λ g limit handed s. KeepsAnswer (next g limit s) new g limit handed)
+
+  -- the same where what a subtask emitted is handed on
+  abbrev pub KeepsPending : Session O S → ℕ → ℕ → Option (List Change) → Session O S → Type 0
+  KeepsPending old v j sent new = ForPending old v j sent (λ g limit handed next. KeepsAnswer next new g limit handed)
+
+  -- another one keeps the state to which items lead from there
+  abbrev pub KeepsBehind : Session O S → (Network → ℕ → State → List Item) → Session O S → Type 0
+  KeepsBehind old items new = ForKept old (λ g limit handed s. KeepsAlong (items g limit s) new g limit handed s)
+
+  -- the same of a stage whose channel is there, and of what stops along it
+  abbrev pub KeepsBehindStage : Session O S → Stage → Session O S → Type 0
+  KeepsBehindStage old stage new = ForKept old (λ g limit handed s. IsStageThere g stage → KeepsAlong (stage_items s (stage_of stage)) new g limit handed s)
+
+  abbrev pub StopsAlongStage : Session O S → Stage → StepFault → List PrintItem → Type 0
+  StopsAlongStage old stage fault printed = ForKept old (λ g limit handed s. IsStageThere g stage → StopsAlong g limit s (stage_items s (stage_of stage)) fault (handed ++ printed))
 
   -- ---- what holds of some run that a session stands for, and of each
 

@@ -3,9 +3,10 @@ ghost use Rattle.stream_model.specs.declared.events.PrintItem.{PrintItem};
 ghost use Rattle.stream_model.specs.Network.{Network};
 ghost use Rattle.stream_model.specs.Machine.{State};
 ghost use Rattle.stream_model.specs.Drain as machine;
-ghost use Rattle.stream_model.specs.Drain.{StopsAlong, drain_stages, moves, stage_items, stages};
+ghost use Rattle.stream_model.specs.Drain.{StopsAlong, drain_stages, moves, stages};
 ghost use Rattle.session_core.specs.LaidOut.{IsStageThere, IsThere, stage_of};
-ghost use Rattle.session_core.specs.Stands.{ForKept, ForRuns, HasDrained, HasMoved, HasStage, HasTold, Keeps, KeepsAlong, KeepsSome, StandsForSome, StopsDraining, StopsMoving};
+ghost use Rattle.session_core.specs.declared.wiring.Stage.TheVariants.{Deliver as Delivers};
+ghost use Rattle.session_core.specs.Stands.{ForKept, ForRuns, HasDrained, HasMoved, HasStage, HasTold, Keeps, KeepsBehind, KeepsBehindStage, KeepsSome, StandsForSome, StopsAlongStage, StopsDraining, StopsMoving};
 
 use crate::{Lane, Session, SourceCheck, Stage};
 use ct_change::Steps;
@@ -23,7 +24,7 @@ impl<O: PieceOperator + Drop, S: SourceCheck> Session<O, S> {
         steps: &mut Steps<L>,
     ) -> Result<(), StepFault>
         requires ready { KeepsSome O.rule O.broken O.stands_for O.takes_pieces S.stands_for self.old }
-        ensures ok { OnOk result (ForKept O.rule O.broken O.stands_for O.takes_pieces S.stands_for self.old (λ g limit handed s. KeepsAlong O.rule O.broken O.stands_for O.takes_pieces S.stands_for (moves lane.edge lane.from lane.to count) self.new g limit handed s)) }
+        ensures ok { OnOk result (KeepsBehind O.rule O.broken O.stands_for O.takes_pieces S.stands_for self.old (λ g limit s. moves lane.edge lane.from lane.to count) self.new) }
         ensures err { IfErr result (λ fault. ForKept O.rule O.broken O.stands_for O.takes_pieces S.stands_for self.old (λ g limit handed s. StopsAlong g limit s (moves lane.edge lane.from lane.to count) fault (handed ++ self.new.traffic.printed))) }
     {
         for moved in 0..count {
@@ -35,8 +36,8 @@ impl<O: PieceOperator + Drop, S: SourceCheck> Session<O, S> {
     // What is in flight in a channel is delivered whole.
     fn deliver<L: Ledger>(&mut self, lane: Lane, steps: &mut Steps<L>) -> Result<(), StepFault>
         requires ready { (g : Network) × (limit : ℕ) × (handed : List PrintItem) × (s : State) × Keeps O.rule O.broken O.stands_for O.takes_pieces S.stands_for g limit self.old handed s × IsThere g lane }
-        ensures ok { OnOk result (ForKept O.rule O.broken O.stands_for O.takes_pieces S.stands_for self.old (λ g limit handed s. IsThere g lane → KeepsAlong O.rule O.broken O.stands_for O.takes_pieces S.stands_for (moves lane.edge lane.from lane.to (length (s.flight lane.edge lane.from lane.to))) self.new g limit handed s)) }
-        ensures err { IfErr result (λ fault. ForKept O.rule O.broken O.stands_for O.takes_pieces S.stands_for self.old (λ g limit handed s. IsThere g lane → StopsAlong g limit s (moves lane.edge lane.from lane.to (length (s.flight lane.edge lane.from lane.to))) fault (handed ++ self.new.traffic.printed))) }
+        ensures ok { OnOk result (KeepsBehindStage O.rule O.broken O.stands_for O.takes_pieces S.stands_for self.old (Delivers lane) self.new) }
+        ensures err { IfErr result (λ fault. StopsAlongStage O.rule O.broken O.stands_for O.takes_pieces S.stands_for self.old (Delivers lane) fault self.new.traffic.printed) }
     {
         let count = self.traffic.held(lane);
         self.advance_all(lane, count, steps)
@@ -45,8 +46,8 @@ impl<O: PieceOperator + Drop, S: SourceCheck> Session<O, S> {
     // A channel is delivered whole, or a bundle is flushed.
     fn run_stage<L: Ledger>(&mut self, stage: Stage, steps: &mut Steps<L>) -> Result<(), StepFault>
         requires ready { (g : Network) × (limit : ℕ) × (handed : List PrintItem) × (s : State) × Keeps O.rule O.broken O.stands_for O.takes_pieces S.stands_for g limit self.old handed s × IsStageThere g stage }
-        ensures ok { OnOk result (ForKept O.rule O.broken O.stands_for O.takes_pieces S.stands_for self.old (λ g limit handed s. IsStageThere g stage → KeepsAlong O.rule O.broken O.stands_for O.takes_pieces S.stands_for (stage_items s (stage_of stage)) self.new g limit handed s)) }
-        ensures err { IfErr result (λ fault. ForKept O.rule O.broken O.stands_for O.takes_pieces S.stands_for self.old (λ g limit handed s. IsStageThere g stage → StopsAlong g limit s (stage_items s (stage_of stage)) fault (handed ++ self.new.traffic.printed))) }
+        ensures ok { OnOk result (KeepsBehindStage O.rule O.broken O.stands_for O.takes_pieces S.stands_for self.old stage self.new) }
+        ensures err { IfErr result (λ fault. StopsAlongStage O.rule O.broken O.stands_for O.takes_pieces S.stands_for self.old stage fault self.new.traffic.printed) }
     {
         match stage {
             Stage::Deliver(lane) => self.deliver(lane, steps),
@@ -57,7 +58,7 @@ impl<O: PieceOperator + Drop, S: SourceCheck> Session<O, S> {
     // All stages of a drain, in order.
     fn run_stages<L: Ledger>(&mut self, steps: &mut Steps<L>) -> Result<(), StepFault>
         requires ready { KeepsSome O.rule O.broken O.stands_for O.takes_pieces S.stands_for self.old }
-        ensures ok { OnOk result (ForKept O.rule O.broken O.stands_for O.takes_pieces S.stands_for self.old (λ g limit handed s. KeepsAlong O.rule O.broken O.stands_for O.takes_pieces S.stands_for (drain_stages g limit s (stages g)) self.new g limit handed s)) }
+        ensures ok { OnOk result (KeepsBehind O.rule O.broken O.stands_for O.takes_pieces S.stands_for self.old (λ g limit s. drain_stages g limit s (stages g)) self.new) }
         ensures err { IfErr result (λ fault. ForKept O.rule O.broken O.stands_for O.takes_pieces S.stands_for self.old (λ g limit handed s. StopsAlong g limit s (drain_stages g limit s (stages g)) fault (handed ++ self.new.traffic.printed))) }
     {
         let count = self.wiring.stage_count();
@@ -71,7 +72,7 @@ impl<O: PieceOperator + Drop, S: SourceCheck> Session<O, S> {
     // The drain's events, and that the job is quiet.
     fn run_drain<L: Ledger>(&mut self, steps: &mut Steps<L>) -> Result<(), StepFault>
         requires ready { KeepsSome O.rule O.broken O.stands_for O.takes_pieces S.stands_for self.old }
-        ensures ok { OnOk result (ForKept O.rule O.broken O.stands_for O.takes_pieces S.stands_for self.old (λ g limit handed s. KeepsAlong O.rule O.broken O.stands_for O.takes_pieces S.stands_for (machine.drain g limit s) self.new g limit handed s)) }
+        ensures ok { OnOk result (KeepsBehind O.rule O.broken O.stands_for O.takes_pieces S.stands_for self.old (λ g limit s. machine.drain g limit s) self.new) }
         ensures err { IfErr result (λ fault. ForKept O.rule O.broken O.stands_for O.takes_pieces S.stands_for self.old (λ g limit handed s. StopsAlong g limit s (machine.drain g limit s) fault (handed ++ self.new.traffic.printed))) }
     {
         self.run_stages(steps)?;

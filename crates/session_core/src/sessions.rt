@@ -6,7 +6,7 @@ ghost use Rattle.stream_model.specs.Machine.{State};
 ghost use Rattle.stream_model.specs.Drain.{StopsBy};
 ghost use Rattle.session_core.specs.LaidOut.{HasBundle, IsLaidOut};
 ghost use Rattle.session_core.specs.Sources.{IsAccepted, MayCheck};
-ghost use Rattle.session_core.specs.Stands.{ForApplied, ForKept, ForSteps, ForPending, HasStepped, KeepsAnswer, KeepsSome, MayApply, MayStep, PendsSome, reached};
+ghost use Rattle.session_core.specs.Stands.{ForApplied, ForKept, ForPending, ForSteps, HasStepped, KeepsApplied, KeepsNext, KeepsPending, KeepsSome, MayApply, MayStep, PendsSome, reached};
 
 use crate::operators::{consume_at, flush_at};
 use crate::{Session, SourceCheck, SourceFault, Wiring};
@@ -26,7 +26,7 @@ impl<O: PieceOperator + Drop, S: SourceCheck> Session<O, S> {
         steps: &mut Steps<L>,
     ) -> Result<(), StepFault>
         requires ready { KeepsSome O.rule O.broken O.stands_for O.takes_pieces S.stands_for self.old }
-        ensures ok { OnOk result (ForKept O.rule O.broken O.stands_for O.takes_pieces S.stands_for self.old (λ g limit handed s. KeepsAnswer O.rule O.broken O.stands_for O.takes_pieces S.stands_for (machine.move g limit s edge from to) self.new g limit handed)) }
+        ensures ok { OnOk result (KeepsNext O.rule O.broken O.stands_for O.takes_pieces S.stands_for self.old (λ g limit s. machine.move g limit s edge from to) self.new) }
         ensures err { IfErr result (λ fault. ForKept O.rule O.broken O.stands_for O.takes_pieces S.stands_for self.old (λ g limit handed s. StopsBy (machine.move g limit s edge from to) fault)) }
         ensures printed { OnErr result (self.new.traffic.printed ≡ self.old.traffic.printed) }
     {
@@ -53,7 +53,7 @@ impl<O: PieceOperator + Drop, S: SourceCheck> Session<O, S> {
         steps: &mut Steps<L>,
     ) -> Result<(), StepFault>
         requires ready { KeepsSome O.rule O.broken O.stands_for O.takes_pieces S.stands_for self.old }
-        ensures ok { OnOk result (ForKept O.rule O.broken O.stands_for O.takes_pieces S.stands_for self.old (λ g limit handed s. KeepsAnswer O.rule O.broken O.stands_for O.takes_pieces S.stands_for (machine.flush g limit s node subtask) self.new g limit handed)) }
+        ensures ok { OnOk result (KeepsNext O.rule O.broken O.stands_for O.takes_pieces S.stands_for self.old (λ g limit s. machine.flush g limit s node subtask) self.new) }
         ensures err { IfErr result (λ fault. ForKept O.rule O.broken O.stands_for O.takes_pieces S.stands_for self.old (λ g limit handed s. StopsBy (machine.flush g limit s node subtask) fault)) }
         ensures printed { OnErr result (self.new.traffic.printed ≡ self.old.traffic.printed) }
     {
@@ -72,7 +72,7 @@ impl<O: PieceOperator + Drop, S: SourceCheck> Session<O, S> {
     // What a subtask emitted for its bundle, if that was due, is handed on.
     fn hand_out(&mut self, node: u32, subtask: u32) -> Result<(), StepFault>
         requires ready { PendsSome O.rule O.broken O.stands_for O.takes_pieces S.stands_for self.old node subtask self.old.emitted }
-        ensures ok { OnOk result (ForPending O.rule O.broken O.stands_for O.takes_pieces S.stands_for self.old node subtask self.old.emitted (λ g limit handed next. KeepsAnswer O.rule O.broken O.stands_for O.takes_pieces S.stands_for next self.new g limit handed)) }
+        ensures ok { OnOk result (KeepsPending O.rule O.broken O.stands_for O.takes_pieces S.stands_for self.old node subtask self.old.emitted self.new) }
         ensures err { IfErr result (λ fault. ForPending O.rule O.broken O.stands_for O.takes_pieces S.stands_for self.old node subtask self.old.emitted (λ g limit handed next. StopsBy next fault)) }
         ensures printed { OnErr result (self.new.traffic.printed ≡ self.old.traffic.printed) }
     {
@@ -83,7 +83,7 @@ impl<O: PieceOperator + Drop, S: SourceCheck> Session<O, S> {
     // One change of a table enters the channels of its scans.
     fn take(&mut self, table: u32, change: Change) -> Result<(), StepFault>
         requires ready { MayApply O.rule O.broken O.stands_for O.takes_pieces S.stands_for self.old (Takes table change) }
-        ensures ok { OnOk result (ForApplied O.rule O.broken O.stands_for O.takes_pieces S.stands_for self.old (Takes table change) (λ g limit handed s. KeepsAnswer O.rule O.broken O.stands_for O.takes_pieces S.stands_for (machine.take g limit s table change) self.new g limit handed)) }
+        ensures ok { OnOk result (KeepsApplied O.rule O.broken O.stands_for O.takes_pieces S.stands_for self.old (Takes table change) (λ g limit s. machine.take g limit s table change) self.new) }
         ensures err { IfErr result (λ fault. ForApplied O.rule O.broken O.stands_for O.takes_pieces S.stands_for self.old (Takes table change) (λ g limit handed s. StopsBy (machine.take g limit s table change) fault)) }
         ensures printed { OnErr result (self.new.traffic.printed ≡ self.old.traffic.printed) }
     {
@@ -95,7 +95,7 @@ impl<O: PieceOperator + Drop, S: SourceCheck> Session<O, S> {
     // One event.
     fn apply<L: Ledger>(&mut self, event: Event, steps: &mut Steps<L>) -> Result<(), StepFault>
         requires ready { MayApply O.rule O.broken O.stands_for O.takes_pieces S.stands_for self.old event }
-        ensures ok { OnOk result (ForApplied O.rule O.broken O.stands_for O.takes_pieces S.stands_for self.old event (λ g limit handed s. KeepsAnswer O.rule O.broken O.stands_for O.takes_pieces S.stands_for (machine.step g limit s event) self.new g limit handed)) }
+        ensures ok { OnOk result (KeepsApplied O.rule O.broken O.stands_for O.takes_pieces S.stands_for self.old event (λ g limit s. machine.step g limit s event) self.new) }
         ensures err { IfErr result (λ fault. ForApplied O.rule O.broken O.stands_for O.takes_pieces S.stands_for self.old event (λ g limit handed s. StopsBy (machine.step g limit s event) fault)) }
         ensures printed { OnErr result (self.new.traffic.printed ≡ self.old.traffic.printed) }
     {

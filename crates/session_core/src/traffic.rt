@@ -96,6 +96,7 @@ impl Traffic {
     ) -> Result<(), StepFault>
         requires ready { (changes : List Told) → emitted.old ≡ Some changes → ForSome (MayHandOn wiring.now self.old node subtask changes) }
         ensures idle { emitted.old ≡ None → (result ≡ Ok tt) × (self.new ≡ self.old) }
+        ensures emptied { OnOk result (emitted.new ≡ None) }
         ensures ok { OnOk result ((changes : List Told) → emitted.old ≡ Some changes → ForEach (MayHandOn wiring.now self.old node subtask changes) (HasHandedOn self.new node subtask changes)) }
         ensures err { IfErr result (λ fault. (changes : List Told) → emitted.old ≡ Some changes → ForEach (MayHandOn wiring.now self.old node subtask changes) (λ g limit handed s. StopsBy (machine.hand_on g limit node subtask changes s) fault)) }
         ensures printed { OnErr result (self.new.printed ≡ self.old.printed) }

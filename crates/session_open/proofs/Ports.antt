@@ -2,7 +2,6 @@
 use Rattle.std.proofs.Common.{◌≡◌, ℕ, zero, suc, ◌+◌, ◌<◌, ◌≤◌, ◌==◌, true, false, cond, List, [], ◌∷◌, length, drop, get_or, Option, Some, None, refl, sym, ap, ◌∙◌, arith}
 use Rattle.std.specs.Option.{option_map}
 use Rattle.phys_plan.specs.declared.node.Node.{Node}
-use Rattle.stream_model.specs.Network as network
 use Rattle.plan_rules.specs.Plans.{port_of, feed_at, feed_from}
 
 -- what is left of a list at an index

@@ -1,4 +1,5 @@
 pub mod Locals
+pub mod Made
 pub mod Modes
 pub mod Opening
 pub mod Running

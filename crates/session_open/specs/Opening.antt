@@ -20,6 +20,7 @@ use Rattle.stream_model.specs.Machine.{opened}
 use Rattle.plan_rules.specs.Columns.{AreColumns}
 use Rattle.plan_rules.specs.Plans.{Doing, network_of, spread_of}
 use Rattle.phys_plan.specs.Reading.{numbered}
+use Rattle.ct_catalog.specs.declared.table.TableDef.{TableDef}
 use Rattle.ct_catalog.specs.Columns.{column_types}
 use Rattle.session_channels.specs.declared.channels.Channels.{Channels}
 use Rattle.session_channels.specs.declared.exchange.KeyRoute.{KeyRoute}
@@ -27,9 +28,10 @@ use Rattle.session_channels.specs.declared.exchange.Route.{Route}
 use Rattle.session_channels.specs.declared.exchange.Route.TheVariants as r
 use Rattle.session_channels.specs.Sending.{Carry}
 use Rattle.session_subtasks.specs.declared.subtask.Subtask.{Subtask}
+use Rattle.session_core.specs.declared.wiring.TableWiring.{TableWiring}
 use Rattle.session_core.specs.declared.wiring.Wiring.{Wiring}
 use Rattle.session_core.specs.Kept.{AllFit}
-use Rattle.session_core.specs.LaidOut.{IsLaidOut}
+use Rattle.session_core.specs.LaidOut.{IsLaidOut, scans_below}
 use Rattle.session_subtasks.specs.Subtasks.{RunsAs}
 use Rattle.session_open.specs.declared.fault.OpenFault.{OpenFault}
 use Rattle.session_open.specs.declared.fault.OpenFault.TheVariants.{Limit, Memory}
@@ -142,6 +144,17 @@ pub record Opens (runs : Plan → List (List ColTy) → Network → Type 0) (pla
   pub count_is : g.count ≡ length plan.nodes
   pub subtasks_are : g.subtasks ≡ plan.parallelism
   pub fits : AllFit g (opened g)
+
+-- so it is of each network that opens like a plan, where so many subtasks sent what they open with
+abbrev pub ForOpened : (Plan → List (List ColTy) → Network → Type 0) → Plan → List (List ColTy) → Wiring → ℕ → Channels → (Network → ℕ → Type 0) → Type 0
+ForOpened runs plan columns w places channels P = (g : Network) (limit : ℕ) → Opens runs plan columns w g limit → HaveOpened g limit places channels → P g limit
+
+-- ---- tables
+
+-- how a table's changes are spread, and the numbers of its scans, in each network of the plan
+abbrev pub IsTableLaid : Plan → ℕ → TableWiring → TableDef → Type 0
+IsTableLaid plan number kept table = IsKeyRoute (column_types table) (spread_of table) kept.spread
+    × ((of : ℕ → List ColTy) (doing : ℕ → Doing) → kept.scans ≡ scans_below (network_of of doing plan) number (length plan.nodes))
 
 -- ---- faults
 

@@ -1,9 +1,6 @@
 ghost use Rattle.std.specs.Prelude.{◌≡◌, [], IfOk, get_or};
-ghost use Rattle.plan_rules.specs.Plans.{kinds_in};
-ghost use Rattle.phys_plan.specs.Reading.{numbered, first_input};
-ghost use Rattle.plan_rules.specs.Around.{mode_read};
-ghost use Rattle.plan_rules.specs.Plans.{update_in};
-ghost use Rattle.session_open.specs.Modes.{mode_in};
+ghost use Rattle.phys_plan.specs.Reading.{first_input};
+ghost use Rattle.session_open.specs.Modes.{mode_from, mode_in};
 ghost use Rattle.session_open.specs.Running.{second_input};
 
 use crate::AnyMode;
@@ -29,7 +26,7 @@ pub(crate) fn only_input(
     inputs: &Numbers,
 ) -> Result<Input, Memory>
     ensures types { IfOk result (λ input. input.types ≡ get_or columns.now (first_input inputs.now) []) }
-    ensures mode { IfOk result (λ input. mode_in input.mode ≡ mode_read (kinds_in (numbered plan.now.edges (first_input inputs.now))) (update_in (numbered plan.now.edges (first_input inputs.now)))) }
+    ensures mode { IfOk result (λ input. mode_in input.mode ≡ mode_from plan.now (first_input inputs.now)) }
 {
     input_at(alloc, plan, columns, first_of(inputs))
 }
@@ -42,7 +39,7 @@ pub(crate) fn both_inputs(
     inputs: &Numbers,
 ) -> Result<(Input, Input), Memory>
     ensures types { IfOk result (λ sides. (sides.0.types ≡ get_or columns.now (first_input inputs.now) []) × (sides.1.types ≡ get_or columns.now (second_input inputs.now) [])) }
-    ensures modes { IfOk result (λ sides. (mode_in sides.0.mode ≡ mode_read (kinds_in (numbered plan.now.edges (first_input inputs.now))) (update_in (numbered plan.now.edges (first_input inputs.now)))) × (mode_in sides.1.mode ≡ mode_read (kinds_in (numbered plan.now.edges (second_input inputs.now))) (update_in (numbered plan.now.edges (second_input inputs.now))))) }
+    ensures modes { IfOk result (λ sides. (mode_in sides.0.mode ≡ mode_from plan.now (first_input inputs.now)) × (mode_in sides.1.mode ≡ mode_from plan.now (second_input inputs.now))) }
 {
     let first = input_at(alloc, plan, columns, first_of(inputs))?;
     let second = input_at(alloc, plan, columns, second_of(inputs))?;
@@ -57,7 +54,7 @@ fn input_at(
     number: u32,
 ) -> Result<Input, Memory>
     ensures types { IfOk result (λ input. input.types ≡ get_or columns.now number []) }
-    ensures mode { IfOk result (λ input. mode_in input.mode ≡ mode_read (kinds_in (numbered plan.now.edges number)) (update_in (numbered plan.now.edges number))) }
+    ensures mode { IfOk result (λ input. mode_in input.mode ≡ mode_from plan.now number) }
 {
     let types = types_at(alloc, columns, number)?;
     let mode = read_at(alloc, plan, number)?;

@@ -21,8 +21,9 @@ ghost use Rattle.phase_rules.specs.Merging.{merge_rule};
 ghost use Rattle.op_merge.specs.Groups.{CanMerge};
 ghost use Rattle.plan_rules.specs.Plans.{bundle_of, update_in};
 ghost use Rattle.plan_rules.specs.Doings.{around_of};
+ghost use Rattle.session_open.specs.Made.{IsMadeBy, IsNewOperator, joined};
 ghost use Rattle.session_open.specs.Modes.{mode_in};
-ghost use Rattle.session_open.specs.Running.{IsBuiltPlan, IsNew, IsOperatorBy, second_input};
+ghost use Rattle.session_open.specs.Running.{IsBuiltPlan, second_input};
 
 use crate::edges::{after_of, sink_key, told_to, written_at};
 use crate::inputs::{Input, both_inputs, only_input};
@@ -91,7 +92,7 @@ fn operator_of(
     requires columns { get_or columns.now (first_input node.now.inputs) [] ≡ (around_of plan.now number node.now.inputs).columns }
     requires all { AreColumns columns.now (columns_at plan.now.sources plan.now.nodes) }
     requires others { get_or columns.now (second_input node.now.inputs) [] ≡ (second (around_of plan.now number node.now.inputs)).columns }
-    ensures { IfOk result (λ made. IsOperatorBy ⟦<AnyOperator as Operator>⟧.rule ⟦<AnyOperator as Operator>⟧.broken ⟦<AnyOperator as Operator>⟧.stands_for ⟦<AnyOperator as PieceOperator>⟧.takes_pieces (behaviour node.now.op (around_of plan.now number node.now.inputs)) (bundle_of plan.now.mini_batch node.now.op) made) }
+    ensures { IfOk result (λ made. IsMadeBy (behaviour node.now.op (around_of plan.now number node.now.inputs)) (bundle_of plan.now.mini_batch node.now.op) made) }
 {
     match &node.op {
         Op::Filter { cond } => Ok(Some(filter_by(alloc, cond)?)),
@@ -142,7 +143,7 @@ fn operator_of(
 }
 
 fn filter_by(alloc: Global, cond: &Expr) -> Result<AnyOperator, Memory>
-    ensures { IfOk result (λ made. IsNew ⟦<AnyOperator as Operator>⟧.rule ⟦<AnyOperator as Operator>⟧.broken ⟦<AnyOperator as Operator>⟧.stands_for ⟦<AnyOperator as PieceOperator>⟧.takes_pieces made (filter_rule (record { condition = expr_view cond.now }))) }
+    ensures { IfOk result (λ made. IsNewOperator made (filter_rule (record { condition = expr_view cond.now }))) }
 {
     Ok(AnyOperator::Filter(FilterOp::new(alloc, cond.dup()?)))
 }
@@ -153,7 +154,7 @@ fn project_to(
     inputs: &Numbers,
     items: &Exprs,
 ) -> Result<AnyOperator, Memory>
-    ensures { IfOk result (λ made. IsNew ⟦<AnyOperator as Operator>⟧.rule ⟦<AnyOperator as Operator>⟧.broken ⟦<AnyOperator as Operator>⟧.stands_for ⟦<AnyOperator as PieceOperator>⟧.takes_pieces made (project_rule (record { items = exprs_view items.now; after = after_key (update_in (numbered plan.now.edges (first_input inputs.now))) }))) }
+    ensures { IfOk result (λ made. IsNewOperator made (project_rule (record { items = exprs_view items.now; after = after_key (update_in (numbered plan.now.edges (first_input inputs.now))) }))) }
 {
     let items = dup_exprs(items)?;
     let after = after_of(plan, inputs)?;
@@ -161,7 +162,7 @@ fn project_to(
 }
 
 fn union_of(alloc: Global, inputs: &Numbers) -> Result<AnyOperator, Memory>
-    ensures { IfOk result (λ made. IsNew ⟦<AnyOperator as Operator>⟧.rule ⟦<AnyOperator as Operator>⟧.broken ⟦<AnyOperator as Operator>⟧.stands_for ⟦<AnyOperator as PieceOperator>⟧.takes_pieces made (union_rule (record { inputs = length inputs.now }))) }
+    ensures { IfOk result (λ made. IsNewOperator made (union_rule (record { inputs = length inputs.now }))) }
 {
     let count = count_of(inputs)?;
     Ok(AnyOperator::Union(UnionOp::new(alloc, count)))
@@ -169,7 +170,7 @@ fn union_of(alloc: Global, inputs: &Numbers) -> Result<AnyOperator, Memory>
 
 fn normalize_by(alloc: Global, key: &Cols, own: AnyMode) -> Result<AnyOperator, Memory>
     requires { TellsKey key.now (mode_in own) }
-    ensures { IfOk result (λ made. IsNew ⟦<AnyOperator as Operator>⟧.rule ⟦<AnyOperator as Operator>⟧.broken ⟦<AnyOperator as Operator>⟧.stands_for ⟦<AnyOperator as PieceOperator>⟧.takes_pieces made (normalize_rule (record { key = key.now; output = mode_in own }))) }
+    ensures { IfOk result (λ made. IsNewOperator made (normalize_rule (record { key = key.now; output = mode_in own }))) }
 {
     let made = NormalizeOp::new(alloc, key.dup()?, own)?;
     Ok(AnyOperator::Normalize(made))
@@ -183,7 +184,7 @@ fn group_by(
     aggs: &Aggs,
 ) -> Result<AnyOperator, Memory>
     requires { GroupsWell (record { keys = keys; aggs = aggs.now; columns = input.types; input = mode_in input.mode; output = mode_in own }) }
-    ensures new { IfOk result (λ made. IsNew ⟦<AnyOperator as Operator>⟧.rule ⟦<AnyOperator as Operator>⟧.broken ⟦<AnyOperator as Operator>⟧.stands_for ⟦<AnyOperator as PieceOperator>⟧.takes_pieces made (group_rule (record { keys = keys; aggs = aggs.now; columns = input.types; input = mode_in input.mode; output = mode_in own }))) }
+    ensures new { IfOk result (λ made. IsNewOperator made (group_rule (record { keys = keys; aggs = aggs.now; columns = input.types; input = mode_in input.mode; output = mode_in own }))) }
     ensures pieces { IfOk result (λ made. ⟦<AnyOperator as PieceOperator>⟧.takes_pieces made ≡ true) }
 {
     let made = Group::new(alloc, keys, aggs.dup()?, input.types, input.mode, own)?;
@@ -202,7 +203,7 @@ fn bundled_by(
 ) -> Result<AnyOperator, Memory>
     requires suits { BundlesWell keys aggs.now (around_of plan.now number inputs.now) (around_of plan.now number inputs.now).partial }
     requires columns { AreColumns columns.now (columns_at plan.now.sources plan.now.nodes) }
-    ensures new { IfOk result (λ made. IsNew ⟦<AnyOperator as Operator>⟧.rule ⟦<AnyOperator as Operator>⟧.broken ⟦<AnyOperator as Operator>⟧.stands_for ⟦<AnyOperator as PieceOperator>⟧.takes_pieces made (bundled_rule keys aggs.now (around_of plan.now number inputs.now) (around_of plan.now number inputs.now).partial)) }
+    ensures new { IfOk result (λ made. IsNewOperator made (bundled_rule keys aggs.now (around_of plan.now number inputs.now) (around_of plan.now number inputs.now).partial)) }
     ensures pieces { IfOk result (λ made. ⟦<AnyOperator as PieceOperator>⟧.takes_pieces made ≡ true) }
 {
     let own = written_at(alloc, plan, number)?;
@@ -217,7 +218,7 @@ fn bundled_by(
 
 fn merging_by(alloc: Global, local: Local, own: AnyMode) -> AnyOperator
     requires { (input : Mode) × CanMerge (record { local = record { keys = local.keys; aggs = local.aggs; columns = local.types; input = input }; output = mode_in own }) }
-    ensures new { (input : Mode) → IsNew ⟦<AnyOperator as Operator>⟧.rule ⟦<AnyOperator as Operator>⟧.broken ⟦<AnyOperator as Operator>⟧.stands_for ⟦<AnyOperator as PieceOperator>⟧.takes_pieces result (merge_rule (record { local = record { keys = local.keys; aggs = local.aggs; columns = local.types; input = input }; output = mode_in own })) }
+    ensures new { (input : Mode) → IsNewOperator result (merge_rule (record { local = record { keys = local.keys; aggs = local.aggs; columns = local.types; input = input }; output = mode_in own })) }
     ensures pieces { ⟦<AnyOperator as PieceOperator>⟧.takes_pieces result ≡ true }
 {
     AnyOperator::Merge(MergeGroup::new(alloc, local.keys, local.aggs, local.types, own))
@@ -225,7 +226,7 @@ fn merging_by(alloc: Global, local: Local, own: AnyMode) -> AnyOperator
 
 fn local_by(alloc: Global, input: Input, keys: u32, aggs: &Aggs) -> Result<AnyOperator, Memory>
     requires { SumsUp (record { keys = keys; aggs = aggs.now; columns = input.types; input = mode_in input.mode }) }
-    ensures new { IfOk result (λ made. IsNew ⟦<AnyOperator as Operator>⟧.rule ⟦<AnyOperator as Operator>⟧.broken ⟦<AnyOperator as Operator>⟧.stands_for ⟦<AnyOperator as PieceOperator>⟧.takes_pieces made (local_rule (record { keys = keys; aggs = aggs.now; columns = input.types; input = mode_in input.mode }))) }
+    ensures new { IfOk result (λ made. IsNewOperator made (local_rule (record { keys = keys; aggs = aggs.now; columns = input.types; input = mode_in input.mode }))) }
     ensures pieces { IfOk result (λ made. ⟦<AnyOperator as PieceOperator>⟧.takes_pieces made ≡ true) }
 {
     let aggs = aggs.dup()?;
@@ -239,7 +240,7 @@ fn join_by(
     on: &Pairs,
     rest: &Option<Expr>,
 ) -> Result<AnyOperator, Memory>
-    ensures { IfOk result (λ made. IsNew ⟦<AnyOperator as Operator>⟧.rule ⟦<AnyOperator as Operator>⟧.broken ⟦<AnyOperator as Operator>⟧.stands_for ⟦<AnyOperator as PieceOperator>⟧.takes_pieces made (join_rule (record { shape = joins kind; on = on.now; rest = option_map expr_view rest.now; left_columns = sides.0.types; right_columns = sides.1.types; left = mode_in sides.0.mode; right = mode_in sides.1.mode }))) }
+    ensures { IfOk result (λ made. IsNewOperator made (join_rule (joined (joins kind) on.now (option_map expr_view rest.now) sides))) }
 {
     let (left, right) = sides;
     let (on, rest) = (on.dup()?, dup_rest(rest)?);
@@ -263,7 +264,7 @@ fn semi_by(
     on: &Pairs,
     rest: &Option<Expr>,
 ) -> Result<AnyOperator, Memory>
-    ensures { IfOk result (λ made. IsNew ⟦<AnyOperator as Operator>⟧.rule ⟦<AnyOperator as Operator>⟧.broken ⟦<AnyOperator as Operator>⟧.stands_for ⟦<AnyOperator as PieceOperator>⟧.takes_pieces made (join_rule (record { shape = matched anti; on = on.now; rest = option_map expr_view rest.now; left_columns = sides.0.types; right_columns = sides.1.types; left = mode_in sides.0.mode; right = mode_in sides.1.mode }))) }
+    ensures { IfOk result (λ made. IsNewOperator made (join_rule (joined (matched anti) on.now (option_map expr_view rest.now) sides))) }
 {
     let (left, right) = sides;
     let (on, rest) = (on.dup()?, dup_rest(rest)?);
@@ -281,7 +282,7 @@ fn semi_by(
 }
 
 fn set_op_of(alloc: Global, except: bool, all: bool) -> AnyOperator
-    ensures { IsNew ⟦<AnyOperator as Operator>⟧.rule ⟦<AnyOperator as Operator>⟧.broken ⟦<AnyOperator as Operator>⟧.stands_for ⟦<AnyOperator as PieceOperator>⟧.takes_pieces result (set_rule (record { except = except; all = all })) }
+    ensures { IsNewOperator result (set_rule (record { except = except; all = all })) }
 {
     AnyOperator::SetOp(SetOp::new(alloc, except, all))
 }
@@ -296,7 +297,7 @@ fn top_by(
     ranked: bool,
 ) -> Result<AnyOperator, Memory>
     requires { RanksWell (record { partition = partition.now; order = order.now; bound = bound; ranked = ranked; columns = input.types; input = mode_in input.mode; output = mode_in own }) }
-    ensures { IfOk result (λ made. IsNew ⟦<AnyOperator as Operator>⟧.rule ⟦<AnyOperator as Operator>⟧.broken ⟦<AnyOperator as Operator>⟧.stands_for ⟦<AnyOperator as PieceOperator>⟧.takes_pieces made (topn_rule (record { partition = partition.now; order = order.now; bound = bound; ranked = ranked; columns = input.types; input = mode_in input.mode; output = mode_in own }))) }
+    ensures { IfOk result (λ made. IsNewOperator made (topn_rule (record { partition = partition.now; order = order.now; bound = bound; ranked = ranked; columns = input.types; input = mode_in input.mode; output = mode_in own }))) }
 {
     let (partition, order) = (partition.dup()?, order.dup()?);
     let (types, mode) = (input.types, input.mode);
@@ -315,14 +316,14 @@ fn dup_rest(rest: &Option<Expr>) -> Result<Option<Expr>, Memory>
 }
 
 fn materialize_by(alloc: Global, key: &Cols) -> Result<AnyOperator, Memory>
-    ensures { IfOk result (λ made. IsNew ⟦<AnyOperator as Operator>⟧.rule ⟦<AnyOperator as Operator>⟧.broken ⟦<AnyOperator as Operator>⟧.stands_for ⟦<AnyOperator as PieceOperator>⟧.takes_pieces made (materialize_rule key.now)) }
+    ensures { IfOk result (λ made. IsNewOperator made (materialize_rule key.now)) }
 {
     let made = Materialize::new(alloc, key.dup()?)?;
     Ok(AnyOperator::Materialize(made))
 }
 
 fn sink_of(alloc: Global, plan: &Plan, inputs: &Numbers) -> Result<AnyOperator, Memory>
-    ensures { IfOk result (λ made. IsNew ⟦<AnyOperator as Operator>⟧.rule ⟦<AnyOperator as Operator>⟧.broken ⟦<AnyOperator as Operator>⟧.stands_for ⟦<AnyOperator as PieceOperator>⟧.takes_pieces made (sink_rule (record { declared = plan.now.sink.mode; after = after_key (update_in (numbered plan.now.edges (first_input inputs.now))); key = unwrap_or plan.now.sink.key [] }))) }
+    ensures { IfOk result (λ made. IsNewOperator made (sink_rule (record { declared = plan.now.sink.mode; after = after_key (update_in (numbered plan.now.edges (first_input inputs.now))); key = unwrap_or plan.now.sink.key [] }))) }
 {
     let (update, key) = (told_to(plan, inputs)?, sink_key(alloc, plan)?);
     let made = SinkWriter::new(alloc, plan.sink.mode, update, key)?;

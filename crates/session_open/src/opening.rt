@@ -1,8 +1,8 @@
-ghost use Rattle.std.specs.Prelude.{◌≡◌, ◌<◌, ◌+◌, ◌*◌, ◌++◌, ◌∷◌, ℕ, [], List as Seq, length, IfOk, IfErr, OnOk};
+ghost use Rattle.std.specs.Prelude.{◌≡◌, ◌<◌, ◌+◌, ◌*◌, ◌++◌, ◌∷◌, ℕ, [], length, IfOk, IfErr, OnOk};
 ghost use Rattle.stream_model.specs.Network.{Network};
 ghost use Rattle.session_core.specs.Runs.{AllRun};
 ghost use Rattle.op_rules.specs.Tasks.{total};
-ghost use Rattle.session_open.specs.Opening.{HaveOpened, IsStarted, IsTooMany, MayStart, opens_with, Opens};
+ghost use Rattle.session_open.specs.Opening.{ForOpened, HaveOpened, IsStarted, IsTooMany, MayStart, opens_with, Opens};
 
 use crate::made::open_node;
 use crate::{OpenFault, PlanOperator};
@@ -28,9 +28,9 @@ pub(crate) fn open_operators<O: PlanOperator>(
     requires ready { (g : Network) × (limit : ℕ) × Opens O.runs plan.now columns.now wiring.now g limit × HaveOpened g limit 0 channels.old }
     ensures width { IfOk result (λ made. made.width ≡ plan.now.parallelism) }
     ensures nodes { IfOk result (λ made. made.nodes ≡ length plan.now.nodes + 1) }
-    ensures runs { IfOk result (λ made. (g : Network) (limit : ℕ) → Opens O.runs plan.now columns.now wiring.now g limit → HaveOpened g limit 0 channels.old → AllRun O.rule O.broken O.stands_for O.takes_pieces g made.width made.items.items (λ v j. []) (λ v j. [])) }
-    ensures opened { OnOk result ((g : Network) (limit : ℕ) → Opens O.runs plan.now columns.now wiring.now g limit → HaveOpened g limit 0 channels.old → HaveOpened g limit ((length plan.now.nodes + 1) * plan.now.parallelism) channels.new) }
-    ensures err { IfErr result (λ fault. (g : Network) (limit : ℕ) → Opens O.runs plan.now columns.now wiring.now g limit → HaveOpened g limit 0 channels.old → IsTooMany limit (total ((length plan.now.nodes + 1) * plan.now.parallelism) (opens_with g)) fault) }
+    ensures runs { IfOk result (λ made. ForOpened O.runs plan.now columns.now wiring.now 0 channels.old (λ g limit. AllRun O.rule O.broken O.stands_for O.takes_pieces g made.width made.items.items (λ v j. []) (λ v j. []))) }
+    ensures opened { OnOk result (ForOpened O.runs plan.now columns.now wiring.now 0 channels.old (λ g limit. HaveOpened g limit ((length plan.now.nodes + 1) * plan.now.parallelism) channels.new)) }
+    ensures err { IfErr result (λ fault. ForOpened O.runs plan.now columns.now wiring.now 0 channels.old (λ g limit. IsTooMany limit (total ((length plan.now.nodes + 1) * plan.now.parallelism) (opens_with g)) fault)) }
 {
     let width = plan.parallelism as usize;
     let nodes = plan.nodes.len() + 1;
@@ -70,8 +70,8 @@ fn open_subtask<O: PlanOperator>(
     requires subtask { subtask < plan.now.parallelism }
     requires ready { (g : Network) × (limit : ℕ) × Opens O.runs plan.now columns.now wiring.now g limit × HaveOpened g limit (node * plan.now.parallelism + subtask) channels.old }
     ensures made { IfOk result (λ op. (g : Network) (limit : ℕ) → Opens O.runs plan.now columns.now wiring.now g limit → IsStarted O.rule O.broken O.stands_for O.takes_pieces g node op) }
-    ensures opened { OnOk result ((g : Network) (limit : ℕ) → Opens O.runs plan.now columns.now wiring.now g limit → HaveOpened g limit (node * plan.now.parallelism + subtask) channels.old → HaveOpened g limit (node * plan.now.parallelism + subtask + 1) channels.new) }
-    ensures err { IfErr result (λ fault. (g : Network) (limit : ℕ) → Opens O.runs plan.now columns.now wiring.now g limit → HaveOpened g limit (node * plan.now.parallelism + subtask) channels.old → IsTooMany limit (total (node * plan.now.parallelism + subtask + 1) (opens_with g)) fault) }
+    ensures opened { OnOk result (ForOpened O.runs plan.now columns.now wiring.now (node * plan.now.parallelism + subtask) channels.old (λ g limit. HaveOpened g limit (node * plan.now.parallelism + subtask + 1) channels.new)) }
+    ensures err { IfErr result (λ fault. ForOpened O.runs plan.now columns.now wiring.now (node * plan.now.parallelism + subtask) channels.old (λ g limit. IsTooMany limit (total (node * plan.now.parallelism + subtask + 1) (opens_with g)) fault)) }
 {
     let (op, mut sent) = open_node(alloc, plan, columns, node, subtask)?;
     start(wiring, channels, node, subtask, &mut sent)?;

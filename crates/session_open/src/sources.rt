@@ -1,4 +1,4 @@
-ghost use Rattle.std.specs.Prelude.{◌≡◌, ℕ, List as Seq, [], IfOk};
+ghost use Rattle.std.specs.Prelude.{ℕ, List as Seq, [], IfOk};
 ghost use Rattle.ct_value.specs.declared.ty.ColTy.{ColTy};
 ghost use Rattle.plan_rules.specs.Plans.{Doing, network_of, table_of};
 ghost use Rattle.session_core.specs.Sources.{AllCheck};

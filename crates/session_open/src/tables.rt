@@ -8,7 +8,7 @@ ghost use Rattle.stream_model.specs.Machine.{is_number};
 ghost use Rattle.stream_model.specs.Runs.{counts_below};
 ghost use Rattle.session_core.specs.LaidOut.{scans_below};
 ghost use Rattle.session_core.specs.declared.wiring.TableWiring.{TableWiring as Kept};
-ghost use Rattle.session_open.specs.Opening.{AreRoutable, IsKeyRoute};
+ghost use Rattle.session_open.specs.Opening.{AreRoutable, IsKeyRoute, IsTableLaid};
 
 use ct_catalog::TableDef;
 use ct_value::{Cols, Memory};
@@ -22,8 +22,7 @@ pub(crate) fn tables_of(alloc: Global, plan: &Plan) -> Result<Vec<TableWiring>, 
     requires few { length plan.now.nodes < 999 }
     requires spread { All (λ table. AreRoutable (column_types table) (spread_of table)) plan.now.sources }
     ensures many { IfOk result (λ tables. length tables.items ≡ length plan.now.sources) }
-    ensures tables { IfOk result (λ tables. (number : ℕ) (kept : Kept) → slice_get tables.items number ≡ Some kept → (table : Table) → slice_get plan.now.sources number ≡ Some table
-        → IsKeyRoute (column_types table) (spread_of table) kept.spread × ((of : ℕ → Seq ColTy) (doing : ℕ → Doing) → kept.scans ≡ scans_below (network_of of doing plan.now) number (length plan.now.nodes))) }
+    ensures tables { IfOk result (λ tables. (number : ℕ) (kept : Kept) → slice_get tables.items number ≡ Some kept → (table : Table) → slice_get plan.now.sources number ≡ Some table → IsTableLaid plan.now number kept table) }
 {
     let mut tables = Vec::new(alloc);
     for number in 0..plan.sources.len() {

@@ -1,5 +1,5 @@
 -- The file of the first source, taken part by part.
-use Rattle.std.specs.Prelude.{◌≡◌, ℕ, List, length, Option, Some, Result, Ok}
+use Rattle.std.specs.Prelude.{◌≡◌, List, length, Some, Result, Ok}
 use Rattle.ct_catalog.specs.declared.table.TableDef.{TableDef}
 use Rattle.job_text.specs.Lines.{Record}
 use Rattle.source_lines.specs.declared.feed_fold.FeedFold.{FeedFold}

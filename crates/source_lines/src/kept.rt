@@ -1,4 +1,4 @@
-ghost use Rattle.std.specs.Prelude.{◌≡◌, ◌+◌, ◌<◌, ◌^◌, ◌⊎◌, ◌≢◌, [], List, length, Some, None, true, false, OnOk, OnErr, IfOk, IsErrOf, option_copied};
+ghost use Rattle.std.specs.Prelude.{◌≡◌, ◌+◌, ◌<◌, ◌^◌, ◌⊎◌, ◌≢◌, List, length, Some, None, true, false, OnOk, OnErr, IfOk, IsErrOf, option_copied};
 ghost use Rattle.std.specs.FinMap as map;
 ghost use Rattle.ct_value.specs.Bag.{copies, none};
 ghost use Rattle.ct_value.specs.Rows.{project};

@@ -1,5 +1,5 @@
 //! The change files of a job.
-ghost use Rattle.std.specs.Prelude.{◌≡◌, ◌∷◌, [], None, length, IfOk};
+ghost use Rattle.std.specs.Prelude.{◌≡◌, ◌∷◌, [], None, IfOk};
 ghost use Rattle.std.specs.List.{AllByRecursion};
 ghost use Rattle.source_lines.specs.Supply.{AreWithin, IsWithin, all_unread, unread, unread_from};
 

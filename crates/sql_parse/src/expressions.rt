@@ -1,5 +1,4 @@
 //! Tests, and the chains of AND and OR: whole expressions.
-ghost use Rattle.std.specs.Prelude.{◌≡◌};
 ghost use Rattle.sql_syntax.specs.Tree as t;
 ghost use Rattle.sql_syntax.specs.View.{view};
 ghost use Rattle.sql_grammar.specs.Words.{SELECT, only};

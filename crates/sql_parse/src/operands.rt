@@ -1,5 +1,5 @@
 //! Operands: primaries, signs, products and sums.
-ghost use Rattle.std.specs.Prelude.{◌≡◌, option_map};
+ghost use Rattle.std.specs.Prelude.{option_map};
 ghost use Rattle.sql_syntax.specs.Tree as t;
 ghost use Rattle.sql_syntax.specs.View.{view, args_view, over_view, query_view, product_view, product_tails_view, sum_view, sum_tails_view, when_view, whens_view, trees_view};
 ghost use Rattle.sql_grammar.specs.Words.{THEN, WHEN, product_word, sum_word};

@@ -1,5 +1,5 @@
 //! Reads what CREATE TABLE lists, and settings.
-ghost use Rattle.std.specs.Prelude.{◌≡◌, ℕ, List};
+ghost use Rattle.std.specs.Prelude.{ℕ, List};
 ghost use Rattle.sql_syntax.specs.View.{statement_view};
 ghost use Rattle.sql_syntax.specs.declared.statement.Element.{Element as Seen_element};
 ghost use Rattle.sql_syntax.specs.declared.statement.TextPair.{TextPair as Seen_pair};

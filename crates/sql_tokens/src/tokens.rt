@@ -1,5 +1,5 @@
 //! Cuts a text into tokens.
-ghost use Rattle.std.specs.Prelude.{◌≡◌, ◌≤◌, ◌<◌, ◌↔◌, ℕ, map, length, slice_index, option_map, Some, None, true, All, if◌then◌else◌, IfOk, IfSome};
+ghost use Rattle.std.specs.Prelude.{◌≡◌, ◌≤◌, ◌<◌, map, length, slice_index, option_map, Some, None, true, All, if◌then◌else◌, IfOk, IfSome};
 ghost use Rattle.std.specs.Char.{is_ascii_digit};
 ghost use Rattle.std.specs.Str.{IsAscii, is_utf8, str_eq_ignore_ascii_case};
 ghost use Rattle.std.specs.List.{prefix_len};

@@ -1,9 +1,9 @@
 -- What it is that a table of examples holds: what a script of a text and an INSERT behind it declares and sets, or its refusal.
-use Rattle.std.specs.Prelude.{◌≡◌, ℕ, List, ◌++◌, [], length, map, Result, Ok, Err, codes}
+use Rattle.std.specs.Prelude.{◌≡◌, ℕ, List, ◌++◌, [], length, map, Ok, Err, codes}
 use Rattle.ct_value.specs.declared.codes.ScriptCode.{ScriptCode}
 use Rattle.ct_catalog.specs.declared.settings.Settings.{Settings}
 use Rattle.ct_catalog.specs.declared.table.TableDef.{TableDef}
-use Rattle.judge.specs.Judgement.{Asked, Judged, Refusal, refused, asked_of}
+use Rattle.judge.specs.Judgement.{Asked, Judged, refused, asked_of}
 
 -- an INSERT stands behind the text
 abbrev pub with_insert : List ℕ → List ℕ

@@ -5,11 +5,11 @@ use Rattle.ct_value.specs.declared.ty.ColTy.{ColTy}
 use Rattle.rel_algebra.specs.declared.join.JoinKind.{JoinKind}
 use Rattle.rel_algebra.specs.declared.join.JoinKind.TheVariants.{Inner, Left, Right, Full}
 use Rattle.rel_algebra.specs.declared.join.Pair.{Pair}
+use Rattle.rel_algebra.specs.Joins.{left_columns, right_columns}
 use Rattle.phys_plan.specs.declared.edge.Exchange.TheVariants.{Forward}
 use Rattle.phys_plan.specs.declared.node.KeyInfo.{KeyInfo}
 use Rattle.column_sets.specs.Sets.{set_of, union, unions, has_within}
 use Rattle.column_sets.specs.Places.{shift, shifted}
-use Rattle.phys_plan.specs.Columns.{left_columns, right_columns}
 use Rattle.upsert_keys.specs.declared.seen.Seen.{Seen}
 use Rattle.upsert_keys.specs.declared.joins.Joining.{Joining}
 use Rattle.upsert_keys.specs.Seen.{families, seen_over}

@@ -1,5 +1,5 @@
 //! The keys of joins.
-ghost use Rattle.std.specs.Prelude.{◌≡◌, [], ◌∷◌, ◌++◌, filter, length, option_copied, OnOk, IfOk};
+ghost use Rattle.std.specs.Prelude.{◌≡◌, ◌++◌, filter, length, option_copied, OnOk, IfOk};
 ghost use Rattle.column_sets.specs.Places.{shifted};
 ghost use Rattle.upsert_keys.specs.Joins as j;
 

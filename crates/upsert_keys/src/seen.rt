@@ -1,5 +1,5 @@
 //! What a node sees of its inputs.
-ghost use Rattle.std.specs.Prelude.{◌≡◌, [], ◌∷◌, map, get_or, option_copied, IfOk};
+ghost use Rattle.std.specs.Prelude.{◌≡◌, [], ◌∷◌, map, option_copied, IfOk};
 ghost use Rattle.phys_plan.specs.Reading.{at, numbered as item, no_keys};
 ghost use Rattle.phys_plan.specs.Columns.{columns_in};
 ghost use Rattle.upsert_keys.specs.Seen as s;

@@ -15,11 +15,11 @@ use Rattle.ct_value.specs.declared.value.Value.TheVariants.{Null, Num}
 use Rattle.ct_field.specs.Typed.{is_null}
 use Rattle.rel_algebra.specs.declared.agg.AggCall.{AggCall}
 use Rattle.rel_algebra.specs.declared.agg.AggCall.TheVariants.{CountAll, Count, CountDistinct, Sum, Min, Max, Avg}
-use Rattle.rel_algebra.specs.Aggregates.{Values, size, known, sum_of, first_value, last_value}
+use Rattle.rel_algebra.specs.Aggregates.{Values, size, known, first_value, last_value}
 use Rattle.rel_algebra.proofs.laws.Bags.{copies-each, copies-restrict}
 use Rattle.agg_fns.specs.Partial.{is_signed, net, net_known, net_sum, partial_of}
 use Rattle.agg_fns.specs.Reading.{Part, summed, lowest, highest, parts_by, adds_to_sum, reaches, is_blank, all_blank, AddUp, AllAddUp}
-use Rattle.agg_fns.specs.Standing.{first_item, last_item, gained}
+use Rattle.agg_fns.specs.Standing.{first_item, last_item}
 use Rattle.agg_fns.proofs.Added.{known_add}
 use Rattle.agg_fns.proofs.Ends.{lesser, greater, first-add, last-add}
 use Rattle.agg_fns.proofs.Locals.{net_none, net_known_none, net_sum_none, net_come, net_gone, net_known_come, net_known_gone, net_sum_come, net_sum_gone}

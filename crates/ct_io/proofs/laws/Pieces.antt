@@ -1,5 +1,5 @@
 -- Laws of pieces that are written one after the other.
-use Rattle.std.proofs.Common.{◌≡◌, ℕ, zero, suc, ◌<◌, ◌+◌, ◌-◌, List, [], ◌++◌, Option, refl, sym, ◌∙◌, ap, subst, append_assoc, arith}
+use Rattle.std.proofs.Common.{◌≡◌, ℕ, zero, suc, ◌<◌, ◌+◌, ◌-◌, List, [], ◌++◌, Option, sym, ◌∙◌, ap, subst, append_assoc, arith}
 use Rattle.ct_io.specs.Written.{Appends, AppendsUpTo, AppendsPart}
 use Rattle.ct_io.proofs.laws.Appending.{appends_both, up_to_end}
 use Rattle.ct_io.specs.Copies.{copies_text}

@@ -3,7 +3,8 @@ use Rattle.std.proofs.Common.{◌≡◌, ℕ, zero, suc, ◌<◌, ◌≤◌, Lis
 use Rattle.ct_value.specs.Rows.{project}
 use Rattle.ct_value.specs.declared.row.Row.{Row}
 use Rattle.ct_value.specs.declared.value.Value.TheVariants.{Null}
-use Rattle.emission_rules.specs.GroupFits.{first_columns}
+use Rattle.column_sets.specs.Places.{first_columns}
+use Rattle.column_sets.proofs.laws.Ranges.{one_more}
 
 project-append : (a b : List ℕ) (row : Row) → project (a ++ b) row ≡ project a row ++ project b row
 project-append [] b row = refl
@@ -14,10 +15,13 @@ take-one_more [] n l = absurd (omega arith)
 take-one_more (x ∷ row) zero l = refl
 take-one_more (x ∷ row) (suc n) l = ap (λ r. x ∷ r) (take-one_more row n (omega arith))
 
+one_more_value : (n : ℕ) (row : Row) → project (first_columns (suc n)) row ≡ project (first_columns n) row ++ slice_index_or row n Null ∷ []
+one_more_value n row = ap (λ columns. project columns row) (one_more n) ∙ project-append (first_columns n) (n ∷ []) row
+
 pub project-first : (keys : ℕ) (row : Row) → keys ≤ length row → project (first_columns keys) row ≡ take keys row
 project-first zero row l = refl
 project-first (suc n) row l =
-    project-append (first_columns n) (n ∷ []) row
+    one_more_value n row
     ∙ (ap (λ r. r ++ slice_index_or row n Null ∷ []) (project-first n row (omega arith)) ∙ take-one_more row n (omega arith))
 
 -- the first columns are those of the front, of whatever length
@@ -30,7 +34,7 @@ index-take (x ∷ row) (suc n) (suc m) l = index-take row n m (omega arith)
 pub project-taken : (n keys : ℕ) (row : Row) → n ≤ keys → project (first_columns n) row ≡ project (first_columns n) (take keys row)
 project-taken zero keys row l = refl
 project-taken (suc n) keys row l =
-    project-append (first_columns n) (n ∷ []) row
+    one_more_value n row
     ∙ (ap (λ r. r ++ slice_index_or row n Null ∷ []) (project-taken n keys row (omega arith))
     ∙ (ap (λ v. project (first_columns n) (take keys row) ++ v ∷ []) (index-take row n keys (omega arith))
-    ∙ sym (project-append (first_columns n) (n ∷ []) (take keys row))))
+    ∙ sym (one_more_value n (take keys row))))

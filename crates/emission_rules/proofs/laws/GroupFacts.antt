@@ -22,7 +22,8 @@ use Rattle.op_rules.specs.Edges.{meaning_of, ReadsAs, hash, Edge, IsRoutedBy, Is
 use Rattle.op_rules.specs.Tasks.{Task, total, IsSettled, IsSplitBy, Emitted, AllEmitted, Facts, PartsAddUp, LocalKeysHold, AnswersFit, UniqueKeysHold}
 use Rattle.op_rules.proofs.laws.Histories.{prefix_at, all-each}
 use Rattle.op_rules.proofs.laws.Totals.{total-same, total_one}
-use Rattle.emission_rules.specs.GroupFits.{first_columns, batch, part, is_home, group_task, GroupFits}
+use Rattle.column_sets.specs.Places.{first_columns}
+use Rattle.emission_rules.specs.GroupFits.{batch, part, is_home, group_task, GroupFits}
 use Rattle.emission_rules.specs.Grouping.{Grouping, results, group_row, TellsGroups, IsSound}
 use Rattle.emission_rules.proofs.laws.GroupAnswers.{shown_by, answer_shown, counted_answer, row_of_group}
 use Rattle.emission_rules.proofs.laws.Columns.{project-first, project-taken}

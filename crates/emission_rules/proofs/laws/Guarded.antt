@@ -13,7 +13,7 @@ use Rattle.ct_field.specs.Typed.{cell, is_null}
 use Rattle.rel_algebra.specs.declared.join.JoinKind.{JoinKind}
 use Rattle.rel_algebra.specs.declared.join.JoinKind.TheVariants.{Inner, Left as Lefts, Right as Rights, Full}
 use Rattle.rel_algebra.specs.Clauses.{Fits}
-use Rattle.rel_algebra.specs.Joins.{nulls, keeps_left, keeps_right}
+use Rattle.rel_algebra.specs.Joins.{nulls, keeps_left, keeps_right, left_columns, right_columns}
 use Rattle.rel_algebra.specs.Sums.{Each}
 use Rattle.rel_algebra.proofs.laws.Bags.{each-copies, copies-each}
 use Rattle.rel_algebra.proofs.laws.Fits.{fits-length}
@@ -21,7 +21,7 @@ use Rattle.op_rules.specs.Edges.{IsUnique, LiesIn}
 use Rattle.emission_rules.proofs.laws.Weights.{total-below}
 use Rattle.emission_rules.specs.Joins.{Join, turned, match_count, told_kind, told_match, inner_or_outer, semi_or_anti}
 use Rattle.emission_rules.specs.Joining.{Shape, joins, matched, Joining, match_of, join_by}
-use Rattle.emission_rules.specs.JoinFits.{left_pairs, right_pairs, behind, LeftKey, RightKey, HasNotNull, IsKeyBy}
+use Rattle.emission_rules.specs.JoinFits.{behind, LeftKey, RightKey, HasNotNull, IsKeyBy}
 use Rattle.emission_rules.proofs.laws.JoinFacts.{project-within, project-behind, nulls-length, cell-nulls}
 use Rattle.emission_rules.proofs.laws.Fronts.{removes_then, one_change, message_removes_first}
 use Rattle.emission_rules.proofs.laws.KeyCases.{w, own, other, is_joined, small, light_left, light_right, few_left, few_right, one_left, one_right, weightless, is_there, first_of, cell_of_set, not_null, remove-le, each-remove, none-weighs, filter-le}
@@ -273,13 +273,13 @@ module _ (j : Joining) (key : List ℕ) (a : Row) where
           by_parts (left_by_key kind l.columns l.within l.lies) (right_by_key kind r.columns r.lies) once
           (λ rows fits has y. few_left j key a l.columns l.within l.lies rows fits (has l.columns l.has)) (λ others has x. few_right j key a r.columns r.lies others (has r.columns r.has))
 
-      guarded_left : (l : LeftKey L lw key) (c : List ℕ) → R c → LiesIn c (right_pairs j.on) → keeps_right kind ≡ false → Guarded j (join kind) wt L R
+      guarded_left : (l : LeftKey L lw key) (c : List ℕ) → R c → LiesIn c (right_columns j.on) → keeps_right kind ≡ false → Guarded j (join kind) wt L R
       guarded_left l c has_c lies inner =
           by_parts (left_by_key kind l.columns l.within l.lies) (right_by_match kind)
           (λ rows others safe. left_leads kind l.columns l.within l.lies rows others (λ x y. one_if (matches x y)) (safe.few_left []) safe.few_right (λ x y there. pair-match kind (matches x y) (wt (x ++ y)) (small_ kind (x ++ y))) (inner_right kind inner rows others))
           (λ rows fits has y. few_left j key a l.columns l.within l.lies rows fits (has l.columns l.has)) (λ others has x. one_right j key a c lies others (has c has_c) x)
 
-      guarded_right : (r : RightKey R lw key) (c : List ℕ) → L c → LiesIn c (left_pairs j.on) → keeps_left kind ≡ false → Guarded j (join kind) wt L R
+      guarded_right : (r : RightKey R lw key) (c : List ℕ) → L c → LiesIn c (left_columns j.on) → keeps_left kind ≡ false → Guarded j (join kind) wt L R
       guarded_right r c has_c lies inner =
           by_parts (left_by_match kind) (right_by_key kind r.columns r.lies)
           (λ rows others safe. right_leads kind r.columns r.lies rows others safe.fits_left (λ y x. one_if (matches x y)) (safe.few_right []) safe.few_left (λ x y. pair-match kind (matches x y) (wt (x ++ y)) (small_ kind (x ++ y))) (inner_left kind inner rows others))

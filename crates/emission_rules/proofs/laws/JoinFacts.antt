@@ -16,7 +16,7 @@ use Rattle.rel_algebra.specs.declared.join.JoinKind.{JoinKind}
 use Rattle.rel_algebra.specs.declared.join.JoinKind.TheVariants.{Inner, Left as Lefts, Right as Rights, Full}
 use Rattle.rel_algebra.specs.declared.join.Pair.{Pair}
 use Rattle.rel_algebra.specs.Clauses.{Fits}
-use Rattle.rel_algebra.specs.Joins.{nulls, nullable_if, join_columns, keeps_left, keeps_right}
+use Rattle.rel_algebra.specs.Joins.{nulls, nullable_if, join_columns, keeps_left, keeps_right, left_columns, right_columns}
 use Rattle.rel_algebra.specs.Sums.{Each}
 use Rattle.rel_algebra.proofs.laws.Bags.{each-copies, copies-each}
 use Rattle.rel_algebra.proofs.laws.ClauseTypes.{join_fits, semi_fits}
@@ -29,7 +29,7 @@ use Rattle.op_rules.proofs.laws.Histories.{prefix_at, all-each, appended-nothing
 use Rattle.emission_rules.specs.Arriving.{is_whole}
 use Rattle.emission_rules.specs.Joins.{turned}
 use Rattle.emission_rules.specs.Joining.{Shape, joins, matched, Joining, match_of, join_of, answer_by, joined_answer, left_rows, right_rows, emits}
-use Rattle.emission_rules.specs.JoinFits.{join_task, left_pairs, right_pairs, columns_by, behind, FixesBy, SideFits, JoinFits}
+use Rattle.emission_rules.specs.JoinFits.{join_task, columns_by, behind, FixesBy, SideFits, JoinFits}
 use Rattle.emission_rules.proofs.laws.JoinAnswers.{answer_weighs, none_out}
 use Rattle.emission_rules.proofs.laws.JoinHistories.{Run, all_in, stands_for, prefixes, all_said}
 use Rattle.emission_rules.proofs.laws.Made.{IsOwn, PairOf, MadeBy, Sent, gives_left, gives_right, gives_in}
@@ -76,7 +76,7 @@ cell-nulls (suc n) zero = refl
 cell-nulls (suc n) (suc m) = cell-nulls n m
 
 -- the columns of the pairs in rows of NULLs
-nulls-agree : (on : List Pair) (n m : ℕ) → project (left_pairs on) (nulls n) ≡ project (right_pairs on) (nulls m)
+nulls-agree : (on : List Pair) (n m : ℕ) → project (left_columns on) (nulls n) ≡ project (right_columns on) (nulls m)
 nulls-agree [] n m = refl
 nulls-agree (pair ∷ on) n m = (λ i. (cell-nulls n pair.left ∙ sym (cell-nulls m pair.right)) i ∷ nulls-agree on n m i)
 
@@ -91,10 +91,10 @@ module _ (many : ℕ) (j : Joining) (from : ℕ → Edge) (to : Edge) (fits : Jo
   rw = length j.right_columns
 
   abbrev pub Left : ℕ → Row → Type 0
-  Left s = IsOwn (from 0) j.left_columns (left_pairs j.on) s
+  Left s = IsOwn (from 0) j.left_columns (left_columns j.on) s
 
   abbrev pub Right : ℕ → Row → Type 0
-  Right s = IsOwn (from 1) j.right_columns (right_pairs j.on) s
+  Right s = IsOwn (from 1) j.right_columns (right_columns j.on) s
 
   abbrev SentFrom : ℕ → Change → Type 0
   SentFrom s = Sent (Left s) (Right s) lw rw (from 0).kinds (from 1).kinds (match_of j) j.shape
@@ -128,8 +128,8 @@ module _ (many : ℕ) (j : Joining) (from : ℕ → Edge) (to : Edge) (fits : Jo
     pub run : Run j took sent
     run = record {
       known = e.ready.ports;
-      left_valid = side_valid 0 (omega arith) j.left j.left_columns (left_pairs j.on) fits.left;
-      right_valid = side_valid 1 (omega arith) j.right j.right_columns (right_pairs j.on) fits.right;
+      left_valid = side_valid 0 (omega arith) j.left j.left_columns (left_columns j.on) fits.left;
+      right_valid = side_valid 1 (omega arith) j.right j.right_columns (right_columns j.on) fits.right;
       emitted = sym (appended-nothing (emits j [] took)) ∙ ap (appended (Ok [])) (sym (along-emits j [] pieces)) ∙ e.emitted;
     }
 
@@ -137,14 +137,14 @@ module _ (many : ℕ) (j : Joining) (from : ℕ → Edge) (to : Edge) (fits : Jo
     pub all_sent : AllByRecursion (SentFrom s) sent
     all_sent =
         all_said j took sent run (SentFrom s) (Left s) (Right s)
-        (all-each (Came 0 j.left j.left_columns (left_pairs j.on)) _ (λ change c. record {
+        (all-each (Came 0 j.left j.left_columns (left_columns j.on)) _ (λ change c. record {
           own = c.own;
           gives = gives_in (SentFrom s) (join_of j) (Left s) (Right s) j.left (from 0).kinds (gives_left (Left s) (Right s) lw rw (from 0).kinds (from 1).kinds (match_of j) j.shape) fits.left.updates change.kind c.kind (fits.left.kinds change.kind c.kind);
-        }) (at_port 0 took) (side_came 0 (omega arith) j.left j.left_columns (left_pairs j.on) fits.left))
-        (all-each (Came 1 j.right j.right_columns (right_pairs j.on)) _ (λ change c. record {
+        }) (at_port 0 took) (side_came 0 (omega arith) j.left j.left_columns (left_columns j.on) fits.left))
+        (all-each (Came 1 j.right j.right_columns (right_columns j.on)) _ (λ change c. record {
           own = c.own;
           gives = gives_in (SentFrom s) (turned (join_of j)) (Right s) (Left s) j.right (from 1).kinds (gives_right (Left s) (Right s) lw rw (from 0).kinds (from 1).kinds (match_of j) j.shape) fits.right.updates change.kind c.kind (fits.right.kinds change.kind c.kind);
-        }) (at_port 1 took) (side_came 1 (omega arith) j.right j.right_columns (right_pairs j.on) fits.right))
+        }) (at_port 1 took) (side_came 1 (omega arith) j.right j.right_columns (right_columns j.on) fits.right))
 
     -- what the sides' changes stand for
     pub rows_are : (p : ℕ) (l : p < 2) (mode : Mode) (columns : List ColTy) (pairs : List ℕ) → SideFits many mode columns pairs (from p) → (rows : Rows) → ReadsAs (from p).meaning (at_port p took) rows → rows ≡ fold mode (at_port p took)
@@ -160,8 +160,8 @@ module _ (many : ℕ) (j : Joining) (from : ℕ → Edge) (to : Edge) (fits : Jo
   folds s pieces sent e rows known =
       let r = run s pieces sent e in
       let h = took s pieces sent e in
-      let left = rows_are s pieces sent e 0 (omega arith) j.left j.left_columns (left_pairs j.on) fits.left (rows 0) (known 0 (omega arith)).0 in
-      let right = rows_are s pieces sent e 1 (omega arith) j.right j.right_columns (right_pairs j.on) fits.right (rows 1) (known 1 (omega arith)).0 in
+      let left = rows_are s pieces sent e 0 (omega arith) j.left j.left_columns (left_columns j.on) fits.left (rows 0) (known 0 (omega arith)).0 in
+      let right = rows_are s pieces sent e 1 (omega arith) j.right j.right_columns (right_columns j.on) fits.right (rows 1) (known 1 (omega arith)).0 in
       let answer = answer_weighs j (left_rows j h) (right_rows j h) (none_out j (left_rows j h) (right_rows j h) (all_in j h sent r)) in (
         answer.0,
         (λ i. joined_answer j (left i) (right i)) ∙ answer.1,
@@ -220,10 +220,10 @@ module _ (many : ℕ) (j : Joining) (from : ℕ → Edge) (to : Edge) (fits : Jo
   pub parts_add_up : PartsAddUp task
   parts_add_up parts whole answers split made =
       adds_up j many (from 0).route fits.left.routed (λ i. parts i 0) (λ i. parts i 1) (whole 0) (whole 1) answers
-      (split_in j.left (left_pairs j.on) (from 0).route many (λ i. parts i 0) (whole 0) (of_side 0 (omega arith) j.left j.left_columns (left_pairs j.on) fits.left))
+      (split_in j.left (left_columns j.on) (from 0).route many (λ i. parts i 0) (whole 0) (of_side 0 (omega arith) j.left j.left_columns (left_columns j.on) fits.left))
       (λ i l row.
-      split_in j.right (right_pairs j.on) (from 1).route many (λ i. parts i 1) (whole 1) (of_side 1 (omega arith) j.right j.right_columns (right_pairs j.on) fits.right) i l row
-      ∙ ap (λ n. cond (n == i) (copies (whole 1) row) 0) (sym (fits.together (project (right_pairs j.on) row))))
+      split_in j.right (right_columns j.on) (from 1).route many (λ i. parts i 1) (whole 1) (of_side 1 (omega arith) j.right j.right_columns (right_columns j.on) fits.right) i l row
+      ∙ ap (λ n. cond (n == i) (copies (whole 1) row) 0) (sym (fits.together (project (right_columns j.on) row))))
       made
     where
       of_side : (p : ℕ) → p < 2 → (mode : Mode) (columns : List ColTy) (pairs : List ℕ) → SideFits many mode columns pairs (from p) → IsSplitBy (meaning_of mode) (hash pairs) (from p).route many (λ i. parts i p) (whole p)
@@ -234,47 +234,47 @@ module _ (many : ℕ) (j : Joining) (from : ℕ → Edge) (to : Edge) (fits : Jo
   pub left_length : (l : Row) → Fits j.left_columns l → length l ≡ lw
   left_length l h = fits-length j.left_columns l h
 
-  pub left_within : (l : Row) → length l ≡ lw → AllByRecursion (λ column. column < length l) (left_pairs j.on)
-  left_within l e = subst (λ n. AllByRecursion (λ column. column < n) (left_pairs j.on)) (sym e) fits.within
+  pub left_within : (l : Row) → length l ≡ lw → AllByRecursion (λ column. column < length l) (left_columns j.on)
+  left_within l e = subst (λ n. AllByRecursion (λ column. column < n) (left_columns j.on)) (sym e) fits.within
 
   -- rows that agree on a set that fixes the subtask were sent by one
   module _ (set : List ℕ) (s t : ℕ) (a b : Row) (same : project set a ≡ project set b) where
     abbrev behind_pairs : List ℕ
-    behind_pairs = behind lw (right_pairs j.on)
+    behind_pairs = behind lw (right_columns j.on)
 
-    left_value : (l r : Row) → length l ≡ lw → project (left_pairs j.on) (l ++ r) ≡ project (left_pairs j.on) l
-    left_value l r e = project-within (left_pairs j.on) l r (left_within l e)
+    left_value : (l r : Row) → length l ≡ lw → project (left_columns j.on) (l ++ r) ≡ project (left_columns j.on) l
+    left_value l r e = project-within (left_columns j.on) l r (left_within l e)
 
-    right_value : (l r : Row) → length l ≡ lw → project behind_pairs (l ++ r) ≡ project (right_pairs j.on) r
-    right_value l r e = project-behind (right_pairs j.on) lw l r e
+    right_value : (l r : Row) → length l ≡ lw → project behind_pairs (l ++ r) ≡ project (right_columns j.on) r
+    right_value l r e = project-behind (right_columns j.on) lw l r e
 
     module _ (l r m q : Row) (is_a : a ≡ l ++ r) (is_b : b ≡ m ++ q) (wide_l : length l ≡ lw) (wide_m : length m ≡ lw) where
-      lefts_agree : LiesIn (left_pairs j.on) set → project (left_pairs j.on) l ≡ project (left_pairs j.on) m
+      lefts_agree : LiesIn (left_columns j.on) set → project (left_columns j.on) l ≡ project (left_columns j.on) m
       lefts_agree lies =
-          sym (left_value l r wide_l) ∙ ap (project (left_pairs j.on)) (sym is_a) ∙ lies a b same ∙ ap (project (left_pairs j.on)) is_b ∙ left_value m q wide_m
+          sym (left_value l r wide_l) ∙ ap (project (left_columns j.on)) (sym is_a) ∙ lies a b same ∙ ap (project (left_columns j.on)) is_b ∙ left_value m q wide_m
 
-      rights_agree : LiesIn behind_pairs set → project (right_pairs j.on) r ≡ project (right_pairs j.on) q
+      rights_agree : LiesIn behind_pairs set → project (right_columns j.on) r ≡ project (right_columns j.on) q
       rights_agree lies =
           sym (right_value l r wide_l) ∙ ap (project behind_pairs) (sym is_a) ∙ lies a b same ∙ ap (project behind_pairs) is_b ∙ right_value m q wide_m
 
-      by_left : LiesIn (left_pairs j.on) set → Left s l → Left t m → s ≡ t
+      by_left : LiesIn (left_columns j.on) set → Left s l → Left t m → s ≡ t
       by_left lies x y = sym x.here ∙ ap (from 0).route (lefts_agree lies) ∙ y.here
 
       by_right : LiesIn behind_pairs set → Right s r → Right t q → s ≡ t
       by_right lies x y = sym x.here ∙ ap (from 1).route (rights_agree lies) ∙ y.here
 
       -- of rows of which one has no right side and the other no left one, all these columns are NULL
-      left_only : LiesIn (left_pairs j.on) set → LiesIn behind_pairs set → Left s l → r ≡ nulls rw → m ≡ nulls lw → Right t q → s ≡ t
+      left_only : LiesIn (left_columns j.on) set → LiesIn behind_pairs set → Left s l → r ≡ nulls rw → m ≡ nulls lw → Right t q → s ≡ t
       left_only lies other x none_right none_left y =
           sym x.here
-          ∙ ap (from 0).route (lefts_agree lies ∙ ap (project (left_pairs j.on)) none_left ∙ nulls-agree j.on lw rw ∙ ap (project (right_pairs j.on)) (sym none_right) ∙ rights_agree other)
-          ∙ fits.together (project (right_pairs j.on) q) ∙ y.here
+          ∙ ap (from 0).route (lefts_agree lies ∙ ap (project (left_columns j.on)) none_left ∙ nulls-agree j.on lw rw ∙ ap (project (right_columns j.on)) (sym none_right) ∙ rights_agree other)
+          ∙ fits.together (project (right_columns j.on) q) ∙ y.here
 
-      right_only : LiesIn (left_pairs j.on) set → LiesIn behind_pairs set → l ≡ nulls lw → Right s r → Left t m → q ≡ nulls rw → s ≡ t
+      right_only : LiesIn (left_columns j.on) set → LiesIn behind_pairs set → l ≡ nulls lw → Right s r → Left t m → q ≡ nulls rw → s ≡ t
       right_only lies other none_left x y none_right =
           sym x.here
-          ∙ ap (from 1).route (rights_agree other ∙ ap (project (right_pairs j.on)) none_right ∙ sym (nulls-agree j.on lw rw) ∙ ap (project (left_pairs j.on)) (sym none_left) ∙ lefts_agree lies)
-          ∙ sym (fits.together (project (left_pairs j.on) m)) ∙ y.here
+          ∙ ap (from 1).route (rights_agree other ∙ ap (project (right_columns j.on)) none_right ∙ sym (nulls-agree j.on lw rw) ∙ ap (project (left_columns j.on)) (sym none_left) ∙ lefts_agree lies)
+          ∙ sym (fits.together (project (left_columns j.on) m)) ∙ y.here
 
     abbrev Which : JoinKind → ℕ → Row → Row → Type 0
     Which kind n l r = (Left n l × Right n r) ⊎ ((Left n l × (r ≡ nulls rw) × (keeps_left kind ≡ true)) ⊎ ((l ≡ nulls lw) × Right n r × (keeps_right kind ≡ true)))
@@ -294,13 +294,13 @@ module _ (many : ℕ) (j : Joining) (from : ℕ → Edge) (to : Edge) (fits : Jo
     has_right kind n l r e (inr (inl h)) = absurd (let wrong : true ≡ false = sym h.2 ∙ e in cc)
     has_right kind n l r e (inr (inr h)) = h.1
 
-    of_lefts : (kind : JoinKind) → keeps_right kind ≡ false → LiesIn (left_pairs j.on) set → PairOf (Left s) (Right s) lw rw kind a → PairOf (Left t) (Right t) lw rw kind b → s ≡ t
+    of_lefts : (kind : JoinKind) → keeps_right kind ≡ false → LiesIn (left_columns j.on) set → PairOf (Left s) (Right s) lw rw kind a → PairOf (Left t) (Right t) lw rw kind b → s ≡ t
     of_lefts kind e lies x y = by_left x.left x.right y.left y.right x.is y.is (wide kind s x.left x.right x.which) (wide kind t y.left y.right y.which) lies (has_left kind s x.left x.right e x.which) (has_left kind t y.left y.right e y.which)
 
     of_rights : (kind : JoinKind) → keeps_left kind ≡ false → LiesIn behind_pairs set → PairOf (Left s) (Right s) lw rw kind a → PairOf (Left t) (Right t) lw rw kind b → s ≡ t
     of_rights kind e lies x y = by_right x.left x.right y.left y.right x.is y.is (wide kind s x.left x.right x.which) (wide kind t y.left y.right y.which) lies (has_right kind s x.left x.right e x.which) (has_right kind t y.left y.right e y.which)
 
-    of_either : LiesIn (left_pairs j.on) set → LiesIn behind_pairs set → (l r m q : Row) → a ≡ l ++ r → b ≡ m ++ q → length l ≡ lw → length m ≡ lw → Which Full s l r → Which Full t m q → s ≡ t
+    of_either : LiesIn (left_columns j.on) set → LiesIn behind_pairs set → (l r m q : Row) → a ≡ l ++ r → b ≡ m ++ q → length l ≡ lw → length m ≡ lw → Which Full s l r → Which Full t m q → s ≡ t
     of_either lies other l r m q x y u v (inl h) (inl k) = by_left l r m q x y u v lies h.0 k.0
     of_either lies other l r m q x y u v (inl h) (inr (inl k)) = by_left l r m q x y u v lies h.0 k.0
     of_either lies other l r m q x y u v (inl h) (inr (inr k)) = by_right l r m q x y u v other h.1 k.1

@@ -15,7 +15,7 @@ use Rattle.ct_change.specs.Changelog.{Rows, same_row}
 use Rattle.ct_change.proofs.laws.Meanings.{same_row-itself}
 use Rattle.ct_field.specs.Typed.{cell, is_null, value_fits}
 use Rattle.rel_algebra.specs.Clauses.{Fits}
-use Rattle.rel_algebra.specs.Joins.{agree}
+use Rattle.rel_algebra.specs.Joins.{agree, left_columns, right_columns}
 use Rattle.rel_algebra.specs.Sums.{Each}
 use Rattle.rel_algebra.proofs.laws.Bags.{some_weighs, each-copies, copies-each}
 use Rattle.rel_algebra.proofs.laws.Fits.{fits-length, fits-cell, second}
@@ -23,7 +23,7 @@ use Rattle.op_rules.specs.Edges.{IsUnique, LiesIn}
 use Rattle.emission_rules.proofs.laws.Weights.{total-below}
 use Rattle.emission_rules.specs.Joins.{is_match}
 use Rattle.emission_rules.specs.Joining.{Joining, match_of}
-use Rattle.emission_rules.specs.JoinFits.{left_pairs, right_pairs, behind}
+use Rattle.emission_rules.specs.JoinFits.{behind}
 use Rattle.emission_rules.proofs.laws.JoinFacts.{project-within, project-behind}
 use Rattle.emission_rules.proofs.laws.JoinKeys.{one_if, has_value, of_value, one_if-le, one_if-some, has_it, few_of_key}
 use Rattle.emission_rules.proofs.laws.Parts.{agree-project, apart_of}
@@ -144,9 +144,9 @@ module _ (j : Joining) (key : List ℕ) (a : Row) where
 
   -- ---- one match at most
 
-  matched_agree : (x y : Row) → is_joined x y ≡ true → project (left_pairs j.on) x ≡ project (right_pairs j.on) y
+  matched_agree : (x y : Row) → is_joined x y ≡ true → project (left_columns j.on) x ≡ project (right_columns j.on) y
   matched_agree x y e =
-      elim (agree j.on x y) as (λ b. agree j.on x y ≡ b → project (left_pairs j.on) x ≡ project (right_pairs j.on) y) [
+      elim (agree j.on x y) as (λ b. agree j.on x y ≡ b → project (left_columns j.on) x ≡ project (right_columns j.on) y) [
         | true ↦ λ q. agree-project j.on x y q
         | false ↦ λ q. let none = apart_of j x y q in let wrong : true ≡ false = sym e ∙ ap is_match none in absurd (cc)
       ] refl
@@ -170,8 +170,8 @@ module _ (j : Joining) (key : List ℕ) (a : Row) where
             | false ↦ λ e. omega arith
           ] refl
 
-  pub one_right : (c : List ℕ) → LiesIn c (right_pairs j.on) → (others : Rows) → IsUnique c (copies others) → (x : Row) → total (λ y. one_if (is_joined x y)) others ≤ 1
+  pub one_right : (c : List ℕ) → LiesIn c (right_columns j.on) → (others : Rows) → IsUnique c (copies others) → (x : Row) → total (λ y. one_if (is_joined x y)) others ≤ 1
   one_right c lies others unique x = one_of c others unique (is_joined x) (λ y z e f. lies y z (sym (matched_agree x y e) ∙ matched_agree x z f))
 
-  pub one_left : (c : List ℕ) → LiesIn c (left_pairs j.on) → (rows : Rows) → IsUnique c (copies rows) → (y : Row) → total (λ x. one_if (is_joined x y)) rows ≤ 1
+  pub one_left : (c : List ℕ) → LiesIn c (left_columns j.on) → (rows : Rows) → IsUnique c (copies rows) → (y : Row) → total (λ x. one_if (is_joined x y)) rows ≤ 1
   one_left c lies rows unique y = one_of c rows unique (λ x. is_joined x y) (λ x z e f. lies x z (matched_agree x y e ∙ sym (matched_agree z y f)))

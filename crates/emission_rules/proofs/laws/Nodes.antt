@@ -12,6 +12,7 @@ use Rattle.ct_change.proofs.laws.Meanings.{means_fold, means_come}
 use Rattle.rel_algebra.specs.Clauses.{Fits}
 use Rattle.rel_algebra.specs.Sums.{Each}
 use Rattle.rel_algebra.proofs.laws.Bags.{copies-each}
+use Rattle.rel_algebra.specs.Joins.{left_columns, right_columns}
 use Rattle.op_rules.specs.History.{Arrival, at_port, joined}
 use Rattle.op_rules.specs.Edges.{Meaning, meaning_of, ReadsAs, Edge, IsUnique, IsSeen, HoldsOver}
 use Rattle.op_rules.specs.Ports.{IsReadIn, Takes}
@@ -20,7 +21,7 @@ use Rattle.op_rules.proofs.laws.Histories.{at_port-append, all-front, all-each}
 use Rattle.emission_rules.proofs.laws.Arriving.{come-fit}
 use Rattle.emission_rules.proofs.laws.Weights.{means_weighs}
 use Rattle.emission_rules.specs.Joining.{Joining, left_rows, right_rows, join_rule}
-use Rattle.emission_rules.specs.JoinFits.{SideFits, JoinFits, JoinsStand, JoinsTake, left_pairs, right_pairs}
+use Rattle.emission_rules.specs.JoinFits.{SideFits, JoinFits, JoinsStand, JoinsTake}
 use Rattle.emission_rules.proofs.laws.JoinAnswers.{answer_weighs, answer_in}
 use Rattle.emission_rules.proofs.laws.JoinFacts.{task, run, side_valid, folds, prefix, kinds_stay, types_stay, answers_fit, parts_add_up, fixing_sets, after_only}
 use Rattle.emission_rules.proofs.laws.Guarded.{guarded}
@@ -71,8 +72,8 @@ module _ (many : ℕ) (j : Joining) (from : ℕ → Edge) (to : Edge) (fits : Jo
 
       safe_at : (a : Row) (front back : List Arrival) → front ++ back ≡ history → (guarded j key a (IsSeen (from 0)) (IsSeen (from 1)) j.shape (fits.local key has)).Safe (left_rows j front) (right_rows j front)
       safe_at a front back is =
-          let l = side 0 (omega arith) j.left j.left_columns (left_pairs j.on) fits.left front back is in
-          let r = side 1 (omega arith) j.right j.right_columns (right_pairs j.on) fits.right front back is in
+          let l = side 0 (omega arith) j.left j.left_columns (left_columns j.on) fits.left front back is in
+          let r = side 1 (omega arith) j.right j.right_columns (right_columns j.on) fits.right front back is in
           (guarded j key a (IsSeen (from 0)) (IsSeen (from 1)) j.shape (fits.local key has)).safe_where (left_rows j front) (right_rows j front) l.0 r.0 l.1 r.1
 
   -- ---- of the answer

@@ -13,7 +13,7 @@ use Rattle.ct_expr.specs.Eval.{eval}
 use Rattle.ct_field.specs.Typed.{cell, is_null}
 use Rattle.rel_algebra.specs.declared.join.Pair.{Pair}
 use Rattle.rel_algebra.specs.Clauses.{Meaning, holds}
-use Rattle.rel_algebra.specs.Joins.{agree, matching, MatchNone}
+use Rattle.rel_algebra.specs.Joins.{agree, matching, MatchNone, left_columns, right_columns}
 use Rattle.rel_algebra.specs.Sums.{together, plus}
 use Rattle.rel_algebra.proofs.laws.Bags.{copies-together, each-none}
 use Rattle.rel_algebra.proofs.laws.Fits.{first, second}
@@ -22,13 +22,12 @@ use Rattle.op_rules.specs.Tasks.{total as total_below}
 use Rattle.op_rules.proofs.laws.Totals.{total-same as below-same, total_one}
 use Rattle.emission_rules.specs.Joins.{match_count}
 use Rattle.emission_rules.specs.Joining.{Shape, joins, matched, Joining, match_of, join_of, answer_by, joined_answer}
-use Rattle.emission_rules.specs.JoinFits.{left_pairs, right_pairs}
 use Rattle.emission_rules.proofs.laws.JoinAnswers.{answer_weighs}
 use Rattle.emission_rules.proofs.laws.JoinStanding.{shown_at, alone_at}
 
 -- ---- rows that match agree on the pairs
 
-pub agree-project : (on : List Pair) (l r : Row) → agree on l r ≡ true → project (left_pairs on) l ≡ project (right_pairs on) r
+pub agree-project : (on : List Pair) (l r : Row) → agree on l r ≡ true → project (left_columns on) l ≡ project (right_columns on) r
 agree-project [] l r e = refl
 agree-project (pair ∷ on) l r e =
     let here = first _ (agree on l r) e in
@@ -43,7 +42,7 @@ pub apart_of : (j : Joining) (l r : Row) → agree j.on l r ≡ false → match_
 apart_of j l r e = apart-none j.on (option_map eval j.rest) l r e
 
 -- rows that don't agree on the pairs don't match
-pub no_match : (j : Joining) (l r : Row) → ¬ (project (left_pairs j.on) l ≡ project (right_pairs j.on) r) → match_of j l r ≡ Some false
+pub no_match : (j : Joining) (l r : Row) → ¬ (project (left_columns j.on) l ≡ project (right_columns j.on) r) → match_of j l r ≡ Some false
 no_match j l r apart = elim (agree j.on l r) as (λ b. agree j.on l r ≡ b → match_of j l r ≡ Some false) [ true ↦ λ e. absurd (apart (agree-project j.on l r e)) | false ↦ λ e. apart-none j.on (option_map eval j.rest) l r e ] refl
 
 -- ---- two parts
@@ -99,20 +98,20 @@ module _ (place : Row → ℕ) (many : ℕ) (routed : (row : Row) → place row 
 
 module _ (j : Joining) (many : ℕ) (route : Row → ℕ) (routed : (key : Row) → route key < many)
     (lefts rights : ℕ → Rows) (left right : Rows) (answers : ℕ → Rows)
-    (left_split : (i : ℕ) → i < many → (row : Row) → copies (lefts i) row ≡ cond (route (project (left_pairs j.on) row) == i) (copies left row) 0)
-    (right_split : (i : ℕ) → i < many → (row : Row) → copies (rights i) row ≡ cond (route (project (right_pairs j.on) row) == i) (copies right row) 0)
+    (left_split : (i : ℕ) → i < many → (row : Row) → copies (lefts i) row ≡ cond (route (project (left_columns j.on) row) == i) (copies left row) 0)
+    (right_split : (i : ℕ) → i < many → (row : Row) → copies (rights i) row ≡ cond (route (project (right_columns j.on) row) == i) (copies right row) 0)
     (made : (i : ℕ) → i < many → joined_answer j (lefts i) (rights i) ≡ Some (answers i)) where
   abbrev place_left : Row → ℕ
-  place_left row = route (project (left_pairs j.on) row)
+  place_left row = route (project (left_columns j.on) row)
 
   abbrev place_right : Row → ℕ
-  place_right row = route (project (right_pairs j.on) row)
+  place_right row = route (project (right_columns j.on) row)
 
   abbrev left_upto : ℕ → Rows
-  left_upto = upto place_left many (λ row. routed (project (left_pairs j.on) row)) left lefts left_split
+  left_upto = upto place_left many (λ row. routed (project (left_columns j.on) row)) left lefts left_split
 
   abbrev right_upto : ℕ → Rows
-  right_upto = upto place_right many (λ row. routed (project (right_pairs j.on) row)) right rights right_split
+  right_upto = upto place_right many (λ row. routed (project (right_columns j.on) row)) right rights right_split
 
   none_answer : (c : Rows) × (joined_answer j none none ≡ Some c) × ((row : Row) → copies c row ≡ 0)
   none_answer =
@@ -130,13 +129,13 @@ module _ (j : Joining) (many : ℕ) (route : Row → ℕ) (routed : (key : Row) 
         together rest.0 (answers n),
         answer-together j (left_upto n) (lefts n) (right_upto n) (rights n)
             (λ row other some more. no_match j row other (λ same.
-            let before = place_upto place_left many (λ row. routed (project (left_pairs j.on) row)) left lefts left_split n (omega arith) row some in
-            let at = place_of place_right many (λ row. routed (project (right_pairs j.on) row)) right rights right_split n (omega arith) other more in
+            let before = place_upto place_left many (λ row. routed (project (left_columns j.on) row)) left lefts left_split n (omega arith) row some in
+            let at = place_of place_right many (λ row. routed (project (right_columns j.on) row)) right rights right_split n (omega arith) other more in
             let one : place_left row ≡ place_right other = ap route same in
             let wrong : ⊥ = omega arith in wrong))
             (λ row other some more. no_match j row other (λ same.
-            let at = place_of place_left many (λ row. routed (project (left_pairs j.on) row)) left lefts left_split n (omega arith) row some in
-            let before = place_upto place_right many (λ row. routed (project (right_pairs j.on) row)) right rights right_split n (omega arith) other more in
+            let at = place_of place_left many (λ row. routed (project (left_columns j.on) row)) left lefts left_split n (omega arith) row some in
+            let before = place_upto place_right many (λ row. routed (project (right_columns j.on) row)) right rights right_split n (omega arith) other more in
             let one : place_left row ≡ place_right other = ap route same in
             let wrong : ⊥ = omega arith in wrong))
             ∙ (λ i. plus (rest.1 i) (made n (omega arith) i)),
@@ -147,6 +146,6 @@ module _ (j : Joining) (many : ℕ) (route : Row → ℕ) (routed : (key : Row) 
   adds_up =
       let all = made_upto many (omega arith) in (
         all.0,
-        (λ i. joined_answer j (sym (all_parts place_left many (λ row. routed (project (left_pairs j.on) row)) left lefts left_split) i) (sym (all_parts place_right many (λ row. routed (project (right_pairs j.on) row)) right rights right_split) i)) ∙ all.1,
+        (λ i. joined_answer j (sym (all_parts place_left many (λ row. routed (project (left_columns j.on) row)) left lefts left_split) i) (sym (all_parts place_right many (λ row. routed (project (right_columns j.on) row)) right rights right_split) i)) ∙ all.1,
         all.2,
       )

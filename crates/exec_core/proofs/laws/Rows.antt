@@ -1,12 +1,9 @@
 -- What a run over a sound plan prints is as wide as the table of its sink.
-use Rattle.std.specs.Prelude.{◌≡◌, ◌≤◌, ◌&&◌, ℕ, max, Bool, IsTrue, List, length, map, unwrap_or, Option}
-use Rattle.std.proofs.Common.{suc, true, false, [], ◌∷◌, refl, sym, ap, subst, ◌∙◌, arith, Some}
+use Rattle.std.specs.Prelude.{◌≡◌, ◌≤◌, ℕ, max, IsTrue, List, length, map, unwrap_or}
+use Rattle.std.proofs.Common.{suc, true, [], ◌∷◌, refl, sym, ap, subst, ◌∙◌, arith, Some}
 use Rattle.std.specs.List.{AllByRecursion, list_all}
 use Rattle.ct_value.specs.declared.ty.ColTy.{ColTy}
-use Rattle.ct_value.specs.declared.ty.Ty.{Ty}
 use Rattle.ct_field.specs.Numbers.{is_type}
-use Rattle.ct_change.specs.declared.change.Change.{Change}
-use Rattle.ct_change.specs.Changelog.{adds}
 use Rattle.ct_catalog.specs.declared.table.ColDef.{ColDef}
 use Rattle.ct_catalog.specs.Columns.{column_types}
 use Rattle.job_text.specs.Printed.{IsWide}
@@ -19,7 +16,7 @@ use Rattle.phys_plan.specs.declared.plan.Plan.{Plan}
 use Rattle.phys_plan.specs.declared.plan.Rule.TheVariants as rule
 use Rattle.phys_plan.specs.Reading.{numbered}
 use Rattle.plan_check.specs.Sound.{IsSound}
-use Rattle.plan_check.specs.Types.{fit_sink, is_typed, is_typed_by, keep_nulls, types_at}
+use Rattle.plan_check.specs.Types.{is_typed, is_typed_by, keep_nulls, types_at}
 use Rattle.plan_rules.specs.Columns.{columns_at}
 use Rattle.plan_rules.specs.Doings.{network}
 use Rattle.plan_rules.specs.Phases.{fits_sent}
@@ -36,7 +33,6 @@ use Rattle.sound_plans.proofs.laws.Shapes.{IsBefore, among, inputs_there, last_s
 use Rattle.sound_plans.proofs.laws.Theorems.{sink_sends_rows, sound_plans_are_wired, sound_plans_meet_facts_facts}
 use Rattle.stream_model.specs.declared.events.PrintItem.{PrintItem}
 use Rattle.stream_model.specs.declared.events.PrintItem.TheVariants.{Change as Printed, Quiet}
-use Rattle.stream_model.specs.KeysTold.{told_fits}
 use Rattle.stream_model.specs.Machine.{opened}
 use Rattle.stream_model.specs.Runs.{Item, after, changes_in, AreTyped}
 use Rattle.stream_model.proofs.laws.KeysTold.{told-types}

@@ -6,7 +6,7 @@ use Rattle.phys_plan.specs.declared.plan.Plan.{Plan}
 use Rattle.phys_plan.specs.declared.plan.Rule.TheVariants as rule
 use Rattle.phys_plan.specs.Reading.{numbered as item, numbered}
 use Rattle.phys_plan.specs.Columns.{columns_in}
-use Rattle.plan_inferred.specs.Rules.{has_keys, has_kinds, has_old_rows, has_update, is_exchanged, says_kinds, says_update, suits_sink}
+use Rattle.plan_inferred.specs.Rules.{has_keys, has_kinds, has_old_rows, has_update, says_kinds, says_update, suits_sink}
 use Rattle.plan_shape.specs.Shaped.{MeetsShape, ShapedPlansHaveShape}
 use Rattle.plan_check.specs.Sound.{inferred_of, IsSound, Meets}
 use Rattle.plan_rules.specs.Behaviours.{has_rule}

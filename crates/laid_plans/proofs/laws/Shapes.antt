@@ -1,6 +1,6 @@
 -- The rule Shape doesn't ask for the keys of nodes, nor, but at local groups, for the modes of edges.
 use Rattle.std.specs.Prelude.{◌≡◌, ℕ, ◌==◌, ◌&&◌, ◌||◌, not, cond, nat_le, List, length, Option}
-use Rattle.std.proofs.Common.{true, false, ◌∷◌, refl, ap, ◌∙◌, Some, None}
+use Rattle.std.proofs.Common.{false, ◌∷◌, refl, ap, ◌∙◌, Some, None}
 use Rattle.ct_catalog.specs.declared.table.TableDef.{TableDef}
 use Rattle.ct_change.specs.declared.kind.KindSet.{KindSet}
 use Rattle.phys_plan.specs.declared.node.KeyInfo.{KeyInfo}
@@ -11,7 +11,7 @@ use Rattle.phys_plan.specs.declared.plan.Plan.{Plan}
 use Rattle.mode_infer.specs.declared.modes.EdgeMode.{EdgeMode}
 use Rattle.plan_rules.specs.Plans.{kinds_in}
 use Rattle.phys_plan.specs.Reading.{numbered, first_input}
-use Rattle.plan_shape.specs.Shape.{are_before, has_shape, is_consumed, is_fed, is_shaped, is_sink, is_up_to, is_whole, most_bundled, most_nodes, most_subtasks, op_in, scans_by, suits_consumer, suits_input, suits_plan, takes}
+use Rattle.plan_shape.specs.Shape.{are_before, has_shape, is_consumed, is_fed, is_shaped, is_sink, is_up_to, is_whole, most_bundled, most_nodes, most_subtasks, op_in, suits_consumer, suits_input, suits_plan, takes}
 use Rattle.plan_shape.specs.Tables.{are_tables}
 use Rattle.plan_rules.specs.Phases.{sends_parts}
 use Rattle.laid_plans.specs.Inferred.{suits_kinds}

@@ -35,7 +35,6 @@ use Rattle.phys_plan.specs.Reading.{numbered}
 use Rattle.ct_catalog.specs.Columns.{column_types}
 use Rattle.plan_rules.specs.Columns.{columns_as, common_with}
 use Rattle.laid_plans.proofs.laws.LaidTrees.{IsUnary, IsBinary, HasNode, Carries, IsOver, ScanLaid, SourceLaid, OneLaid, IsLaid, AreLaid}
-use Rattle.plan_rules.specs.Behaviours.{has_rule}
 use Rattle.plan_rules.specs.Roles.{Role, one_of, two_of, role, takes as takes_as, unary_way, binary_way}
 use Rattle.plan_shape.specs.Shape.{is_keyed_by, is_read, is_upsert_by, normalizes_by, scans_by, same_agg, same_aggs, same_call, same_column, suits_consumer, takes, op_in}
 use Rattle.plan_shape.specs.Tables.{is_declarable}

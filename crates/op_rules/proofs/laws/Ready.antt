@@ -1,5 +1,5 @@
 -- What a subtask may rely on lets each change come.
-use Rattle.std.proofs.Common.{◌≡◌, ℕ, ◌<◌, true, List, [], ◌∷◌, ◌++◌, take, refl, sym, subst, arith}
+use Rattle.std.proofs.Common.{◌≡◌, ℕ, ◌<◌, true, List, [], ◌∷◌, ◌++◌, take, refl, subst}
 use Rattle.std.specs.List.{AllByRecursion}
 use Rattle.ct_value.specs.Bag.{none}
 use Rattle.ct_change.specs.declared.change.Change.{Change}

@@ -35,7 +35,7 @@ use Rattle.op_rules.proofs.laws.Histories.{all-append, all-front, all-back, all-
 use Rattle.op_rules.proofs.laws.Totals.{total-same}
 use Rattle.op_rules.proofs.laws.Values.{types_of_row}
 use Rattle.op_rules.proofs.laws.Worths.{plus_nothing, union, restricted, copies-union, copies-restricted, worth-bag_of, worth-union, worth-near}
-use Rattle.emission_rules.specs.GroupFits.{first_columns}
+use Rattle.column_sets.specs.Places.{first_columns}
 use Rattle.emission_rules.specs.Grouping.{answers, groups_of}
 use Rattle.phase_rules.specs.LocalGrouping.{LocalGrouping, amounts, worth_of_values, parts, parts_of_calls, reached_at, are_silent, fit_after, rows_come, rows_gone, members_of, partial_row, local_answer, local_emits, partials_of}
 use Rattle.phase_rules.specs.LocalFits.{IsOfBags, LocalFits, local_task, LocalGroupsStand, LocalGroupsTake}

@@ -22,7 +22,7 @@ use Rattle.op_rules.specs.Partials.{Worth, nothing, plus, Partials, sum_of, wort
 use Rattle.op_rules.specs.Rules.{Answer, along}
 use Rattle.op_rules.proofs.laws.Histories.{at_port-append, both-appended, ok-same, all-front, all-back}
 use Rattle.op_rules.proofs.laws.Worths.{plus_nothing, plus_comm, plus_assoc, nothing_plus, worth-append}
-use Rattle.emission_rules.specs.GroupFits.{first_columns}
+use Rattle.column_sets.specs.Places.{first_columns}
 use Rattle.emission_rules.specs.Grouping.{answers, groups_of}
 use Rattle.phase_rules.specs.LocalGrouping.{LocalGrouping, amounts, parts, worth_of_values, are_silent, fit_after, rows_come, rows_gone, members_of, partial_row, told_of, local_answer, local_emits, partials_of}
 use Rattle.emission_rules.proofs.laws.Columns.{project-first}

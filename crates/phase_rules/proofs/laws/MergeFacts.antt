@@ -16,7 +16,8 @@ use Rattle.op_rules.specs.Partials.{Partials, StandFor}
 use Rattle.op_rules.specs.Ports.{IsReadIn}
 use Rattle.op_rules.specs.Tasks.{Task, IsSettled, IsSplit, IsSplitBy, Emitted, AllEmitted, Facts, LocalKeysHold}
 use Rattle.op_rules.proofs.laws.Histories.{prefix_at, all-each}
-use Rattle.emission_rules.specs.GroupFits.{first_columns, batch, part, GroupFits}
+use Rattle.column_sets.specs.Places.{first_columns}
+use Rattle.emission_rules.specs.GroupFits.{batch, part, GroupFits}
 use Rattle.emission_rules.specs.Grouping.{Grouping, TellsGroups, IsSound}
 use Rattle.emission_rules.proofs.laws.Columns.{project-first}
 use Rattle.emission_rules.proofs.laws.GroupAnswers.{shown_by, AreCounted, answer_shown, counted_answer}

@@ -32,7 +32,7 @@ use Rattle.agg_fns.specs.Reading.{Part, summed, lowest, highest, parts_by, adds_
 use Rattle.agg_fns.proofs.laws.PartialResults.{result_whole}
 use Rattle.op_rules.specs.Partials.{Worth, plus, Partials, sum_of, worth_in, worth_of}
 use Rattle.op_rules.proofs.laws.Worths.{copies-restricted}
-use Rattle.emission_rules.specs.GroupFits.{first_columns}
+use Rattle.column_sets.specs.Places.{first_columns}
 use Rattle.emission_rules.specs.Grouping.{Grouping, members, row_count, results, row_of, group_row, is_counted}
 use Rattle.emission_rules.proofs.laws.Columns.{project-first}
 use Rattle.emission_rules.proofs.laws.Members.{copies-members}

@@ -23,7 +23,7 @@ use Rattle.agg_fns.specs.Partial.{column_of, partials_sum}
 use Rattle.agg_fns.specs.Reading.{Part, summed, lowest, highest, parts_by, is_blank, all_blank, AddUp, AllAddUp}
 use Rattle.agg_fns.proofs.laws.Readings.{partial_come, partial_blank}
 use Rattle.op_rules.specs.Partials.{Worth, plus, sum_of as worth_together}
-use Rattle.emission_rules.specs.GroupFits.{first_columns}
+use Rattle.column_sets.specs.Places.{first_columns}
 use Rattle.phase_rules.specs.LocalGrouping.{LocalGrouping, parts, parts_of_calls, worth_of_values, members_of, partials_of}
 use Rattle.phase_rules.specs.Merging.{amounts_in, sums_of_calls, merged}
 use Rattle.phase_rules.proofs.laws.LocalSums.{agrees}

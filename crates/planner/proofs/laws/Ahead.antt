@@ -1,6 +1,6 @@
 -- What is inferred of the first nodes of a plan goes by them alone, and by the exchanges of the edges between them.
 use Rattle.std.specs.Prelude.{◌≡◌, ℕ, ◌+◌, ◌<◌, ◌≤◌, List, ◌++◌, length, map, slice_get, Option, option_map, unwrap_or}
-use Rattle.std.proofs.Common.{zero, suc, true, [], ◌∷◌, refl, sym, ap, ◌∙◌, arith, Some}
+use Rattle.std.proofs.Common.{zero, suc, [], ◌∷◌, refl, sym, ap, ◌∙◌, arith, Some}
 use Rattle.std.proofs.lemmas.List.{length_push, map-append}
 use Rattle.std.proofs.lemmas.Option.{slice_get-map, unwrap_or-slice_get}
 use Rattle.std.specs.List.{AllByRecursion}
@@ -9,7 +9,6 @@ use Rattle.ct_catalog.specs.declared.table.TableDef.{TableDef}
 use Rattle.phys_plan.specs.declared.edge.Edge.{Edge}
 use Rattle.phys_plan.specs.declared.node.KeyInfo.{KeyInfo}
 use Rattle.phys_plan.specs.declared.node.Node.{Node}
-use Rattle.phys_plan.specs.declared.node.Op.{Op}
 use Rattle.phys_plan.specs.Columns.{columns_in}
 use Rattle.phys_plan.specs.Reading.{Wire, at, no_keys, numbered, read_up, wire, wires}
 use Rattle.phys_plan.proofs.laws.Reading.{read_append}

@@ -1,31 +1,26 @@
 -- A plan with a materializer before its sink is, as it is seen, the plan of its tree with that.
-use Rattle.std.specs.Prelude.{◌≡◌, ℕ, ◌+◌, ◌<◌, Bool, List, ◌++◌, length, map, slice_get, Option, option_map, option_to_list, IfNone}
-use Rattle.std.proofs.Common.{zero, suc, false, [], ◌∷◌, refl, sym, ap, ◌∙◌, arith, Some, None, length-append}
-use Rattle.std.proofs.lemmas.List.{append-nil, append_assoc, length-map, map-append}
+use Rattle.std.specs.Prelude.{◌≡◌, ℕ, ◌+◌, ◌<◌, Bool, List, ◌++◌, length, map, slice_get, option_map}
+use Rattle.std.proofs.Common.{zero, suc, false, [], ◌∷◌, refl, sym, ap, ◌∙◌, arith, Some, length-append}
+use Rattle.std.proofs.lemmas.List.{append_assoc, length-map, map-append}
 use Rattle.std.proofs.lemmas.Option.{slice_get-map}
 use Rattle.ct_change.specs.Changelog.{retract, upsert, kinds_of}
-use Rattle.ct_change.specs.declared.kind.Declared.{Declared}
-use Rattle.ct_change.specs.declared.kind.Declared.TheVariants.{Append, Retract, Upsert}
-use Rattle.ct_change.specs.declared.update.Update.TheVariants.{Absent, After, Both}
+use Rattle.ct_change.specs.declared.update.Update.TheVariants.{Absent, Both}
 use Rattle.ct_catalog.specs.declared.table.TableDef.{TableDef}
-use Rattle.rel_algebra.specs.Rel.{Unary, filter_by, project_on, group_by, rank_in, Binary, join_on, Rel, Scan, One, Two, Many}
+use Rattle.rel_algebra.specs.Rel.{Rel}
 use Rattle.phys_plan.specs.declared.edge.Edge.{Edge}
-use Rattle.phys_plan.specs.declared.edge.Exchange.{Exchange}
 use Rattle.phys_plan.specs.declared.edge.Exchange.TheVariants.{Forward, Hash}
 use Rattle.phys_plan.specs.declared.node.Node.{Node}
 use Rattle.phys_plan.specs.declared.node.Op.{Op}
 use Rattle.phys_plan.specs.declared.node.Op.TheVariants as op
 use Rattle.phys_plan.specs.declared.plan.Plan.{Plan}
 use Rattle.phys_plan.specs.Reading.{numbered}
-use Rattle.plan_rules.specs.Pieces.{Piece, node_of, edge_of, piece, full_piece, scan_pieces, source_pieces, pieces_of, pieces_of_all, roots_of, nodes_in, edges_in, Top, bare, shown, with_top, with_sink}
-use Rattle.plan_rules.specs.Roles.{unary_way, binary_way}
+use Rattle.plan_rules.specs.Pieces.{Piece, node_of, edge_of, piece, full_piece, pieces_of, nodes_in, edges_in, Top, bare, shown, with_top, with_sink}
 use Rattle.plan_rules.specs.Seen.{node_as_seen, op_as_seen, plan_as_seen}
-use Rattle.plan_rules.proofs.laws.Erasing.{of_groups}
 use Rattle.sound_plans.proofs.laws.Agreed.{materializes}
 use Rattle.plan_rules.specs.Phases.{Bundles}
 use Rattle.laid_plans.specs.Shapes.{bundles_in, IsLaidWith}
-use Rattle.plan_laying.proofs.laws.LastPieces.{EndsAsAsked, tree_ends, nodes_end, edges_end, same_nodes, other_edges}
-use Rattle.plan_laying.proofs.laws.LastEdges.{all_of, mapped, hashed, hashed_many, hashed_ahead}
+use Rattle.plan_laying.proofs.laws.LastPieces.{tree_ends, nodes_end, edges_end, same_nodes, other_edges}
+use Rattle.plan_laying.proofs.laws.LastEdges.{all_of, mapped, hashed_many, hashed_ahead}
 use Rattle.planner.proofs.laws.Ahead.{in_front, behind}
 use Rattle.plan_laying.specs.Topped.{all_but_last, send_last, shown_nodes, shown_edges, topped_plan}
 

@@ -1,5 +1,5 @@
 -- What the view of each variant of a tree is.
-use Rattle.std.proofs.Common.{◌≡◌, ℕ, Bool, List, [], ◌∷◌, Option, Some, None, refl, sym, ap, ◌∙◌}
+use Rattle.std.proofs.Common.{◌≡◌, ℕ, Bool, List, Option, sym, ap, ◌∙◌}
 use Rattle.std.specs.Prelude.{Box, option_map}
 use Rattle.std.specs.declared.alloc.Global.{Global}
 use Rattle.ct_expr.specs.declared.expr.Expr.{Expr}

@@ -1,7 +1,6 @@
 -- What holds of an answer, where another fact of it gives it.
-use Rattle.std.proofs.Common.{◌≡◌, List, [], ◌∷◌, length, Option, Result, Ok, Err, IfOk, IfErr, OnOk, OnErr, refl}
+use Rattle.std.proofs.Common.{Result, Ok, Err, IfOk, IfErr, OnOk, OnErr}
 use Rattle.ct_value.specs.declared.row.Row.{Row}
-use Rattle.ct_change.specs.declared.change.Change.{Change}
 use Rattle.op_rules.specs.declared.operator.OpFault.{OpFault}
 use Rattle.op_rules.specs.declared.operator.OpFault.TheVariants.{Range, Memory}
 use Rattle.op_rules.specs.Faults.{IfRange}

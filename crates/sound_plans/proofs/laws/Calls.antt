@@ -1,5 +1,5 @@
 -- Calls that are told as the same are the same.
-use Rattle.std.specs.Prelude.{◌≡◌, ℕ, ◌==◌, List, Option}
+use Rattle.std.specs.Prelude.{◌≡◌, ℕ, List, Option}
 use Rattle.std.proofs.Common.{true, [], ◌∷◌, refl, ap, Some, None}
 use Rattle.std.proofs.lemmas.Bool.{eqb-true}
 use Rattle.rel_algebra.specs.declared.agg.Agg.{Agg}

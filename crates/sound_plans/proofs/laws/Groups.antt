@@ -24,7 +24,7 @@ use Rattle.phys_plan.specs.declared.node.KeyInfo.{KeyInfo}
 use Rattle.phys_plan.specs.declared.node.Op.TheVariants as op
 use Rattle.op_rules.specs.Edges.{hash, LiesIn}
 use Rattle.emission_rules.specs.Grouping.{Grouping, KeepsGroups, TellsGroups}
-use Rattle.emission_rules.specs.GroupFits.{GroupFits, output_kinds, first_columns as first_made}
+use Rattle.emission_rules.specs.GroupFits.{GroupFits, output_kinds}
 use Rattle.ct_change.specs.Kinds.{has_more_than_inserts}
 use Rattle.emission_rules.proofs.laws.Columns.{project-first}
 use Rattle.route.specs.Routing.{key_hash, key_text, types_at}
@@ -41,7 +41,7 @@ use Rattle.plan_rules.proofs.laws.Reading.{meaning_read, meaning_told}
 use Rattle.sound_plans.specs.Outputs.{Output, AreWithin, IsProper, around_by, edge_of}
 use Rattle.sound_plans.specs.Agrees.{Agrees, taken_by}
 use Rattle.sound_plans.proofs.laws.Sets.{lies_in_set}
-use Rattle.sound_plans.proofs.laws.Widths.{first_within, first_columns_are, set_within}
+use Rattle.sound_plans.proofs.laws.Widths.{first_within, set_within}
 use Rattle.sound_plans.specs.RowFits.{GroupsFit}
 use Rattle.sound_plans.proofs.laws.RowFamilies.{the_only, each_from_family, set_in}
 use Rattle.sound_plans.proofs.laws.RowInputs.{comes_by, comes_full, carries_full, routed}
@@ -49,13 +49,6 @@ use Rattle.sound_plans.proofs.laws.Told.{told_by_key}
 use Rattle.sound_plans.proofs.laws.Updates.{mode_full, kinds_full_read, KeyIs, told_keyed}
 
 -- ---- the first columns
-
--- made one after the other as from the first on
-pub same_first : (keys : ℕ) → first_made keys ≡ first_columns keys
-same_first keys = first_columns_are first_made refl (λ n. refl) keys
-
-project_taken : (keys : ℕ) (row : Row) → keys ≤ length row → project (first_columns keys) row ≡ take keys row
-project_taken keys row le = ap (λ columns. project columns row) (sym (same_first keys)) ∙ project-first keys row le
 
 -- a group sends its key columns
 keys_exist : (keys : ℕ) (columns made : List ColTy) (aggs : List Agg) → group_columns keys columns aggs ≡ Some made → keys ≤ length made
@@ -83,8 +76,8 @@ tells_by : (keys : ℕ) (aggs : List Agg) (columns : List ColTy) (input output :
 tells_by keys [] columns input output key is a b la lb = absurd (cc)
 tells_by keys (agg ∷ aggs) columns input output key is a b la lb =
     let same : first_columns keys ≡ key = cc in
-    let pa = ap (λ k. project k a) (sym same) ∙ project_taken keys a la in
-    let pb = ap (λ k. project k b) (sym same) ∙ project_taken keys b lb in
+    let pa = ap (λ k. project k a) (sym same) ∙ project-first keys a la in
+    let pb = ap (λ k. project k b) (sym same) ∙ project-first keys b lb in
     (λ e. sym pa ∙ e ∙ pb, λ e. pa ∙ e ∙ sym pb)
 
 tells : (keys : ℕ) (aggs : List Agg) (columns : List ColTy) (input : Mode) (update : Update) → KeyIs (group_key keys aggs) update → TellsGroups (group_by keys aggs columns input (mode_told update)) (mode_told update)
@@ -216,10 +209,9 @@ module _ (many : ℕ) (some : 0 < many) (sources : List TableDef) (sink : TableD
   typed = agrees.typed
 
   -- its columns lie in each of its keys
-  lies_in_key : (sets : List (List ℕ)) → sets ≡ family (set_of (first_columns keys) ∷ []) → (set : List ℕ) → Contains sets set → LiesIn (first_made keys) set
+  lies_in_key : (sets : List (List ℕ)) → sets ≡ family (set_of (first_columns keys) ∷ []) → (set : List ℕ) → Contains sets set → LiesIn (first_columns keys) set
   lies_in_key sets is set c =
-      subst (λ columns. LiesIn columns set) (sym (same_first keys))
-      (subst (λ s. LiesIn (first_columns keys) s) (the_only (set_of (first_columns keys)) sets is set c) (lies_in_set (first_columns keys)))
+      subst (λ s. LiesIn (first_columns keys) s) (the_only (set_of (first_columns keys)) sets is set c) (lies_in_set (first_columns keys))
 
   group_fits : GroupFits many (grouping_of keys aggs (around_by sink (input ∷ []) own)) (edge_of many input) (edge_of many own)
   group_fits = record {
@@ -230,7 +222,7 @@ module _ (many : ℕ) (some : 0 < many) (sources : List TableDef) (sink : TableD
       tells = tells keys aggs input.columns mode own.edge.update own_keyed;
     };
     reads = meaning_read input.edge.kinds input.edge.update;
-    hashed = ap exchange_of hashed ∙ ap hash (sym (same_first keys));
+    hashed = ap exchange_of hashed;
     routed = λ key. routed many some input.columns input.edge.exchange key;
     home = λ e. ap (λ x. route_by many input.columns (exchange_of x) []) hashed ∙ goes_home many input.columns (first_columns keys);
     kinds = comes_kind;

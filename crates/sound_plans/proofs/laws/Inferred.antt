@@ -1,6 +1,6 @@
 -- What is inferred of a node, from what is inferred of its inputs: the tables that are read from the inputs up, at one number.
 use Rattle.std.specs.Prelude.{◌≡◌, ℕ, ◌+◌, ◌<◌, List, map, slice_get, unwrap_or}
-use Rattle.std.proofs.Common.{zero, suc, true, false, [], ◌∷◌, refl, sym, ap, subst, ◌∙◌, arith, Some, None}
+use Rattle.std.proofs.Common.{zero, suc, [], ◌∷◌, refl, ap, subst, ◌∙◌, arith, Some}
 use Rattle.std.specs.List.{AllByRecursion}
 use Rattle.phys_plan.specs.declared.node.Node.{Node}
 use Rattle.phys_plan.specs.Reading.{Wire, at, numbered, wire, wires}

@@ -1,6 +1,6 @@
 -- An input that its consumer asks for by columns fits there, and an edge that carries new rows alone keeps each key in one channel.
 use Rattle.std.specs.Prelude.{◌≡◌, ℕ, ◌<◌, List, length}
-use Rattle.std.proofs.Common.{true, refl, sym, ap, subst, ◌∙◌, Some}
+use Rattle.std.proofs.Common.{true, sym, ap, subst, ◌∙◌, Some}
 use Rattle.std.specs.List.{AllByRecursion}
 use Rattle.ct_value.specs.declared.row.Row.{Row}
 use Rattle.ct_change.specs.Changelog.{HasKey, Mode, admits, has}

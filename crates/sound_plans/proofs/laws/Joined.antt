@@ -5,9 +5,10 @@ use Rattle.std.specs.List.{AllByRecursion, Contains, filter}
 use Rattle.ct_value.specs.declared.ty.ColTy.{ColTy}
 use Rattle.rel_algebra.specs.declared.join.JoinKind.{JoinKind}
 use Rattle.rel_algebra.specs.declared.join.JoinKind.TheVariants.{Inner, Left, Right, Full}
+use Rattle.rel_algebra.specs.Joins.{left_columns, right_columns}
 use Rattle.op_rules.specs.Edges.{LiesIn}
 use Rattle.emission_rules.specs.Joining.{Joining, joins}
-use Rattle.emission_rules.specs.JoinFits.{FixesBy, HasBoth, HasBothApart, HasLeft, HasNotNull, HasRight, IsKeyBy, LeftKey, MatchesOne, RightKey, behind, left_pairs, right_pairs}
+use Rattle.emission_rules.specs.JoinFits.{FixesBy, HasBoth, HasBothApart, HasLeft, HasNotNull, HasRight, IsKeyBy, LeftKey, MatchesOne, RightKey, behind}
 use Rattle.column_sets.specs.Places.{shift, shifted}
 use Rattle.column_sets.specs.Sets.{family, has_within, is_within, set_of, union, unions}
 use Rattle.upsert_keys.specs.Joins.{has_required, is_required, join_fixing, join_sets, of_left, of_right}
@@ -57,7 +58,7 @@ module _ (j : Joining) where
 
   -- the join as keys are inferred of it
   abbrev pub inferred : JoinKind → Inferred
-  inferred kind = record { kind = kind; left = left_pairs j.on; right = shift width (right_pairs j.on); columns = j.left_columns ++ j.right_columns }
+  inferred kind = record { kind = kind; left = left_columns j.on; right = shift width (right_columns j.on); columns = j.left_columns ++ j.right_columns }
 
   -- from keys of both sides
   module _ (L R : List ℕ → Type 0) (lefts rights : List (List ℕ)) (are_left : (set : List ℕ) → Contains lefts set → L set) (are_right : (set : List ℕ) → Contains rights set → R set)
@@ -93,24 +94,24 @@ module _ (j : Joining) where
     both key c = let u = of_unions lefts (shifted width rights) key c in (union_left key u, union_right key u)
 
     -- a key of the right lies in the columns of the pairs
-    right_matches : (set : List ℕ) → Contains (shifted width rights) set → is_within set (shift width (right_pairs j.on)) ≡ true → MatchesOne R (right_pairs j.on)
+    right_matches : (set : List ℕ) → Contains (shifted width rights) set → is_within set (shift width (right_columns j.on)) ≡ true → MatchesOne R (right_columns j.on)
     right_matches set c e =
         let right = of_shifted width rights set c in
-        let is : is_within (shift width right.0) (shift width (right_pairs j.on)) ≡ true = subst (λ s. is_within s (shift width (right_pairs j.on)) ≡ true) (sym right.2) e in
-        (right.0, are_right right.0 right.1, lies right.0 (right_pairs j.on) (part_of_shifts width right.0 (right_pairs j.on) (part_of_within (shift width right.0) (shift width (right_pairs j.on)) is)))
+        let is : is_within (shift width right.0) (shift width (right_columns j.on)) ≡ true = subst (λ s. is_within s (shift width (right_columns j.on)) ≡ true) (sym right.2) e in
+        (right.0, are_right right.0 right.1, lies right.0 (right_columns j.on) (part_of_shifts width right.0 (right_columns j.on) (part_of_within (shift width right.0) (shift width (right_columns j.on)) is)))
 
     has_left : (kind : JoinKind) (key : List ℕ) → Contains (by_left_side kind) key → HasLeft L R j key
     has_left kind key c =
-        let w = of_when (has_within (shifted width rights) (shift width (right_pairs j.on))) lefts key c in
-        let right = one_within (shifted width rights) (shift width (right_pairs j.on)) w.0 in
+        let w = of_when (has_within (shifted width rights) (shift width (right_columns j.on))) lefts key c in
+        let right = one_within (shifted width rights) (shift width (right_columns j.on)) w.0 in
         (left_key key key w.1 (lies_itself key), right_matches right.0 right.1 right.2)
 
     has_right : (kind : JoinKind) (key : List ℕ) → Contains (by_right_side kind) key → HasRight L R j key
     has_right kind key c =
-        let w = of_when (has_within lefts (left_pairs j.on)) (shifted width rights) key c in
-        let left = one_within lefts (left_pairs j.on) w.0 in
+        let w = of_when (has_within lefts (left_columns j.on)) (shifted width rights) key c in
+        let left = one_within lefts (left_columns j.on) w.0 in
         let right = of_shifted width rights key w.1 in
-        (right_key right.0 key right.1 (subst (λ s. LiesIn s key) (sym right.2) (lies_itself key)), (left.0, are_left left.0 left.1, lies_within left.0 (left_pairs j.on) left.2))
+        (right_key right.0 key right.1 (subst (λ s. LiesIn s key) (sym right.2) (lies_itself key)), (left.0, are_left left.0 left.1, lies_within left.0 (left_columns j.on) left.2))
 
     -- a column of the union that NULL may not stand in is one of the left or one of the right
     not_null : (one set : List ℕ) (at : ℕ) (column : ColTy) → AreWithin width one → Contains (union one (shift width set)) at → slice_get (j.left_columns ++ j.right_columns) at ≡ Some column
@@ -154,24 +155,24 @@ module _ (j : Joining) where
   -- ---- sets that fix the subtask
 
   -- the columns of the pairs of one side, or of both
-  by_left : (set : List ℕ) → set_of (left_pairs j.on) ≡ set → LiesIn (left_pairs j.on) set
-  by_left set e = subst (λ s. LiesIn (left_pairs j.on) s) e (lies_in_set (left_pairs j.on))
+  by_left : (set : List ℕ) → set_of (left_columns j.on) ≡ set → LiesIn (left_columns j.on) set
+  by_left set e = subst (λ s. LiesIn (left_columns j.on) s) e (lies_in_set (left_columns j.on))
 
-  by_right : (set : List ℕ) → set_of (shift width (right_pairs j.on)) ≡ set → LiesIn (behind width (right_pairs j.on)) set
-  by_right set e = subst (λ s. LiesIn s set) (sym (behind-shift width (right_pairs j.on))) (subst (λ s. LiesIn (shift width (right_pairs j.on)) s) e (lies_in_set (shift width (right_pairs j.on))))
+  by_right : (set : List ℕ) → set_of (shift width (right_columns j.on)) ≡ set → LiesIn (behind width (right_columns j.on)) set
+  by_right set e = subst (λ s. LiesIn s set) (sym (behind-shift width (right_columns j.on))) (subst (λ s. LiesIn (shift width (right_columns j.on)) s) e (lies_in_set (shift width (right_columns j.on))))
 
-  by_both : (set : List ℕ) → union (left_pairs j.on) (shift width (right_pairs j.on)) ≡ set → LiesIn (left_pairs j.on) set × LiesIn (behind width (right_pairs j.on)) set
+  by_both : (set : List ℕ) → union (left_columns j.on) (shift width (right_columns j.on)) ≡ set → LiesIn (left_columns j.on) set × LiesIn (behind width (right_columns j.on)) set
   by_both set e = (
-    subst (λ s. LiesIn (left_pairs j.on) s) e (left_lies (left_pairs j.on) (shift width (right_pairs j.on))),
-    subst (λ s. LiesIn s set) (sym (behind-shift width (right_pairs j.on)))
-        (subst (λ s. LiesIn (shift width (right_pairs j.on)) s) e (right_lies (left_pairs j.on) (shift width (right_pairs j.on)))),
+    subst (λ s. LiesIn (left_columns j.on) s) e (left_lies (left_columns j.on) (shift width (right_columns j.on))),
+    subst (λ s. LiesIn s set) (sym (behind-shift width (right_columns j.on)))
+        (subst (λ s. LiesIn (shift width (right_columns j.on)) s) e (right_lies (left_columns j.on) (shift width (right_columns j.on)))),
   )
 
   abbrev ones : List ℕ
-  ones = set_of (left_pairs j.on)
+  ones = set_of (left_columns j.on)
 
   abbrev others : List ℕ
-  others = set_of (shift width (right_pairs j.on))
+  others = set_of (shift width (right_columns j.on))
 
   -- each inferred set is one
   pub fixes : (kind : JoinKind) (set : List ℕ) → Contains (family (join_fixing kind (inferred kind))) set → FixesBy (joins kind) j set
@@ -179,7 +180,7 @@ module _ (j : Joining) where
       ⊎_elim (λ e. inl (by_left set e)) (λ d. inr (by_right set (only_one others set d))) (first_or ones (others ∷ []) set (of_family (join_fixing Inner (inferred Inner)) set c))
   fixes Left set c = by_left set (only_one ones set (of_family (join_fixing Left (inferred Left)) set c))
   fixes Right set c = by_right set (only_one others set (of_family (join_fixing Right (inferred Right)) set c))
-  fixes Full set c = by_both set (only_one (union (left_pairs j.on) (shift width (right_pairs j.on))) set (of_family (join_fixing Full (inferred Full)) set c))
+  fixes Full set c = by_both set (only_one (union (left_columns j.on) (shift width (right_columns j.on))) set (of_family (join_fixing Full (inferred Full)) set c))
 
 -- ---- columns are there
 
@@ -200,10 +201,10 @@ module _ (j : Joining) (lefts rights : List (List ℕ)) (left_there : AllByRecur
   unions_within = each_union all lefts behinds lefts_within rights_within
 
   left_side_within : (kind : JoinKind) → AllByRecursion (AreWithin all) (of_left (inferred j kind) lefts behinds)
-  left_side_within kind = each_when all (has_within behinds (shift (length j.left_columns) (right_pairs j.on))) lefts lefts_within
+  left_side_within kind = each_when all (has_within behinds (shift (length j.left_columns) (right_columns j.on))) lefts lefts_within
 
   right_side_within : (kind : JoinKind) → AllByRecursion (AreWithin all) (of_right (inferred j kind) lefts behinds)
-  right_side_within kind = each_when all (has_within lefts (left_pairs j.on)) behinds rights_within
+  right_side_within kind = each_when all (has_within lefts (left_columns j.on)) behinds rights_within
 
   -- all sets that may be keys
   pub sets_within : (kind : JoinKind) → AllByRecursion (AreWithin all) (join_sets kind (inferred j kind) lefts behinds)
@@ -216,21 +217,21 @@ module _ (j : Joining) (lefts rights : List (List ℕ)) (left_there : AllByRecur
       each_among (AreWithin all) (unions lefts behinds) (filter (has_required (j.left_columns ++ j.right_columns)) (unions lefts behinds))
       (λ set c. (of_filter (has_required (j.left_columns ++ j.right_columns)) (unions lefts behinds) set c).0) unions_within
 
-module _ (j : Joining) (left_there : AreWithin (length j.left_columns) (left_pairs j.on)) (right_there : AreWithin (length j.right_columns) (right_pairs j.on)) where
+module _ (j : Joining) (left_there : AreWithin (length j.left_columns) (left_columns j.on)) (right_there : AreWithin (length j.right_columns) (right_columns j.on)) where
   abbrev every : ℕ
   every = length j.left_columns + length j.right_columns
 
   abbrev lefts_of : List ℕ
-  lefts_of = left_pairs j.on
+  lefts_of = left_columns j.on
 
   abbrev rights_of : List ℕ
-  rights_of = shift (length j.left_columns) (right_pairs j.on)
+  rights_of = shift (length j.left_columns) (right_columns j.on)
 
   left_pairs_within : AreWithin every lefts_of
   left_pairs_within = wider (length j.left_columns) every lefts_of (omega arith) left_there
 
   right_pairs_within : AreWithin every rights_of
-  right_pairs_within = shift_within (length j.left_columns) (length j.right_columns) (right_pairs j.on) right_there
+  right_pairs_within = shift_within (length j.left_columns) (length j.right_columns) (right_columns j.on) right_there
 
   -- and all that may fix the subtask
   pub fixing_within : (kind : JoinKind) → AllByRecursion (AreWithin every) (join_fixing kind (inferred j kind))

@@ -14,12 +14,12 @@ use Rattle.ct_expr.specs.View.{expr_view}
 use Rattle.ct_expr.specs.declared.expr.Expr.{Expr}
 use Rattle.rel_algebra.specs.declared.join.JoinKind.{JoinKind}
 use Rattle.rel_algebra.specs.declared.join.Pair.{Pair}
-use Rattle.rel_algebra.specs.Joins.{join_columns, keeps_left, keeps_right, nullable_if}
+use Rattle.rel_algebra.specs.Joins.{join_columns, keeps_left, keeps_right, nullable_if, left_columns, right_columns}
 use Rattle.rel_algebra.proofs.laws.Fits.{first}
 use Rattle.rel_algebra.specs.Types.{is_condition_if, match_fits, pairs_fit}
 use Rattle.op_rules.specs.Edges.{Edge, HoldsOver, IsSeen, LiesIn, bag}
 use Rattle.emission_rules.specs.Joining.{Joining, Shape, joins, matched}
-use Rattle.emission_rules.specs.JoinFits.{FixesBy, IsKeyBy, JoinFits, columns_by, kinds_by, left_pairs, right_pairs}
+use Rattle.emission_rules.specs.JoinFits.{FixesBy, IsKeyBy, JoinFits, columns_by, kinds_by}
 use Rattle.phys_plan.specs.declared.edge.Exchange.TheVariants.{Hash}
 use Rattle.phys_plan.specs.declared.node.KeyInfo.{KeyInfo}
 use Rattle.phys_plan.specs.declared.node.Op.{Op}
@@ -52,30 +52,30 @@ use Rattle.sound_plans.proofs.laws.Routes.{left_within, one_route, right_within}
 -- ---- two inputs that are asked for by the columns of pairs
 
 module _ (many : ℕ) (some : 0 < many) (sink : TableDef) (o : Op) (on : List Pair) (left right own : Output) (left_asked : IsAsked sink o own.edge.update 0 left)
-    (right_asked : IsAsked sink o own.edge.update 1 right) (asks_left : asked o 0 ≡ Some (left_pairs on)) (asks_right : asked o 1 ≡ Some (right_pairs on)) where
+    (right_asked : IsAsked sink o own.edge.update 1 right) (asks_left : asked o 0 ≡ Some (left_columns on)) (asks_right : asked o 1 ≡ Some (right_columns on)) where
   abbrev from : ℕ → Edge
   from = edges_of many (left ∷ (right ∷ []))
 
   -- the edges go by those columns
-  left_hash : left.edge.exchange ≡ Hash (left_pairs on)
-  left_hash = exchanged many some sink o own.edge.update 0 (left_pairs on) left left_asked asks_left
+  left_hash : left.edge.exchange ≡ Hash (left_columns on)
+  left_hash = exchanged many some sink o own.edge.update 0 (left_columns on) left left_asked asks_left
 
-  right_hash : right.edge.exchange ≡ Hash (right_pairs on)
-  right_hash = exchanged many some sink o own.edge.update 1 (right_pairs on) right right_asked asks_right
+  right_hash : right.edge.exchange ≡ Hash (right_columns on)
+  right_hash = exchanged many some sink o own.edge.update 1 (right_columns on) right right_asked asks_right
 
   -- what is seen of their keys
-  left_seen : seen left ≡ seen_over (Hash (left_pairs on)) left.columns left.keys
-  left_seen = seen_hashed left (left_pairs on) left_hash
+  left_seen : seen left ≡ seen_over (Hash (left_columns on)) left.columns left.keys
+  left_seen = seen_hashed left (left_columns on) left_hash
 
-  right_seen : seen right ≡ seen_over (Hash (right_pairs on)) right.columns right.keys
-  right_seen = seen_hashed right (right_pairs on) right_hash
+  right_seen : seen right ≡ seen_over (Hash (right_columns on)) right.columns right.keys
+  right_seen = seen_hashed right (right_columns on) right_hash
 
   -- and holds of each subtask
   left_local : (key : List ℕ) → Contains (everywhere left.keys) key → IsSeen (from 0) key
-  left_local key c = seen_over_all many left key (left_pairs on) left_hash c
+  left_local key c = seen_over_all many left key (left_columns on) left_hash c
 
   right_local : (key : List ℕ) → Contains (everywhere right.keys) key → IsSeen (from 1) key
-  right_local key c = seen_over_all many right key (right_pairs on) right_hash c
+  right_local key c = seen_over_all many right key (right_columns on) right_hash c
 
   -- what leaves has the old rows wherever it has updates
   module _ (shape : Shape) (rest : Option View) (fit : pairs_fit left.columns right.columns on ≡ true) (made : columns_by shape left.columns right.columns ≡ own.columns) (whole : own.edge.update ≡ in_full own.sent)
@@ -86,9 +86,9 @@ module _ (many : ℕ) (some : 0 < many) (sink : TableDef) (o : Op) (on : List Pa
     -- one route
     together : (key : Row) → (from 0).route key ≡ (from 1).route key
     together key =
-        route_is many some sink o own.edge.update 0 (left_pairs on) left left_asked asks_left key
+        route_is many some sink o own.edge.update 0 (left_columns on) left left_asked asks_left key
         ∙ one_route left.columns right.columns many on fit key
-        ∙ sym (route_is many some sink o own.edge.update 1 (right_pairs on) right right_asked asks_right key)
+        ∙ sym (route_is many some sink o own.edge.update 1 (right_columns on) right right_asked asks_right key)
 
     -- a bag, of all that is sent
     writes : meaning_by own.edge.update ≡ bag
@@ -109,8 +109,8 @@ module _ (many : ℕ) (some : 0 < many) (sink : TableDef) (o : Op) (on : List Pa
         → ((key : List ℕ) → Contains own.keys.local key → IsKeyBy shape (IsSeen (from 0)) (IsSeen (from 1)) joining key)
         → ((set : List ℕ) → Contains own.keys.fixing set → FixesBy shape joining set) → JoinFits many joining from (edge_of many own)
     join_fits unique local fixing = record {
-      left = input_fits many some sink o own.edge.update 0 (left_pairs on) left left_asked asks_left;
-      right = input_fits many some sink o own.edge.update 1 (right_pairs on) right right_asked asks_right;
+      left = input_fits many some sink o own.edge.update 0 (left_columns on) left left_asked asks_left;
+      right = input_fits many some sink o own.edge.update 1 (right_columns on) right right_asked asks_right;
       together = together;
       within = left_within left.columns right.columns on fit;
       writes = writes;
@@ -275,7 +275,7 @@ module _ (many : ℕ) (some : 0 < many) (sources : List TableDef) (sink : TableD
   -- ---- keys
 
   -- those of the left, behind its exchange
-  kept_keys : own.keys ≡ families left.keys.unique (everywhere left.keys) (set_of (left_pairs on) ∷ [])
+  kept_keys : own.keys ≡ families left.keys.unique (everywhere left.keys) (set_of (left_columns on) ∷ [])
   kept_keys =
       let l = left_seen many some sink semi on left right own kept_from looked_up refl refl in
       agrees.keyed ∙ (λ i. semi_keys on (l i))
@@ -294,8 +294,8 @@ module _ (many : ℕ) (some : 0 < many) (sources : List TableDef) (sink : TableD
 
   kept_fixing : (set : List ℕ) → Contains own.keys.fixing set → FixesBy (matched anti) k set
   kept_fixing set c =
-      let one = of_family (set_of (left_pairs on) ∷ []) set (subst (λ (info : KeyInfo). Contains info.fixing set) kept_keys c) in
-      subst (λ s. LiesIn (left_pairs on) s) (only_one (set_of (left_pairs on)) set one) (lies_in_set (left_pairs on))
+      let one = of_family (set_of (left_columns on) ∷ []) set (subst (λ (info : KeyInfo). Contains info.fixing set) kept_keys c) in
+      subst (λ s. LiesIn (left_columns on) s) (only_one (set_of (left_columns on)) set one) (lies_in_set (left_columns on))
 
   -- ---- their columns are there
 
@@ -309,8 +309,8 @@ module _ (many : ℕ) (some : 0 < many) (sources : List TableDef) (sink : TableD
   semi_proper = record {
     unique = kept_within left.keys.unique own.keys.unique (ap (λ (info : KeyInfo). info.unique) kept_keys) kept_from.proper.unique;
     local = kept_within (everywhere left.keys) own.keys.local (ap (λ (info : KeyInfo). info.local) kept_keys) (everywhere_within left kept_from.proper);
-    fixing = kept_within (set_of (left_pairs on) ∷ []) own.keys.fixing (ap (λ (info : KeyInfo). info.fixing) kept_keys)
-        (set_within (length left.columns) (left_pairs on) (left_within left.columns right.columns on pairs_are_there), tt);
+    fixing = kept_within (set_of (left_columns on) ∷ []) own.keys.fixing (ap (λ (info : KeyInfo). info.fixing) kept_keys)
+        (set_within (length left.columns) (left_columns on) (left_within left.columns right.columns on pairs_are_there), tt);
     update_key = λ key e. absurd (let wrong : None ≡ Some key = sym agrees.updates ∙ e in cc);
     told = told_unkeyed own agrees.taken agrees.updates agrees.tells;
     inserts = subst (λ (kinds : KindSet). kinds.i ≡ true) (sym agrees.sends) kept_from.proper.inserts;

@@ -1,6 +1,6 @@
 -- What the rules of sound plans say of one node: its keys, kinds, update key and edge are those that are inferred from its inputs'.
 use Rattle.std.specs.Prelude.{◌≡◌, ℕ, ◌+◌, ◌-◌, ◌<◌, ◌≤◌, Bool, cond, List, drop, length, map, slice_get, Option, unwrap_or}
-use Rattle.std.proofs.Common.{zero, suc, true, false, [], ◌∷◌, refl, sym, ap, subst, ◌∙◌, arith, Some, None}
+use Rattle.std.proofs.Common.{zero, suc, true, false, [], ◌∷◌, refl, sym, ap, ◌∙◌, arith, Some, None}
 use Rattle.std.specs.List.{AllByRecursion}
 use Rattle.ct_change.specs.declared.kind.KindSet.{KindSet}
 use Rattle.ct_catalog.specs.declared.table.TableDef.{TableDef}
@@ -31,7 +31,7 @@ use Rattle.plan_inferred.specs.Same.{same_exchange, same_keys, same_kinds, same_
 use Rattle.plan_inferred.specs.Rules.{by_columns, exchange_by, has_old_rows, says_exchange, says_keys, says_kinds, says_update, consumer}
 use Rattle.plan_shape.specs.Shaped.{MeetsShape}
 use Rattle.plan_rules.specs.Columns.{columns_at, columns_by, node_columns}
-use Rattle.plan_check.specs.Sound.{inferred_of, meets}
+use Rattle.plan_check.specs.Sound.{meets}
 use Rattle.plan_check.specs.Types.{is_typed, is_typed_by, types_at, types_by}
 use Rattle.sound_plans.specs.Agrees.{taken_by, first_width}
 use Rattle.sound_plans.specs.Outputs.{seen}

@@ -1,6 +1,6 @@
 -- How edges tell updates, and what they carry, at one number.
-use Rattle.std.specs.Prelude.{◌≡◌, ℕ, ◌+◌, ◌<◌, List, drop, slice_get, Option}
-use Rattle.std.proofs.Common.{zero, suc, [], ◌∷◌, refl, sym, ap, subst, ◌∙◌, arith, Some, None}
+use Rattle.std.specs.Prelude.{◌≡◌, ℕ, ◌+◌, List, drop, slice_get, Option}
+use Rattle.std.proofs.Common.{zero, suc, [], ◌∷◌, ap, ◌∙◌, arith, Some, None}
 use Rattle.ct_catalog.specs.declared.table.TableDef.{TableDef}
 use Rattle.ct_change.specs.declared.kind.Declared.{Declared}
 use Rattle.ct_change.specs.declared.update.Update.{Update}

@@ -1,6 +1,6 @@
 -- Lists by number, and the columns of nodes by their numbers.
-use Rattle.std.specs.Prelude.{◌≡◌, ℕ, ◌+◌, ◌<◌, ◌≤◌, ◌⊎◌, ◌==◌, List, ◌++◌, length, map, slice_get, slice_index_or, Option, option_and_then}
-use Rattle.std.proofs.Common.{zero, suc, true, false, [], ◌∷◌, refl, sym, ap, subst, ◌∙◌, arith, Some, None, inl, inr}
+use Rattle.std.specs.Prelude.{◌≡◌, ℕ, ◌<◌, ◌≤◌, ◌⊎◌, ◌==◌, List, length, map, slice_get, slice_index_or, Option, option_and_then}
+use Rattle.std.proofs.Common.{zero, suc, true, false, [], ◌∷◌, refl, subst, arith, Some, None, inl, inr}
 use Rattle.std.specs.List.{AllByRecursion}
 use Rattle.std.proofs.lemmas.Bool.{eqb-true}
 use Rattle.ct_catalog.specs.declared.table.TableDef.{TableDef}

@@ -1,6 +1,6 @@
 -- What the nodes of a plan send, by their numbers, and the edges of the network.
-use Rattle.std.specs.Prelude.{◌≡◌, ℕ, ◌<◌, ◌==◌, Bool, cond, List, length, map, Option, unwrap_or}
-use Rattle.std.proofs.Common.{zero, suc, true, false, [], ◌∷◌, refl, sym, ap, subst, ◌∙◌, arith, Some, None}
+use Rattle.std.specs.Prelude.{◌≡◌, ℕ, ◌==◌, Bool, cond, List, length, map, Option, unwrap_or}
+use Rattle.std.proofs.Common.{suc, true, false, [], ◌∷◌, refl, ap, ◌∙◌, Some, None}
 use Rattle.ct_value.specs.declared.ty.ColTy.{ColTy}
 use Rattle.ct_field.specs.Typed.{row_fits}
 use Rattle.op_rules.specs.Edges.{Edge, meaning_of}

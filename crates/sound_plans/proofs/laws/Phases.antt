@@ -5,7 +5,6 @@ use Rattle.std.specs.List.{AllByRecursion, Contains, list_all}
 use Rattle.std.proofs.lemmas.Bool.{and_parts}
 use Rattle.std.proofs.lemmas.Int.{ints}
 use Rattle.ct_value.specs.Order.{number_of}
-use Rattle.ct_value.specs.declared.row.Row.{Row}
 use Rattle.ct_value.specs.declared.ty.ColTy.{ColTy}
 use Rattle.ct_value.specs.declared.value.Value.{Value}
 use Rattle.ct_field.specs.Typed.{cell, row_fits}
@@ -23,9 +22,8 @@ use Rattle.rel_algebra.specs.declared.agg.AggCall.{AggCall}
 use Rattle.rel_algebra.specs.declared.agg.AggCall.TheVariants.{CountAll, Count, CountDistinct, Sum, Min, Max, Avg}
 use Rattle.agg_fns.specs.Partial.{has_partial, is_signed}
 use Rattle.op_rules.specs.Edges.{hash}
-use Rattle.emission_rules.specs.GroupFits.{first_columns as first_made}
 use Rattle.phase_rules.specs.LocalGrouping.{LocalGrouping, SumsUp, partial_row}
-use Rattle.phase_rules.specs.LocalFits.{AreSummed, IsOfBags, LocalFits}
+use Rattle.phase_rules.specs.LocalFits.{IsOfBags, LocalFits}
 use Rattle.phase_rules.specs.MergeFits.{MergeFits}
 use Rattle.phase_rules.specs.Merging.{Merging, is_partial_row}
 use Rattle.phase_rules.proofs.laws.LocalTold.{partial_key_fits, partial_row_fits, partial_row_grows}
@@ -43,7 +41,7 @@ use Rattle.plan_shape.specs.Shape.{has_parts, only_inserts}
 use Rattle.sound_plans.specs.Outputs.{AreTold, AreWithin, IsProper, Output, around_by, edge_of, partial_edge, without_local}
 use Rattle.sound_plans.specs.Agrees.{Agrees, IsAsked, LocalAgrees, MergeAgrees, taken_by}
 use Rattle.sound_plans.specs.RowFits.{LocalGroupsFit, MergingGroupsFit}
-use Rattle.sound_plans.proofs.laws.Groups.{groups_fit, same_first, untaken}
+use Rattle.sound_plans.proofs.laws.Groups.{groups_fit, untaken}
 use Rattle.sound_plans.proofs.laws.Lists.{the_same}
 use Rattle.sound_plans.proofs.laws.RowInputs.{carries_full, comes_by, comes_full, full_fits, reads_full}
 use Rattle.sound_plans.proofs.laws.Updates.{kinds_full_read, mode_full}
@@ -190,8 +188,8 @@ module _ (many : ℕ) (sources : List TableDef) (sink : TableDef) (keys : ℕ) (
   own_kinds : own.edge.kinds ≡ edge_kinds inserts own.edge.update
   own_kinds = a.agrees.carries ∙ ap (λ (k : KindSet). edge_kinds k own.edge.update) sends_inserts
 
-  hashed : exchange_of own.edge.exchange ≡ hash (first_made keys)
-  hashed = ap exchange_of a.exchanged ∙ ap hash (sym (same_first keys))
+  hashed : exchange_of own.edge.exchange ≡ hash (first_columns keys)
+  hashed = ap exchange_of a.exchanged
 
   local_fits : LocalFits many l (edge_of many input) (partial_edge many l own)
   local_fits = record {

@@ -16,8 +16,8 @@ use Rattle.ct_expr.specs.Types.{common_ty, both_of}
 use Rattle.rel_algebra.specs.declared.join.Pair.{Pair}
 use Rattle.rel_algebra.proofs.laws.Fits.{first, second}
 use Rattle.rel_algebra.specs.Types.{common_column, pair_fits, pairs_fit}
+use Rattle.rel_algebra.specs.Joins.{left_columns, right_columns}
 use Rattle.op_rules.specs.Edges.{hash}
-use Rattle.emission_rules.specs.JoinFits.{left_pairs, right_pairs}
 use Rattle.route.specs.Routing.{key_hash, behind_commas, key_text, type_at, types_at}
 use Rattle.plan_rules.specs.Plans.{route_by}
 
@@ -76,17 +76,17 @@ module _ (left right : List ColTy) where
           (slice_get_within left pair.left column is, slice_get_within right pair.right other other_is, same_scale (type_at left pair.left) (type_at right pair.right) one)
 
   -- the columns of pairs that fit are there
-  pub left_within : (on : List Pair) → pairs_fit left right on ≡ true → AllByRecursion (λ column. column < length left) (left_pairs on)
+  pub left_within : (on : List Pair) → pairs_fit left right on ≡ true → AllByRecursion (λ column. column < length left) (left_columns on)
   left_within [] fits = tt
   left_within (pair ∷ on) fits =
       ((pair_alike pair (first (pair_fits left right pair) (pairs_fit left right on) fits)).0, left_within on (second (pair_fits left right pair) (pairs_fit left right on) fits))
 
-  pub right_within : (on : List Pair) → pairs_fit left right on ≡ true → AllByRecursion (λ column. column < length right) (right_pairs on)
+  pub right_within : (on : List Pair) → pairs_fit left right on ≡ true → AllByRecursion (λ column. column < length right) (right_columns on)
   right_within [] fits = tt
   right_within (pair ∷ on) fits =
       ((pair_alike pair (first (pair_fits left right pair) (pairs_fit left right on) fits)).1, right_within on (second (pair_fits left right pair) (pairs_fit left right on) fits))
 
-  behind_same : (on : List Pair) → pairs_fit left right on ≡ true → (key : Row) → behind_commas (types_at (left_pairs on) left) key ≡ behind_commas (types_at (right_pairs on) right) key
+  behind_same : (on : List Pair) → pairs_fit left right on ≡ true → (key : Row) → behind_commas (types_at (left_columns on) left) key ≡ behind_commas (types_at (right_columns on) right) key
   behind_same [] fits key = refl
   behind_same (pair ∷ on) fits [] = refl
   behind_same (pair ∷ on) fits (value ∷ key) =
@@ -94,7 +94,7 @@ module _ (left right : List ColTy) where
       let others = behind_same on (second (pair_fits left right pair) (pairs_fit left right on) fits) key in
       λ i. 44 ∷ (alike i ++ others i)
 
-  text_same : (on : List Pair) → pairs_fit left right on ≡ true → (key : Row) → key_text (types_at (left_pairs on) left) key ≡ key_text (types_at (right_pairs on) right) key
+  text_same : (on : List Pair) → pairs_fit left right on ≡ true → (key : Row) → key_text (types_at (left_columns on) left) key ≡ key_text (types_at (right_columns on) right) key
   text_same [] fits key = refl
   text_same (pair ∷ on) fits [] = refl
   text_same (pair ∷ on) fits (value ∷ key) =
@@ -103,5 +103,5 @@ module _ (left right : List ColTy) where
       λ i. alike i ++ others i
 
   -- the rows of both sides that have a key go to one subtask
-  pub one_route : (many : ℕ) (on : List Pair) → pairs_fit left right on ≡ true → (key : Row) → route_by many left (hash (left_pairs on)) key ≡ route_by many right (hash (right_pairs on)) key
+  pub one_route : (many : ℕ) (on : List Pair) → pairs_fit left right on ≡ true → (key : Row) → route_by many left (hash (left_columns on)) key ≡ route_by many right (hash (right_columns on)) key
   one_route many on fits key = ap (λ text. key_hash text % many) (text_same on fits key)

@@ -1,7 +1,7 @@
 -- Set operations of a sound plan fit between their edges.
-use Rattle.std.specs.Prelude.{◌≡◌, ℕ, ◌+◌, ◌<◌, ◌≤◌, ◌⊎◌, ◌==◌, ◌||◌, ◌&&◌, Bool, not, List, ◌++◌, length, map, take, Option, option_map, is_some}
+use Rattle.std.specs.Prelude.{◌≡◌, ℕ, ◌+◌, ◌<◌, ◌≤◌, ◌⊎◌, ◌==◌, ◌||◌, ◌&&◌, Bool, not, List, ◌++◌, length, Option, option_map, is_some}
 use Rattle.std.proofs.Common.{zero, suc, true, false, [], ◌∷◌, refl, sym, ap, subst, ◌∙◌, inl, inr, arith, Some, None, ⊎_elim}
-use Rattle.std.specs.List.{AllByRecursion, Contains, range_with_len, list_all}
+use Rattle.std.specs.List.{AllByRecursion, Contains, range_with_len}
 use Rattle.std.proofs.lemmas.Bool.{eqb-true}
 use Rattle.std.proofs.lemmas.List.{take_all}
 use Rattle.ct_value.specs.Rows.{project}
@@ -10,6 +10,7 @@ use Rattle.ct_value.specs.declared.ty.Ty.{Ty}
 use Rattle.ct_value.specs.declared.ty.ColTy.{ColTy}
 use Rattle.ct_change.specs.Changelog.{has}
 use Rattle.ct_change.specs.declared.kind.KindSet.{KindSet}
+use Rattle.rel_algebra.specs.Joins.{left_columns, right_columns}
 use Rattle.ct_catalog.specs.declared.table.TableDef.{TableDef}
 use Rattle.ct_expr.specs.Types.{common_ty}
 use Rattle.rel_algebra.specs.declared.join.Pair.{Pair}
@@ -19,9 +20,7 @@ use Rattle.rel_algebra.specs.Types.{pair_fits, pairs_fit}
 use Rattle.rel_algebra.proofs.laws.Fits.{fits-length}
 use Rattle.rel_algebra.proofs.laws.Sets.{set_columns-lengths}
 use Rattle.typing_laws.proofs.laws.CommonColumns.{both_parts, if_all, set_row}
-use Rattle.op_rules.specs.Edges.{Edge, HoldsOver, IsSeen, LiesIn, hash}
-use Rattle.emission_rules.specs.GroupFits.{first_columns as made_columns}
-use Rattle.emission_rules.specs.JoinFits.{left_pairs, right_pairs}
+use Rattle.op_rules.specs.Edges.{HoldsOver, IsSeen, LiesIn, hash}
 use Rattle.emission_rules.specs.SetOps.{SetOperation, TellsApart, IsKeyOf, InputFits, SetFits}
 use Rattle.emission_rules.proofs.laws.Columns.{project-first}
 use Rattle.phys_plan.specs.declared.edge.Exchange.TheVariants.{Hash}
@@ -31,14 +30,14 @@ use Rattle.phys_plan.specs.declared.node.Op.TheVariants as op
 use Rattle.column_sets.specs.Places.{first_columns}
 use Rattle.column_sets.specs.Sets.{family}
 use Rattle.upsert_keys.specs.Joins.{when}
-use Rattle.upsert_keys.specs.Keys.{set_keys, set_operation_sets}
+use Rattle.upsert_keys.specs.Keys.{set_operation_sets}
 use Rattle.upsert_keys.specs.Seen.{everywhere, families}
 use Rattle.mode_infer.specs.Kinds.{set_kinds}
 use Rattle.mode_infer.specs.Updates.{in_full, told}
 use Rattle.plan_rules.specs.Plans.{route_by}
 use Rattle.sound_plans.specs.Agrees.{Agrees, IsAsked, taken_by}
 use Rattle.sound_plans.specs.JoinFits.{SetOperationsFit}
-use Rattle.sound_plans.specs.Outputs.{AreWithin, IsProper, Output, edge_of, edges_of, seen}
+use Rattle.sound_plans.specs.Outputs.{AreWithin, IsProper, Output, edge_of, edges_of}
 use Rattle.sound_plans.proofs.laws.JoinInputs.{exchanged, hashed, route_is}
 use Rattle.sound_plans.proofs.laws.KeyFamilies.{each_family, of_family, of_when}
 use Rattle.sound_plans.proofs.laws.Members.{of_append, only_one}
@@ -47,7 +46,7 @@ use Rattle.sound_plans.proofs.laws.RowInputs.{comes_full, reads_full, full_fits,
 use Rattle.sound_plans.proofs.laws.Seen.{everywhere_within, seen_columns, seen_everywhere, seen_over_all, seen_unique}
 use Rattle.sound_plans.proofs.laws.Sets.{lies_itself}
 use Rattle.sound_plans.proofs.laws.Told.{told_unkeyed}
-use Rattle.sound_plans.proofs.laws.Widths.{each_appended, each_when, first_columns_are, first_within}
+use Rattle.sound_plans.proofs.laws.Widths.{each_appended, each_when, first_within}
 
 -- ---- columns of both sides
 
@@ -56,11 +55,11 @@ abbrev places : ℕ → ℕ → List Pair
 places from zero = []
 places from (suc n) = record { left = from; right = from } ∷ places (from + 1) n
 
-lefts : (from n : ℕ) → left_pairs (places from n) ≡ range_with_len from n
+lefts : (from n : ℕ) → left_columns (places from n) ≡ range_with_len from n
 lefts from zero = refl
 lefts from (suc n) = ap (λ (cs : List ℕ). from ∷ cs) (lefts (from + 1) n)
 
-rights : (from n : ℕ) → right_pairs (places from n) ≡ range_with_len from n
+rights : (from n : ℕ) → right_columns (places from n) ≡ range_with_len from n
 rights from zero = refl
 rights from (suc n) = ap (λ (cs : List ℕ). from ∷ cs) (rights (from + 1) n)
 
@@ -102,8 +101,7 @@ all_tell columns a b h k e = sym (whole a h) ∙ e ∙ whole b k
     whole : (row : Row) → Fits columns row → project (first_columns (length columns)) row ≡ row
     whole row f =
         let w = fits-length columns row f in
-        ap (λ (set : List ℕ). project set row) (sym (first_columns_are made_columns refl (λ n. refl) (length columns)))
-        ∙ project-first (length columns) row (omega arith) ∙ take_all (length columns) row (omega arith)
+        project-first (length columns) row (omega arith) ∙ take_all (length columns) row (omega arith)
 
 -- ---- the node
 

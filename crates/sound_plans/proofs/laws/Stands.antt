@@ -1,5 +1,5 @@
 -- Each node of a sound plan meets its facts, and its ports take what their edges carry.
-use Rattle.std.specs.Prelude.{◌≡◌, ℕ, ◌<◌, ◌≤◌, ◌⊎◌, ◌==◌, Bool, List, length, map, slice_get, slice_index_or, Option, option_map}
+use Rattle.std.specs.Prelude.{◌≡◌, ℕ, ◌<◌, ◌⊎◌, ◌==◌, Bool, List, length, map, slice_get, slice_index_or, Option, option_map}
 use Rattle.std.proofs.Common.{zero, suc, true, false, [], ◌∷◌, refl, sym, ap, subst, ◌∙◌, arith, Some, None, inl, inr}
 use Rattle.std.proofs.lemmas.Bool.{eqb-true, eqb-false}
 use Rattle.ct_value.specs.declared.ty.ColTy.{ColTy}
@@ -29,7 +29,7 @@ use Rattle.emission_rules.proofs.laws.SetFacts.{set_operations_stand, set_operat
 use Rattle.emission_rules.specs.Ranking.{topn_rule}
 use Rattle.emission_rules.specs.TopFits.{topn_task}
 use Rattle.emission_rules.proofs.laws.TopFacts.{topn_stands, topn_takes}
-use Rattle.phase_rules.specs.LocalGrouping.{LocalGrouping, local_rule}
+use Rattle.phase_rules.specs.LocalGrouping.{local_rule}
 use Rattle.phase_rules.specs.LocalFits.{local_task}
 use Rattle.phase_rules.specs.MergeFits.{merge_task}
 use Rattle.phase_rules.specs.Merging.{merge_rule}

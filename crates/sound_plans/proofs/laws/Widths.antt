@@ -1,6 +1,6 @@
 -- Columns that are among so many stay among as many where sets are made of others.
 use Rattle.std.specs.Prelude.{◌≡◌, ℕ, ◌+◌, ◌<◌, ◌≤◌, Bool, List, ◌++◌, length}
-use Rattle.std.proofs.Common.{zero, suc, true, [], ◌∷◌, sym, subst, ap, ◌∙◌, ⊎_elim, arith}
+use Rattle.std.proofs.Common.{zero, suc, true, [], ◌∷◌, sym, subst, ⊎_elim, arith}
 use Rattle.std.proofs.lemmas.Bool.{and_parts, ltb-true}
 use Rattle.std.specs.List.{AllByRecursion, list_all, range_with_len}
 use Rattle.ct_value.specs.declared.ty.ColTy.{ColTy}
@@ -54,19 +54,6 @@ range_within from (suc n) width le = (omega (arith, le), range_within (from + 1)
 
 pub first_within : (n width : ℕ) → n ≤ width → AreWithin width (first_columns n)
 first_within n width le = range_within 0 n width (omega (arith, le))
-
-range_more : (from n : ℕ) → range_with_len from (suc n) ≡ range_with_len from n ++ (from + n) ∷ []
-range_more from zero = let e : from ≡ from + 0 = omega arith in ap (λ k. k ∷ []) e
-range_more from (suc n) =
-    let e : from + 1 + n ≡ from + suc n = omega arith in
-    ap (λ (ks : List ℕ). from ∷ ks) (range_more (from + 1) n ∙ ap (λ k. range_with_len (from + 1) n ++ k ∷ []) e)
-
--- they may be made one after the other as well
-pub first_columns_are : (made : ℕ → List ℕ) → made 0 ≡ [] → ((n : ℕ) → made (suc n) ≡ made n ++ n ∷ []) → (n : ℕ) → made n ≡ first_columns n
-first_columns_are made start more zero = start
-first_columns_are made start more (suc n) =
-    let z : 0 + n ≡ n = omega arith in
-    more n ∙ ap (λ (ks : List ℕ). ks ++ n ∷ []) (first_columns_are made start more n) ∙ ap (λ k. first_columns n ++ k ∷ []) (sym z) ∙ sym (range_more 0 n)
 
 -- ---- families
 

@@ -1,6 +1,6 @@
 -- A sound plan is wired, each of its nodes meets its facts, and what it prints folds to its sink's answer.
-use Rattle.std.specs.Prelude.{◌≡◌, ℕ, ◌+◌, ◌<◌, ◌≤◌, ◌⊎◌, ◌==◌, cond, List, length, map, slice_get, Option, option_map}
-use Rattle.std.proofs.Common.{zero, suc, true, false, [], ◌∷◌, refl, sym, ap, subst, ◌∙◌, arith, Some, None, inl, inr}
+use Rattle.std.specs.Prelude.{◌≡◌, ℕ, ◌<◌, ◌≤◌, ◌⊎◌, ◌==◌, cond, List, length, map, slice_get, Option, option_map}
+use Rattle.std.proofs.Common.{suc, true, [], ◌∷◌, refl, sym, ap, subst, ◌∙◌, arith, Some, None, inl, inr}
 use Rattle.std.proofs.lemmas.Bool.{eqb-true}
 use Rattle.std.specs.List.{Contains}
 use Rattle.ct_change.specs.Changelog.{Mode, append, retract, upsert, has}
@@ -44,7 +44,6 @@ use Rattle.sound_plans.specs.Promises.{Laws}
 use Rattle.sound_plans.proofs.laws.Agreed as a
 use Rattle.sound_plans.proofs.laws.Local as l
 use Rattle.sound_plans.proofs.laws.Shapes as s
-use Rattle.sound_plans.proofs.laws.Groups.{same_first}
 use Rattle.sound_plans.proofs.laws.Sinks.{sinks_fit}
 use Rattle.sound_plans.proofs.laws.Outputs.{edge_or, keys_or, local_at, output_at, printed_is}
 use Rattle.sound_plans.proofs.laws.Stands.{IsScanNode, IsWorker, edge_at, grouping_there, node_stands, proper_inputs, sends_rows, sink_is}
@@ -93,7 +92,7 @@ module _ (laws : Laws) (plan : Plan) (ruled : IsRuled plan) where
       let agrees = a.local_agrees laws plan ruled v node local.0 local.1 i.0 e local.2 i.1 (a.under_there laws plan ruled v node local.0 local.1 e local.2) (proper_inputs laws plan ruled v node e) in
       let goes : exchange_in (numbered plan.edges v) ≡ exchange_of (Hash (first_columns local.0)) = exchanged (numbered plan.edges v) ∙ ap exchange_of agrees.exchanged in
       subst (λ x. IsKeyedBy (meaning_sent x (meaning_in (numbered plan.edges v))) (exchange_in (numbered plan.edges v))) (sym (grouping_there laws plan ruled v node local.0 local.1 i.0 e local.2 i.1))
-      (subst (λ x. IsKeyedBy (partials (partials_of (local_of local.0 local.1 (around_by plan.sink (output_at plan i.0 ∷ []) (output_at plan v))))) x) (sym goes) (sym (same_first local.0)))
+      (subst (λ x. IsKeyedBy (partials (partials_of (local_of local.0 local.1 (around_by plan.sink (output_at plan i.0 ∷ []) (output_at plan v))))) x) (sym goes) refl)
     where
       exchanged : (o : Option PlanEdge) → exchange_in o ≡ exchange_of (edge_or o).exchange
       exchanged None = refl

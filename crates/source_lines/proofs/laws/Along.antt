@@ -20,7 +20,7 @@ use Rattle.stream_model.specs.Machine.{State, send, print, joins, folded, answer
 use Rattle.stream_model.specs.Runs.{Item, happens, quiet, counts, counts_below, told_quiet, step_item, state_in, after, AreTyped}
 use Rattle.stream_model.specs.Drain.{Leads, StopsBy, StopsAlong, Stage, delivers, flushes, moves, stage_items, drain_stages, stages, drain}
 use Rattle.source_lines.specs.Run as run
-use Rattle.source_lines.specs.Run.{At, Went, on, halts, stopped, and_then, place_of, job_of, stepped, Begins, HaltsBy, IsStop}
+use Rattle.source_lines.specs.Run.{At, Went, on, halts, and_then, place_of, job_of, stepped, Begins, HaltsBy, IsStop}
 
 pub ok_same : {A B : Type 0} (x y : A) → (let r : Result A B = Ok x in r ≡ Ok y) → x ≡ y
 ok_same x y e = cc

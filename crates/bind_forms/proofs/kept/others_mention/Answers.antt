@@ -1,4 +1,4 @@
-use Rattle.std.proofs.Common.{rules, ◌≡◌, ◌+◌, ◌-◌, true, false, map, take, sym, ◌∙◌}
+use Rattle.std.proofs.Common.{rules, ◌≡◌, ◌-◌, true, false, map, take, sym, ◌∙◌}
 use Rattle.query_answer.specs.Mentions.{in_conjuncts}
 use Rattle.bind_names.specs.Sought.{reads}
 use Rattle.bind_forms.specs.Views.{conjunct_view}

@@ -1,4 +1,4 @@
-use Rattle.std.proofs.Common.{rules, ◌≡◌, ◌+◌, true, false, sym, ◌∙◌, arith}
+use Rattle.std.proofs.Common.{rules, ◌≡◌, true, false, sym, ◌∙◌, arith}
 use Rattle.sql_syntax.specs.View.{source_view}
 use Rattle.query_answer.specs.SourceColumns.{source_has}
 use Rattle.bind_forms.specs.Meant.{meant_by}

@@ -1,4 +1,4 @@
-use Rattle.std.proofs.Common.{◌≡◌, sym, ap, ◌∙◌}
+use Rattle.std.proofs.Common.{sym, ap, ◌∙◌}
 use Rattle.sql_syntax.specs.View.{args_view}
 use Rattle.sql_syntax.proofs.laws.Views.{args_list}
 use Rattle.query_answer.specs.Calls.{agg_arg}

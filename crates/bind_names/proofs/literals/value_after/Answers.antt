@@ -1,4 +1,4 @@
-use Rattle.std.proofs.Common.{◌≡◌, ◌+◌, ◌*◌, get_or, refl, arith}
+use Rattle.std.proofs.Common.{◌+◌, ◌*◌, get_or, refl, arith}
 use Rattle.std.specs.Char.{digit_value}
 use Rattle.bind_names.proofs.Digits.{stopped}
 use Rattle.bind_names.proofs.literals.value_after.Goals as goal

@@ -1,4 +1,4 @@
-use Rattle.std.proofs.Common.{rules, ◌≡◌, List, [], ◌∷◌, ◌++◌}
+use Rattle.std.proofs.Common.{rules, ◌≡◌, [], ◌∷◌, ◌++◌}
 use Rattle.ct_expr.specs.declared.expr.When.{When}
 use Rattle.bind_nodes.proofs.Folds.{whens_turn}
 use Rattle.bind_nodes.proofs.cases.whens_of.Goals as goal

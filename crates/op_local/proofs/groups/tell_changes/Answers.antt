@@ -1,4 +1,4 @@
-use Rattle.std.proofs.Common.{◌+◌, ◌≤◌, sym, ap, subst, ◌∙◌, arith}
+use Rattle.std.proofs.Common.{sym, ap, subst, ◌∙◌}
 use Rattle.op_local.specs.Telling.{MayAllBeTold, told_along}
 use Rattle.op_local.proofs.TellingOn.{told_by_group, may_by_group, if_ok, ranges}
 use Rattle.op_local.proofs.groups.tell_changes.Goals as goal

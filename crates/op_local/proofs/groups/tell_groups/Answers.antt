@@ -1,4 +1,4 @@
-use Rattle.std.proofs.Common.{◌+◌, ◌≤◌, List, sym, ap, subst, arith}
+use Rattle.std.proofs.Common.{List, sym, ap, subst, arith}
 use Rattle.ct_change.specs.declared.change.Change.{Change}
 use Rattle.mini_batch.specs.Held.{held_in}
 use Rattle.op_local.specs.Telling.{AreOnTheWay}

@@ -1,4 +1,4 @@
-use Rattle.std.proofs.Common.{◌≡◌, ◌<◌, ◌^◌, [], true, false, length, take, sym, ap, subst, ◌∙◌, arith}
+use Rattle.std.proofs.Common.{◌≡◌, [], true, false, take, sym, subst, arith}
 use Rattle.std.proofs.lemmas.List.Elements.{All-from_recursion}
 use Rattle.ct_change.specs.Changelog.{adds}
 use Rattle.phase_rules.specs.LocalGrouping.{fit_after, rows_come, rows_gone}

@@ -1,5 +1,5 @@
 use Rattle.std.proofs.Common.{◌≡◌, take}
-use Rattle.phys_plan.specs.Columns.{left_columns}
+use Rattle.rel_algebra.specs.Joins.{left_columns}
 use Rattle.phys_plan.proofs.columns.left_columns.Given as goal
 
 abbrev pub invariant-loop-pair : goal.invariant-loop-pair

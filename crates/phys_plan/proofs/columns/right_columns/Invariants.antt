@@ -1,5 +1,5 @@
 use Rattle.std.proofs.Common.{◌≡◌, take}
-use Rattle.phys_plan.specs.Columns.{right_columns}
+use Rattle.rel_algebra.specs.Joins.{right_columns}
 use Rattle.phys_plan.proofs.columns.right_columns.Given as goal
 
 abbrev pub invariant-loop-pair : goal.invariant-loop-pair

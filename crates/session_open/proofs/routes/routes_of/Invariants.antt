@@ -1,4 +1,4 @@
-use Rattle.std.proofs.Common.{◌≡◌, ℕ, [], length, get_or}
+use Rattle.std.proofs.Common.{◌≡◌, [], length, get_or}
 use Rattle.phys_plan.specs.Reading.{numbered}
 use Rattle.session_open.specs.Opening.{IsRouteIn, spread_types}
 use Rattle.session_open.proofs.Laying.{Each}

@@ -1,4 +1,4 @@
-use Rattle.std.proofs.Common.{◌≡◌, ℕ, ◌+◌, List, [], ◌∷◌, ◌++◌, suc, cond, Bool, ap, sym, ◌∙◌, arith}
+use Rattle.std.proofs.Common.{◌≡◌, ℕ, ◌+◌, List, [], ◌∷◌, ◌++◌, suc, cond, Bool, ap, ◌∙◌, arith}
 use Rattle.stream_model.specs.Machine.{is_number}
 use Rattle.plan_rules.specs.Plans.{network_of, scan_in}
 use Rattle.phys_plan.specs.Reading.{numbered}

@@ -1,4 +1,4 @@
-use Rattle.std.proofs.Common.{◌≡◌, ◌+◌, refl, arith}
+use Rattle.std.proofs.Common.{refl}
 use Rattle.plan_rules.specs.Plans.{network_of}
 use Rattle.session_open.proofs.Laying.{bundles_laid, feeds_laid}
 use Rattle.session_open.proofs.wiring.wires_of.Goals as goal

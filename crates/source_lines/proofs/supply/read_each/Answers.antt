@@ -1,7 +1,7 @@
 use Rattle.std.proofs.Common.{rules, ◌≡◌, ◌∷◌, ◌++◌, ◌+◌, ◌<◌, [], Some, length, drop, get_or, suc, ℕ, List, ap, sym, subst, ◌∙◌, append_assoc, arith}
 use Rattle.std.proofs.lemmas.List.{drop_more}
 use Rattle.std.specs.List.{AllByRecursion}
-use Rattle.job_text.specs.Lines.{LinesLeft, records_of}
+use Rattle.job_text.specs.Lines.{LinesLeft}
 use Rattle.source_lines.specs.Supply.{IsWithin, unread, unread_from}
 use Rattle.source_lines.proofs.supply.read_each.Goals as goal
 

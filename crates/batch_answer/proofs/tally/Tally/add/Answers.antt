@@ -1,4 +1,4 @@
-use Rattle.std.proofs.Common.{◌≡◌, ◌+◌, ◌<◌, ◌≤◌, ◌^◌, ◌∙◌, ℕ, List, sym, ap, subst, arith, rules}
+use Rattle.std.proofs.Common.{◌≡◌, ◌+◌, ◌<◌, ◌^◌, ◌∙◌, ℕ, List, sym, ap, subst, arith, rules}
 use Rattle.ct_value.specs.Bag as bag
 use Rattle.ct_value.specs.declared.row.Row.{Row}
 use Rattle.batch_answer.specs.Tallies.{AreCounted, count_at}

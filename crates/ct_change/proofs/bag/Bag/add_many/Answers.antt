@@ -1,4 +1,4 @@
-use Rattle.std.proofs.Common.{◌≡◌, ◌+◌, ℕ, ap, ◌∙◌, arith, Some}
+use Rattle.std.proofs.Common.{◌≡◌, ◌+◌, ap, ◌∙◌, arith, Some}
 use Rattle.std.specs.Option.{unwrap_or}
 use Rattle.ct_value.specs.Bag as bag
 use Rattle.ct_change.proofs.Counts.{copies_in, many_added, count_at}

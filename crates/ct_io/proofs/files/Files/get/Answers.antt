@@ -1,6 +1,5 @@
 use Rattle.std.proofs.Common.{sym, ap, ◌∙◌}
 use Rattle.std.specs.FinMap as map
-use Rattle.std.proofs.lemmas.Cmp.{nat_list_cmp_total}
 use Rattle.ct_io.proofs.ByName.{get-by_name}
 use Rattle.ct_io.proofs.files.Files.get.Goals as goal
 

@@ -1,4 +1,4 @@
-use Rattle.std.proofs.Common.{◌≡◌, arith, length, rules}
+use Rattle.std.proofs.Common.{arith, rules}
 use Rattle.job_text.proofs.Reading.{few_records}
 use Rattle.job_text.proofs.read.ChangeLines.behind.Goals as goal
 

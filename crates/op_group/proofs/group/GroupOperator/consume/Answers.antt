@@ -18,13 +18,14 @@ returns-in-Ok-clause-ok g c = λ before from stands may few.
     let input = g.I.ChangeMode.mode c.args.self.now.input in
     let output = g.O.ChangeMode.mode c.args.self.now.output in
     let m = may_take by input output before c.args._port from c.args.change may c.args.self.now.groups stands.0 stands.2 few in
+    let rows = c.in-Ok.ensures.rows (fold input (at_port 0 before)) (length before) stands.1 m in
     let kept = c.in-Ok.ensures.kept (fold input (at_port 0 before)) (length before) stands.1 m in
     let same = c.take.ensures.same in (
       ap (appended (Ok c.args.to.now)) (emits_arrives by input output before c.args._port from c.args.change may _ refl) ∙ c.in-Ok.ensures.sent (fold input (at_port 0 before)) (length before) stands.1 m,
       (
         rw (same.0, same.1, same.2) stands.0,
-        rw (same.1, fold_arrives by input output before c.args._port from c.args.change may) (rw same.1 at kept.0),
-        rw (same.0, same.1, same.2) (grouped_arrives by input output before c.args._port from c.args.change may c.take.new.self.groups kept.1),
+        rw (same.1, fold_arrives by input output before c.args._port from c.args.change may) (rw same.1 at rows),
+        rw (same.0, same.1, same.2) (grouped_arrives by input output before c.args._port from c.args.change may c.take.new.self.groups kept),
       ),
     )
 

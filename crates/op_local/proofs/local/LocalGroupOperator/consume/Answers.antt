@@ -1,4 +1,4 @@
-use Rattle.std.proofs.Common.{◌≡◌, [], ◌∷◌, Ok, Err, sym, subst}
+use Rattle.std.proofs.Common.{◌≡◌, Ok, sym, subst}
 use Rattle.op_rules.specs.History.{arrival}
 use Rattle.op_rules.specs.Rules.{Answer}
 use Rattle.op_rules.proofs.laws.Emits.{emits_onto}
@@ -6,7 +6,6 @@ use Rattle.emission_rules.specs.Grouping.{answers, groups_of}
 use Rattle.phase_rules.specs.LocalGrouping.{LocalGrouping, local_answer, local_rule, members_of}
 use Rattle.op_local.specs.Telling.{MayBeTold}
 use Rattle.op_local.proofs.Rules.{may_tell_one, emits_one}
-use Rattle.op_local.proofs.TellingOn.{if_range}
 use Rattle.op_local.proofs.local.LocalGroupOperator.consume.Goals as goal
 
 pub tell_changes-requires : goal.tell_changes-requires

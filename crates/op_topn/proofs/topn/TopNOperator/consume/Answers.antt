@@ -21,12 +21,13 @@ returns-clause-ok g c = λ before from stands may few.
     let top = ranking c.args.self.now.by input output in
     let rows = fold input (at_port 0 before) in
     let m = may_take top before c.args._port from c.args.change may c.args.self.now.partitions stands.0 stands.2 few in
+    let read = c.in_ok-take.ensures.rows rows (length before) stands.1 m in
     let kept = c.in_ok-take.ensures.kept rows (length before) stands.1 m in
     let same = c.take.ensures.same in (
       emits_onto (topn_rule top) before (arrival c.args._port from c.args.change) c.args.to.now (tells top rows c.args.change) c.take.new.to (emits_arrives top before c.args._port from c.args.change may _ refl) (c.in_ok-take.ensures.sent rows (length before) stands.1 m),
       (
         rw (same.0, same.1, same.2) stands.0,
-        rw (same.1, fold_arrives top before c.args._port from c.args.change may) (rw same.1 at kept.0),
-        rw (same.0, same.1, same.2) (held_arrives top before c.args._port from c.args.change may c.take.new.self.partitions kept.1),
+        rw (same.1, fold_arrives top before c.args._port from c.args.change may) (rw same.1 at read),
+        rw (same.0, same.1, same.2) (held_arrives top before c.args._port from c.args.change may c.take.new.self.partitions kept),
       ),
     )

@@ -1,4 +1,4 @@
-use Rattle.std.proofs.Common.{◌++◌, sym, subst, ◌∙◌}
+use Rattle.std.proofs.Common.{sym, subst, ◌∙◌}
 use Rattle.stream_model.specs.Machine.{opened}
 use Rattle.stream_model.specs.Runs.{after}
 use Rattle.stream_model.specs.Drain.{moves}

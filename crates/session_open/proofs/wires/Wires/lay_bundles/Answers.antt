@@ -1,5 +1,5 @@
 use Rattle.std.proofs.Common.{◌≡◌, ℕ, ◌+◌, List, [], ◌∷◌, Bool, cond, sym, ap, subst, ◌∙◌, arith}
-use Rattle.stream_model.specs.Drain.{Stage as DrainStage, bundles_at, bundles_from, flushes}
+use Rattle.stream_model.specs.Drain.{Stage as DrainStage, bundles_from, flushes}
 use Rattle.session_core.specs.declared.wiring.Stage.{Stage}
 use Rattle.session_open.specs.Wired.{Lays}
 use Rattle.session_open.proofs.Stages.{bundles_next, lays_bundle, lays_more, lays_none}

@@ -1,4 +1,4 @@
-use Rattle.std.proofs.Common.{◌≡◌, ℕ, ◌+◌, List, [], Bool, cond, sym, subst, ◌∙◌, arith}
+use Rattle.std.proofs.Common.{◌≡◌, ℕ, ◌+◌, [], Bool, cond, sym, subst, ◌∙◌, arith}
 use Rattle.stream_model.specs.Drain.{channels_from, channels_to}
 use Rattle.session_open.specs.Wired.{Lays}
 use Rattle.session_open.proofs.Stages.{from_next, lays_more, lays_none}

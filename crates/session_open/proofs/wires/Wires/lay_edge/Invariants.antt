@@ -1,4 +1,3 @@
-use Rattle.std.proofs.Common.{[]}
 use Rattle.stream_model.specs.Network.{Network}
 use Rattle.stream_model.specs.Drain.{channels_from}
 use Rattle.session_open.specs.Wired.{AreWires, Lays}

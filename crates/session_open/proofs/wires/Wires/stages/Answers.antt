@@ -1,4 +1,4 @@
-use Rattle.std.proofs.Common.{◌≡◌, ℕ, List, [], ◌+◌, sym, subst, arith, ◌∙◌}
+use Rattle.std.proofs.Common.{◌≡◌, ℕ, List, [], ◌+◌, sym, subst, arith}
 use Rattle.stream_model.specs.Drain.{stages_from}
 use Rattle.session_core.specs.declared.wiring.Stage.{Stage}
 use Rattle.session_open.specs.Wired.{Lays, node_part}

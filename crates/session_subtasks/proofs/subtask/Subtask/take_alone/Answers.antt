@@ -1,9 +1,8 @@
-use Rattle.std.proofs.Common.{List, [], ◌∷◌, ◌++◌, refl, sym, subst}
+use Rattle.std.proofs.Common.{List, refl, subst}
 use Rattle.ct_change.specs.declared.change.Change.{Change}
 use Rattle.op_rules.specs.History.{arrival}
 use Rattle.op_rules.specs.Rules.{EmitsOnto}
 use Rattle.op_rules.proofs.laws.Emits.{emits_alone}
-use Rattle.session_subtasks.specs.Subtasks.{HasRun, is_full}
 use Rattle.session_subtasks.proofs.laws.Outcomes.{range_of}
 use Rattle.session_subtasks.proofs.Subtasks.{alone_arrives, alone_few, alone_ok, alone_range}
 use Rattle.session_subtasks.proofs.subtask.Subtask.take_alone.Goals as goal

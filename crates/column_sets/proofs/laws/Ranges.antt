@@ -9,8 +9,9 @@ range_more from (suc n) =
     let e : from + 1 + n ≡ from + suc n = omega arith in
     ap (λ (ks : List ℕ). from ∷ ks) (range_more (from + 1) n ∙ ap (λ k. range_with_len (from + 1) n ++ k ∷ []) e)
 
+-- one column more stands behind the others
+pub one_more : (n : ℕ) → first_columns (suc n) ≡ first_columns n ++ n ∷ []
+one_more n = let z : 0 + n ≡ n = omega arith in range_more 0 n ∙ ap (λ k. first_columns n ++ k ∷ []) z
+
 pub columns_more : (n : ℕ) → first_columns (n + 1) ≡ first_columns n ++ n ∷ []
-columns_more n =
-    let e : n + 1 ≡ suc n = omega arith in
-    let z : 0 + n ≡ n = omega arith in
-    ap first_columns e ∙ range_more 0 n ∙ ap (λ k. first_columns n ++ k ∷ []) z
+columns_more n = let e : n + 1 ≡ suc n = omega arith in ap first_columns e ∙ one_more n
