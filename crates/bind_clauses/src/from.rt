@@ -15,7 +15,7 @@ use bind_names::{BindFault, dup_name, next_number};
 use bind_nodes::{Bounds, operands};
 use ct_catalog::{ColDef, Sources, TableDef};
 use ct_expr::{Expr, Exprs};
-use ct_value::{Memory, ScriptCode, Text};
+use ct_value::{Boxed, Memory, ScriptCode, Text};
 use query_answer::{Scope, ScopeColumn};
 use rel_algebra::Rel;
 use std::alloc::Global;
@@ -61,7 +61,7 @@ fn scan(
     ensures { IfOk result (λ x. q.read alias.now (Some (source, table.now)) ≡ Ok (relation_view x)) }
 {
     let scope = table_scope(alloc, alias, table)?;
-    let rel = Box::new(alloc, Rel::Scan { source })?;
+    let rel = Boxed::new(alloc, Rel::Scan { source })?;
     Ok(Relation { rel, scope })
 }
 

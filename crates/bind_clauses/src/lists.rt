@@ -14,7 +14,7 @@ use crate::relation::Relation;
 use bind_names::{BindFault, Entries, dup_name};
 use bind_nodes::{Bounds, operands};
 use ct_expr::{Expr, Exprs};
-use ct_value::{ColTy, Memory, ScriptCode, Text};
+use ct_value::{Boxed, ColTy, Memory, ScriptCode, Text};
 use query_answer::{Scope, ScopeColumn};
 use rel_algebra::Rel;
 use std::alloc::Global;
@@ -61,15 +61,15 @@ pub fn projected(
     alloc: Global,
     width: usize,
     bounds: Bounds,
-    input: Box<Rel>,
-) -> Result<Box<Rel>, Memory>
-    ensures { IfOk result (λ rel. rel_view rel.value ≡ projected width (bounds_view bounds) (rel_view input.value)) }
+    input: Boxed<Rel>,
+) -> Result<Boxed<Rel>, Memory>
+    ensures { IfOk result (λ rel. rel_view rel ≡ projected width (bounds_view bounds) (rel_view input)) }
 {
     let items = operands(alloc, bounds)?;
     if is_in_place(width, &items) {
         return Ok(input);
     }
-    Ok(Box::new(alloc, Rel::Project { input, items })?)
+    Boxed::new(alloc, Rel::Project { input, items })
 }
 
 // The columns that entries make, as long as there are entries and expressions.
@@ -103,9 +103,9 @@ pub fn finished(
     width: usize,
     entries: &Entries<'_>,
     bounds: Bounds,
-    input: Box<Rel>,
+    input: Boxed<Rel>,
 ) -> Result<Relation, Memory>
-    ensures { IfOk result (λ x. relation_view x ≡ record { rel = projected width (bounds_view bounds) (rel_view input.value); scope = headed (entries_view entries.now) (bounds_view bounds) }) }
+    ensures { IfOk result (λ x. relation_view x ≡ record { rel = projected width (bounds_view bounds) (rel_view input); scope = headed (entries_view entries.now) (bounds_view bounds) }) }
 {
     let scope = headed(alloc, entries, &bounds)?;
     let rel = projected(alloc, width, bounds, input)?;

@@ -8,7 +8,7 @@ ghost use Rattle.bind_clauses.specs.Views.{relation_view};
 
 use crate::relation::Relation;
 use bind_names::{BindFault, dup_name};
-use ct_value::{ColTy, Memory, ScriptCode};
+use ct_value::{Boxed, ColTy, Memory, ScriptCode};
 use query_answer::{Scope, ScopeColumn};
 use rel_algebra::{Aggs, Rel, SetKind, set_column};
 use std::alloc::Global;
@@ -30,7 +30,7 @@ pub fn once(alloc: Global, distinct: bool, relation: Relation) -> Result<Relatio
         aggs: Aggs::new(alloc),
     };
     Ok(Relation {
-        rel: Box::new(alloc, rel)?,
+        rel: Boxed::new(alloc, rel)?,
         scope: relation.scope,
     })
 }

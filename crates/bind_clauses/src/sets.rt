@@ -12,7 +12,7 @@ ghost use Rattle.bind_clauses.specs.Views.{relation_view, run_view};
 use crate::relation::Relation;
 use crate::selects::united;
 use bind_names::BindFault;
-use ct_value::Memory;
+use ct_value::{Boxed, Memory};
 use query_answer::Scope;
 use rel_algebra::{Rel, Rels, SetKind, set_kind};
 use sql_syntax::SetWord;
@@ -21,7 +21,7 @@ use std::alloc::Global;
 /// A run of UNION ALL: what stands before its first word, the terms behind, and the columns that are common to all.
 #[derive(Drop)]
 pub struct Run {
-    pub first: Box<Rel>,
+    pub first: Boxed<Rel>,
     pub others: Rels,
     pub scope: Scope,
 }
@@ -38,25 +38,25 @@ pub fn begun(alloc: Global, relation: Relation) -> Run
 }
 
 // The inputs of a Union.
-fn all_inputs(alloc: Global, first: Box<Rel>, others: Rels) -> Result<Rels, Memory>
-    ensures { IfOk result (λ inputs. inputs ≡ first.value ∷ others) }
+fn all_inputs(alloc: Global, first: Boxed<Rel>, others: Rels) -> Result<Rels, Memory>
+    ensures { IfOk result (λ inputs. inputs ≡ first ∷ others) }
 {
     let mut inputs = Rels::new(alloc);
-    inputs.push(Box::into_inner(first))?;
+    inputs.push(Boxed::into_inner(first))?;
     inputs.append(others)?;
     Ok(inputs)
 }
 
 // Two inputs or more as one Union.
 #[tactic(auto, using(crate::proofs::Runs::single, crate::proofs::Runs::several))]
-fn union_of(alloc: Global, first: Box<Rel>, others: Rels) -> Result<Box<Rel>, Memory>
-    ensures { IfOk result (λ x. rel_view x.value ≡ q.union_of (rel_view first.value) (rel_list (rels_view others))) }
+fn union_of(alloc: Global, first: Boxed<Rel>, others: Rels) -> Result<Boxed<Rel>, Memory>
+    ensures { IfOk result (λ x. rel_view x ≡ q.union_of (rel_view first) (rel_list (rels_view others))) }
 {
     if others.is_empty() {
         return Ok(first);
     }
     let inputs = all_inputs(alloc, first, others)?;
-    Ok(Box::new(alloc, Rel::Union { inputs })?)
+    Boxed::new(alloc, Rel::Union { inputs })
 }
 
 /// The algebra of a run, which is one Union where it has two inputs or more.
@@ -71,11 +71,11 @@ pub fn closed(alloc: Global, run: Run) -> Result<Relation, Memory>
 
 // One more input behind others.
 #[tactic(auto, using(crate::proofs::Runs::pushed))]
-fn with_input(others: Rels, input: Box<Rel>) -> Result<Rels, Memory>
-    ensures { IfOk result (λ all. rels_view all ≡ rels_view others ++ rel_view input.value ∷ []) }
+fn with_input(others: Rels, input: Boxed<Rel>) -> Result<Rels, Memory>
+    ensures { IfOk result (λ all. rels_view all ≡ rels_view others ++ rel_view input ∷ []) }
 {
     let mut all = others;
-    all.push(Box::into_inner(input))?;
+    all.push(Boxed::into_inner(input))?;
     Ok(all)
 }
 
@@ -109,10 +109,10 @@ fn set_node(
     except: bool,
     all: bool,
     columns: u32,
-    left: Box<Rel>,
-    right: Box<Rel>,
-) -> Result<Box<Rel>, Memory>
-    ensures { IfOk result (λ x. rel_view x.value ≡ r.SetOp (rel_view left.value) (rel_view right.value) except all columns) }
+    left: Boxed<Rel>,
+    right: Boxed<Rel>,
+) -> Result<Boxed<Rel>, Memory>
+    ensures { IfOk result (λ x. rel_view x ≡ r.SetOp (rel_view left) (rel_view right) except all columns) }
 {
     let rel = Rel::SetOp {
         left,
@@ -121,7 +121,7 @@ fn set_node(
         all,
         columns,
     };
-    Ok(Box::new(alloc, rel)?)
+    Boxed::new(alloc, rel)
 }
 
 /// EXCEPT, or else INTERSECT, with `all` or without, of two terms; refused where they have no common columns.

@@ -27,7 +27,7 @@ use bind_nodes::{
     signed,
 };
 use ct_catalog::type_of;
-use ct_value::{Memory, ScriptCode, Text, Ty, Value};
+use ct_value::{Boxed, Memory, ScriptCode, Text, Ty, Value};
 use sql_syntax::{Args, Over, ProductTails, SortList, SumTails, Tree, TreeWhens, Trees};
 use std::alloc::Global;
 
@@ -51,8 +51,8 @@ fn after_args(alloc: Global, number: u32, args: &Args) -> Result<u32, Memory>
 }
 
 #[tactic(auto, using(crate::proofs::Counts::seen))]
-fn after_optional(alloc: Global, number: u32, tree: &Option<Box<Tree>>) -> Result<u32, Memory>
-    ensures { IfOk result (λ next. next ≡ number + length (optional_calls (optional_tree (option_map (λ y. view y.value) tree.now)))) }
+fn after_optional(alloc: Global, number: u32, tree: &Option<Boxed<Tree>>) -> Result<u32, Memory>
+    ensures { IfOk result (λ next. next ≡ number + length (optional_calls (optional_tree (option_map view tree.now)))) }
 {
     let mut found = CallRefs::new(alloc);
     push_optional(&mut found, tree)?;
@@ -290,8 +290,8 @@ fn text_bound(alloc: Global, text: &Text) -> Result<Bound, BindFault>
 
 // What stands at a call besides its operands.
 #[tactic(auto, unfolding(sql_syntax::specs::View::args_view))]
-fn call_form(args: &Args, filter: &Option<Box<Tree>>, over: &Option<Over>) -> CallForm
-    ensures { form_view result ≡ e.form_of (args_view args.now) (optional_tree (option_map (λ y. view y.value) filter.now)) (optional_over (option_map over_view over.now)) }
+fn call_form(args: &Args, filter: &Option<Boxed<Tree>>, over: &Option<Over>) -> CallForm
+    ensures { form_view result ≡ e.form_of (args_view args.now) (optional_tree (option_map view filter.now)) (optional_over (option_map over_view over.now)) }
 {
     CallForm {
         distinct: is_distinct(args),
@@ -418,10 +418,10 @@ fn bind_otherwise(
     alloc: Global,
     reach: &Reach<'_>,
     number: u32,
-    otherwise: &Option<Box<Tree>>,
+    otherwise: &Option<Boxed<Tree>>,
 ) -> Result<Option<Option<Bound>>, BindFault>
-    ensures ok { IfOk result (λ o. otherwise_bound (leaf_of reach.now) number (optional_tree (option_map (λ y. view y.value) otherwise.now)) ≡ Ok (option_map (option_map bound_view) o)) }
-    ensures refused { (code : ScriptCode) → IsErrOf result (f.Refused code) → otherwise_bound (leaf_of reach.now) number (optional_tree (option_map (λ y. view y.value) otherwise.now)) ≡ Err code }
+    ensures ok { IfOk result (λ o. otherwise_bound (leaf_of reach.now) number (optional_tree (option_map view otherwise.now)) ≡ Ok (option_map (option_map bound_view) o)) }
+    ensures refused { (code : ScriptCode) → IsErrOf result (f.Refused code) → otherwise_bound (leaf_of reach.now) number (optional_tree (option_map view otherwise.now)) ≡ Err code }
 {
     match otherwise {
         None => Ok(None),
@@ -438,10 +438,10 @@ pub(crate) fn bind_optional(
     alloc: Global,
     reach: &Reach<'_>,
     number: u32,
-    tree: &Option<Box<Tree>>,
+    tree: &Option<Boxed<Tree>>,
 ) -> Result<Option<Bound>, BindFault>
-    ensures ok { IfOk result (λ o. optional_bound (leaf_of reach.now) number (optional_tree (option_map (λ y. view y.value) tree.now)) ≡ Ok (option_map bound_view o)) }
-    ensures refused { (code : ScriptCode) → IsErrOf result (f.Refused code) → optional_bound (leaf_of reach.now) number (optional_tree (option_map (λ y. view y.value) tree.now)) ≡ Err code }
+    ensures ok { IfOk result (λ o. optional_bound (leaf_of reach.now) number (optional_tree (option_map view tree.now)) ≡ Ok (option_map bound_view o)) }
+    ensures refused { (code : ScriptCode) → IsErrOf result (f.Refused code) → optional_bound (leaf_of reach.now) number (optional_tree (option_map view tree.now)) ≡ Err code }
 {
     match tree {
         None => Ok(None),

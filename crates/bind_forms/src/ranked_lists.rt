@@ -8,7 +8,7 @@ ghost use Rattle.bind_forms.specs.Views.{ranked_view};
 
 use crate::places::only_place;
 use bind_names::{function_of, is_simple, is_sole};
-use ct_value::{Memory, Text};
+use ct_value::{Boxed, Memory, Text};
 use query_answer::Function;
 use sql_syntax::{Args, Item, Over, Query, Select, SortList, Tree, Trees};
 use std::alloc::Global;
@@ -28,10 +28,10 @@ pub struct Ranked<'a> {
 fn row_number_over<'a>(
     function: Function,
     args: &Args,
-    filter: &Option<Box<Tree>>,
+    filter: &Option<Boxed<Tree>>,
     over: &'a Option<Over>,
 ) -> Option<&'a Over>
-    ensures { optional_over (option_map (λ o. over_view o.now) result) ≡ q.row_number_over function (args_view args.now) (optional_tree (option_map (λ y. view y.value) filter.now)) (optional_over (option_map over_view over.now)) }
+    ensures { optional_over (option_map (λ o. over_view o.now) result) ≡ q.row_number_over function (args_view args.now) (optional_tree (option_map view filter.now)) (optional_over (option_map over_view over.now)) }
 {
     match (function, args, filter) {
         (Function::RowNumber, Args::Empty, None) => over.as_ref(),

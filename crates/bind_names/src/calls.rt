@@ -6,7 +6,7 @@ ghost use Rattle.query_answer.specs.Calls.{aggregate_of, agg_call, agg_arg, call
 ghost use Rattle.bind_names.specs.Calls.{call_view};
 
 use crate::functions::function_of;
-use ct_value::{List, Memory};
+use ct_value::{Boxed, List, Memory};
 use query_answer::Function;
 use rel_algebra::AggCall;
 use sql_syntax::{Args, Over, Tree, TreeWhens, Trees, parts_of};
@@ -56,8 +56,8 @@ fn agg_arg(args: &Args) -> Option<&Tree>
 }
 
 // An aggregate call, with its argument and its FILTER condition.
-fn call_of<'a>(call: AggCall, args: &'a Args, filter: &'a Option<Box<Tree>>) -> CallRef<'a>
-    ensures { call_view result ≡ call_of call (args_view args.now) (optional_tree (option_map (λ y. view y.value) filter.now)) }
+fn call_of<'a>(call: AggCall, args: &'a Args, filter: &'a Option<Boxed<Tree>>) -> CallRef<'a>
+    ensures { call_view result ≡ call_of call (args_view args.now) (optional_tree (option_map view filter.now)) }
 {
     let filter = match filter {
         Some(filter) => Some(&**filter),
@@ -127,9 +127,9 @@ pub fn push_whens<'a>(found: &mut CallRefs<'a>, whens: &'a TreeWhens) -> Result<
 /// Puts the aggregate calls of a condition of FILTER, if there is one, behind those that were found.
 pub fn push_optional<'a>(
     found: &mut CallRefs<'a>,
-    tree: &'a Option<Box<Tree>>,
+    tree: &'a Option<Boxed<Tree>>,
 ) -> Result<(), Memory>
-    ensures { OnOk result (map call_view found.new ≡ map call_view found.old ++ optional_calls (optional_tree (option_map (λ y. view y.value) tree.now))) }
+    ensures { OnOk result (map call_view found.new ≡ map call_view found.old ++ optional_calls (optional_tree (option_map view tree.now))) }
 {
     match tree {
         None => Ok(()),

@@ -13,7 +13,7 @@ use Rattle.bind_nested.specs.declared.part.Outside.TheVariants as o
 abbrev pub part_view : Part → q.Part
 part_view (p.Own condition) = q.Own (bound_view condition)
 part_view (p.Linked pair condition) = q.Linked pair (bound_view condition)
-part_view (p.Matched anti right on rest) = q.Matched anti (rel_view right.value) on (option_map expr_view rest)
+part_view (p.Matched anti right on rest) = q.Matched anti (rel_view right) on (option_map expr_view rest)
 
 abbrev pub parts_view : List Part → List q.Part
 parts_view = map part_view

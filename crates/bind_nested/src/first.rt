@@ -18,7 +18,7 @@ use bind_clauses::{Relation, finished};
 use bind_forms::ranked_entries;
 use bind_names::BindFault;
 use bind_nodes::{Bound, Bounds, column};
-use ct_value::{ColTy, Cols, Memory, ScriptCode, Ty};
+use ct_value::{Boxed, ColTy, Cols, Memory, ScriptCode, Ty};
 use query_answer::Scope;
 use rel_algebra::{Rel, Sorts};
 use std::alloc::Global;
@@ -79,13 +79,13 @@ fn width(kept: bool, scope: &Scope) -> Result<usize, Memory>
 #[tactic(auto, using(rel_algebra::proofs::laws::Views::view_rank))]
 fn rank(
     alloc: Global,
-    input: Box<Rel>,
+    input: Boxed<Rel>,
     partition: Cols,
     order: Sorts,
     bound: u32,
     ranked: bool,
-) -> Result<Box<Rel>, Memory>
-    ensures { IfOk result (λ rel. rel_view rel.value ≡ r.Rank (rel_view input.value) partition order bound ranked) }
+) -> Result<Boxed<Rel>, Memory>
+    ensures { IfOk result (λ rel. rel_view rel ≡ r.Rank (rel_view input) partition order bound ranked) }
 {
     let rel = Rel::Rank {
         input,
@@ -94,7 +94,7 @@ fn rank(
         bound,
         ranked,
     };
-    Ok(Box::new(alloc, rel)?)
+    Boxed::new(alloc, rel)
 }
 
 /// The first rows of each partition, so many, and the list over them, with the rank where it is kept.

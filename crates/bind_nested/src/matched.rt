@@ -17,7 +17,7 @@ use bind_clauses::{Relation, all_of};
 use bind_names::{BindFault, Lookup, pair_found, plain_column};
 use bind_nodes::{Bound, Bounds, column, compare};
 use ct_expr::Expr;
-use ct_value::{ColTy, CompareOp, Memory, ScriptCode};
+use ct_value::{Boxed, ColTy, CompareOp, Memory, ScriptCode};
 use query_answer::{Found, Scope};
 use rel_algebra::{Pair, Pairs, Rel};
 use sql_syntax::Tree;
@@ -25,14 +25,14 @@ use std::alloc::Global;
 
 // A Filter by all conditions, if there are any.
 #[tactic(auto, using(rel_algebra::proofs::laws::Views::view_filter, crate::proofs::Splits::no_filter, crate::proofs::Splits::some_filter, crate::proofs::Splits::bounds_length))]
-fn where_all(alloc: Global, owns: Bounds, input: Box<Rel>) -> Result<Box<Rel>, Memory>
-    ensures { IfOk result (λ rel. rel_view rel.value ≡ q.where_all (bounds_view owns) (rel_view input.value)) }
+fn where_all(alloc: Global, owns: Bounds, input: Boxed<Rel>) -> Result<Boxed<Rel>, Memory>
+    ensures { IfOk result (λ rel. rel_view rel ≡ q.where_all (bounds_view owns) (rel_view input)) }
 {
     if owns.is_empty() {
         return Ok(input);
     }
     let cond = all_of(alloc, owns)?;
-    Ok(Box::new(alloc, Rel::Filter { input, cond })?)
+    Boxed::new(alloc, Rel::Filter { input, cond })
 }
 
 // Conditions as one, if there are any.
@@ -49,8 +49,8 @@ fn all_if(alloc: Global, rests: Bounds) -> Result<Option<Expr>, Memory>
 
 // The rows that match a subquery's.
 #[tactic(auto, using(rel_algebra::proofs::laws::Views::view_semi))]
-fn matched(alloc: Global, part: Part, left: Box<Rel>) -> Result<Box<Rel>, Memory>
-    ensures { IfOk result (λ rel. rel_view rel.value ≡ q.all_matched (part_view part ∷ []) (rel_view left.value)) }
+fn matched(alloc: Global, part: Part, left: Boxed<Rel>) -> Result<Boxed<Rel>, Memory>
+    ensures { IfOk result (λ rel. rel_view rel ≡ q.all_matched (part_view part ∷ []) (rel_view left)) }
 {
     match part {
         Part::Own(_) | Part::Linked { .. } => Ok(left),
@@ -67,15 +67,15 @@ fn matched(alloc: Global, part: Part, left: Box<Rel>) -> Result<Box<Rel>, Memory
                 on,
                 rest,
             };
-            Ok(Box::new(alloc, rel)?)
+            Boxed::new(alloc, rel)
         }
     }
 }
 
 // One subquery after the other.
 #[tactic(auto, using(crate::proofs::Splits::matched_first))]
-fn all_matched(alloc: Global, parts: Parts, input: Box<Rel>) -> Result<Box<Rel>, Memory>
-    ensures { IfOk result (λ rel. rel_view rel.value ≡ q.all_matched (parts_view parts) (rel_view input.value)) }
+fn all_matched(alloc: Global, parts: Parts, input: Boxed<Rel>) -> Result<Boxed<Rel>, Memory>
+    ensures { IfOk result (λ rel. rel_view rel ≡ q.all_matched (parts_view parts) (rel_view input)) }
 {
     let mut all = input;
     for part in parts.into_vec() {
@@ -89,9 +89,9 @@ fn kept_rel(
     alloc: Global,
     owns: Bounds,
     subqueries: Parts,
-    input: Box<Rel>,
-) -> Result<Box<Rel>, Memory>
-    ensures { IfOk result (λ rel. rel_view rel.value ≡ q.all_matched (parts_view subqueries) (q.where_all (bounds_view owns) (rel_view input.value))) }
+    input: Boxed<Rel>,
+) -> Result<Boxed<Rel>, Memory>
+    ensures { IfOk result (λ rel. rel_view rel ≡ q.all_matched (parts_view subqueries) (q.where_all (bounds_view owns) (rel_view input))) }
 {
     let rel = where_all(alloc, owns, input)?;
     all_matched(alloc, subqueries, rel)
@@ -159,10 +159,10 @@ fn only_column(scope: &Scope) -> Result<ColTy, BindFault>
 fn matched_by(
     alloc: Global,
     pair: Option<Pair>,
-    right: Box<Rel>,
+    right: Boxed<Rel>,
     equal: Bound,
 ) -> Result<Part, Memory>
-    ensures { IfOk result (λ p. part_view p ≡ q.matched_by pair (rel_view right.value) (bound_view equal)) }
+    ensures { IfOk result (λ p. part_view p ≡ q.matched_by pair (rel_view right) (bound_view equal)) }
 {
     let mut on = Pairs::new(alloc);
     let rest = match pair {
@@ -170,7 +170,7 @@ fn matched_by(
             on.push(pair)?;
             None
         }
-        None => Some(Box::into_inner(equal.expr)),
+        None => Some(Boxed::into_inner(equal.expr)),
     };
     Ok(Part::Matched {
         anti: false,

@@ -10,7 +10,7 @@ ghost use Rattle.bind_nested.specs.PartViews.{part_view, parts_view};
 use bind_names::BindFault;
 use bind_nodes::Bound;
 use ct_expr::Expr;
-use ct_value::{List, Memory, ScriptCode, Ty};
+use ct_value::{Boxed, List, Memory, ScriptCode, Ty};
 use query_answer::Scope;
 use rel_algebra::{Pair, Pairs, Rel};
 use std::alloc::Global;
@@ -28,7 +28,7 @@ pub enum Part {
     /// A row in reach is to match one of these, or with `anti` none of them.
     Matched {
         anti: bool,
-        right: Box<Rel>,
+        right: Boxed<Rel>,
         on: Pairs,
         rest: Option<Expr>,
     },

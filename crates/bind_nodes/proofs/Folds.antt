@@ -110,7 +110,7 @@ abbrev pub pairs : List Choice → List (e.Expr × e.Expr)
 pairs cs = map (λ b. (b.0.expr, b.1.expr)) (choices_view cs)
 
 pub whens_turn : (ws more : List When) (w : When) (cs rest : List Choice) (c : Choice) (whole : List (e.Expr × e.Expr)) → whens_view ws ++ pairs cs ≡ whole → cs ≡ c ∷ rest → more ≡ ws ++ w ∷ []
-    → w.cond ≡ c.cond.expr.value → w.result ≡ c.result.expr.value → whens_view more ++ pairs rest ≡ whole
+    → w.cond ≡ c.cond.expr → w.result ≡ c.result.expr → whens_view more ++ pairs rest ≡ whole
 whens_turn ws more w cs rest c whole same step pushed is_cond is_result =
     ap (λ v. whens_view v ++ pairs rest) pushed ∙ ap (λ xs. xs ++ pairs rest) (map-append when_view ws (w ∷ [])) ∙ append_assoc (whens_view ws) (when_view w ∷ []) (pairs rest)
     ∙ ap (λ p. whens_view ws ++ p ∷ pairs rest) (view_when w ∙ (λ i. (expr_view (is_cond i), expr_view (is_result i))))

@@ -8,7 +8,7 @@ use Rattle.bind_nodes.specs.declared.calls.CallForm.{CallForm}
 use Rattle.bind_nodes.specs.declared.cases.Choice.{Choice}
 
 abbrev pub bound_view : Bound → n.Bound
-bound_view x = record { expr = expr_view x.expr.value; column = x.column }
+bound_view x = record { expr = expr_view x.expr; column = x.column }
 
 abbrev pub bounds_view : List Bound → List n.Bound
 bounds_view = map bound_view

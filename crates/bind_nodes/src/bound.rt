@@ -10,13 +10,13 @@ ghost use Rattle.bind_nodes.specs.Views.{bound_view, bounds_view};
 use crate::size::Size;
 use bind_names::BindFault;
 use ct_expr::{Expr, Exprs, logic_col};
-use ct_value::{ColTy, List, Memory, ScriptCode, Ty};
+use ct_value::{Boxed, ColTy, List, Memory, ScriptCode, Ty};
 use std::alloc::Global;
 
 /// An expression with its type.
 #[derive(Drop)]
 pub struct Bound {
-    pub expr: Box<Expr>,
+    pub expr: Boxed<Expr>,
     pub column: ColTy,
     pub(crate) size: Size,
 }
@@ -34,7 +34,7 @@ pub(crate) fn typed(
     ensures ok { IfOk result (λ x. n.typed column (expr_view expr) ≡ Ok (bound_view x)) }
     ensures refused { (code : ScriptCode) → IsErrOf result (f.Refused code) → n.typed column (expr_view expr) ≡ Err code }
 {
-    let expr = Box::new(alloc, expr)?;
+    let expr = Boxed::new(alloc, expr)?;
     let size = operands.above()?;
     match column {
         Some(column) => Ok(Bound { expr, column, size }),
@@ -48,7 +48,7 @@ pub fn operands(alloc: Global, bounds: Bounds) -> Result<Exprs, Memory>
 {
     let mut exprs = Exprs::with_capacity(alloc, bounds.len())?;
     for bound in bounds.into_vec() {
-        exprs.push(Box::into_inner(bound.expr))?;
+        exprs.push(Boxed::into_inner(bound.expr))?;
     }
     Ok(exprs)
 }

@@ -15,7 +15,7 @@ use crate::nodes::literal;
 use crate::size::Size;
 use bind_names::BindFault;
 use ct_expr::{Expr, When, Whens, case_col, cast_col, logic_col};
-use ct_value::{ColTy, List, ScriptCode, Ty, Value};
+use ct_value::{Boxed, ColTy, List, ScriptCode, Ty, Value};
 use std::alloc::Global;
 
 /// A branch of CASE. No result is the literal NULL.
@@ -166,8 +166,8 @@ fn size_of(choices: &Choices, otherwise: &Option<Bound>) -> Size {
     all
 }
 
-fn expr_of(bound: Option<Bound>) -> Option<Box<Expr>>
-    ensures { option_map (λ x. expr_view x.value) result ≡ option_map (λ x. x.expr) (option_map bound_view bound) }
+fn expr_of(bound: Option<Bound>) -> Option<Boxed<Expr>>
+    ensures { option_map expr_view result ≡ option_map (λ x. x.expr) (option_map bound_view bound) }
 {
     match bound {
         None => None,
@@ -241,8 +241,8 @@ fn whens_of(alloc: Global, choices: Choices) -> Result<Whens, BindFault>
     let mut whens = Whens::with_capacity(alloc, choices.len())?;
     for choice in choices.into_vec() {
         whens.push(When {
-            cond: Box::into_inner(choice.cond.expr),
-            result: Box::into_inner(choice.result.expr),
+            cond: Boxed::into_inner(choice.cond.expr),
+            result: Boxed::into_inner(choice.result.expr),
         })?;
     }
     Ok(whens)

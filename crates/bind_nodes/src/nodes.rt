@@ -15,7 +15,7 @@ use ct_expr::{
     ArithOp, Expr, arith_col, compare_col, literal_col, logic_col, null_test_col, number_col,
     texts_col, truth_col,
 };
-use ct_value::{ColTy, CompareOp, ScriptCode, Ty, Value};
+use ct_value::{Boxed, ColTy, CompareOp, ScriptCode, Ty, Value};
 use query_answer::Found;
 use sql_syntax::{ProductWord, SumWord};
 use std::alloc::Global;
@@ -47,7 +47,7 @@ pub fn column(alloc: Global, place: u32, column: ColTy) -> Result<Bound, BindFau
     ensures ok { IfOk result (λ x. e.column place column ≡ bound_view x) }
     ensures refused { (code : ScriptCode) → IsErrOf result (f.Refused code) → ⊥ }
 {
-    let expr = Box::new(
+    let expr = Boxed::new(
         alloc,
         Expr::Column {
             col: place,
@@ -231,7 +231,7 @@ fn dup(alloc: Global, bound: &Bound) -> Result<Bound, BindFault>
     ensures refused { (code : ScriptCode) → IsErrOf result (f.Refused code) → ⊥ }
 {
     bound.size.copied()?;
-    let expr = Box::new(alloc, bound.expr.dup()?)?;
+    let expr = Boxed::new(alloc, bound.expr.dup()?)?;
     Ok(Bound {
         expr,
         column: bound.column,

@@ -8,7 +8,7 @@ ghost use Rattle.bind_shapes.specs.Codes.{code, codes, word};
 
 use bind_names::{find, function_of};
 use ct_catalog::type_of;
-use ct_value::{CompareOp, List, Memory, Text, Ty};
+use ct_value::{Boxed, CompareOp, List, Memory, Text, Ty};
 use query_answer::{Found, Function, Scope};
 use rel_algebra::AggCall;
 use sql_syntax::{
@@ -382,9 +382,9 @@ fn write_whens(written: &mut Code, scope: &Scope, whens: &TreeWhens) -> Result<(
 fn write_otherwise(
     written: &mut Code,
     scope: &Scope,
-    otherwise: &Option<Box<Tree>>,
+    otherwise: &Option<Boxed<Tree>>,
 ) -> Result<(), Memory>
-    ensures { OnOk result (written.new ≡ written.old ++ code (otherwise_shape (find scope.now) (optional_tree (option_map (λ y. view y.value) otherwise.now)))) }
+    ensures { OnOk result (written.new ≡ written.old ++ code (otherwise_shape (find scope.now) (optional_tree (option_map view otherwise.now)))) }
 {
     match otherwise {
         None => {

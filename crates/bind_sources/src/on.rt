@@ -19,7 +19,7 @@ use bind_expressions::{bind_conjuncts, conditions};
 use bind_names::BindFault;
 use bind_nodes::Bounds;
 use ct_expr::Expr;
-use ct_value::{Memory, ScriptCode};
+use ct_value::{Boxed, Memory, ScriptCode};
 use query_answer::Scope;
 use rel_algebra::{JoinKind, Pairs, Rel};
 use sql_syntax::{JoinWord, Tree};
@@ -98,11 +98,11 @@ fn bind_on(alloc: Global, scope: &Scope, width: u32, on: &Tree) -> Result<Tests,
 fn join(
     alloc: Global,
     kind: JoinKind,
-    left: Box<Rel>,
-    right: Box<Rel>,
+    left: Boxed<Rel>,
+    right: Boxed<Rel>,
     tests: Tests,
-) -> Result<Box<Rel>, Memory>
-    ensures { IfOk result (λ rel. rel_view rel.value ≡ r.Join (rel_view left.value) (rel_view right.value) kind tests.pairs (option_map expr_view tests.rest)) }
+) -> Result<Boxed<Rel>, Memory>
+    ensures { IfOk result (λ rel. rel_view rel ≡ r.Join (rel_view left) (rel_view right) kind tests.pairs (option_map expr_view tests.rest)) }
 {
     let rel = Rel::Join {
         left,
@@ -111,7 +111,7 @@ fn join(
         on: tests.pairs,
         rest: tests.rest,
     };
-    Ok(Box::new(alloc, rel)?)
+    Boxed::new(alloc, rel)
 }
 
 fn on_bound(

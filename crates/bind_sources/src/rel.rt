@@ -12,7 +12,7 @@ use bind_clauses::projected;
 use bind_expressions::plus;
 use bind_names::CallRefs;
 use bind_nodes::{Bound, Bounds};
-use ct_value::Memory;
+use ct_value::{Boxed, Memory};
 use rel_algebra::{Agg, Aggs, Rel};
 use sql_syntax::Tree;
 use std::alloc::Global;
@@ -79,9 +79,9 @@ pub(crate) fn group_rel(
     keys: Bounds,
     inputs: Inputs,
     calls: &CallRefs<'_>,
-    input: Box<Rel>,
-) -> Result<Box<Rel>, Memory>
-    ensures { IfOk result (λ rel. rel_view rel.value ≡ q.group_rel width (bounds_view keys) (bounds_view inputs.args) (bounds_view inputs.filters) (map call_view calls.now) (rel_view input.value)) }
+    input: Boxed<Rel>,
+) -> Result<Boxed<Rel>, Memory>
+    ensures { IfOk result (λ rel. rel_view rel ≡ q.group_rel width (bounds_view keys) (bounds_view inputs.args) (bounds_view inputs.filters) (map call_view calls.now) (rel_view input)) }
 {
     let count = plus(0, keys.len())?;
     let first_filter = plus(count, inputs.args.len())?;
@@ -95,20 +95,20 @@ fn group_input(
     width: usize,
     keys: Bounds,
     inputs: Inputs,
-    input: Box<Rel>,
-) -> Result<Box<Rel>, Memory>
-    ensures { IfOk result (λ rel. rel_view rel.value ≡ q.projected width (bounds_view keys ++ (bounds_view inputs.args ++ bounds_view inputs.filters)) (rel_view input.value)) }
+    input: Boxed<Rel>,
+) -> Result<Boxed<Rel>, Memory>
+    ensures { IfOk result (λ rel. rel_view rel ≡ q.projected width (bounds_view keys ++ (bounds_view inputs.args ++ bounds_view inputs.filters)) (rel_view input)) }
 {
     let columns = side_by_side(keys, inputs)?;
     projected(alloc, width, columns, input)
 }
 
 #[tactic(auto, using(rel_algebra::proofs::laws::Views::view_group))]
-fn grouped(alloc: Global, keys: u32, aggs: Aggs, input: Box<Rel>) -> Result<Box<Rel>, Memory>
-    ensures { IfOk result (λ rel. rel_view rel.value ≡ r.Group (rel_view input.value) keys aggs) }
+fn grouped(alloc: Global, keys: u32, aggs: Aggs, input: Boxed<Rel>) -> Result<Boxed<Rel>, Memory>
+    ensures { IfOk result (λ rel. rel_view rel ≡ r.Group (rel_view input) keys aggs) }
 {
     let rel = Rel::Group { input, keys, aggs };
-    Ok(Box::new(alloc, rel)?)
+    Boxed::new(alloc, rel)
 }
 
 /// The groups that HAVING keeps, where there is one.
@@ -116,18 +116,18 @@ fn grouped(alloc: Global, keys: u32, aggs: Aggs, input: Box<Rel>) -> Result<Box<
 pub(crate) fn filter_if(
     alloc: Global,
     having: Option<Bound>,
-    input: Box<Rel>,
-) -> Result<Box<Rel>, Memory>
-    ensures { IfOk result (λ rel. rel_view rel.value ≡ q.filter_if (option_map bound_view having) (rel_view input.value)) }
+    input: Boxed<Rel>,
+) -> Result<Boxed<Rel>, Memory>
+    ensures { IfOk result (λ rel. rel_view rel ≡ q.filter_if (option_map bound_view having) (rel_view input)) }
 {
     match having {
         None => Ok(input),
         Some(bound) => {
             let rel = Rel::Filter {
                 input,
-                cond: Box::into_inner(bound.expr),
+                cond: Boxed::into_inner(bound.expr),
             };
-            Ok(Box::new(alloc, rel)?)
+            Boxed::new(alloc, rel)
         }
     }
 }

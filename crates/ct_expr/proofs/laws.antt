@@ -1,3 +1,3 @@
-pub mod Placeless
+pub mod Same
 pub mod Seen
 pub mod Views

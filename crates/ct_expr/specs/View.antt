@@ -1,5 +1,5 @@
 -- The expressions of the definitions, as views of the code's.
-use Rattle.std.specs.Prelude.{List, map, option_map}
+use Rattle.std.specs.Prelude.{List, map}
 use Rattle.ct_expr.specs.declared.expr.Expr.TheFolds.{fold-Expr, fold-When}
 use Rattle.ct_expr.specs.declared.expr.Expr.TheOpen.{Expr-F, When-F}
 use Rattle.ct_expr.specs.declared.expr.Expr.{Expr}
@@ -10,21 +10,21 @@ use Rattle.ct_expr.specs.Expr as e
 abbrev pub expr_step : Expr-F e.Expr (e.Expr × e.Expr) → e.Expr
 expr_step (Expr-F.Column col ty) = e.Column col ty
 expr_step (Expr-F.Literal value ty) = e.Literal value ty
-expr_step (Expr-F.Neg value) = e.Neg value.value
-expr_step (Expr-F.Arith op left right) = e.Arith op left.value right.value
-expr_step (Expr-F.Compare op left right) = e.Compare op left.value right.value
+expr_step (Expr-F.Neg value) = e.Neg value
+expr_step (Expr-F.Arith op left right) = e.Arith op left right
+expr_step (Expr-F.Compare op left right) = e.Compare op left right
 expr_step (Expr-F.And exprs) = e.And (e.exprs exprs)
 expr_step (Expr-F.Or exprs) = e.Or (e.exprs exprs)
-expr_step (Expr-F.Not value) = e.Not value.value
-expr_step (Expr-F.IsNull value) = e.IsNull value.value
-expr_step (Expr-F.InList value items) = e.InList value.value (e.exprs items)
-expr_step (Expr-F.Case whens otherwise) = e.Case (e.whens whens) (e.optional_expr (option_map (λ x. x.value) otherwise))
+expr_step (Expr-F.Not value) = e.Not value
+expr_step (Expr-F.IsNull value) = e.IsNull value
+expr_step (Expr-F.InList value items) = e.InList value (e.exprs items)
+expr_step (Expr-F.Case whens otherwise) = e.Case (e.whens whens) (e.optional_expr otherwise)
 expr_step (Expr-F.Coalesce exprs) = e.Coalesce (e.exprs exprs)
-expr_step (Expr-F.NullIf left right) = e.NullIf left.value right.value
-expr_step (Expr-F.Cast value ty) = e.Cast value.value ty
-expr_step (Expr-F.Concat left right) = e.Concat left.value right.value
-expr_step (Expr-F.CharLength value) = e.CharLength value.value
-expr_step (Expr-F.Like value pattern) = e.Like value.value pattern.value
+expr_step (Expr-F.NullIf left right) = e.NullIf left right
+expr_step (Expr-F.Cast value ty) = e.Cast value ty
+expr_step (Expr-F.Concat left right) = e.Concat left right
+expr_step (Expr-F.CharLength value) = e.CharLength value
+expr_step (Expr-F.Like value pattern) = e.Like value pattern
 
 abbrev pub when_step : When-F e.Expr (e.Expr × e.Expr) → e.Expr × e.Expr
 when_step w = (w.cond, w.result)

@@ -4,7 +4,7 @@ ghost use Rattle.ct_expr.specs.Expr as x;
 ghost use Rattle.ct_expr.specs.View.{expr_view, exprs_view, when_view, whens_view};
 
 use crate::{ArithOp, Expr, Exprs, When, Whens};
-use ct_value::{CompareOp, Memory, Ty, Value};
+use ct_value::{Boxed, CompareOp, Memory, Ty, Value};
 
 impl Expr {
     /// An equal expression, in the memory that this one lies in.
@@ -54,36 +54,36 @@ fn literal(value: &Value, ty: Ty) -> Result<Expr, Memory>
 }
 
 #[tactic(auto, using(crate::proofs::laws::Views::view_neg))]
-fn neg(value: Box<Expr>) -> Result<Expr, Memory>
-    ensures { IfOk result (λ made. expr_view made ≡ x.Neg (expr_view value.value)) }
+fn neg(value: Boxed<Expr>) -> Result<Expr, Memory>
+    ensures { IfOk result (λ made. expr_view made ≡ x.Neg (expr_view value)) }
 {
     Ok(Expr::Neg(value))
 }
 
 #[tactic(auto, using(crate::proofs::laws::Views::view_not))]
-fn not(value: Box<Expr>) -> Result<Expr, Memory>
-    ensures { IfOk result (λ made. expr_view made ≡ x.Not (expr_view value.value)) }
+fn not(value: Boxed<Expr>) -> Result<Expr, Memory>
+    ensures { IfOk result (λ made. expr_view made ≡ x.Not (expr_view value)) }
 {
     Ok(Expr::Not(value))
 }
 
 #[tactic(auto, using(crate::proofs::laws::Views::view_is_null))]
-fn is_null(value: Box<Expr>) -> Result<Expr, Memory>
-    ensures { IfOk result (λ made. expr_view made ≡ x.IsNull (expr_view value.value)) }
+fn is_null(value: Boxed<Expr>) -> Result<Expr, Memory>
+    ensures { IfOk result (λ made. expr_view made ≡ x.IsNull (expr_view value)) }
 {
     Ok(Expr::IsNull(value))
 }
 
 #[tactic(auto, using(crate::proofs::laws::Views::view_char_length))]
-fn char_length(value: Box<Expr>) -> Result<Expr, Memory>
-    ensures { IfOk result (λ made. expr_view made ≡ x.CharLength (expr_view value.value)) }
+fn char_length(value: Boxed<Expr>) -> Result<Expr, Memory>
+    ensures { IfOk result (λ made. expr_view made ≡ x.CharLength (expr_view value)) }
 {
     Ok(Expr::CharLength(value))
 }
 
 #[tactic(auto, using(crate::proofs::laws::Views::view_cast))]
-fn cast(value: Box<Expr>, ty: Ty) -> Result<Expr, Memory>
-    ensures { IfOk result (λ made. expr_view made ≡ x.Cast (expr_view value.value) ty) }
+fn cast(value: Boxed<Expr>, ty: Ty) -> Result<Expr, Memory>
+    ensures { IfOk result (λ made. expr_view made ≡ x.Cast (expr_view value) ty) }
 {
     Ok(Expr::Cast { value, ty })
 }
@@ -110,59 +110,59 @@ fn coalesce(exprs: Exprs) -> Result<Expr, Memory>
 }
 
 #[tactic(auto, using(crate::proofs::laws::Views::view_arith))]
-fn arith(op: ArithOp, left: Box<Expr>, right: Box<Expr>) -> Result<Expr, Memory>
-    ensures { IfOk result (λ made. expr_view made ≡ x.Arith op (expr_view left.value) (expr_view right.value)) }
+fn arith(op: ArithOp, left: Boxed<Expr>, right: Boxed<Expr>) -> Result<Expr, Memory>
+    ensures { IfOk result (λ made. expr_view made ≡ x.Arith op (expr_view left) (expr_view right)) }
 {
     Ok(Expr::Arith { op, left, right })
 }
 
 #[tactic(auto, using(crate::proofs::laws::Views::view_compare))]
-fn compare(op: CompareOp, left: Box<Expr>, right: Box<Expr>) -> Result<Expr, Memory>
-    ensures { IfOk result (λ made. expr_view made ≡ x.Compare op (expr_view left.value) (expr_view right.value)) }
+fn compare(op: CompareOp, left: Boxed<Expr>, right: Boxed<Expr>) -> Result<Expr, Memory>
+    ensures { IfOk result (λ made. expr_view made ≡ x.Compare op (expr_view left) (expr_view right)) }
 {
     Ok(Expr::Compare { op, left, right })
 }
 
 #[tactic(auto, using(crate::proofs::laws::Views::view_null_if))]
-fn null_if(left: Box<Expr>, right: Box<Expr>) -> Result<Expr, Memory>
-    ensures { IfOk result (λ made. expr_view made ≡ x.NullIf (expr_view left.value) (expr_view right.value)) }
+fn null_if(left: Boxed<Expr>, right: Boxed<Expr>) -> Result<Expr, Memory>
+    ensures { IfOk result (λ made. expr_view made ≡ x.NullIf (expr_view left) (expr_view right)) }
 {
     Ok(Expr::NullIf { left, right })
 }
 
 #[tactic(auto, using(crate::proofs::laws::Views::view_concat))]
-fn concat(left: Box<Expr>, right: Box<Expr>) -> Result<Expr, Memory>
-    ensures { IfOk result (λ made. expr_view made ≡ x.Concat (expr_view left.value) (expr_view right.value)) }
+fn concat(left: Boxed<Expr>, right: Boxed<Expr>) -> Result<Expr, Memory>
+    ensures { IfOk result (λ made. expr_view made ≡ x.Concat (expr_view left) (expr_view right)) }
 {
     Ok(Expr::Concat { left, right })
 }
 
 #[tactic(auto, using(crate::proofs::laws::Views::view_like))]
-fn like(value: Box<Expr>, pattern: Box<Expr>) -> Result<Expr, Memory>
-    ensures { IfOk result (λ made. expr_view made ≡ x.Like (expr_view value.value) (expr_view pattern.value)) }
+fn like(value: Boxed<Expr>, pattern: Boxed<Expr>) -> Result<Expr, Memory>
+    ensures { IfOk result (λ made. expr_view made ≡ x.Like (expr_view value) (expr_view pattern)) }
 {
     Ok(Expr::Like { value, pattern })
 }
 
 #[tactic(auto, using(crate::proofs::laws::Views::view_in_list))]
-fn in_list(value: Box<Expr>, items: Exprs) -> Result<Expr, Memory>
-    ensures { IfOk result (λ made. expr_view made ≡ x.InList (expr_view value.value) (x.exprs (exprs_view items))) }
+fn in_list(value: Boxed<Expr>, items: Exprs) -> Result<Expr, Memory>
+    ensures { IfOk result (λ made. expr_view made ≡ x.InList (expr_view value) (x.exprs (exprs_view items))) }
 {
     Ok(Expr::InList { value, items })
 }
 
 #[tactic(auto, using(crate::proofs::laws::Views::view_case))]
-fn case(whens: Whens, otherwise: Option<Box<Expr>>) -> Result<Expr, Memory>
-    ensures { IfOk result (λ made. expr_view made ≡ x.Case (x.whens (whens_view whens)) (x.optional_expr (option_map (λ p. expr_view p.value) otherwise))) }
+fn case(whens: Whens, otherwise: Option<Boxed<Expr>>) -> Result<Expr, Memory>
+    ensures { IfOk result (λ made. expr_view made ≡ x.Case (x.whens (whens_view whens)) (x.optional_expr (option_map expr_view otherwise))) }
 {
     Ok(Expr::Case { whens, otherwise })
 }
 
 #[cycle(dup)]
-fn dup_part(part: &Box<Expr>) -> Result<Box<Expr>, Memory>
-    ensures { IfOk result (λ copy. expr_view copy.value ≡ expr_view part.now.value) }
+fn dup_part(part: &Boxed<Expr>) -> Result<Boxed<Expr>, Memory>
+    ensures { IfOk result (λ copy. expr_view copy ≡ expr_view part.now) }
 {
-    beside(part, part.dup()?)
+    Boxed::beside(part, part.dup()?)
 }
 
 /// Equal expressions, in the memory that these lie in.
@@ -202,18 +202,11 @@ fn dup_when(when: &When) -> Result<When, Memory>
 }
 
 #[cycle(dup)]
-fn dup_otherwise(otherwise: &Option<Box<Expr>>) -> Result<Option<Box<Expr>>, Memory>
-    ensures { IfOk result (λ copy. option_map (λ x. expr_view x.value) copy ≡ option_map (λ x. expr_view x.value) otherwise.now) }
+fn dup_otherwise(otherwise: &Option<Boxed<Expr>>) -> Result<Option<Boxed<Expr>>, Memory>
+    ensures { IfOk result (λ copy. option_map expr_view copy ≡ option_map expr_view otherwise.now) }
 {
     match otherwise {
         None => Ok(None),
-        Some(expr) => Ok(Some(beside(expr, expr.dup()?)?)),
+        Some(expr) => Ok(Some(Boxed::beside(expr, expr.dup()?)?)),
     }
-}
-
-// A part in the memory of another.
-fn beside(part: &Box<Expr>, expr: Expr) -> Result<Box<Expr>, Memory>
-    ensures { IfOk result (λ made. made.value ≡ expr) }
-{
-    Ok(Box::new(*Box::allocator(part), expr)?)
 }

@@ -18,7 +18,7 @@ use crate::found::{
 use crate::types::{arith_ty, common_of, otherwise_ty, result_ty};
 use crate::values::{and_of, compare_of, is_null, is_true, or_of};
 use crate::{ArithOp, Expr, Exprs, Whens};
-use ct_value::{CompareOp, Memory, Row, Ty, Value};
+use ct_value::{Boxed, CompareOp, Memory, Row, Ty, Value};
 use std::alloc::Global;
 
 /// Why an expression has no value at a row.
@@ -352,12 +352,12 @@ fn chosen<'a>(alloc: Global, whens: &'a Whens, row: &'a [Value]) -> Result<Choic
 fn case<'a>(
     alloc: Global,
     choice: Choice<'a>,
-    otherwise: &'a Option<Box<Expr>>,
+    otherwise: &'a Option<Boxed<Expr>>,
     whens: &'a Whens,
     row: &'a [Value],
 ) -> Result<Typed<'a>, Memory>
-    ensures value { IfOk result (λ m. meaning m.value ≡ with_else choice.entry (e.otherwise (optional_expr (option_map (λ x. expr_view x.value) otherwise.now)) row.now)) }
-    ensures ty { IfOk result (λ m. m.ty ≡ otherwise_ty (optional_expr (option_map (λ x. expr_view x.value) otherwise.now)) (widest (result_tys (when_list (whens_view whens.now))))) }
+    ensures value { IfOk result (λ m. meaning m.value ≡ with_else choice.entry (e.otherwise (optional_expr (option_map expr_view otherwise.now)) row.now)) }
+    ensures ty { IfOk result (λ m. m.ty ≡ otherwise_ty (optional_expr (option_map expr_view otherwise.now)) (widest (result_tys (when_list (whens_view whens.now))))) }
 {
     let ty = otherwise_ty(otherwise, result_ty(whens));
     match choice {

@@ -1,6 +1,6 @@
 //! Trees of expressions.
 
-use ct_value::{CompareOp, List, Ty, Value};
+use ct_value::{Boxed, CompareOp, List, Ty, Value};
 
 /// How two numbers are put together.
 #[derive(Clone, Copy, Debug, PartialEq, Eq)]
@@ -35,46 +35,46 @@ pub enum Expr {
         value: Value,
         ty: Ty,
     },
-    Neg(Box<Expr>),
+    Neg(Boxed<Expr>),
     Arith {
         op: ArithOp,
-        left: Box<Expr>,
-        right: Box<Expr>,
+        left: Boxed<Expr>,
+        right: Boxed<Expr>,
     },
     Compare {
         op: CompareOp,
-        left: Box<Expr>,
-        right: Box<Expr>,
+        left: Boxed<Expr>,
+        right: Boxed<Expr>,
     },
     And(Exprs),
     Or(Exprs),
-    Not(Box<Expr>),
-    IsNull(Box<Expr>),
+    Not(Boxed<Expr>),
+    IsNull(Boxed<Expr>),
     InList {
-        value: Box<Expr>,
+        value: Boxed<Expr>,
         items: Exprs,
     },
     Case {
         whens: Whens,
-        otherwise: Option<Box<Expr>>,
+        otherwise: Option<Boxed<Expr>>,
     },
     Coalesce(Exprs),
     NullIf {
-        left: Box<Expr>,
-        right: Box<Expr>,
+        left: Boxed<Expr>,
+        right: Boxed<Expr>,
     },
     Cast {
-        value: Box<Expr>,
+        value: Boxed<Expr>,
         ty: Ty,
     },
     Concat {
-        left: Box<Expr>,
-        right: Box<Expr>,
+        left: Boxed<Expr>,
+        right: Boxed<Expr>,
     },
-    CharLength(Box<Expr>),
+    CharLength(Boxed<Expr>),
     Like {
-        value: Box<Expr>,
-        pattern: Box<Expr>,
+        value: Boxed<Expr>,
+        pattern: Boxed<Expr>,
     },
 }
 

@@ -9,7 +9,7 @@ ghost use Rattle.ct_expr.specs.Types.{scale, arith_ty, number_ty, is_number, is_
 use crate::values::is_null;
 use crate::{ArithOp, Expr, Exprs, Whens};
 use ct_field::{in_range, is_type};
-use ct_value::{ColTy, ColTys, Ty, Value};
+use ct_value::{Boxed, ColTy, ColTys, Ty, Value};
 
 // The decimals of a type.
 pub(crate) fn scale(ty: Ty) -> u32
@@ -190,8 +190,8 @@ pub(crate) fn result_ty(whens: &Whens) -> Ty
 }
 
 #[cycle(ty_of)]
-pub(crate) fn otherwise_ty(otherwise: &Option<Box<Expr>>, all: Ty) -> Ty
-    ensures { result ≡ otherwise_ty (optional_expr (option_map (λ x. expr_view x.value) otherwise.now)) all }
+pub(crate) fn otherwise_ty(otherwise: &Option<Boxed<Expr>>, all: Ty) -> Ty
+    ensures { result ≡ otherwise_ty (optional_expr (option_map expr_view otherwise.now)) all }
 {
     match otherwise {
         None => all,
@@ -503,11 +503,11 @@ fn with_result(all: Option<ColTy>, result_col: Option<ColTy>) -> Option<ColTy>
 // The type of results with that of the ELSE; without one NULL may come.
 #[cycle(type_of)]
 fn otherwise_of(
-    otherwise: &Option<Box<Expr>>,
+    otherwise: &Option<Boxed<Expr>>,
     cols: &ColTys,
     results: Option<ColTy>,
 ) -> Option<ColTy>
-    ensures { result ≡ t.otherwise_of (optional_expr (option_map (λ x. expr_view x.value) otherwise.now)) cols.now results }
+    ensures { result ≡ t.otherwise_of (optional_expr (option_map expr_view otherwise.now)) cols.now results }
 {
     match otherwise {
         None => Some(col(results?.ty, true)),

@@ -1,15 +1,15 @@
 // An expression over a row.
 use ct_expr::{Expr, Exprs, When, Whens, eval, type_of};
-use ct_value::{ColTy, ColTys, CompareOp, Memory, Row, Ty, Value, Values};
+use ct_value::{Boxed, ColTy, ColTys, CompareOp, Memory, Row, Ty, Value, Values};
 use std::alloc::Global;
 
-fn column(alloc: Global, col: u32) -> Result<Box<Expr>, Memory> {
-    Ok(Box::new(alloc, Expr::Column { col, ty: Ty::Int })?)
+fn column(alloc: Global, col: u32) -> Result<Boxed<Expr>, Memory> {
+    Ok(Boxed::new(alloc, Expr::Column { col, ty: Ty::Int })?)
 }
 
-fn number(alloc: Global, number: i128) -> Result<Box<Expr>, Memory> {
+fn number(alloc: Global, number: i128) -> Result<Boxed<Expr>, Memory> {
     let value = Value::Num(number);
-    Ok(Box::new(alloc, Expr::Literal { value, ty: Ty::Int })?)
+    Ok(Boxed::new(alloc, Expr::Literal { value, ty: Ty::Int })?)
 }
 
 // The first two columns are equal, and the third is above ten.
@@ -78,10 +78,10 @@ fn expressions_are_evaluated(rt: HostRuntime) {
 fn choice(alloc: Global) -> Result<Expr, Memory> {
     let mut whens = Whens::with_capacity(alloc, 1)?;
     whens.push(When {
-        cond: Expr::Not(Box::new(alloc, condition(alloc)?)?),
+        cond: Expr::Not(Boxed::new(alloc, condition(alloc)?)?),
         result: condition(alloc)?,
     })?;
-    let otherwise = Some(Box::new(alloc, condition(alloc)?)?);
+    let otherwise = Some(Boxed::new(alloc, condition(alloc)?)?);
     Ok(Expr::Case { whens, otherwise })
 }
 

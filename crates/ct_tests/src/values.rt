@@ -246,9 +246,11 @@ fn rows_are_cut_projected_and_widened(rt: HostRuntime) -> Result<(), Fail> {
 
 #[test]
 fn a_box_holds_what_was_put_in(rt: HostRuntime) -> Result<(), Fail> {
-    let boxed = Boxed::new(rt.alloc(), 7)?;
-    let held: u32 = boxed.into_inner();
-    assert!(rt; held == 7);
+    let boxed: Boxed<u32> = Boxed::new(rt.alloc(), 7)?;
+    let other: Boxed<u32> = Boxed::beside(&boxed, 8)?;
+    assert!(rt; *boxed == 7);
+    assert!(rt; Boxed::into_inner(boxed) == 7);
+    assert!(rt; Boxed::into_inner(other) == 8);
     Ok(())
 }
 

@@ -12,7 +12,7 @@ use bind_clauses::Relation;
 use bind_names::BindFault;
 use binder::{Bound, bind};
 use ct_catalog::Sources;
-use ct_value::{ScriptCode, Text};
+use ct_value::{Boxed, ScriptCode, Text};
 use rewrite::{Inserted, RewriteFault, to_rel};
 use sql_syntax::Query;
 use std::alloc::Global;
@@ -44,7 +44,7 @@ fn inserted(alloc: Global, bound: Bound<'_>) -> Result<Inserted, BindFault>
     } = bound;
     match to_rel(alloc, &query) {
         Ok(rel) => {
-            let rel = Box::new(alloc, rel)?;
+            let rel = Boxed::new(alloc, rel)?;
             let scope = query.columns;
             Ok(Inserted {
                 query: Relation { rel, scope },

@@ -14,29 +14,21 @@ use Rattle.binding.specs.Inserts.{Inserted, insert_bound}
 use Rattle.ct_catalog.specs.Columns.{column_types}
 use Rattle.phys_plan.specs.declared.plan.Plan.{Plan}
 use Rattle.plan_laying.specs.Faults.{lacks_table}
-use Rattle.plan_rules.specs.Seen.{plan_as_seen}
-use Rattle.plan_rules.specs.Phases.{Bundles}
 use Rattle.plan_rules.specs.Pieces.{Top, bare, plan_of_tree}
-use Rattle.plan_inferred.specs.declared.inferred.Inferred.{Inferred}
 use Rattle.plan_check.specs.declared.checked.CheckedPlan.{CheckedPlan}
 use Rattle.plan_check.specs.Checked.{plan_in}
 use Rattle.plan_check.specs.Sound.{inferred_of}
-use Rattle.planner.specs.Refusals.{refusal, sink_way}
+use Rattle.planner.specs.Refusals.{refusal}
 use Rattle.sound_plans.specs.Sound.{IsRuled}
 use Rattle.laid_plans.specs.Inferred.{with_inferred}
-use Rattle.job_plan.specs.Seen.{InferredAsSeen, PlansInferAsSeen, RefusedAsSeen, TakenAsSeen}
 use Rattle.planner.specs.declared.fault.PlannerFault.{PlannerFault}
-use Rattle.planner.specs.declared.fault.PlannerFault.TheVariants as fault
 use Rattle.planner.specs.Planned.{IsLaidPlan, Made, Refused, Planned, PlannedPlansAreRuled, Says, ToppedPlansAreLaidOut, made, made_by, sink_top}
 use Rattle.plan_laying.specs.Topped.{topped_plan}
-use Rattle.planner.specs.Tops.{top_by}
-use Rattle.planner.proofs.laws.Topped.{topped_seen}
 use Rattle.job_plan.specs.Inserts.{InsertsHaveLaidPlans}
 use Rattle.job_judgement.specs.Judged.{IsBound, IsJudged}
 use Rattle.job_judgement.specs.Judgement.{Accepted}
 use Rattle.job_plan.specs.Promises.{ScriptsArePlanned}
-use Rattle.job_plan.specs.Planned.{bundles_by, laid, mini_batch_of, planned_by}
-use Rattle.job_plan.specs.Views.{plan_view}
+use Rattle.job_plan.specs.Planned.{laid, mini_batch_of, planned_by}
 
 -- ---- the plan that is laid
 
@@ -57,8 +49,8 @@ module _ (script : Accepted) (bound : IsBound script) where
       have script.inserted.sources script.inserted.query.rel (types script.inserted.query.scope)
       (of_ok (insert_bound script.catalogue.tables bound.table script.query) script.inserted (λ b. columns_of (map column_types b.sources) b.query.rel ≡ Some (types b.query.scope)) bound.bound (typed script.catalogue.tables bound.table script.query))
 
-  -- a plan that is the definition's, as it is seen
-  pub laid_well : InsertsHaveLaidPlans → (plan : Plan) → plan_as_seen plan ≡ laid script → IsLaidPlan plan script.inserted.query.rel
+  -- a plan that is the definition's
+  pub laid_well : InsertsHaveLaidPlans → (plan : Plan) → plan ≡ laid script → IsLaidPlan plan script.inserted.query.rel
   laid_well inserts plan is =
       let sources : plan.sources ≡ script.inserted.sources = ap (λ (p : Plan). p.sources) is in
       let sink : plan.sink ≡ script.inserted.sink = ap (λ (p : Plan). p.sink) is in
@@ -78,39 +70,12 @@ module _ (script : Accepted) (bound : IsBound script) where
 
 -- ---- what the planner makes of it
 
-abbrev made_seen : Made → Made
-made_seen (Refused code) = Refused code
-made_seen (Planned plan) = Planned (plan_as_seen plan)
+module _ (script : Accepted) (plan : Plan) (is : plan ≡ laid script) (setting : Materialize) where
+  pub answers : (r : Result CheckedPlan PlannerFault) → IfOk r (λ checked. made plan setting ≡ Planned (plan_in checked)) → IfOk r (λ checked. made (laid script) setting ≡ Planned (plan_in checked))
+  answers r e = subst (λ (p : Plan). IfOk r (λ checked. made p setting ≡ Planned (plan_in checked))) is e
 
-module _ (infers : PlansInferAsSeen) (with : InferredAsSeen) (refuses : RefusedAsSeen) (takes : TakenAsSeen) where
-  seen_by : (plan : Plan) (code : Option ScriptCode) (top : Top) → made_by (plan_as_seen plan) code top ≡ made_seen (made_by plan code top)
-  seen_by plan (Some code) top = refl
-  seen_by plan None top = ap (λ (p : Plan). Planned (with_inferred p)) (topped_seen top plan) ∙ ap Planned (with (topped_plan top plan))
-
-  made_as_seen : (plan : Plan) (setting : Materialize) → made (plan_as_seen plan) setting ≡ made_seen (made plan setting)
-  made_as_seen plan setting =
-      let code : refusal (inferred_of (plan_as_seen plan)) (plan_as_seen plan) setting ≡ refusal (inferred_of plan) plan setting =
-      ap (λ (i : Inferred). refusal i (plan_as_seen plan) setting) (infers plan) ∙ refuses (inferred_of plan) plan setting in
-      let way : sink_way (inferred_of (plan_as_seen plan)) (plan_as_seen plan) setting ≡ sink_way (inferred_of plan) plan setting =
-      ap (λ (i : Inferred). sink_way i (plan_as_seen plan) setting) (infers plan) ∙ takes (inferred_of plan) plan setting in
-      (λ i. made_by (plan_as_seen plan) (code i) (top_by (way i) plan.sink.key)) ∙ seen_by plan (refusal (inferred_of plan) plan setting) (sink_top plan setting)
-
-  -- so it makes of the definition's what it makes of the code's
-  made_of : (script : Accepted) (plan : Plan) → plan_as_seen plan ≡ laid script → (setting : Materialize) → made (laid script) setting ≡ made_seen (made plan setting)
-  made_of script plan is setting = ap (λ (p : Plan). made p setting) (sym is) ∙ made_as_seen plan setting
-
-  module _ (script : Accepted) (plan : Plan) (is : plan_as_seen plan ≡ laid script) (setting : Materialize) where
-    pub answers : (r : Result CheckedPlan PlannerFault) → IfOk r (λ checked. made plan setting ≡ Planned (plan_in checked)) → IfOk r (λ checked. made (laid script) setting ≡ Planned (plan_view checked))
-    answers (Ok checked) e = made_of script plan is setting ∙ ap made_seen e
-    answers (Err f) e = tt
-
-    says_seen : (f : PlannerFault) → Says (made plan setting) f → Says (made (laid script) setting) f
-    says_seen (fault.Refused code) e = made_of script plan is setting ∙ ap made_seen e
-    says_seen fault.Memory e = tt
-
-    pub faults : (r : Result CheckedPlan PlannerFault) → IfErr r (λ f. Says (made plan setting) f) → IfErr r (λ f. Says (made (laid script) setting) f)
-    faults (Ok checked) e = tt
-    faults (Err f) e = says_seen f e
+  pub faults : (r : Result CheckedPlan PlannerFault) → IfErr r (λ f. Says (made plan setting) f) → IfErr r (λ f. Says (made (laid script) setting) f)
+  faults r e = subst (λ (p : Plan). IfErr r (λ f. Says (made p setting) f)) is e
 
 pub ruled : PlannedPlansAreRuled → (script : Accepted) (plan : Plan) → IsLaidPlan plan script.inserted.query.rel → (setting : Materialize) (r : Result CheckedPlan PlannerFault)
     → IfOk r (λ checked. made plan setting ≡ Planned (plan_in checked)) → IfOk r (λ checked. IsRuled (plan_in checked))
@@ -118,9 +83,6 @@ ruled planned script plan is setting (Ok checked) e = planned plan script.insert
 ruled planned script plan is setting (Err f) e = tt
 
 -- ---- the law
-
-abbrev pub PlansOfTreesAreSeen : Type 0
-PlansOfTreesAreSeen = (sources : List TableDef) (sink : TableDef) (parallelism : ℕ) (b : Bundles) (top : Top) (rel : Rel) → plan_as_seen (plan_of_tree sources sink parallelism b top rel) ≡ plan_of_tree sources sink parallelism b top rel
 
 of_planned : (statement : ℕ) (m : Made) (plan : Plan) → planned_by statement m ≡ Ok plan → m ≡ Planned plan
 of_planned statement (Refused code) plan e = absurd (cc (e))
@@ -130,12 +92,12 @@ inferred_is : (p plan : Plan) (code : Option ScriptCode) (top : Top) → made_by
 inferred_is p plan (Some code) top e = absurd (cc)
 inferred_is p plan None top e = sym (let same : with_inferred (topped_plan top p) ≡ plan = cc (e) in same)
 
-pub are_planned : ((script : Accepted) → IsJudged script → IsBound script) → InsertsHaveLaidPlans → PlannedPlansAreRuled → ToppedPlansAreLaidOut → PlansOfTreesAreSeen → ScriptsArePlanned
-are_planned bound inserts rules tops seen script judged plan e =
+pub are_planned : ((script : Accepted) → IsJudged script → IsBound script) → InsertsHaveLaidPlans → PlannedPlansAreRuled → ToppedPlansAreLaidOut → ScriptsArePlanned
+are_planned bound inserts rules tops script judged plan e =
     let b = bound script judged in
     let setting = script.catalogue.settings.materialize in
     let m : made (laid script) setting ≡ Planned plan = of_planned script.statement (made (laid script) setting) plan e in
-    let well = laid_well script b inserts (laid script) (seen script.inserted.sources script.inserted.sink script.catalogue.settings.parallelism (bundles_by script.catalogue.settings) bare script.inserted.query.rel) in
+    let well = laid_well script b inserts (laid script) refl in
     record {
       laid_well = well;
       laid_out = tops (laid script) script.inserted.query.rel setting well;

@@ -3,13 +3,11 @@ ghost use Rattle.std.specs.Prelude.{◌≡◌, Ok, IfOk, IfErr};
 ghost use Rattle.plan_check.specs.declared.checked.CheckedPlan.{CheckedPlan};
 ghost use Rattle.plan_check.specs.Checked.{plan_in};
 ghost use Rattle.sound_plans.specs.Sound.{IsRuled};
-ghost use Rattle.plan_rules.specs.Seen.{plan_as_seen};
 ghost use Rattle.planner.specs.Planned.{Planned, Says, made};
 ghost use Rattle.job_judgement.specs.Halts.{IsHalt};
 ghost use Rattle.job_judgement.specs.Judged.{IsJudged};
 ghost use Rattle.job_judgement.specs.Views.{accepted_view};
 ghost use Rattle.job_plan.specs.Planned.{laid, mini_batch_of, planned};
-ghost use Rattle.job_plan.specs.Views.{plan_view};
 
 use ct_catalog::Settings;
 use ct_value::{Memory, ScriptCode};
@@ -24,7 +22,7 @@ use std::alloc::Global;
 /// The plan of an accepted script. The script is refused at its statement by the first of the planner's refusals.
 pub fn planned(alloc: Global, script: &Accepted) -> Result<CheckedPlan, Halt>
     requires judged { IsJudged (accepted_view script.now) }
-    ensures ok { IfOk result (λ checked. planned (accepted_view script.now) ≡ Ok (plan_view checked)) }
+    ensures ok { IfOk result (λ checked. planned (accepted_view script.now) ≡ Ok (plan_in checked)) }
     ensures ruled { IfOk result (λ checked. IsRuled (plan_in checked)) }
     ensures halts { IfErr result (λ halt. IsHalt halt (planned (accepted_view script.now))) }
 {
@@ -38,7 +36,7 @@ pub fn planned(alloc: Global, script: &Accepted) -> Result<CheckedPlan, Halt>
 // What the planner makes of the plan that is laid of the script's query.
 fn made(alloc: Global, script: &Accepted) -> Result<CheckedPlan, PlannerFault>
     requires judged { IsJudged (accepted_view script.now) }
-    ensures planned { IfOk result (λ checked. made (laid (accepted_view script.now)) (accepted_view script.now).catalogue.settings.materialize ≡ Planned (plan_view checked)) }
+    ensures planned { IfOk result (λ checked. made (laid (accepted_view script.now)) (accepted_view script.now).catalogue.settings.materialize ≡ Planned (plan_in checked)) }
     ensures ruled { IfOk result (λ checked. IsRuled (plan_in checked)) }
     ensures fault { IfErr result (λ fault. Says (made (laid (accepted_view script.now)) (accepted_view script.now).catalogue.settings.materialize) fault) }
 {
@@ -46,10 +44,10 @@ fn made(alloc: Global, script: &Accepted) -> Result<CheckedPlan, PlannerFault>
     plan(alloc, laid, script.catalog.settings().materialize)
 }
 
-// The plan that is laid of the script's query, wherever the parts of its expressions lie.
+// The plan that is laid of the script's query.
 fn laid_of(alloc: Global, script: &Accepted) -> Result<Plan, Memory>
     requires judged { IsJudged (accepted_view script.now) }
-    ensures { IfOk result (λ plan. plan_as_seen plan ≡ laid (accepted_view script.now)) }
+    ensures { IfOk result (λ plan. plan ≡ laid (accepted_view script.now)) }
 {
     let sources = script.inserted.sources.dup()?;
     let sink = script.inserted.sink.dup()?;

@@ -10,6 +10,7 @@ ghost use Rattle.job_stream.specs.Writing.{HandsOut, HaltsMoving, MayHandOut, Ma
 use crate::lines::{PutFault, put_items};
 use crate::sheet::{Sheet, Tools};
 use ct_io::Sink;
+use ct_value::Boxed;
 use exec_core::Session;
 use job_ending::{Halt, LimitName};
 use session_core::Lane;
@@ -56,8 +57,8 @@ pub(crate) fn halt_of(cause: StepFault) -> Halt
         } => Halt::Range {
             node,
             subtask,
-            row: row.into_inner(),
-            tys: tys.into_inner(),
+            row: Boxed::into_inner(row),
+            tys: Boxed::into_inner(tys),
         },
         StepFault::Limit => Halt::Limit(LimitName::Sent),
         StepFault::Memory => Halt::Memory,

@@ -13,7 +13,6 @@ pub mod Placed
 pub mod Places
 pub mod Plans
 pub mod Same
-pub mod SeenTrees
 pub mod Segments
 pub mod Sent
 pub mod Shapes

@@ -11,7 +11,6 @@ use Rattle.phys_plan.specs.declared.plan.Rule.TheVariants as rule
 use Rattle.phys_plan.specs.Reading.{numbered}
 use Rattle.ct_catalog.specs.Columns.{column_types}
 use Rattle.plan_rules.specs.Pieces.{Top, bare, shown, plan_of_tree}
-use Rattle.plan_rules.specs.Seen.{plan_as_seen}
 use Rattle.plan_shape.specs.Shape.{is_sink_key}
 use Rattle.plan_shape.specs.Tables.{are_tables}
 use Rattle.plan_check.specs.Sound.{Meets}
@@ -33,9 +32,9 @@ SuitsTop sink (shown key) = is_sink_key sink key sink.key ≡ true
 abbrev pub bundles_in : Plan → Bool → Bundles
 bundles_in plan two_phase = record { size = plan.mini_batch; two_phase = two_phase }
 
--- as it is seen, it is the tree's plan over its tables, into its sink, in as many subtasks and bundles as large, with this before the sink
+-- it is the tree's plan over its tables, into its sink, in as many subtasks and bundles as large, with this before the sink
 abbrev pub IsLaidWith : Bool → Top → Plan → Rel → Type 0
-IsLaidWith two_phase top plan rel = plan_as_seen plan ≡ plan_of_tree plan.sources plan.sink plan.parallelism (bundles_in plan two_phase) top rel
+IsLaidWith two_phase top plan rel = plan ≡ plan_of_tree plan.sources plan.sink plan.parallelism (bundles_in plan two_phase) top rel
 
 -- and that suits its table
 pub record IsLaidOut (plan : Plan) (rel : Rel) : Type 0 where

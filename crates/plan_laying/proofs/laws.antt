@@ -1,8 +1,11 @@
 pub mod Answered
+pub mod Copies
 pub mod Laid
 pub mod LastEdges
 pub mod LastPieces
 pub mod Phased
+pub mod Resent
 pub mod Several
+pub mod Stands
 pub mod TypedTrees
 pub mod Ways

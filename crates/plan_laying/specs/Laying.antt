@@ -1,22 +1,17 @@
 -- What is laid of a plan, and what a tree adds to it.
 use Rattle.std.specs.Prelude.{◌≡◌, ℕ, ◌+◌, false, true, List, [], ◌∷◌, ◌++◌, length, map, ⊤}
 use Rattle.ct_change.specs.declared.kind.KindSet.{KindSet}
-use Rattle.rel_algebra.specs.declared.agg.Agg.{Agg}
 use Rattle.rel_algebra.specs.Rel.{Rel, Rels, Scan, One, Two, Many}
-use Rattle.column_sets.specs.Places.{first_columns}
 use Rattle.mode_infer.specs.declared.kinds.Flow.{Flow}
-use Rattle.mode_infer.specs.Kinds.{flow_of, group_kinds, inserts, sent_of}
+use Rattle.mode_infer.specs.Kinds.{asked, by_columns, flow_of, plain, sent_of}
 use Rattle.phys_plan.specs.declared.edge.Exchange.{Exchange}
-use Rattle.phys_plan.specs.declared.edge.Exchange.TheVariants.{Forward, Hash}
+use Rattle.phys_plan.specs.declared.edge.Exchange.TheVariants.{Forward}
 use Rattle.ct_change.specs.declared.update.Update.{Update}
 use Rattle.ct_change.specs.declared.update.Update.TheVariants.{Both}
 use Rattle.phys_plan.specs.declared.node.Op.{Op}
-use Rattle.phys_plan.specs.declared.node.Op.TheVariants as op
 use Rattle.plan_rules.specs.Phases.{Bundles}
 use Rattle.plan_rules.specs.TreeKinds.{tree_kinds, trees_kinds}
 use Rattle.plan_rules.specs.Pieces.{Piece, node_of, edge_of, pieces_of, pieces_of_all, roots_of, nodes_in, edges_in}
-use Rattle.plan_rules.specs.Roles.{unary_way, binary_way}
-use Rattle.plan_rules.specs.Seen.{op_as_seen, node_as_seen}
 use Rattle.plan_laying.specs.declared.laying_fault.LayingFault.{LayingFault}
 use Rattle.plan_laying.specs.declared.laying_fault.LayingFault.TheVariants.{NoTable, Memory}
 use Rattle.plan_laying.specs.declared.laying.Laid.{Laid}
@@ -43,34 +38,33 @@ pub record Sends (old new : Laying) (op : Op) (inputs : List ℕ) (flows : List 
   pub kinds_are : laid.kinds ≡ (flow_of old.sources op flows).sent
   pub pushed : Pushed old new op inputs exchange laid.kinds Both laid.root
 
--- the same of one whose operator is seen so
-abbrev pub PushedAs : Laying → Laying → Op → List ℕ → List Flow → Exchange → Laid → Type 0
-PushedAs old new seen inputs flows exchange laid = (o : Op) × (op_as_seen o ≡ seen) × Sends old new o inputs flows exchange laid
-
--- the last edge becomes a forward edge
-pub record Forwards (old new : Laying) : Type 0 where
+-- the last edge goes by this exchange
+pub record Resent (exchange : Exchange) (old new : Laying) : Type 0 where
   pub sources : new.sources ≡ old.sources
   pub bundles : bundles_of new ≡ bundles_of old
   pub nodes : new.nodes ≡ old.nodes
-  pub edges : new.edges ≡ send_last Forward old.edges
+  pub edges : new.edges ≡ send_last exchange old.edges
 
--- a local group over the last node, which sends its rows forward, and over it the group that merges its partial rows
-pub record Phased (old new : Laying) (below : Laid) (keys : ℕ) (aggs : List Agg) (exchange : Exchange) (laid : Laid) : Type 0 where
+-- an operator over the last node, whose edge goes as the operator asks
+pub record Above (old new : Laying) (below : Laid) (op : Op) (laid : Laid) : Type 0 where
   pub ahead : Laying
+  pub resent : Resent (by_columns (asked op 0)) old ahead
+  pub sends : Sends ahead new op (below.root ∷ []) (plain below.kinds ∷ []) Forward laid
+
+-- a local group over the last node, whose edge goes as the group over it asks, and that group, which merges its partial rows
+pub record Phased (old new : Laying) (below : Laid) (local op : Op) (laid : Laid) : Type 0 where
   pub middle : Laying
-  pub local : ℕ
-  pub forwards : Forwards old ahead
-  pub summed : Pushed ahead middle (op.LocalGroup keys aggs) (below.root ∷ []) (Hash (first_columns keys)) inserts Both local
-  pub merged : Pushed middle new (op.BatchGroup keys aggs) (local ∷ []) exchange laid.kinds Both laid.root
-  pub kinds_are : laid.kinds ≡ group_kinds keys aggs below.kinds
+  pub part : Laid
+  pub summed : Sends old middle local (below.root ∷ []) (plain below.kinds ∷ []) (by_columns (asked op 0)) part
+  pub merged : Sends middle new op (part.root ∷ []) (record { sent = part.kinds; meant = below.kinds } ∷ []) Forward laid
 
 -- ---- a tree
 
--- these pieces are laid behind what was laid, as they are seen
+-- these pieces are laid behind what was laid
 pub record Adds (old new : Laying) (pieces : List Piece) : Type 0 where
   pub sources : new.sources ≡ old.sources
   pub bundles : bundles_of new ≡ bundles_of old
-  pub nodes : map node_as_seen new.nodes ≡ map node_as_seen old.nodes ++ nodes_in pieces
+  pub nodes : new.nodes ≡ old.nodes ++ nodes_in pieces
   pub edges : new.edges ≡ old.edges ++ edges_in pieces
 
 -- a tree is laid behind what was laid, up to its root, for a consumer that asks for this exchange
@@ -87,16 +81,16 @@ pub record LaysAll (old new : Laying) (inputs : Rels) (roots : List ℕ) (flows 
   pub send : map sent_of flows ≡ trees_kinds old.sources inputs
   pub tables : any_lacks old.sources inputs ≡ false
 
--- what is laid of a tree once its first input is, up to this node: nothing where it has none
+-- what is laid of a tree once its first input is, up to this node, which sends its rows forward: nothing where it has none
 abbrev pub Begun : Laying → Laying → Laid → Rel → Type 0
 Begun old mid below (Scan source) = old ≡ mid
-Begun old mid below (One how input) = Lays old mid (unary_way how).asks input below
-Begun old mid below (Two how left right) = Lays old mid (binary_way how).left left below
+Begun old mid below (One how input) = Lays old mid Forward input below
+Begun old mid below (Two how left right) = Lays old mid Forward left below
 Begun old mid below (Many inputs) = old ≡ mid
 
--- the rest of it is laid behind its first input
-pub record Tops (mid new : Laying) (below : Laid) (exchange : Exchange) (rel : Rel) (laid : Laid) : Type 0 where
-  pub tops : (old : Laying) → Begun old mid below rel → Lays old new exchange rel laid
+-- the rest of it is laid behind its first input, and its root sends its rows forward
+pub record Tops (mid new : Laying) (below : Laid) (rel : Rel) (laid : Laid) : Type 0 where
+  pub tops : (old : Laying) → Begun old mid below rel → Lays old new Forward rel laid
 
 -- ---- what stands before the sink
 

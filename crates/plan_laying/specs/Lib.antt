@@ -1,4 +1,5 @@
 pub mod Faults
 pub mod Laying
+pub mod Steps
 pub mod Topped
 pub mod Ways

@@ -5,7 +5,7 @@ ghost use Rattle.phys_plan.specs.declared.edge.Exchange.TheVariants.{Forward as 
 ghost use Rattle.ct_change.specs.declared.update.Update.TheVariants.{Absent as NoUpdate, After as AfterKey};
 ghost use Rattle.phys_plan.specs.declared.node.Op.TheVariants as op;
 ghost use Rattle.mode_infer.specs.Kinds as k;
-ghost use Rattle.plan_laying.specs.Laying.{Forwards, Pushed, Sends, Shows};
+ghost use Rattle.plan_laying.specs.Laying.{Pushed, Sends, Shows};
 
 use crate::laying_fault::LayingFault;
 use crate::parts::{all_kinds, no_keys, two_numbers, upsert_kinds};
@@ -124,23 +124,6 @@ impl Laying {
         flows.push(plain(left.kinds))?;
         flows.push(plain(right.kinds))?;
         self.push_sending(op, inputs, flows.as_slice(), exchange)
-    }
-
-    // The last edge becomes a forward edge.
-    #[tactic(auto, using(crate::proofs::laws::LastEdges::forwards))]
-    pub(crate) fn forward_last(&mut self) -> Result<(), LayingFault>
-        ensures forwards { OnOk result (Forwards self.old self.new) }
-        ensures full { IfErr result (λ fault. fault ≡ LayingFault.Memory) }
-    {
-        let Some(edge) = self.edges.pop() else {
-            return Ok(());
-        };
-        self.edges.push(Edge {
-            exchange: Exchange::Forward,
-            kinds: edge.kinds,
-            update: edge.update,
-        })?;
-        Ok(())
     }
 
     // A scan whose edge is after-only by a key, and hashed by it.

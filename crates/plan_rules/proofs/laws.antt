@@ -5,5 +5,4 @@ pub mod Columns
 pub mod Erasing
 pub mod Numbers
 pub mod Reading
-pub mod Seen
 pub mod Theorems

@@ -9,4 +9,3 @@ pub mod Pieces
 pub mod Plans
 pub mod Roles
 pub mod TreeKinds
-pub mod Seen

@@ -2,7 +2,7 @@
 
 use crate::{Aggs, JoinKind, Pairs, Sorts};
 use ct_expr::{Expr, Exprs};
-use ct_value::{Cols, List};
+use ct_value::{Boxed, Cols, List};
 
 /// A query as a tree of the relational algebra. Columns are counted from 0, and those of two inputs stand side by side, the left's
 /// first.
@@ -14,12 +14,12 @@ pub enum Rel {
     },
     /// The rows on which the condition is TRUE.
     Filter {
-        input: Box<Rel>,
+        input: Boxed<Rel>,
         cond: Expr,
     },
     /// For each row, the values of the items.
     Project {
-        input: Box<Rel>,
+        input: Boxed<Rel>,
         items: Exprs,
     },
     /// The rows of all inputs.
@@ -28,22 +28,22 @@ pub enum Rel {
     },
     /// A row for each group of rows that agree on the first `keys` columns: these, then the aggregates.
     Group {
-        input: Box<Rel>,
+        input: Boxed<Rel>,
         keys: u32,
         aggs: Aggs,
     },
     /// The pairs of rows that agree on `on` and on which `rest` is TRUE.
     Join {
-        left: Box<Rel>,
-        right: Box<Rel>,
+        left: Boxed<Rel>,
+        right: Boxed<Rel>,
         kind: JoinKind,
         on: Pairs,
         rest: Option<Expr>,
     },
     /// The rows of the left that have such a match on the right, or with `anti` those that have none.
     Semi {
-        left: Box<Rel>,
-        right: Box<Rel>,
+        left: Boxed<Rel>,
+        right: Boxed<Rel>,
         anti: bool,
         on: Pairs,
         rest: Option<Expr>,
@@ -51,15 +51,15 @@ pub enum Rel {
     /// The rows of the left that aren't on the right, or without `except` those that both have; with `all` each copy counts, and
     /// else each row stands once. Both have so many columns.
     SetOp {
-        left: Box<Rel>,
-        right: Box<Rel>,
+        left: Boxed<Rel>,
+        right: Boxed<Rel>,
         except: bool,
         all: bool,
         columns: u32,
     },
     /// The first `bound` rows of each partition, `ranked` with their ranks as the last column.
     Rank {
-        input: Box<Rel>,
+        input: Boxed<Rel>,
         partition: Cols,
         order: Sorts,
         bound: u32,
@@ -76,11 +76,11 @@ impl Drop for Rel {
                 Rel::Scan { source: _source } => return,
                 Rel::Filter { input, cond } => {
                     drop(cond);
-                    self = Box::into_inner(input);
+                    self = Boxed::into_inner(input);
                 }
                 Rel::Project { input, items } => {
                     drop(items);
-                    self = Box::into_inner(input);
+                    self = Boxed::into_inner(input);
                 }
                 Rel::Union { inputs } => {
                     drop(inputs);
@@ -92,7 +92,7 @@ impl Drop for Rel {
                     aggs,
                 } => {
                     drop(aggs);
-                    self = Box::into_inner(input);
+                    self = Boxed::into_inner(input);
                 }
                 Rel::Join {
                     left,
@@ -104,7 +104,7 @@ impl Drop for Rel {
                     drop(right);
                     drop(on);
                     drop(rest);
-                    self = Box::into_inner(left);
+                    self = Boxed::into_inner(left);
                 }
                 Rel::Semi {
                     left,
@@ -116,7 +116,7 @@ impl Drop for Rel {
                     drop(right);
                     drop(on);
                     drop(rest);
-                    self = Box::into_inner(left);
+                    self = Boxed::into_inner(left);
                 }
                 Rel::SetOp {
                     left,
@@ -126,7 +126,7 @@ impl Drop for Rel {
                     columns: _columns,
                 } => {
                     drop(right);
-                    self = Box::into_inner(left);
+                    self = Boxed::into_inner(left);
                 }
                 Rel::Rank {
                     input,
@@ -137,7 +137,7 @@ impl Drop for Rel {
                 } => {
                     drop(partition);
                     drop(order);
-                    self = Box::into_inner(input);
+                    self = Boxed::into_inner(input);
                 }
             }
         }

@@ -9,6 +9,7 @@ ghost use Rattle.rewrite.specs.declared.fault.RewriteFault.TheVariants as f;
 use crate::fault::RewriteFault;
 use bind_names::BindFault;
 use binder::{BoundQuery, bind_query};
+use ct_value::Boxed;
 use rel_algebra::Rel;
 use std::alloc::Global;
 
@@ -19,7 +20,7 @@ pub fn to_rel(alloc: Global, query: &BoundQuery<'_>) -> Result<Rel, RewriteFault
     ensures unbounded { IsErrOf result f.Unbounded → rewritten (bound_query_view query.now) ≡ Err RankUnbounded }
 {
     match bind_query(alloc, false, &query.tables, query.query) {
-        Ok(relation) => Ok(Box::into_inner(relation.rel)),
+        Ok(relation) => Ok(Boxed::into_inner(relation.rel)),
         Err(BindFault::Refused(_)) => Err(RewriteFault::Unbounded),
         Err(BindFault::Memory) => Err(RewriteFault::Memory),
     }

@@ -26,7 +26,6 @@ use Rattle.stream_model.specs.declared.events.Event.TheVariants.{Flush}
 use Rattle.stream_model.specs.Drain.{drain_stages, delivers}
 use Rattle.run_examples.specs.Worked.{take, move, printed_by}
 use Rattle.plan_rules.specs.Pieces.{bare, shown, plan_of_tree}
-use Rattle.plan_rules.specs.Seen.{plan_as_seen}
 use Rattle.run_examples.specs.Planned.{word_table, count_table, counts, counts_rel, word_counts, shown_counts, bundled_counts, in_bundles, a_word, a_comes, twice, counted, word_gone, CountsAsWorked, ShownAsWorked, BundledAsWorked}
 
 abbrev g : Network
@@ -169,19 +168,19 @@ printed_bundled =
 
 -- ---- the plans
 
-is_plan : plan_as_seen counts ≡ plan_of_tree (word_table ∷ []) count_table 1 (in_bundles 0) bare counts_rel
+is_plan : counts ≡ plan_of_tree (word_table ∷ []) count_table 1 (in_bundles 0) bare counts_rel
 is_plan = refl
 
 pub counts_as_worked : CountsAsWorked
 counts_as_worked = record { is_plan = is_plan; printed = printed }
 
-is_shown_plan : plan_as_seen shown_counts ≡ plan_of_tree (word_table ∷ []) word_counts 1 (in_bundles 0) (shown (0 ∷ [])) counts_rel
+is_shown_plan : shown_counts ≡ plan_of_tree (word_table ∷ []) word_counts 1 (in_bundles 0) (shown (0 ∷ [])) counts_rel
 is_shown_plan = refl
 
 pub shown_as_worked : ShownAsWorked
 shown_as_worked = record { is_plan = is_shown_plan; printed = printed_there }
 
-is_bundled_plan : plan_as_seen bundled_counts ≡ plan_of_tree (word_table ∷ []) count_table 1 (in_bundles 1000) bare counts_rel
+is_bundled_plan : bundled_counts ≡ plan_of_tree (word_table ∷ []) count_table 1 (in_bundles 1000) bare counts_rel
 is_bundled_plan = refl
 
 pub bundled_as_worked : BundledAsWorked

@@ -22,7 +22,6 @@ use Rattle.phys_plan.specs.declared.plan.Plan.{Plan}
 use Rattle.mode_infer.specs.Kinds.{kind_set}
 use Rattle.plan_rules.specs.Phases.{Bundles}
 use Rattle.plan_rules.specs.Pieces.{bare, shown, plan_of_tree}
-use Rattle.plan_rules.specs.Seen.{plan_as_seen}
 use Rattle.phys_plan.specs.Reading.{no_keys}
 use Rattle.plan_rules.specs.Doings.{network}
 use Rattle.stream_model.specs.declared.events.PrintItem.TheVariants.{Change as Printed, Quiet}
@@ -131,7 +130,7 @@ abbrev pub counted : Kind → ℕ → Change
 counted kind n = record { kind = kind; row = a_word ++ Num (pos n) ∷ [] }
 
 pub record CountsAsWorked : Type 0 where
-  pub is_plan : plan_as_seen counts ≡ plan_of_tree (word_table ∷ []) count_table 1 (in_bundles 0) bare counts_rel
+  pub is_plan : counts ≡ plan_of_tree (word_table ∷ []) count_table 1 (in_bundles 0) bare counts_rel
   -- the first count, and then the second in its place
   pub printed : printed_by (network counts) twice ≡ Printed (counted I 1) ∷ Printed (counted UB 1) ∷ Printed (counted UA 2) ∷ Quiet (2 ∷ []) ∷ []
 
@@ -140,11 +139,11 @@ abbrev pub word_gone : Change
 word_gone = record { kind = D; row = a_word ++ Null ∷ [] }
 
 pub record ShownAsWorked : Type 0 where
-  pub is_plan : plan_as_seen shown_counts ≡ plan_of_tree (word_table ∷ []) word_counts 1 (in_bundles 0) (shown (0 ∷ [])) counts_rel
+  pub is_plan : shown_counts ≡ plan_of_tree (word_table ∷ []) word_counts 1 (in_bundles 0) (shown (0 ∷ [])) counts_rel
   -- the first count, which goes before the second comes
   pub printed : printed_by (network shown_counts) twice ≡ Printed (counted I 1) ∷ Printed word_gone ∷ Printed (counted I 2) ∷ Quiet (2 ∷ []) ∷ []
 
 pub record BundledAsWorked : Type 0 where
-  pub is_plan : plan_as_seen bundled_counts ≡ plan_of_tree (word_table ∷ []) count_table 1 (in_bundles 1000) bare counts_rel
+  pub is_plan : bundled_counts ≡ plan_of_tree (word_table ∷ []) count_table 1 (in_bundles 1000) bare counts_rel
   -- both rows are one change of the group
   pub printed : printed_by (network bundled_counts) twice ≡ Printed (counted I 2) ∷ Quiet (2 ∷ []) ∷ []

@@ -13,8 +13,8 @@ use Rattle.session_open.specs.Modes.{mode_in}
 use Rattle.session_open.specs.Running.{IsNew, IsOperatorBy}
 
 -- the join of two inputs, in a shape
-abbrev pub joined : Shape → List Pair → Option Expr → Input × Input → Joining
-joined shape on rest sides = record { shape = shape; on = on; rest = rest; left_columns = sides.0.types; right_columns = sides.1.types; left = mode_in sides.0.mode; right = mode_in sides.1.mode }
+abbrev pub joining_of : Shape → List Pair → Option Expr → Input × Input → Joining
+joining_of shape on rest sides = record { shape = shape; on = on; rest = rest; left_columns = sides.0.types; right_columns = sides.1.types; left = mode_in sides.0.mode; right = mode_in sides.1.mode }
 
 -- one that runs by a rule and took nothing
 abbrev pub IsNewOperator : AnyOperator → Rule → Type 0

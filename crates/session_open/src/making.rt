@@ -21,7 +21,7 @@ ghost use Rattle.phase_rules.specs.Merging.{merge_rule};
 ghost use Rattle.op_merge.specs.Groups.{CanMerge};
 ghost use Rattle.plan_rules.specs.Plans.{bundle_of, update_in};
 ghost use Rattle.plan_rules.specs.Doings.{around_of};
-ghost use Rattle.session_open.specs.Made.{IsMadeBy, IsNewOperator, joined};
+ghost use Rattle.session_open.specs.Made.{IsMadeBy, IsNewOperator, joining_of};
 ghost use Rattle.session_open.specs.Modes.{mode_in};
 ghost use Rattle.session_open.specs.Running.{IsBuiltPlan, second_input};
 
@@ -240,7 +240,7 @@ fn join_by(
     on: &Pairs,
     rest: &Option<Expr>,
 ) -> Result<AnyOperator, Memory>
-    ensures { IfOk result (λ made. IsNewOperator made (join_rule (joined (joins kind) on.now (option_map expr_view rest.now) sides))) }
+    ensures { IfOk result (λ made. IsNewOperator made (join_rule (joining_of (joins kind) on.now (option_map expr_view rest.now) sides))) }
 {
     let (left, right) = sides;
     let (on, rest) = (on.dup()?, dup_rest(rest)?);
@@ -264,7 +264,7 @@ fn semi_by(
     on: &Pairs,
     rest: &Option<Expr>,
 ) -> Result<AnyOperator, Memory>
-    ensures { IfOk result (λ made. IsNewOperator made (join_rule (joined (matched anti) on.now (option_map expr_view rest.now) sides))) }
+    ensures { IfOk result (λ made. IsNewOperator made (join_rule (joining_of (matched anti) on.now (option_map expr_view rest.now) sides))) }
 {
     let (left, right) = sides;
     let (on, rest) = (on.dup()?, dup_rest(rest)?);

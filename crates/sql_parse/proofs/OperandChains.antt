@@ -1,7 +1,5 @@
 -- The node of a chain, by whether its first operand is alone.
 use Rattle.std.proofs.Common.{◌≡◌, true, false, ◌==◌, List, [], ◌∷◌, length, refl, arith}
-use Rattle.std.specs.Prelude.{Box}
-use Rattle.std.specs.declared.alloc.Global.{Global}
 use Rattle.sql_syntax.specs.declared.tree.ProductTail.{ProductTail}
 use Rattle.sql_syntax.specs.declared.tree.SumTail.{SumTail}
 use Rattle.sql_syntax.specs.declared.tree.Tree.{Tree}
@@ -17,7 +15,7 @@ pub sum_alone : (u : Tree) (xs : List SumTail) → (length xs == 0) ≡ true →
 sum_alone u [] e = refl
 sum_alone u (x ∷ xs) e = absurd (filled x xs e)
 
-pub sum_more : (u : Box Tree Global) (xs : List SumTail) → (length xs == 0) ≡ false → view (trees.Sum u xs) ≡ sum_node (view u.value) (sum_tails_view xs)
+pub sum_more : (u : Tree) (xs : List SumTail) → (length xs == 0) ≡ false → view (trees.Sum u xs) ≡ sum_node (view u) (sum_tails_view xs)
 sum_more u [] e = absurd (cc)
 sum_more u (x ∷ xs) e = tree_sum u (x ∷ xs)
 
@@ -25,6 +23,6 @@ pub product_alone : (u : Tree) (xs : List ProductTail) → (length xs == 0) ≡ 
 product_alone u [] e = refl
 product_alone u (x ∷ xs) e = absurd (filled x xs e)
 
-pub product_more : (u : Box Tree Global) (xs : List ProductTail) → (length xs == 0) ≡ false → view (trees.Product u xs) ≡ product_node (view u.value) (product_tails_view xs)
+pub product_more : (u : Tree) (xs : List ProductTail) → (length xs == 0) ≡ false → view (trees.Product u xs) ≡ product_node (view u) (product_tails_view xs)
 product_more u [] e = absurd (cc)
 product_more u (x ∷ xs) e = tree_product u (x ∷ xs)

@@ -3,7 +3,7 @@ ghost use Rattle.std.specs.Prelude.{◌≡◌, ◌∷◌, [], length, IfOk, IfEr
 ghost use Rattle.sql_syntax.specs.View.{view, trees_view};
 ghost use Rattle.sql_grammar.specs.Nodes.{and_of, not_node, or_of};
 
-use ct_value::Memory;
+use ct_value::{Boxed, Memory};
 use sql_syntax::{Tree, Trees};
 use std::alloc::Global;
 
@@ -13,7 +13,7 @@ pub fn not_node(alloc: Global, negated: bool, value: Tree) -> Result<Tree, Memor
     ensures { IfOk result (λ node. view node ≡ not_node negated (view value)) }
 {
     if negated {
-        let value = Box::new(alloc, value)?;
+        let value = Boxed::new(alloc, value)?;
         return Ok(Tree::Not(value));
     }
     Ok(value)

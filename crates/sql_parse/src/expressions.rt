@@ -8,6 +8,7 @@ ghost use Rattle.sql_reading.specs.Gives.{Gives};
 
 use crate::chain_nodes::{and_node, not_node, or_node};
 use crate::{boxed_query, sum};
+use ct_value::Boxed;
 use sql_grammar::{NegatableWord, RestWord};
 use sql_reading::{
     Nested, Read, Rule, after_keyword, flagged, keyword, led, negatable_word, rest_word, symbol,
@@ -22,12 +23,12 @@ fn boxed_sum<'t, N: Nested<'t>>(
     alloc: Global,
     nested: &N,
     tokens: &'t [Token],
-) -> Read<'t, Box<Tree>>
+) -> Read<'t, Boxed<Tree>>
     requires { N.sound nested.now }
-    ensures { Gives (λ b. view b.value) result (sum_at (N.readers nested.now) tokens.now) }
+    ensures { Gives view result (sum_at (N.readers nested.now) tokens.now) }
 {
     let (value, rest) = sum(alloc, nested, tokens)?;
-    let value = Box::new(alloc, value)?;
+    let value = Boxed::new(alloc, value)?;
     Ok((value, rest))
 }
 
@@ -35,12 +36,12 @@ fn boxed_sum<'t, N: Nested<'t>>(
 fn between<'t, N: Nested<'t>>(
     alloc: Global,
     nested: &N,
-    value: Box<Tree>,
+    value: Boxed<Tree>,
     negated: bool,
     tokens: &'t [Token],
 ) -> Read<'t, Tree>
     requires { N.sound nested.now }
-    ensures { Gives view result (between_at (N.readers nested.now) (view value.value) negated tokens.now) }
+    ensures { Gives view result (between_at (N.readers nested.now) (view value) negated tokens.now) }
 {
     let (low, rest) = boxed_sum(alloc, nested, tokens)?;
     let rest = keyword(rest, Keyword::And)?;
@@ -60,12 +61,12 @@ fn between<'t, N: Nested<'t>>(
 fn query_or_list<'t, N: Nested<'t>>(
     alloc: Global,
     nested: &N,
-    value: Box<Tree>,
+    value: Boxed<Tree>,
     negated: bool,
     tokens: &'t [Token],
 ) -> Read<'t, Tree>
     requires { N.sound nested.now }
-    ensures { Gives view result (query_or_list (N.readers nested.now) (view value.value) negated tokens.now (word_at (only SELECT) tokens.now)) }
+    ensures { Gives view result (query_or_list (N.readers nested.now) (view value) negated tokens.now (word_at (only SELECT) tokens.now)) }
 {
     match after_keyword(tokens, Keyword::Select) {
         Some(_) => {
@@ -99,12 +100,12 @@ fn query_or_list<'t, N: Nested<'t>>(
 fn in_test<'t, N: Nested<'t>>(
     alloc: Global,
     nested: &N,
-    value: Box<Tree>,
+    value: Boxed<Tree>,
     negated: bool,
     tokens: &'t [Token],
 ) -> Read<'t, Tree>
     requires { N.sound nested.now }
-    ensures { Gives view result (in_at (N.readers nested.now) (view value.value) negated tokens.now) }
+    ensures { Gives view result (in_at (N.readers nested.now) (view value) negated tokens.now) }
 {
     let rest = symbol(tokens, Symbol::Open)?;
     query_or_list(alloc, nested, value, negated, rest)
@@ -114,13 +115,13 @@ fn in_test<'t, N: Nested<'t>>(
 fn negatable<'t, N: Nested<'t>>(
     alloc: Global,
     nested: &N,
-    value: Box<Tree>,
+    value: Boxed<Tree>,
     negated: bool,
     word: NegatableWord,
     tokens: &'t [Token],
 ) -> Read<'t, Tree>
     requires { N.sound nested.now }
-    ensures { Gives view result (negatable_at (N.readers nested.now) (view value.value) negated word tokens.now) }
+    ensures { Gives view result (negatable_at (N.readers nested.now) (view value) negated word tokens.now) }
 {
     match word {
         NegatableWord::Between => between(alloc, nested, value, negated, tokens),
@@ -141,8 +142,8 @@ fn negatable<'t, N: Nested<'t>>(
 
 // What follows the sum and IS.
 #[tactic(auto, using(sql_syntax::proofs::laws::Views::tree_is_null), unfolding(sql_grammar::specs::Reads::is_null_at))]
-fn is_null<'t>(value: Box<Tree>, tokens: &'t [Token]) -> Read<'t, Tree>
-    ensures { Gives view result (is_null_at (view value.value) tokens.now) }
+fn is_null<'t>(value: Boxed<Tree>, tokens: &'t [Token]) -> Read<'t, Tree>
+    ensures { Gives view result (is_null_at (view value) tokens.now) }
 {
     let (negated, rest) = flagged(tokens, Keyword::Not);
     let rest = keyword(rest, Keyword::Null)?;
@@ -153,12 +154,12 @@ fn is_null<'t>(value: Box<Tree>, tokens: &'t [Token]) -> Read<'t, Tree>
 fn tested<'t, N: Nested<'t>>(
     alloc: Global,
     nested: &N,
-    value: Box<Tree>,
+    value: Boxed<Tree>,
     word: RestWord,
     tokens: &'t [Token],
 ) -> Read<'t, Tree>
     requires { N.sound nested.now }
-    ensures { Gives view result (tested_at (N.readers nested.now) (view value.value) word tokens.now) }
+    ensures { Gives view result (tested_at (N.readers nested.now) (view value) word tokens.now) }
 {
     match word {
         RestWord::Compare(op) => {
@@ -200,7 +201,7 @@ fn sum_test<'t, N: Nested<'t>>(alloc: Global, nested: &N, tokens: &'t [Token]) -
     let (value, rest) = sum(alloc, nested, tokens)?;
     match rest_word(rest) {
         Some((word, after)) => {
-            let value = Box::new(alloc, value)?;
+            let value = Boxed::new(alloc, value)?;
             tested(alloc, nested, value, word, after)
         }
         None => Ok((value, rest)),

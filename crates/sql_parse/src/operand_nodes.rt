@@ -3,7 +3,7 @@ ghost use Rattle.std.specs.Prelude.{◌≡◌, IfOk};
 ghost use Rattle.sql_syntax.specs.View.{view, sum_tails_view, product_tails_view};
 ghost use Rattle.sql_grammar.specs.Nodes.{product_node, sign_node, sum_node};
 
-use ct_value::Memory;
+use ct_value::{Boxed, Memory};
 use sql_syntax::{ProductTails, SumTails, Tree};
 use std::alloc::Global;
 
@@ -14,7 +14,7 @@ pub fn sign_node(alloc: Global, sign: Option<bool>, value: Tree) -> Result<Tree,
 {
     match sign {
         Some(minus) => {
-            let value = Box::new(alloc, value)?;
+            let value = Boxed::new(alloc, value)?;
             Ok(Tree::Sign { minus, value })
         }
         None => Ok(value),
@@ -29,7 +29,7 @@ pub fn sum_node(alloc: Global, first: Tree, rest: SumTails) -> Result<Tree, Memo
     if rest.is_empty() {
         return Ok(first);
     }
-    let first = Box::new(alloc, first)?;
+    let first = Boxed::new(alloc, first)?;
     Ok(Tree::Sum { first, rest })
 }
 
@@ -41,6 +41,6 @@ pub fn product_node(alloc: Global, first: Tree, rest: ProductTails) -> Result<Tr
     if rest.is_empty() {
         return Ok(first);
     }
-    let first = Box::new(alloc, first)?;
+    let first = Boxed::new(alloc, first)?;
     Ok(Tree::Product { first, rest })
 }

@@ -8,7 +8,7 @@ ghost use Rattle.sql_grammar.specs.Reads.{args_at, call_at, case_at, cast_at, co
 ghost use Rattle.sql_reading.specs.Gives.{Gives};
 
 use crate::operand_nodes::{product_node, sign_node, sum_node};
-use ct_value::Text;
+use ct_value::{Boxed, Text};
 use sql_grammar::PrimaryWord;
 use sql_reading::{
     Again, Nested, Read, Rule, Stop, after_keyword, after_symbol, beside, flagged, keyword, led,
@@ -27,12 +27,12 @@ fn boxed_expression<'t, N: Nested<'t>>(
     alloc: Global,
     nested: &N,
     tokens: &'t [Token],
-) -> Read<'t, Box<Tree>>
+) -> Read<'t, Boxed<Tree>>
     requires { N.sound nested.now }
-    ensures { Gives (λ b. view b.value) result ((N.readers nested.now).expr tokens.now) }
+    ensures { Gives view result ((N.readers nested.now).expr tokens.now) }
 {
     let (value, rest) = nested.expr(alloc, tokens)?;
-    let value = Box::new(alloc, value)?;
+    let value = Boxed::new(alloc, value)?;
     Ok((value, rest))
 }
 
@@ -41,12 +41,12 @@ pub fn boxed_query<'t, N: Nested<'t>>(
     alloc: Global,
     nested: &N,
     tokens: &'t [Token],
-) -> Read<'t, Box<Query>>
+) -> Read<'t, Boxed<Query>>
     requires { N.sound nested.now }
-    ensures { Gives (λ b. query_view b.value) result ((N.readers nested.now).query tokens.now) }
+    ensures { Gives query_view result ((N.readers nested.now).query tokens.now) }
 {
     let (query, rest) = nested.query(alloc, tokens)?;
-    let query = Box::new(alloc, query)?;
+    let query = Boxed::new(alloc, query)?;
     Ok((query, rest))
 }
 
@@ -67,9 +67,9 @@ fn args<'t, N: Nested<'t>>(alloc: Global, nested: &N, tokens: &'t [Token]) -> Re
 }
 
 #[tactic(auto, unfolding(sql_grammar::specs::Reads::kept_at))]
-fn kept<'t, N: Nested<'t>>(alloc: Global, nested: &N, tokens: &'t [Token]) -> Read<'t, Box<Tree>>
+fn kept<'t, N: Nested<'t>>(alloc: Global, nested: &N, tokens: &'t [Token]) -> Read<'t, Boxed<Tree>>
     requires { N.sound nested.now }
-    ensures { Gives (λ b. view b.value) result (kept_at (N.readers nested.now) tokens.now) }
+    ensures { Gives view result (kept_at (N.readers nested.now) tokens.now) }
 {
     let rest = symbol(tokens, Symbol::Open)?;
     let rest = keyword(rest, Keyword::Where)?;
@@ -83,9 +83,9 @@ fn filter<'t, N: Nested<'t>>(
     alloc: Global,
     nested: &N,
     tokens: &'t [Token],
-) -> Read<'t, Option<Box<Tree>>>
+) -> Read<'t, Option<Boxed<Tree>>>
     requires { N.sound nested.now }
-    ensures { Gives (option_map (λ y. view y.value)) result (filter_at (N.readers nested.now) tokens.now) }
+    ensures { Gives (option_map view) result (filter_at (N.readers nested.now) tokens.now) }
 {
     match after_keyword(tokens, Keyword::Filter) {
         Some(rest) => {
@@ -314,9 +314,9 @@ fn otherwise<'t, N: Nested<'t>>(
     alloc: Global,
     nested: &N,
     tokens: &'t [Token],
-) -> Read<'t, Option<Box<Tree>>>
+) -> Read<'t, Option<Boxed<Tree>>>
     requires { N.sound nested.now }
-    ensures { Gives (option_map (λ y. view y.value)) result (else_at (N.readers nested.now) tokens.now) }
+    ensures { Gives (option_map view) result (else_at (N.readers nested.now) tokens.now) }
 {
     match after_keyword(tokens, Keyword::Else) {
         Some(rest) => {

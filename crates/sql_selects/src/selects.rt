@@ -7,7 +7,7 @@ ghost use Rattle.sql_grammar.specs.Reading.{after, bracketed, word_at};
 ghost use Rattle.sql_grammar.specs.Reads.{alias_at, chosen_at, filters_at, from_at, group_at, having_at, item_at, items_at, joined_at, joins_at, on_at, outer_at, select_at, selected_at, source_at, star_of_at, table_at, where_at};
 ghost use Rattle.sql_reading.specs.Gives.{Answers, Gives, Parts};
 
-use ct_value::{Memory, Text};
+use ct_value::{Boxed, Memory, Text};
 use sql_reading::{
     Again, Nested, Read, Rule, Stop, after_keyword, after_symbol, beside, flagged, join_word,
     keyword, listed, name, name_word, repeat, symbol, trees,
@@ -120,13 +120,13 @@ fn bracketed_query<'t, N: Nested<'t>>(
     alloc: Global,
     nested: &N,
     tokens: &'t [Token],
-) -> Read<'t, Box<Query>>
+) -> Read<'t, Boxed<Query>>
     requires { N.sound nested.now }
-    ensures { Gives (λ b. query_view b.value) result (bracketed (N.readers nested.now).query tokens.now) }
+    ensures { Gives query_view result (bracketed (N.readers nested.now).query tokens.now) }
 {
     let rest = symbol(tokens, Symbol::Open)?;
     let (query, rest) = nested.query(alloc, rest)?;
-    let query = Box::new(alloc, query)?;
+    let query = Boxed::new(alloc, query)?;
     let rest = symbol(rest, Symbol::Close)?;
     Ok((query, rest))
 }

@@ -6,6 +6,7 @@ ghost use Rattle.sql_syntax.specs.View.{args_view, over_view, sorts_view, view, 
 ghost use Rattle.sql_syntax.specs.Walks.{args_parts, optional_parts, over_parts, parts, sort_parts, when_parts};
 
 use crate::{Args, Over, ProductTail, Sort, SumTail, Tree, TreeWhen, TreeWhens};
+use ct_value::Boxed;
 
 // Up to three trees.
 #[derive(Clone, Copy)]
@@ -88,8 +89,8 @@ fn begun<'a>(few: Few<'a>, series: Series<'a>) -> Parts<'a>
     }
 }
 
-fn lent(tree: &Option<Box<Tree>>) -> Option<&Tree>
-    ensures { option_map seen result ≡ option_map (λ y. view y.value) tree.now }
+fn lent(tree: &Option<Boxed<Tree>>) -> Option<&Tree>
+    ensures { option_map seen result ≡ option_map view tree.now }
 {
     match tree {
         None => None,
@@ -108,8 +109,8 @@ fn of_args(args: &Args) -> Series<'_>
 }
 
 #[tactic(auto, using(crate::proofs::laws::Parts::of_over), unfolding(crate::specs::Parts::left))]
-fn of_call<'a>(args: &'a Args, filter: &'a Option<Box<Tree>>, over: &'a Option<Over>) -> Parts<'a>
-    ensures { left result ≡ args_parts (args_view args.now) ++ (optional_parts (optional_tree (option_map (λ y. view y.value) filter.now)) ++ over_parts (optional_over (option_map over_view over.now))) }
+fn of_call<'a>(args: &'a Args, filter: &'a Option<Boxed<Tree>>, over: &'a Option<Over>) -> Parts<'a>
+    ensures { left result ≡ args_parts (args_view args.now) ++ (optional_parts (optional_tree (option_map view filter.now)) ++ over_parts (optional_over (option_map over_view over.now))) }
 {
     let series = of_args(args);
     let last = lent(filter);
@@ -132,8 +133,8 @@ fn of_call<'a>(args: &'a Args, filter: &'a Option<Box<Tree>>, over: &'a Option<O
 }
 
 #[tactic(auto, unfolding(crate::specs::Parts::left))]
-fn of_case<'a>(whens: &'a TreeWhens, otherwise: &'a Option<Box<Tree>>) -> Parts<'a>
-    ensures { left result ≡ when_parts (tree_whens (whens_view whens.now)) ++ optional_parts (optional_tree (option_map (λ y. view y.value) otherwise.now)) }
+fn of_case<'a>(whens: &'a TreeWhens, otherwise: &'a Option<Boxed<Tree>>) -> Parts<'a>
+    ensures { left result ≡ when_parts (tree_whens (whens_view whens.now)) ++ optional_parts (optional_tree (option_map view otherwise.now)) }
 {
     Parts {
         few: Few::None,

@@ -68,40 +68,40 @@ module _ (plan : Plan) where
   -- ---- one node more
 
   -- the tree of a node whose operator and inputs are known
-  tree_from : (v : ℕ) (o : Op) (inputs : List ℕ) {IsOp : Op → Type 0} → (has : HasNode plan v IsOp inputs) → has.node.op ≡ o → AreLower v inputs → erased_at plan v ≡ tree_of (role o) (map (erased_at plan) inputs)
-  tree_from v o inputs has is lower =
-      tree_is plan v has.node has.is_there (subst (λ (ins : List ℕ). AreLower v ins) (sym has.inputs_are) lower) ∙ (λ i. tree_of (role (is i)) (map (erased_at plan) (has.inputs_are i)))
+  tree_from : (v : ℕ) (o : Op) (inputs : List ℕ) → HasNode plan v o inputs → AreLower v inputs → erased_at plan v ≡ tree_of (role o) (map (erased_at plan) inputs)
+  tree_from v o inputs has lower =
+      tree_is plan v has.node has.is_there (subst (λ (ins : List ℕ). AreLower v ins) (sym has.inputs_are) lower) ∙ (λ i. tree_of (role (has.is_op i)) (map (erased_at plan) (has.inputs_are i)))
 
   -- a node over one tree
-  over_one : (n below root : ℕ) (o : Op) (input rel : Rel) {IsOp : Op → Type 0} → (has : HasNode plan root IsOp (below ∷ [])) → has.node.op ≡ o → root ≡ below + 1 → IsRoot n below input → tree_of (role o) (input ∷ []) ≡ rel → IsRoot n root rel
-  over_one n below root o input rel has is next t e =
+  over_one : (n below root : ℕ) (o : Op) (input rel : Rel) → HasNode plan root o (below ∷ []) → root ≡ below + 1 → IsRoot n below input → tree_of (role o) (input ∷ []) ≡ rel → IsRoot n root rel
+  over_one n below root o input rel has next t e =
       let before = t.behind in
       let lower : below < root = omega (arith, next) in
-      record { behind = omega (arith, before, next); tree = tree_from root o (below ∷ []) has is (one_lower root below lower) ∙ ap (λ x. tree_of (role o) (x ∷ [])) t.tree ∙ e }
+      record { behind = omega (arith, before, next); tree = tree_from root o (below ∷ []) has (one_lower root below lower) ∙ ap (λ x. tree_of (role o) (x ∷ [])) t.tree ∙ e }
 
   -- and over two, one behind the other
-  over_two : (n first second root : ℕ) (o : Op) (left right rel : Rel) {IsOp : Op → Type 0} → (has : HasNode plan root IsOp (first ∷ (second ∷ []))) → has.node.op ≡ o → root ≡ second + 1 → IsRoot n first left → IsRoot first second right
+  over_two : (n first second root : ℕ) (o : Op) (left right rel : Rel) → HasNode plan root o (first ∷ (second ∷ [])) → root ≡ second + 1 → IsRoot n first left → IsRoot first second right
       → tree_of (role o) (left ∷ (right ∷ [])) ≡ rel → IsRoot n root rel
-  over_two n first second root o left right rel has is next s t e =
+  over_two n first second root o left right rel has next s t e =
       let before = s.behind in
       let later = t.behind in
       record {
         behind = omega (arith, before, later, next);
-        tree = tree_from root o (first ∷ (second ∷ [])) has is (two_lower root first second (omega (arith, later, next)) (omega (arith, next)))
+        tree = tree_from root o (first ∷ (second ∷ [])) has (two_lower root first second (omega (arith, later, next)) (omega (arith, next)))
             ∙ (λ i. tree_of (role o) (s.tree i ∷ (t.tree i ∷ []))) ∙ e;
       }
 
   -- ---- tables
 
   table_root : (n : ℕ) (x : Exchange) (source : ℕ) (mode : Declared) (key : List ℕ) (root : ℕ) → ScanLaid plan n x source mode key root → IsRoot n root (Scan source)
-  table_root n x source Append key root l = record { behind = omega (arith, l.0); tree = tree_from root (op.Scan source) [] l.1 l.1.is_op (none_lower root) }
-  table_root n x source Retract key root l = record { behind = omega (arith, l.0); tree = tree_from root (op.Scan source) [] l.1 l.1.is_op (none_lower root) }
+  table_root n x source Append key root l = record { behind = omega (arith, l.0); tree = tree_from root (op.Scan source) [] l.1 (none_lower root) }
+  table_root n x source Retract key root l = record { behind = omega (arith, l.0); tree = tree_from root (op.Scan source) [] l.1 (none_lower root) }
   table_root n x source Upsert key root l =
-      let scan : IsRoot n (n + 1) (Scan source) = record { behind = omega arith; tree = tree_from (n + 1) (op.Scan source) [] l.1 l.1.is_op (none_lower (n + 1)) } in
-      over_one n (n + 1) root (op.Normalize key) (Scan source) (Scan source) l.3 l.3.is_op (omega (arith, l.0)) scan refl
+      let scan : IsRoot n (n + 1) (Scan source) = record { behind = omega arith; tree = tree_from (n + 1) (op.Scan source) [] l.1 (none_lower (n + 1)) } in
+      over_one n (n + 1) root (op.Normalize key) (Scan source) (Scan source) l.3 (omega (arith, l.0)) scan refl
 
   source_root : (n : ℕ) (x : Exchange) (source root : ℕ) (o : Option TableDef) → SourceLaid plan n x source o root → IsRoot n root (Scan source)
-  source_root n x source root None l = record { behind = omega (arith, l.0); tree = tree_from root (op.Scan source) [] l.1 l.1.is_op (none_lower root) }
+  source_root n x source root None l = record { behind = omega (arith, l.0); tree = tree_from root (op.Scan source) [] l.1 (none_lower root) }
   source_root n x source root (Some table) l = table_root n x source table.mode (unwrap_or table.key []) root l
 
   -- ---- the tree
@@ -111,12 +111,12 @@ module _ (plan : Plan) where
       → (local : Option Op) → local_below b how kinds_below ≡ local → OneLaid plan how local Laid x kinds root → IsRoot n root (One how input)
   one_root how input n kinds_below b x kinds root Laid below None e laid =
       let o = laid.2 in
-      over_one n laid.0 root o.1.node.op input (One how input) o.1 refl o.0 (below (unary_way how).asks laid.0 laid.1) (ap (λ r. tree_of r (input ∷ [])) (unary_fits plan how o.1.node.op o.1.is_op).told)
+      over_one n laid.0 root ((unary_way how).op plan.mini_batch) input (One how input) o.1 o.0 (below (unary_way how).asks laid.0 laid.1) (ap (λ r. tree_of r (input ∷ [])) (unary_fits plan how).told)
   one_root how input n kinds_below b x kinds root Laid below (Some local) e laid =
       let l = laid.3 in
       let o = laid.4 in
-      let under : IsRoot n laid.1 input = over_one n laid.0 laid.1 local input input l.1 l.1.is_op l.0 (below Forward laid.0 laid.2) (local_told b how kinds_below local input e) in
-      over_one n laid.1 root o.1.node.op input (One how input) o.1 refl o.0 under (ap (λ r. tree_of r (input ∷ [])) (unary_fits plan how o.1.node.op o.1.is_op).told)
+      let under : IsRoot n laid.1 input = over_one n laid.0 laid.1 local input input l.1 l.0 (below Forward laid.0 laid.2) (local_told b how kinds_below local input e) in
+      over_one n laid.1 root ((unary_way how).op plan.mini_batch) input (One how input) o.1 o.0 under (ap (λ r. tree_of r (input ∷ [])) (unary_fits plan how).told)
 
   mutual
     tree_root : (two_phase : Bool) (rel : Rel) (n : ℕ) (x : Exchange) (root : ℕ) → IsLaid plan two_phase n x rel root → IsRoot n root rel
@@ -125,14 +125,14 @@ module _ (plan : Plan) where
         one_root how input n (tree_kinds plan.sources input) (bundles_in plan two_phase) x (tree_kinds plan.sources (One how input)) root (λ asks below. IsLaid plan two_phase n asks input below)
         (λ asks below under. tree_root two_phase input n asks below under) (local_below (bundles_in plan two_phase) how (tree_kinds plan.sources input)) refl laid
     tree_root two_phase (Two how left right) n x root laid =
-        over_two n laid.0 laid.1 root laid.5.node.op left right (Two how left right) laid.5 refl laid.4 (tree_root two_phase left n (binary_way how).left laid.0 laid.2)
-        (tree_root two_phase right laid.0 (binary_way how).right laid.1 laid.3) (ap (λ r. tree_of r (left ∷ (right ∷ []))) (binary_fits plan how laid.5.node.op laid.5.is_op).told)
+        over_two n laid.0 laid.1 root (binary_way how).op left right (Two how left right) laid.5 laid.4 (tree_root two_phase left n (binary_way how).left laid.0 laid.2)
+        (tree_root two_phase right laid.0 (binary_way how).right laid.1 laid.3) (ap (λ r. tree_of r (left ∷ (right ∷ []))) (binary_fits plan how).told)
     tree_root two_phase (Many inputs) n x root laid =
         let all = trees_root two_phase inputs n laid.0 laid.1 laid.2 in
         let before = all.behind in
         record {
           behind = omega (arith, before, laid.3);
-          tree = tree_from root op.Union laid.0 laid.4 laid.4.is_op (λ p l. let k = all.within p l in omega (arith, k, laid.3)) ∙ ap Many all.trees;
+          tree = tree_from root op.Union laid.0 laid.4 (λ p l. let k = all.within p l in omega (arith, k, laid.3)) ∙ ap Many all.trees;
         }
 
     trees_root : (two_phase : Bool) (inputs : Rels) (n : ℕ) (roots : List ℕ) (last : ℕ) → AreLaid plan two_phase n inputs roots last → AreRoots n last roots inputs
@@ -151,7 +151,7 @@ module _ (plan : Plan) where
   -- what stands before the sink hands the tree on
   topped_root : (top : Top) (below root : ℕ) (rel : Rel) → IsRoot 0 below rel → TopLaid plan top below root → IsRoot 0 root rel
   topped_root bare below root rel tree between = subst (λ v. IsRoot 0 v rel) (sym between) tree
-  topped_root (shown key) below root rel tree between = over_one 0 below root (op.Materialize key) rel rel between.1 between.1.is_op between.0 tree refl
+  topped_root (shown key) below root rel tree between = over_one 0 below root (op.Materialize key) rel rel between.1 between.0 tree refl
 
 -- the keys that nodes say, and the modes of edges, don't matter
 erased_stays : (plan : Plan) → erased (with_inferred plan) ≡ erased plan
@@ -165,7 +165,7 @@ laid_plans_are_erased plan rel is =
     let out = lays_out plan rel is in
     let tree = tree_root plan is.two_phase rel 0 (asks_of is.top) out.below out.laid in
     let under = topped_root plan is.top out.below out.root rel tree out.topped in
-    let sink = over_one plan 0 out.root (out.root + 1) op.Sink rel rel out.sink_node out.sink_node.is_op refl under refl in
+    let sink = over_one plan 0 out.root (out.root + 1) op.Sink rel rel out.sink_node refl under refl in
     erased_stays plan ∙ ap (erased_at plan) out.nodes ∙ sink.tree
 
 pub inferred_plans_answer : SoundPlansAnswer → InferredPlansAnswer

@@ -57,7 +57,7 @@ module _ (plan : Plan) where
     pub meets : OpMeets v node.op node.inputs
 
   -- a node whose operator and inputs are known
-  pub node_meets : (v : ℕ) (o : Op) (inputs : List ℕ) → HasNode plan v (λ p. p ≡ o) inputs → OpMeets v o inputs → NodeMeets v
+  pub node_meets : (v : ℕ) (o : Op) (inputs : List ℕ) → HasNode plan v o inputs → OpMeets v o inputs → NodeMeets v
   node_meets v o inputs has m = record {
     node = has.node;
     is_node = has.is_there;
@@ -67,7 +67,7 @@ module _ (plan : Plan) where
   -- ---- columns
 
   -- the columns of a node whose operator and inputs are known
-  pub types_from : (v : ℕ) (o : Op) (inputs : List ℕ) → HasNode plan v (λ p. p ≡ o) inputs → AllByRecursion (λ input. input < v) inputs
+  pub types_from : (v : ℕ) (o : Op) (inputs : List ℕ) → HasNode plan v o inputs → AllByRecursion (λ input. input < v) inputs
       → types_at plan.sources plan.nodes v ≡ types_by plan.sources o (map (types_at plan.sources plan.nodes) inputs)
   types_from v o inputs has below =
       types_made plan.sources plan.nodes v has.node has.is_there (subst (λ (ins : List ℕ). AllByRecursion (λ input. input < v) ins) (sym has.inputs_are) below)
@@ -81,7 +81,7 @@ module _ (plan : Plan) where
   lower_at v (input ∷ inputs) h (suc p) l = lower_at v inputs h.1 p (omega (arith, l))
 
   -- what goes over the edge of a node whose operator and inputs are known
-  pub flow_from : (v : ℕ) (o : Op) (inputs : List ℕ) → HasNode plan v (λ p. p ≡ o) inputs → AllByRecursion (λ input. input < v) inputs → flow_at v ≡ flow_of plan.sources o (map flow_at inputs)
+  pub flow_from : (v : ℕ) (o : Op) (inputs : List ℕ) → HasNode plan v o inputs → AllByRecursion (λ input. input < v) inputs → flow_at v ≡ flow_of plan.sources o (map flow_at inputs)
   flow_from v o inputs has below =
       read_at (λ w. flow_of plan.sources w.op) no_flow plan.nodes v has.node has.is_there (lower_at v has.node.inputs (subst (λ (ins : List ℕ). AllByRecursion (λ input. input < v) ins) (sym has.inputs_are) below))
       ∙ (λ i. flow_of plan.sources (has.is_op i) (map flow_at (has.inputs_are i)))

@@ -19,27 +19,17 @@ use Rattle.mode_infer.specs.Kinds.{inserts, no_kinds}
 use Rattle.plan_rules.specs.Phases.{local_below}
 use Rattle.plan_rules.specs.Pieces.{Top, bare, shown, asks_of}
 use Rattle.plan_rules.specs.Roles.{unary_way, binary_way}
-use Rattle.plan_rules.specs.Seen.{op_as_seen}
 use Rattle.plan_rules.specs.TreeKinds.{tree_kinds}
 use Rattle.laid_plans.specs.Shapes.{bundles_in}
-
--- ---- operators
-
--- one is, as it is seen, that of the way of a tree with one input, where bundles hold so many changes, and with two
-abbrev pub IsUnary : ℕ → Unary → Op → Type 0
-IsUnary mini_batch how o = op_as_seen o ≡ (unary_way how).op mini_batch
-
-abbrev pub IsBinary : Binary → Op → Type 0
-IsBinary how o = op_as_seen o ≡ (binary_way how).op
 
 -- ---- nodes and edges
 
 module _ (plan : Plan) where
-  -- the node of a number, with the numbers of its inputs
-  pub record HasNode (v : ℕ) (IsOp : Op → Type 0) (inputs : List ℕ) : Type 0 where
+  -- the node of a number, with its operator and the numbers of its inputs
+  pub record HasNode (v : ℕ) (o : Op) (inputs : List ℕ) : Type 0 where
     pub node : Node
     pub is_there : numbered plan.nodes v ≡ Some node
-    pub is_op : IsOp node.op
+    pub is_op : node.op ≡ o
     pub inputs_are : node.inputs ≡ inputs
     pub keyless : node.keys ≡ no_keys
 
@@ -51,29 +41,29 @@ module _ (plan : Plan) where
   Carries v exchange kinds = HasEdge v exchange kinds Both
 
   -- a node behind its only input
-  abbrev pub IsOver : ℕ → (Op → Type 0) → ℕ → Exchange → KindSet → Type 0
-  IsOver below IsOp v exchange kinds = (v ≡ below + 1) × HasNode v IsOp (below ∷ []) × Carries v exchange kinds
+  abbrev pub IsOver : ℕ → Op → ℕ → Exchange → KindSet → Type 0
+  IsOver below o v exchange kinds = (v ≡ below + 1) × HasNode v o (below ∷ []) × Carries v exchange kinds
 
   -- ---- a tree behind n nodes, up to its root, whose consumer asks for an exchange
 
   -- a table is scanned; an upsert table is also normalized by its key
   abbrev pub ScanLaid : ℕ → Exchange → ℕ → Declared → List ℕ → ℕ → Type 0
-  ScanLaid n exchange source Append key root = (root ≡ n + 1) × HasNode root (λ o. o ≡ op.Scan source) [] × Carries root exchange (kinds_of append)
-  ScanLaid n exchange source Retract key root = (root ≡ n + 1) × HasNode root (λ o. o ≡ op.Scan source) [] × Carries root exchange (kinds_of retract)
+  ScanLaid n exchange source Append key root = (root ≡ n + 1) × HasNode root (op.Scan source) [] × Carries root exchange (kinds_of append)
+  ScanLaid n exchange source Retract key root = (root ≡ n + 1) × HasNode root (op.Scan source) [] × Carries root exchange (kinds_of retract)
   ScanLaid n exchange source Upsert key root =
-      (root ≡ n + 2) × HasNode (n + 1) (λ o. o ≡ op.Scan source) [] × HasEdge (n + 1) (Hash key) (kinds_of (upsert key)) (After key)
-      × HasNode root (λ o. o ≡ op.Normalize key) ((n + 1) ∷ []) × Carries root exchange (kinds_of retract)
+      (root ≡ n + 2) × HasNode (n + 1) (op.Scan source) [] × HasEdge (n + 1) (Hash key) (kinds_of (upsert key)) (After key)
+      × HasNode root (op.Normalize key) ((n + 1) ∷ []) × Carries root exchange (kinds_of retract)
 
   -- one that isn't there is scanned like another
   abbrev pub SourceLaid : ℕ → Exchange → ℕ → Option TableDef → ℕ → Type 0
-  SourceLaid n exchange source None root = (root ≡ n + 1) × HasNode root (λ o. o ≡ op.Scan source) [] × Carries root exchange no_kinds
+  SourceLaid n exchange source None root = (root ≡ n + 1) × HasNode root (op.Scan source) [] × Carries root exchange no_kinds
   SourceLaid n exchange source (Some table) root = ScanLaid n exchange source table.mode (unwrap_or table.key []) root
 
   -- a node with one input, which is laid so, over a local group or not
   abbrev pub OneLaid : Unary → Option Op → (Exchange → ℕ → Type 0) → Exchange → KindSet → ℕ → Type 0
-  OneLaid how None Laid exchange kinds root = (below : ℕ) × Laid (unary_way how).asks below × IsOver below (IsUnary plan.mini_batch how) root exchange kinds
+  OneLaid how None Laid exchange kinds root = (below : ℕ) × Laid (unary_way how).asks below × IsOver below ((unary_way how).op plan.mini_batch) root exchange kinds
   OneLaid how (Some local) Laid exchange kinds root =
-      (below mid : ℕ) × Laid Forward below × IsOver below (λ o. o ≡ local) mid (unary_way how).asks inserts × IsOver mid (IsUnary plan.mini_batch how) root exchange kinds
+      (below mid : ℕ) × Laid Forward below × IsOver below local mid (unary_way how).asks inserts × IsOver mid ((unary_way how).op plan.mini_batch) root exchange kinds
 
   abbrev mutual
     pub IsLaid : Bool → ℕ → Exchange → Rel → ℕ → Type 0
@@ -83,9 +73,9 @@ module _ (plan : Plan) where
     -- the right side lies behind the left
     IsLaid two_phase n exchange (Two how left right) root =
         (first : ℕ) × (second : ℕ) × IsLaid two_phase n (binary_way how).left left first × IsLaid two_phase first (binary_way how).right right second
-        × (root ≡ second + 1) × HasNode root (IsBinary how) (first ∷ (second ∷ [])) × Carries root exchange (tree_kinds plan.sources (Two how left right))
+        × (root ≡ second + 1) × HasNode root (binary_way how).op (first ∷ (second ∷ [])) × Carries root exchange (tree_kinds plan.sources (Two how left right))
     IsLaid two_phase n exchange (Many inputs) root =
-        (roots : List ℕ) × (below : ℕ) × AreLaid two_phase n inputs roots below × (root ≡ below + 1) × HasNode root (λ o. o ≡ op.Union) roots × Carries root exchange (tree_kinds plan.sources (Many inputs))
+        (roots : List ℕ) × (below : ℕ) × AreLaid two_phase n inputs roots below × (root ≡ below + 1) × HasNode root op.Union roots × Carries root exchange (tree_kinds plan.sources (Many inputs))
 
     -- several trees behind one another, with their roots, up to the last
     pub AreLaid : Bool → ℕ → Rels → List ℕ → ℕ → Type 0
@@ -96,7 +86,7 @@ module _ (plan : Plan) where
   -- between a tree's root and the sink's input: nothing, or a materializer
   abbrev pub TopLaid : Top → ℕ → ℕ → Type 0
   TopLaid bare below root = root ≡ below
-  TopLaid (shown key) below root = IsOver below (λ o. o ≡ op.Materialize key) root Forward (kinds_of (upsert key))
+  TopLaid (shown key) below root = IsOver below (op.Materialize key) root Forward (kinds_of (upsert key))
 
   -- the plan of the tree: the tree, what stands before the sink, and behind it the sink
   pub record LaysOut (two_phase : Bool) (top : Top) (rel : Rel) : Type 0 where
@@ -104,7 +94,7 @@ module _ (plan : Plan) where
     pub laid : IsLaid two_phase 0 (asks_of top) rel below
     pub root : ℕ
     pub topped : TopLaid top below root
-    pub sink_node : HasNode (root + 1) (λ o. o ≡ op.Sink) (root ∷ [])
+    pub sink_node : HasNode (root + 1) op.Sink (root ∷ [])
     pub sink_edge : HasEdge (root + 1) Forward (kinds_of retract) Absent
     pub nodes : length plan.nodes ≡ root + 1
     pub edges : length plan.edges ≡ root + 1

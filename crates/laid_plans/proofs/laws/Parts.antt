@@ -44,7 +44,7 @@ module _ (plan : Plan) where
       go v b (inr c) a = elim (t.used v c b) [ inl r ↦ inl (suc r.0, r.1) | inr u ↦ inr u ]
 
   -- a node behind the last, which all roots feed
-  pub next_part : (n last root : ℕ) (roots : List ℕ) (o : Op) → Part n last roots → root ≡ last + 1 → HasNode plan root (λ p. p ≡ o) roots → OpMeets plan root o roots → Part n root (root ∷ [])
+  pub next_part : (n last root : ℕ) (roots : List ℕ) (o : Op) → Part n last roots → root ≡ last + 1 → HasNode plan root o roots → OpMeets plan root o roots → Part n root (root ∷ [])
   next_part n last root roots o s next has m =
       record { segment = more plan (NodeMeets plan) n last root roots has.node s.segment next has.is_there has.inputs_are (node_meets plan root o roots has m); used = λ v a b. go v a b (side v last) }
     where

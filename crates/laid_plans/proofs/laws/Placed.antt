@@ -1,4 +1,4 @@
--- The pieces of a tree, wherever they stand in a plan, as it is seen, are the tree laid.
+-- The pieces of a tree, wherever they stand in a plan, are the tree laid.
 use Rattle.std.specs.Prelude.{◌≡◌, ℕ, ◌+◌, Bool, List, ◌++◌, length, map, slice_get, Option, unwrap_or}
 use Rattle.std.proofs.Common.{zero, suc, [], ◌∷◌, refl, sym, ap, subst, ◌∙◌, arith, Some, None, length-append}
 use Rattle.std.proofs.lemmas.List.{length-map}
@@ -23,38 +23,19 @@ use Rattle.plan_rules.specs.Phases.{Bundles, local_below}
 use Rattle.plan_rules.specs.TreeKinds.{tree_kinds}
 use Rattle.plan_rules.specs.Pieces.{Piece, node_of, edge_of, piece, full_piece, one_pieces, topped, topped_both, scan_pieces, source_pieces, pieces_of, pieces_of_all, roots_of, Top, bare, shown, asks_of, with_top, with_sink, nodes_in, edges_in}
 use Rattle.plan_rules.specs.Roles.{unary_way, binary_way}
-use Rattle.plan_rules.specs.Seen.{op_as_seen, node_as_seen}
-use Rattle.plan_rules.proofs.laws.Erasing.{of_local}
-use Rattle.plan_rules.proofs.laws.Seen.{seen_same}
 use Rattle.laid_plans.specs.Shapes.{bundles_in, IsLaidWith, IsLaidOut}
-use Rattle.laid_plans.proofs.laws.LaidTrees.{IsUnary, IsBinary, HasNode, HasEdge, IsOver, ScanLaid, SourceLaid, OneLaid, IsLaid, AreLaid, TopLaid, LaysOut}
+use Rattle.laid_plans.proofs.laws.LaidTrees.{HasNode, HasEdge, IsOver, ScanLaid, SourceLaid, OneLaid, IsLaid, AreLaid, TopLaid, LaysOut}
 use Rattle.laid_plans.proofs.laws.Places.{one_longer, Stand, front_stands, back_stands, stand_alone}
-
-some_same : {A : Type 0} (x y : A) → Some x ≡ Some y → x ≡ y
-some_same x y e = cc
-
--- what is seen of a node is of one that is there
-seen_at : (nodes : List Node) (m : ℕ) (seen : Node) → slice_get (map node_as_seen nodes) m ≡ Some seen → (node : Node) × (slice_get nodes m ≡ Some node) × (node_as_seen node ≡ seen)
-seen_at [] m seen e = absurd (cc)
-seen_at (node ∷ nodes) zero seen e = (node, refl, some_same (node_as_seen node) seen e)
-seen_at (node ∷ nodes) (suc m) seen e = seen_at nodes m seen e
 
 module _ (plan : Plan) where
   abbrev Placed : ℕ → List Piece → Type 0
-  Placed n ps = Stand (map node_as_seen plan.nodes) plan.edges n ps
+  Placed n ps = Stand plan.nodes plan.edges n ps
 
   module _ (m v : ℕ) (next : v ≡ m + 1) where
-    has_node : (IsOp : Op → Type 0) (inputs : List ℕ) (o : Op) → ((q : Op) → op_as_seen q ≡ o → IsOp q) → slice_get (map node_as_seen plan.nodes) m ≡ Some (node_of o inputs) → HasNode plan v IsOp inputs
-    has_node IsOp inputs o is there =
+    has_node : (inputs : List ℕ) (o : Op) → slice_get plan.nodes m ≡ Some (node_of o inputs) → HasNode plan v o inputs
+    has_node inputs o there =
         let number : v ≡ suc m = omega (arith, next) in
-        let found = seen_at plan.nodes m (node_of o inputs) there in
-        record {
-          node = found.0;
-          is_there = ap (numbered plan.nodes) number ∙ found.1;
-          is_op = is found.0.op (ap (λ (node : Node). node.op) found.2);
-          inputs_are = ap (λ (node : Node). node.inputs) found.2;
-          keyless = ap (λ (node : Node). node.keys) found.2;
-        }
+        record { node = node_of o inputs; is_there = ap (numbered plan.nodes) number ∙ there; is_op = refl; inputs_are = refl; keyless = refl }
 
     has_edge : (x : Exchange) (kinds : KindSet) (update : Update) → slice_get plan.edges m ≡ Some (edge_of x kinds update) → HasEdge plan v x kinds update
     has_edge x kinds update there = let number : v ≡ suc m = omega (arith, next) in ap (numbered plan.edges) number ∙ there
@@ -64,30 +45,30 @@ module _ (plan : Plan) where
     last_number : n + length (ps ++ piece o inputs x kinds update ∷ []) ≡ n + length ps + 1
     last_number = omega (arith, one_longer ps (piece o inputs x kinds update))
 
-    last_has : (IsOp : Op → Type 0) → ((q : Op) → op_as_seen q ≡ o → IsOp q) → HasNode plan (n + length (ps ++ piece o inputs x kinds update ∷ [])) IsOp inputs
-    last_has IsOp is =
-        has_node (n + length ps) (n + length (ps ++ piece o inputs x kinds update ∷ [])) last_number IsOp inputs o is (back_stands (map node_as_seen plan.nodes) plan.edges n ps (piece o inputs x kinds update ∷ []) placed).0
+    last_has : HasNode plan (n + length (ps ++ piece o inputs x kinds update ∷ [])) o inputs
+    last_has =
+        has_node (n + length ps) (n + length (ps ++ piece o inputs x kinds update ∷ [])) last_number inputs o (back_stands plan.nodes plan.edges n ps (piece o inputs x kinds update ∷ []) placed).0
 
     last_told : HasEdge plan (n + length (ps ++ piece o inputs x kinds update ∷ [])) x kinds update
     last_told =
-        has_edge (n + length ps) (n + length (ps ++ piece o inputs x kinds update ∷ [])) last_number x kinds update (back_stands (map node_as_seen plan.nodes) plan.edges n ps (piece o inputs x kinds update ∷ []) placed).1
+        has_edge (n + length ps) (n + length (ps ++ piece o inputs x kinds update ∷ [])) last_number x kinds update (back_stands plan.nodes plan.edges n ps (piece o inputs x kinds update ∷ []) placed).1
 
   scan_laid : (n : ℕ) (x : Exchange) (source : ℕ) (mode : Declared) (key : List ℕ) → Placed n (scan_pieces n x source mode key)
       → ScanLaid plan n x source mode key (n + length (scan_pieces n x source mode key))
-  scan_laid n x source Append key s = (refl, has_node n (n + 1) refl (λ o. o ≡ op.Scan source) [] (op.Scan source) (λ q e. seen_same (op.Scan source) q refl e) s.0, has_edge n (n + 1) refl x (kinds_of append) Both s.1)
-  scan_laid n x source Retract key s = (refl, has_node n (n + 1) refl (λ o. o ≡ op.Scan source) [] (op.Scan source) (λ q e. seen_same (op.Scan source) q refl e) s.0, has_edge n (n + 1) refl x (kinds_of retract) Both s.1)
+  scan_laid n x source Append key s = (refl, has_node n (n + 1) refl [] (op.Scan source) s.0, has_edge n (n + 1) refl x (kinds_of append) Both s.1)
+  scan_laid n x source Retract key s = (refl, has_node n (n + 1) refl [] (op.Scan source) s.0, has_edge n (n + 1) refl x (kinds_of retract) Both s.1)
   scan_laid n x source Upsert key s =
       let next : n + 2 ≡ suc n + 1 = omega arith in (
         refl,
-        has_node n (n + 1) refl (λ o. o ≡ op.Scan source) [] (op.Scan source) (λ q e. seen_same (op.Scan source) q refl e) s.0,
+        has_node n (n + 1) refl [] (op.Scan source) s.0,
         has_edge n (n + 1) refl (Hash key) (kinds_of (upsert key)) (After key) s.1,
-        has_node (suc n) (n + 2) next (λ o. o ≡ op.Normalize key) ((n + 1) ∷ []) (op.Normalize key) (λ q e. seen_same (op.Normalize key) q refl e) s.2.0,
+        has_node (suc n) (n + 2) next ((n + 1) ∷ []) (op.Normalize key) s.2.0,
         has_edge (suc n) (n + 2) next x (kinds_of retract) Both s.2.1,
       )
 
   source_laid : (n : ℕ) (x : Exchange) (source : ℕ) (table : Option TableDef) → Placed n (source_pieces n x source table)
       → SourceLaid plan n x source table (n + length (source_pieces n x source table))
-  source_laid n x source None s = (refl, has_node n (n + 1) refl (λ o. o ≡ op.Scan source) [] (op.Scan source) (λ q e. seen_same (op.Scan source) q refl e) s.0, has_edge n (n + 1) refl x no_kinds Both s.1)
+  source_laid n x source None s = (refl, has_node n (n + 1) refl [] (op.Scan source) s.0, has_edge n (n + 1) refl x no_kinds Both s.1)
   source_laid n x source (Some table) s = scan_laid n x source table.mode (unwrap_or table.key []) s
 
   -- the pieces of both sides of a join, and a node of this operator over them
@@ -96,14 +77,14 @@ module _ (plan : Plan) where
     top = n + length (topped_both n ps qs o x kinds)
 
     left_placed : Placed n ps
-    left_placed = front_stands (map node_as_seen plan.nodes) plan.edges n ps qs (front_stands (map node_as_seen plan.nodes) plan.edges n (ps ++ qs) (full_piece o ((n + length ps) ∷ ((n + length ps + length qs) ∷ [])) x kinds ∷ []) s)
+    left_placed = front_stands plan.nodes plan.edges n ps qs (front_stands plan.nodes plan.edges n (ps ++ qs) (full_piece o ((n + length ps) ∷ ((n + length ps + length qs) ∷ [])) x kinds ∷ []) s)
 
     right_placed : Placed (n + length ps) qs
-    right_placed = back_stands (map node_as_seen plan.nodes) plan.edges n ps qs (front_stands (map node_as_seen plan.nodes) plan.edges n (ps ++ qs) (full_piece o ((n + length ps) ∷ ((n + length ps + length qs) ∷ [])) x kinds ∷ []) s)
+    right_placed = back_stands plan.nodes plan.edges n ps qs (front_stands plan.nodes plan.edges n (ps ++ qs) (full_piece o ((n + length ps) ∷ ((n + length ps + length qs) ∷ [])) x kinds ∷ []) s)
 
-    both_laid : (IsOp : Op → Type 0) → ((q : Op) → op_as_seen q ≡ o → IsOp q) → IsLaid plan two_phase n y left (n + length ps) → IsLaid plan two_phase (n + length ps) z right (n + length ps + length qs)
-        → (first : ℕ) × (second : ℕ) × IsLaid plan two_phase n y left first × IsLaid plan two_phase first z right second × (top ≡ second + 1) × HasNode plan top IsOp (first ∷ (second ∷ [])) × HasEdge plan top x kinds Both
-    both_laid IsOp is l m =
+    both_laid : IsLaid plan two_phase n y left (n + length ps) → IsLaid plan two_phase (n + length ps) z right (n + length ps + length qs)
+        → (first : ℕ) × (second : ℕ) × IsLaid plan two_phase n y left first × IsLaid plan two_phase first z right second × (top ≡ second + 1) × HasNode plan top o (first ∷ (second ∷ [])) × HasEdge plan top x kinds Both
+    both_laid l m =
         let inputs = (n + length ps) ∷ ((n + length ps + length qs) ∷ []) in
         let number = last_number n (ps ++ qs) o inputs x kinds Both s in
         let whole = length-append ps qs in (
@@ -112,37 +93,32 @@ module _ (plan : Plan) where
           l,
           m,
           omega (arith, number, whole),
-          last_has n (ps ++ qs) o inputs x kinds Both s IsOp is,
+          last_has n (ps ++ qs) o inputs x kinds Both s,
           last_told n (ps ++ qs) o inputs x kinds Both s,
         )
 
   -- a node over the last of pieces
-  over : (n : ℕ) (ps : List Piece) (o : Op) (x : Exchange) (kinds : KindSet) (s : Placed n (topped n ps o x kinds)) (IsOp : Op → Type 0) → ((q : Op) → op_as_seen q ≡ o → IsOp q)
-      → IsOver plan (n + length ps) IsOp (n + length (topped n ps o x kinds)) x kinds
-  over n ps o x kinds s IsOp is = (
+  over : (n : ℕ) (ps : List Piece) (o : Op) (x : Exchange) (kinds : KindSet) → Placed n (topped n ps o x kinds)
+      → IsOver plan (n + length ps) o (n + length (topped n ps o x kinds)) x kinds
+  over n ps o x kinds s = (
     last_number n ps o ((n + length ps) ∷ []) x kinds Both s,
-    last_has n ps o ((n + length ps) ∷ []) x kinds Both s IsOp is,
+    last_has n ps o ((n + length ps) ∷ []) x kinds Both s,
     last_told n ps o ((n + length ps) ∷ []) x kinds Both s,
   )
 
   under : (n : ℕ) (ps : List Piece) (o : Op) (x : Exchange) (kinds : KindSet) → Placed n (topped n ps o x kinds) → Placed n ps
-  under n ps o x kinds s = front_stands (map node_as_seen plan.nodes) plan.edges n ps (full_piece o ((n + length ps) ∷ []) x kinds ∷ []) s
-
-  -- a local group is what is seen of it
-  local_is : (how : Unary) (b : Bundles) (kinds : KindSet) (local : Op) → local_below b how kinds ≡ Some local → (q : Op) → op_as_seen q ≡ local → q ≡ local
-  local_is how b kinds local e = of_local (λ o. (q : Op) → op_as_seen q ≡ o → q ≡ o) (λ keys aggs q f. seen_same (op.LocalGroup keys aggs) q refl f) b how kinds local e
+  under n ps o x kinds s = front_stands plan.nodes plan.edges n ps (full_piece o ((n + length ps) ∷ []) x kinds ∷ []) s
 
   -- the pieces of a node with one input, whose pieces are laid so
   one_laid : (two_phase : Bool) (n : ℕ) (how : Unary) (input : Rel)
       → ((asks : Exchange) → Placed n (pieces_of plan.sources (bundles_in plan two_phase) n asks input) → IsLaid plan two_phase n asks input (n + length (pieces_of plan.sources (bundles_in plan two_phase) n asks input)))
-      → (x : Exchange) (kinds : KindSet) (local : Option Op) → local_below (bundles_in plan two_phase) how (tree_kinds plan.sources input) ≡ local
-      → Placed n (one_pieces n (bundles_in plan two_phase) how local (λ asks. pieces_of plan.sources (bundles_in plan two_phase) n asks input) x kinds)
+      → (x : Exchange) (kinds : KindSet) (local : Option Op) → Placed n (one_pieces n (bundles_in plan two_phase) how local (λ asks. pieces_of plan.sources (bundles_in plan two_phase) n asks input) x kinds)
       → OneLaid plan how local (λ asks below. IsLaid plan two_phase n asks input below) x kinds (n + length (one_pieces n (bundles_in plan two_phase) how local (λ asks. pieces_of plan.sources (bundles_in plan two_phase) n asks input) x kinds))
-  one_laid two_phase n how input below x kinds None e s =
+  one_laid two_phase n how input below x kinds None s =
       let ps = pieces_of plan.sources (bundles_in plan two_phase) n (unary_way how).asks input in
       let o = (unary_way how).op plan.mini_batch in
-      (n + length ps, below (unary_way how).asks (under n ps o x kinds s), over n ps o x kinds s (IsUnary plan.mini_batch how) (λ q e. e))
-  one_laid two_phase n how input below x kinds (Some local) e s =
+      (n + length ps, below (unary_way how).asks (under n ps o x kinds s), over n ps o x kinds s)
+  one_laid two_phase n how input below x kinds (Some local) s =
       let ps = pieces_of plan.sources (bundles_in plan two_phase) n Forward input in
       let o = (unary_way how).op plan.mini_batch in
       let qs = topped n ps local (unary_way how).asks inserts in
@@ -150,8 +126,8 @@ module _ (plan : Plan) where
         n + length ps,
         n + length qs,
         below Forward (under n ps local (unary_way how).asks inserts t),
-        over n ps local (unary_way how).asks inserts t (λ o. o ≡ local) (local_is how (bundles_in plan two_phase) (tree_kinds plan.sources input) local e),
-        over n qs o x kinds s (IsUnary plan.mini_batch how) (λ q e. e),
+        over n ps local (unary_way how).asks inserts t,
+        over n qs o x kinds s,
       )
 
   module _ (two_phase : Bool) where
@@ -159,7 +135,7 @@ module _ (plan : Plan) where
       laid : (n : ℕ) (x : Exchange) (rel : Rel) → Placed n (pieces_of plan.sources (bundles_in plan two_phase) n x rel)
           → IsLaid plan two_phase n x rel (n + length (pieces_of plan.sources (bundles_in plan two_phase) n x rel))
       laid n x (Scan source) s = source_laid n x source (slice_get plan.sources source) s
-      laid n x (One how input) s = one_laid two_phase n how input (λ asks below. laid n asks input below) x (tree_kinds plan.sources (One how input)) (local_below (bundles_in plan two_phase) how (tree_kinds plan.sources input)) refl s
+      laid n x (One how input) s = one_laid two_phase n how input (λ asks below. laid n asks input below) x (tree_kinds plan.sources (One how input)) (local_below (bundles_in plan two_phase) how (tree_kinds plan.sources input)) s
       laid n x (Two how left right) s =
           let y = (binary_way how).left in
           let z = (binary_way how).right in
@@ -167,7 +143,7 @@ module _ (plan : Plan) where
           let ps = pieces_of plan.sources (bundles_in plan two_phase) n (binary_way how).left left in
           let qs = pieces_of plan.sources (bundles_in plan two_phase) (n + length (pieces_of plan.sources (bundles_in plan two_phase) n (binary_way how).left left)) (binary_way how).right right in
           let o = (binary_way how).op in
-          both_laid two_phase n x y z left right ps qs o (tree_kinds plan.sources (Two how left right)) s (IsBinary how) (λ q e. e)
+          both_laid two_phase n x y z left right ps qs o (tree_kinds plan.sources (Two how left right)) s
           (laid n (binary_way how).left left (left_placed two_phase n x y z left right ps qs o (tree_kinds plan.sources (Two how left right)) s))
           (laid mid (binary_way how).right right (right_placed two_phase n x y z left right ps qs o (tree_kinds plan.sources (Two how left right)) s))
       laid n x (Many inputs) s =
@@ -175,9 +151,9 @@ module _ (plan : Plan) where
           let roots = roots_of plan.sources (bundles_in plan two_phase) n inputs in (
             roots,
             n + length ps,
-            all_laid n inputs (front_stands (map node_as_seen plan.nodes) plan.edges n ps (full_piece op.Union roots x (tree_kinds plan.sources (Many inputs)) ∷ []) s),
+            all_laid n inputs (front_stands plan.nodes plan.edges n ps (full_piece op.Union roots x (tree_kinds plan.sources (Many inputs)) ∷ []) s),
             last_number n ps op.Union roots x (tree_kinds plan.sources (Many inputs)) Both s,
-            last_has n ps op.Union roots x (tree_kinds plan.sources (Many inputs)) Both s (λ o. o ≡ op.Union) (λ q e. seen_same op.Union q refl e),
+            last_has n ps op.Union roots x (tree_kinds plan.sources (Many inputs)) Both s,
             last_told n ps op.Union roots x (tree_kinds plan.sources (Many inputs)) Both s,
           )
 
@@ -191,9 +167,9 @@ module _ (plan : Plan) where
           let whole : mid + length qs ≡ n + length (ps ++ qs) = omega (arith, length-append ps qs) in (
             mid,
             roots_of plan.sources (bundles_in plan two_phase) mid inputs,
-            laid n Forward input (front_stands (map node_as_seen plan.nodes) plan.edges n ps qs s),
+            laid n Forward input (front_stands plan.nodes plan.edges n ps qs s),
             subst (λ last. AreLaid plan two_phase mid inputs (roots_of plan.sources (bundles_in plan two_phase) mid inputs) last) whole
-                (all_laid mid inputs (back_stands (map node_as_seen plan.nodes) plan.edges n ps qs s)),
+                (all_laid mid inputs (back_stands plan.nodes plan.edges n ps qs s)),
             refl,
           )
 
@@ -211,37 +187,37 @@ module _ (plan : Plan) where
       let inputs = (0 + length ps) ∷ [] in
       record {
         below = 0 + length ps;
-        tree = laid two_phase 0 (Hash key) rel (front_stands (map node_as_seen plan.nodes) plan.edges 0 ps (full_piece (op.Materialize key) inputs Forward (kinds_of (upsert key)) ∷ []) s);
+        tree = laid two_phase 0 (Hash key) rel (front_stands plan.nodes plan.edges 0 ps (full_piece (op.Materialize key) inputs Forward (kinds_of (upsert key)) ∷ []) s);
         between = (
           last_number 0 ps (op.Materialize key) inputs Forward (kinds_of (upsert key)) Both s,
-          last_has 0 ps (op.Materialize key) inputs Forward (kinds_of (upsert key)) Both s (λ o. o ≡ op.Materialize key) (λ q e. seen_same (op.Materialize key) q refl e),
+          last_has 0 ps (op.Materialize key) inputs Forward (kinds_of (upsert key)) Both s,
           last_told 0 ps (op.Materialize key) inputs Forward (kinds_of (upsert key)) Both s,
         );
       }
 
--- so a plan that is the tree's, as it is seen, has these nodes
+-- so a plan that is the tree's has these nodes
 pub lays_out_with : (plan : Plan) (two_phase : Bool) (top : Top) (rel : Rel) → IsLaidWith two_phase top plan rel → LaysOut plan two_phase top rel
 lays_out_with plan two_phase top rel is =
     let ps = with_top top (pieces_of plan.sources (bundles_in plan two_phase) 0 (asks_of top) rel) in
     let sink = piece op.Sink (length ps ∷ []) Forward (kinds_of retract) Absent in
     let root : ℕ = 0 + length ps in
     let root_is : length ps ≡ root = omega arith in
-    let nodes : map node_as_seen plan.nodes ≡ nodes_in (with_sink ps) = ap (λ (p : Plan). p.nodes) is in
+    let nodes : plan.nodes ≡ nodes_in (with_sink ps) = ap (λ (p : Plan). p.nodes) is in
     let edges : plan.edges ≡ edges_in (with_sink ps) = ap (λ (p : Plan). p.edges) is in
-    let all : Stand (map node_as_seen plan.nodes) plan.edges 0 (with_sink ps) =
+    let all : Stand plan.nodes plan.edges 0 (with_sink ps) =
     subst (λ (ns : List Node). Stand ns plan.edges 0 (with_sink ps)) (sym nodes) (subst (λ (es : List Edge). Stand (nodes_in (with_sink ps)) es 0 (with_sink ps)) (sym edges) (stand_alone (with_sink ps))) in
     let last : 0 + length (with_sink ps) ≡ root + 1 = last_number plan 0 ps op.Sink (length ps ∷ []) Forward (kinds_of retract) Absent all in
-    let has = last_has plan 0 ps op.Sink (length ps ∷ []) Forward (kinds_of retract) Absent all (λ o. o ≡ op.Sink) (λ q e. seen_same op.Sink q refl e) in
+    let has = last_has plan 0 ps op.Sink (length ps ∷ []) Forward (kinds_of retract) Absent all in
     let told = last_told plan 0 ps op.Sink (length ps ∷ []) Forward (kinds_of retract) Absent all in
-    let node_count : length plan.nodes ≡ length (with_sink ps) = sym (length-map plan.nodes node_as_seen) ∙ ap length nodes ∙ length-map (with_sink ps) (λ p. p.node) in
+    let node_count : length plan.nodes ≡ length (with_sink ps) = ap length nodes ∙ length-map (with_sink ps) (λ p. p.node) in
     let edge_count : length plan.edges ≡ length (with_sink ps) = ap length edges ∙ length-map (with_sink ps) (λ p. p.edge) in
-    let under = is_topped plan two_phase top rel (front_stands (map node_as_seen plan.nodes) plan.edges 0 ps (sink ∷ []) all) in
+    let under = is_topped plan two_phase top rel (front_stands plan.nodes plan.edges 0 ps (sink ∷ []) all) in
     record {
       below = under.below;
       laid = under.tree;
       root = root;
       topped = under.between;
-      sink_node = subst (λ (inputs : List ℕ). HasNode plan (root + 1) (λ o. o ≡ op.Sink) inputs) (ap (λ m. m ∷ []) root_is) (subst (λ v. HasNode plan v (λ o. o ≡ op.Sink) (length ps ∷ [])) last has);
+      sink_node = subst (λ (inputs : List ℕ). HasNode plan (root + 1) op.Sink inputs) (ap (λ m. m ∷ []) root_is) (subst (λ v. HasNode plan v op.Sink (length ps ∷ [])) last has);
       sink_edge = subst (λ v. HasEdge plan v Forward (kinds_of retract) Absent) last told;
       nodes = omega (arith, node_count, last);
       edges = omega (arith, edge_count, last);

@@ -3,22 +3,13 @@ use Rattle.std.specs.Prelude.{◌≡◌, ℕ, List}
 use Rattle.std.proofs.Common.{[], ◌∷◌, refl}
 use Rattle.ct_catalog.specs.declared.table.TableDef.{TableDef}
 use Rattle.ct_change.specs.declared.kind.KindSet.{KindSet}
-use Rattle.mode_infer.specs.declared.kinds.Flow.{Flow}
 use Rattle.mode_infer.specs.Kinds.{flow_of, group_kinds, plain}
-use Rattle.phys_plan.specs.declared.node.Op.{Op}
-use Rattle.phys_plan.specs.declared.node.Op.TheVariants as op
 use Rattle.plan_rules.proofs.laws.Erasing.{of_groups}
 use Rattle.plan_rules.specs.Roles.{unary_way, binary_way}
-use Rattle.plan_rules.specs.Seen.{op_as_seen}
 use Rattle.rel_algebra.specs.Rel.{Unary, filter_by, project_on, group_by, rank_in, Binary, join_on}
 
 module _ (sources : List TableDef) where
-  -- the places of an operator's expressions don't matter
-  pub flow_seen : (o : Op) (inputs : List Flow) → flow_of sources (op_as_seen o) inputs ≡ flow_of sources o inputs
-  flow_seen (op.Filter cond) inputs = refl
-  flow_seen _ inputs = refl
-
-  -- nor whether a group is one in bundles
+  -- whether a group is one in bundles doesn't matter
   pub way_sends : (size : ℕ) (how : Unary) (kinds : KindSet) → flow_of sources ((unary_way how).op size) (plain kinds ∷ []) ≡ plain (flow_of sources ((unary_way how).op 0) (plain kinds ∷ [])).sent
   way_sends size (filter_by condition) kinds = refl
   way_sends size (project_on items) kinds = refl

@@ -14,7 +14,6 @@ use Rattle.ct_change.specs.declared.kind.Declared.TheVariants.{Append, Retract, 
 use Rattle.ct_catalog.specs.declared.table.TableDef.{TableDef}
 use Rattle.ct_expr.specs.Types.{both_of}
 use Rattle.ct_expr.specs.Views.{expr_of}
-use Rattle.ct_expr.proofs.laws.Seen.{seen}
 use Rattle.rel_algebra.specs.declared.agg.Agg.{Agg}
 use Rattle.rel_algebra.specs.declared.agg.AggCall.{AggCall}
 use Rattle.rel_algebra.specs.declared.agg.AggCall.TheVariants.{CountAll, Count, CountDistinct, Sum, Min, Max, Avg}
@@ -34,7 +33,7 @@ use Rattle.plan_inferred.specs.Rules.{by_columns}
 use Rattle.phys_plan.specs.Reading.{numbered}
 use Rattle.ct_catalog.specs.Columns.{column_types}
 use Rattle.plan_rules.specs.Columns.{columns_as, common_with}
-use Rattle.laid_plans.proofs.laws.LaidTrees.{IsUnary, IsBinary, HasNode, Carries, IsOver, ScanLaid, SourceLaid, OneLaid, IsLaid, AreLaid}
+use Rattle.laid_plans.proofs.laws.LaidTrees.{HasNode, Carries, IsOver, ScanLaid, SourceLaid, OneLaid, IsLaid, AreLaid}
 use Rattle.plan_rules.specs.Roles.{Role, one_of, two_of, role, takes as takes_as, unary_way, binary_way}
 use Rattle.plan_shape.specs.Shape.{is_keyed_by, is_read, is_upsert_by, normalizes_by, scans_by, same_agg, same_aggs, same_call, same_column, suits_consumer, takes, op_in}
 use Rattle.plan_shape.specs.Tables.{is_declarable}
@@ -44,17 +43,15 @@ use Rattle.plan_check.specs.Types.{is_typed_by, types_at, types_by}
 use Rattle.sound_plans.proofs.laws.Numbers.{below_is_not, then_parts}
 use Rattle.sound_plans.proofs.laws.Lists.{both, map_at, map_length, of_each, the_same, within}
 use Rattle.sound_plans.proofs.laws.Tables.{key_within, upsert_has_key}
-use Rattle.plan_rules.proofs.laws.Erasing.{of_groups, each_seen, rest_seen, unary_told, binary_told}
+use Rattle.plan_rules.proofs.laws.Erasing.{of_groups, unary_told, binary_told}
 use Rattle.plan_rules.specs.Phases.{has_parts, local_below}
 use Rattle.plan_rules.specs.Plans.{kinds_in}
-use Rattle.plan_rules.specs.Seen.{op_as_seen}
 use Rattle.plan_rules.specs.TreeKinds.{kinds_declared, table_kinds, tree_kinds, trees_kinds}
 use Rattle.laid_plans.specs.Shapes.{bundles_in, types_of}
-use Rattle.plan_rules.proofs.laws.Seen.{role_seen, seen_same}
-use Rattle.laid_plans.proofs.laws.Laid.{both_parts, each_as_seen, rest_as_seen, renamed}
+use Rattle.laid_plans.proofs.laws.Laid.{both_parts}
 use Rattle.laid_plans.proofs.laws.LaidNodes.{IsFed, IsInner, OpMeets, flow_at, flow_from, inner, types_from}
 use Rattle.laid_plans.proofs.laws.Same.{both_hold}
-use Rattle.laid_plans.proofs.laws.Sent.{flow_seen, way_sends, ways_send}
+use Rattle.laid_plans.proofs.laws.Sent.{way_sends, ways_send}
 use Rattle.laid_plans.proofs.laws.Parts.{Part, next_part, no_part, two_parts}
 
 -- what is left of common columns is there from the start
@@ -69,20 +66,6 @@ common_some types start (rel_and input inputs) columns t =
 pub are_columns : (columns : List ColTy) (key : List ℕ) → AllByRecursion (λ column. column < length columns) key → list_all (is_column columns) key ≡ true
 are_columns columns [] h = refl
 are_columns columns (c ∷ key) h = (λ i. lt-ltb c (length columns) h.0 i && list_all (is_column columns) key) ∙ are_columns columns key h.1
-
--- ---- the ways of trees
-
--- the operator of a way is seen as it is
-pub unary_is : (mini_batch : ℕ) (how : Unary) → IsUnary mini_batch how ((unary_way how).op mini_batch)
-unary_is mini_batch (filter_by condition) = ap (λ c. op.Filter (expr_of c)) (seen condition)
-unary_is mini_batch (project_on items) = ap op.Project (each_as_seen (map expr_of items) ∙ ap (map expr_of) (each_seen items))
-unary_is mini_batch (group_by keys aggs) = of_groups (λ o. op_as_seen o ≡ o) mini_batch keys aggs refl (λ some keyed. refl)
-unary_is mini_batch (rank_in partition order bound ranked) = refl
-
-pub binary_is : (how : Binary) → IsBinary how (binary_way how).op
-binary_is (join_on kind pairs rest) = ap (op.Join kind pairs) (rest_as_seen (option_map expr_of rest) ∙ ap (option_map expr_of) (rest_seen rest))
-binary_is (semi_on anti pairs rest) = ap (op.Semi anti pairs) (rest_as_seen (option_map expr_of rest) ∙ ap (option_map expr_of) (rest_seen rest))
-binary_is (set_by except all columns) = refl
 
 module _ (plan : Plan) where
   -- the columns that a node sends
@@ -134,7 +117,7 @@ module _ (plan : Plan) where
   two_ports o first second f g (suc (suc port)) input e = absurd (cc)
 
   -- an operator that asks nothing of the tables, behind its inputs
-  inner_node : (n last root : ℕ) (x : Exchange) (o : Op) (roots : List ℕ) (columns : List ColTy) (kinds : KindSet) → IsInner plan o → Part plan n last roots → root ≡ last + 1 → HasNode plan root (λ p. p ≡ o) roots
+  inner_node : (n last root : ℕ) (x : Exchange) (o : Op) (roots : List ℕ) (columns : List ColTy) (kinds : KindSet) → IsInner plan o → Part plan n last roots → root ≡ last + 1 → HasNode plan root o roots
       → Carries plan root x kinds → root < length plan.nodes → takes o (length roots) ≡ true → types_by plan.sources o (map columns_at roots) ≡ Some columns → flow_of plan.sources o (map (flow_at plan) roots) ≡ plain kinds
       → ((port input : ℕ) → slice_get roots port ≡ Some input → IsFed plan o port input) → Told n x root columns kinds
   inner_node n last root x o roots columns kinds is s next has carries high ports typed flow fed =
@@ -164,7 +147,7 @@ module _ (plan : Plan) where
 
   -- with one input
   on_one : (n below root : ℕ) (x y : Exchange) (o : Op) (own columns : List ColTy) (kinds sent : KindSet) → IsInner plan o → Told n x below own kinds → by_columns (asked o 0) ≡ x → takes o 1 ≡ true
-      → types_by plan.sources o (Some own ∷ []) ≡ Some columns → flow_of plan.sources o (plain kinds ∷ []) ≡ plain sent → root ≡ below + 1 → HasNode plan root (λ p. p ≡ o) (below ∷ []) → Carries plan root y sent → root < length plan.nodes
+      → types_by plan.sources o (Some own ∷ []) ≡ Some columns → flow_of plan.sources o (plain kinds ∷ []) ≡ plain sent → root ≡ below + 1 → HasNode plan root o (below ∷ []) → Carries plan root y sent → root < length plan.nodes
       → Told n y root columns sent
   on_one n below root x y o own columns kinds sent is t asks ports typed flow next has carries high =
       inner_node n below root y o (below ∷ []) columns sent is t.part next has carries high ports
@@ -176,7 +159,7 @@ module _ (plan : Plan) where
   on_two : (n first second root : ℕ) (x y z : Exchange) (o : Op) (left right columns : List ColTy) (one other sent : KindSet) → IsInner plan o → Told n x first left one → Told first y second right other
       → by_columns (asked o 0) ≡ x → by_columns (asked o 1) ≡ y → takes o 2 ≡ true
       → types_by plan.sources o (Some left ∷ (Some right ∷ [])) ≡ Some columns → flow_of plan.sources o (plain one ∷ (plain other ∷ [])) ≡ plain sent
-      → root ≡ second + 1 → HasNode plan root (λ p. p ≡ o) (first ∷ (second ∷ [])) → Carries plan root z sent → root < length plan.nodes → Told n z root columns sent
+      → root ≡ second + 1 → HasNode plan root o (first ∷ (second ∷ [])) → Carries plan root z sent → root < length plan.nodes → Told n z root columns sent
   on_two n first second root x y z o left right columns one other sent is s t left_asks right_asks ports typed flow next has carries high =
       inner_node n second root z o (first ∷ (second ∷ [])) columns sent is (two_parts plan n first second (second ∷ []) s.part t.part) next has carries high ports
       ((λ i. types_by plan.sources o (s.columns_are i ∷ (t.columns_are i ∷ []))) ∙ typed)
@@ -200,22 +183,22 @@ module _ (plan : Plan) where
   BinaryFits how o = OpFits (two_of how) (binary_way how).left (binary_way how).right o
 
   -- the operator of a way
-  unary_way_fits : (how : Unary) → UnaryFits how ((unary_way how).op plan.mini_batch)
-  unary_way_fits (filter_by condition) = record {
+  pub unary_fits : (how : Unary) → UnaryFits how ((unary_way how).op plan.mini_batch)
+  unary_fits (filter_by condition) = record {
     told = unary_told plan.mini_batch (filter_by condition);
     made = λ inputs. refl;
     is_inner = inner plan (op.Filter (expr_of condition)) refl;
     asks = refl;
     other_asks = refl;
   }
-  unary_way_fits (project_on items) = record {
+  unary_fits (project_on items) = record {
     told = unary_told plan.mini_batch (project_on items);
     made = λ inputs. refl;
     is_inner = inner plan (op.Project (map expr_of items)) refl;
     asks = refl;
     other_asks = refl;
   }
-  unary_way_fits (group_by keys aggs) =
+  unary_fits (group_by keys aggs) =
       of_groups (λ o. UnaryFits (group_by keys aggs) o) plan.mini_batch keys aggs
       (record {
         told = refl;
@@ -231,7 +214,7 @@ module _ (plan : Plan) where
         asks = refl;
         other_asks = refl;
       })
-  unary_way_fits (rank_in partition order bound ranked) = record {
+  unary_fits (rank_in partition order bound ranked) = record {
     told = refl;
     made = λ inputs. refl;
     is_inner = inner plan (op.TopN partition order bound ranked) refl;
@@ -239,22 +222,22 @@ module _ (plan : Plan) where
     other_asks = refl;
   }
 
-  binary_way_fits : (how : Binary) → BinaryFits how (binary_way how).op
-  binary_way_fits (join_on kind pairs rest) = record {
+  pub binary_fits : (how : Binary) → BinaryFits how (binary_way how).op
+  binary_fits (join_on kind pairs rest) = record {
     told = binary_told (join_on kind pairs rest);
     made = λ inputs. refl;
     is_inner = inner plan (op.Join kind pairs (option_map expr_of rest)) refl;
     asks = refl;
     other_asks = refl;
   }
-  binary_way_fits (semi_on anti pairs rest) = record {
+  binary_fits (semi_on anti pairs rest) = record {
     told = binary_told (semi_on anti pairs rest);
     made = λ inputs. refl;
     is_inner = inner plan (op.Semi anti pairs (option_map expr_of rest)) refl;
     asks = refl;
     other_asks = refl;
   }
-  binary_way_fits (set_by except all columns) = record {
+  binary_fits (set_by except all columns) = record {
     told = refl;
     made = λ inputs. refl;
     is_inner = inner plan (op.SetOp except all columns) refl;
@@ -262,45 +245,16 @@ module _ (plan : Plan) where
     other_asks = refl;
   }
 
-  -- one fits as it does as it is seen
-  seen_fits : (r : Role) (x y : Exchange) (o : Op) → OpFits r x y (op_as_seen o) → OpFits r x y o
-  seen_fits r x y (op.Filter cond) f =
-      record { told = sym (role_seen (op.Filter cond)) ∙ f.told; made = λ inputs. refl; is_inner = inner plan (op.Filter cond) refl; asks = f.asks; other_asks = f.other_asks }
-  seen_fits r x y (op.Project items) f =
-      record { told = sym (role_seen (op.Project items)) ∙ f.told; made = λ inputs. refl; is_inner = inner plan (op.Project items) refl; asks = f.asks; other_asks = f.other_asks }
-  seen_fits r x y (op.Join kind on rest) f =
-      record { told = sym (role_seen (op.Join kind on rest)) ∙ f.told; made = λ inputs. refl; is_inner = inner plan (op.Join kind on rest) refl; asks = f.asks; other_asks = f.other_asks }
-  seen_fits r x y (op.Semi anti on rest) f =
-      record { told = sym (role_seen (op.Semi anti on rest)) ∙ f.told; made = λ inputs. refl; is_inner = inner plan (op.Semi anti on rest) refl; asks = f.asks; other_asks = f.other_asks }
-  seen_fits r x y _ f = f
-
-  pub unary_fits : (how : Unary) (o : Op) → IsUnary plan.mini_batch how o → UnaryFits how o
-  unary_fits how o is = seen_fits (one_of how) (unary_way how).asks (unary_way how).asks o (subst (λ (p : Op). UnaryFits how p) (sym is) (unary_way_fits how))
-
-  pub binary_fits : (how : Binary) (o : Op) → IsBinary how o → BinaryFits how o
-  binary_fits how o is = seen_fits (two_of how) (binary_way how).left (binary_way how).right o (subst (λ (p : Op). BinaryFits how p) (sym is) (binary_way_fits how))
-
   unary_typed : (how : Unary) (o : Op) → UnaryFits how o → (own : List ColTy) → types_by plan.sources o (Some own ∷ []) ≡ unary_columns how own
   unary_typed how o f own = f.made (Some own ∷ []) ∙ ap (λ r. columns_as plan.sources r (Some own ∷ [])) f.told
 
   binary_typed : (how : Binary) (o : Op) → BinaryFits how o → (left right : List ColTy) → types_by plan.sources o (Some left ∷ (Some right ∷ [])) ≡ binary_columns how left right
   binary_typed how o f left right = f.made (Some left ∷ (Some right ∷ [])) ∙ ap (λ r. columns_as plan.sources r (Some left ∷ (Some right ∷ []))) f.told
 
-  -- ---- kinds
-
-  -- an operator sends what the way of its tree does
-  unary_sends : (how : Unary) (o : Op) → IsUnary plan.mini_batch how o → (kinds : KindSet) → flow_of plan.sources o (plain kinds ∷ []) ≡ plain (flow_of plan.sources ((unary_way how).op 0) (plain kinds ∷ [])).sent
-  unary_sends how o is kinds = sym (flow_seen plan.sources o (plain kinds ∷ [])) ∙ ap (λ (p : Op). flow_of plan.sources p (plain kinds ∷ [])) is ∙ way_sends plan.sources plan.mini_batch how kinds
-
-  binary_sends : (how : Binary) (o : Op) → IsBinary how o → (one other : KindSet)
-      → flow_of plan.sources o (plain one ∷ (plain other ∷ [])) ≡ plain (flow_of plan.sources (binary_way how).op (plain one ∷ (plain other ∷ []))).sent
-  binary_sends how o is one other =
-      sym (flow_seen plan.sources o (plain one ∷ (plain other ∷ []))) ∙ ap (λ (p : Op). flow_of plan.sources p (plain one ∷ (plain other ∷ []))) is ∙ ways_send plan.sources how one other
-
   -- ---- tables
 
   -- a scan of a table that is there
-  scan_meets : (v source : ℕ) (table : TableDef) → slice_get plan.sources source ≡ Some table → HasNode plan v (λ p. p ≡ op.Scan source) [] → v < length plan.nodes → (columns_at v ≡ Some (column_types table)) × OpMeets plan v (op.Scan source) []
+  scan_meets : (v source : ℕ) (table : TableDef) → slice_get plan.sources source ≡ Some table → HasNode plan v (op.Scan source) [] → v < length plan.nodes → (columns_at v ≡ Some (column_types table)) × OpMeets plan v (op.Scan source) []
   scan_meets v source table e has high =
       let k : columns_at v ≡ Some (column_types table) = types_from plan v (op.Scan source) [] has tt ∙ ap (option_map column_types) e in (
         k,
@@ -318,7 +272,7 @@ module _ (plan : Plan) where
 
   -- a scan of a table that isn't an upsert table
   plain_scan : (n source root : ℕ) (table : TableDef) (x : Exchange) (kinds : KindSet) → slice_get plan.sources source ≡ Some table → is_upsert table.mode ≡ false → scan_kinds (Some table) ≡ kinds → root < length plan.nodes
-      → root ≡ n + 1 → HasNode plan root (λ p. p ≡ op.Scan source) [] → Carries plan root x kinds → Told n x root (column_types table) kinds
+      → root ≡ n + 1 → HasNode plan root (op.Scan source) [] → Carries plan root x kinds → Told n x root (column_types table) kinds
   plain_scan n source root table x kinds e no_keys sends high next has carries =
       let m = scan_meets root source table e has high in
       record {
@@ -451,12 +405,12 @@ module _ (plan : Plan) where
 
   -- the union of a tree and others behind it
   union_tree : (n first last root : ℕ) (x : Exchange) (others roots : List ℕ) (own columns : List ColTy) (kinds : KindSet) (more : List KindSet) → Told n Forward first own kinds → Several first last others (Some own) (Some columns) more
-      → roots ≡ first ∷ others → nat_le 2 (length roots) ≡ true → root ≡ last + 1 → HasNode plan root (λ o. o ≡ op.Union) roots → Carries plan root x (fold either no_kinds (kinds ∷ more)) → root < length plan.nodes
+      → roots ≡ first ∷ others → nat_le 2 (length roots) ≡ true → root ≡ last + 1 → HasNode plan root op.Union roots → Carries plan root x (fold either no_kinds (kinds ∷ more)) → root < length plan.nodes
       → Told n x root columns (fold either no_kinds (kinds ∷ more))
   union_tree n first last root x others roots own columns kinds more t s e many next has carries high =
       let all = first ∷ others in
       inner_node n last root x op.Union all columns (fold either no_kinds (kinds ∷ more)) (inner plan op.Union refl) (two_parts plan n first last others t.part s.part) next
-      (subst (λ (rs : List ℕ). HasNode plan root (λ o. o ≡ op.Union) rs) e has) carries high (ap (λ (rs : List ℕ). nat_le 2 (length rs)) (sym e) ∙ many)
+      (subst (λ (rs : List ℕ). HasNode plan root op.Union rs) e has) carries high (ap (λ (rs : List ℕ). nat_le 2 (length rs)) (sym e) ∙ many)
       (ap (λ c. common_with c (map columns_at others)) t.columns_are ∙ s.common_are)
       (ap (λ ks. plain (fold either no_kinds ks)) (kinds_both first others kinds more t.flow_is s.kinds_are))
       (λ port input f. fed_both n first own kinds others t s.fed port input f port)
@@ -509,21 +463,19 @@ module _ (plan : Plan) where
 
   -- a local group on a tree's root, and the group that merges its partial rows
   module _ (n below mid root : ℕ) (x : Exchange) (keys : ℕ) (aggs : List Agg) (own columns : List ColTy) (kinds : KindSet) (two_phase : Bool) (local : Op) (is : InPhases two_phase keys aggs kinds local)
-      (t : Told n Forward below own kinds) (typed : group_columns keys own aggs ≡ Some columns) (l : IsOver plan below (λ o. o ≡ local) mid (unary_way (group_by keys aggs)).asks inserts)
-      (m : IsOver plan mid (IsUnary plan.mini_batch (group_by keys aggs)) root x (group_kinds keys aggs kinds)) (high : root < length plan.nodes) where
+      (t : Told n Forward below own kinds) (typed : group_columns keys own aggs ≡ Some columns) (l : IsOver plan below local mid (unary_way (group_by keys aggs)).asks inserts)
+      (m : IsOver plan mid ((unary_way (group_by keys aggs)).op plan.mini_batch) root x (group_kinds keys aggs kinds)) (high : root < length plan.nodes) where
     abbrev summed : Op
     summed = op.LocalGroup keys aggs
 
     abbrev merged : Op
     merged = op.BatchGroup keys aggs
 
-    local_has : HasNode plan mid (λ o. o ≡ op.LocalGroup keys aggs) (below ∷ [])
-    local_has = renamed plan mid (λ o. o ≡ local) (below ∷ []) (op.LocalGroup keys aggs) l.1 (l.1.is_op ∙ is.local_is)
+    local_has : HasNode plan mid (op.LocalGroup keys aggs) (below ∷ [])
+    local_has = subst (λ (o : Op). HasNode plan mid o (below ∷ [])) is.local_is l.1
 
-    merged_has : HasNode plan root (λ o. o ≡ op.BatchGroup keys aggs) (mid ∷ [])
-    merged_has =
-        renamed plan root (IsUnary plan.mini_batch (group_by keys aggs)) (mid ∷ []) (op.BatchGroup keys aggs) m.1
-        (seen_same (op.BatchGroup keys aggs) m.1.node.op refl (m.1.is_op ∙ ap (λ b. cond b (op.Group keys aggs) (op.BatchGroup keys aggs)) is.bundled))
+    merged_has : HasNode plan root (op.BatchGroup keys aggs) (mid ∷ [])
+    merged_has = subst (λ b. HasNode plan root (cond b (op.Group keys aggs) (op.BatchGroup keys aggs)) (mid ∷ [])) is.bundled m.1
 
     lower : below < mid
     lower = omega (arith, l.0)
@@ -592,10 +544,10 @@ module _ (plan : Plan) (two_phase : Bool) (tables : (source : ℕ) (table : Tabl
       let over = laid.2 in
       let next = over.0 in
       let low : below < length plan.nodes = omega (arith, next, high) in
-      let o = over.1.node.op in
-      let f : UnaryFits plan how o = unary_fits plan how over.1.node.op over.1.is_op in
+      let o = (unary_way how).op plan.mini_batch in
+      let f = unary_fits plan how in
       on_one plan n below root (unary_way how).asks x o own columns (tree_kinds plan.sources input) (tree_kinds plan.sources (One how input)) f.is_inner (told (unary_way how).asks below laid.1 low) f.asks (ap (λ r. takes_as r 1) f.told)
-      (unary_typed plan how o f own ∙ typed) (unary_sends plan how o over.1.is_op (tree_kinds plan.sources input)) next (renamed plan root (IsUnary plan.mini_batch how) (below ∷ []) o over.1 refl) over.2 high
+      (unary_typed plan how o f own ∙ typed) (way_sends plan.sources plan.mini_batch how (tree_kinds plan.sources input)) next over.1 over.2 high
   one_tree (group_by keys aggs) input n x root own columns typed told (Some local) e laid high =
       let below = laid.0 in
       let mid = laid.1 in
@@ -623,11 +575,11 @@ module _ (plan : Plan) (two_phase : Bool) (tables : (source : ℕ) (table : Tabl
         let b = tree right laid.0 (binary_way how).right laid.1 laid.3 low fulls.1 p.1 p.3 in
         let before = b.part.segment.grows in
         let lower : laid.0 < length plan.nodes = omega arith in
-        let o = laid.5.node.op in
-        let f : BinaryFits plan how o = binary_fits plan how laid.5.node.op laid.5.is_op in
+        let o = (binary_way how).op in
+        let f = binary_fits plan how in
         on_two plan n laid.0 laid.1 root (binary_way how).left (binary_way how).right x o p.0 p.1 columns (tree_kinds plan.sources left) (tree_kinds plan.sources right) (tree_kinds plan.sources (Two how left right)) f.is_inner
         (tree left n (binary_way how).left laid.0 laid.2 lower fulls.0 p.0 p.2) b f.asks f.other_asks (ap (λ r. takes_as r 2) f.told) (binary_typed plan how o f p.0 p.1 ∙ p.4)
-        (binary_sends plan how o laid.5.is_op (tree_kinds plan.sources left) (tree_kinds plan.sources right)) next (renamed plan root (IsBinary how) (laid.0 ∷ (laid.1 ∷ [])) o laid.5 refl) laid.6 high
+        (ways_send plan.sources how (tree_kinds plan.sources left) (tree_kinds plan.sources right)) next laid.5 laid.6 high
     tree (Many no_rels) n x root laid high full columns t = absurd (cc)
     tree (Many (rel_and input inputs)) n x root laid high full columns t =
         let parts = laid.2 in

@@ -22,82 +22,64 @@ use Rattle.phys_plan.specs.declared.node.Node.{Node}
 use Rattle.phys_plan.specs.declared.plan.Plan.{Plan}
 use Rattle.plan_rules.specs.Phases.{Bundles, local_below}
 use Rattle.plan_rules.specs.TreeKinds.{kinds_declared, table_kinds, tree_kinds}
-use Rattle.laid_plans.proofs.laws.Sent.{flow_seen, way_sends}
+use Rattle.laid_plans.proofs.laws.Sent.{way_sends}
 use Rattle.plan_rules.specs.Pieces.{Piece, node_of, edge_of, piece, full_piece, one_pieces, scan_pieces, source_pieces, pieces_of, pieces_of_all, roots_of, bare, shown, with_sink, nodes_in, edges_in, plan_of_tree}
 use Rattle.plan_rules.specs.Roles.{unary_way, binary_way}
-use Rattle.plan_rules.specs.Seen.{op_as_seen, node_as_seen, plan_as_seen}
 use Rattle.plan_laying.specs.declared.laying_fault.LayingFault.{LayingFault}
 use Rattle.plan_laying.specs.declared.laying_fault.LayingFault.TheVariants.{NoTable, Memory}
 use Rattle.plan_laying.specs.declared.laying.Laid.{Laid}
 use Rattle.plan_laying.specs.declared.laying.Laying.{Laying}
 use Rattle.plan_laying.specs.Faults.{lacks_table, Says}
-use Rattle.plan_laying.specs.Laying.{bundles_of, Pushed, PushedAs, Sends, Adds, Lays, LaysAll, Shows, Fails, FailsAll}
+use Rattle.plan_laying.specs.Laying.{bundles_of, Pushed, Sends, Adds, Lays, LaysAll, Shows, Fails, FailsAll}
 use Rattle.plan_laying.specs.Topped.{all_but_last, send_last, shown_nodes, shown_edges, topped_plan}
 
 -- ---- pieces behind what was laid
 
 pub adds_none : (l : Laying) → Adds l l []
-adds_none l = record { sources = refl; bundles = refl; nodes = sym (append-nil (map node_as_seen l.nodes)); edges = sym (append-nil l.edges) }
+adds_none l = record { sources = refl; bundles = refl; nodes = sym (append-nil l.nodes); edges = sym (append-nil l.edges) }
 
 pub adds_more : (old mid new : Laying) (ps qs : List Piece) → Adds old mid ps → Adds mid new qs → Adds old new (ps ++ qs)
 adds_more old mid new ps qs a b = record {
   sources = b.sources ∙ a.sources;
   bundles = b.bundles ∙ a.bundles;
-  nodes = b.nodes ∙ ap (λ (ns : List Node). ns ++ nodes_in qs) a.nodes ∙ append_assoc (map node_as_seen old.nodes) (nodes_in ps) (nodes_in qs)
-      ∙ ap (λ (ns : List Node). map node_as_seen old.nodes ++ ns) (sym (map-append (λ (p : Piece). p.node) ps qs));
+  nodes = b.nodes ∙ ap (λ (ns : List Node). ns ++ nodes_in qs) a.nodes ∙ append_assoc old.nodes (nodes_in ps) (nodes_in qs)
+      ∙ ap (λ (ns : List Node). old.nodes ++ ns) (sym (map-append (λ (p : Piece). p.node) ps qs));
   edges = b.edges ∙ ap (λ es. es ++ edges_in qs) a.edges ∙ append_assoc old.edges (edges_in ps) (edges_in qs)
       ∙ ap (λ es. old.edges ++ es) (sym (map-append (λ (p : Piece). p.edge) ps qs));
 }
 
 pub adds_count : (old new : Laying) (ps : List Piece) → Adds old new ps → length new.nodes ≡ length old.nodes + length ps
 adds_count old new ps a =
-    let seen = length-map new.nodes node_as_seen in
-    let before = length-map old.nodes node_as_seen in
     let own = length-map ps (λ (p : Piece). p.node) in
-    let both : length (map node_as_seen new.nodes) ≡ length (map node_as_seen old.nodes) + length (nodes_in ps) = ap length a.nodes ∙ length-append (map node_as_seen old.nodes) (nodes_in ps) in
-    omega (arith, seen, before, own, both)
+    let both : length new.nodes ≡ length old.nodes + length (nodes_in ps) = ap length a.nodes ∙ length-append old.nodes (nodes_in ps) in
+    omega (arith, own, both)
 
 module _ (old new : Laying) (o : Op) (inputs : List ℕ) (x : Exchange) (kinds : KindSet) (update : Update) (v : ℕ) (p : Pushed old new o inputs x kinds update v) where
-  pub pushed_adds : (seen : Op) → op_as_seen o ≡ seen → Adds old new (piece seen inputs x kinds update ∷ [])
-  pushed_adds seen is = record {
-    sources = p.sources;
-    bundles = p.bundles;
-    nodes = ap (map node_as_seen) p.nodes ∙ map-append node_as_seen old.nodes (node_of o inputs ∷ []) ∙ ap (λ (q : Op). map node_as_seen old.nodes ++ node_of q inputs ∷ []) is;
-    edges = p.edges;
-  }
+  pub pushed_adds : Adds old new (piece o inputs x kinds update ∷ [])
+  pushed_adds = record { sources = p.sources; bundles = p.bundles; nodes = p.nodes; edges = p.edges }
 
   pub pushed_root : v ≡ length new.nodes
   pushed_root = p.number_is ∙ sym (ap length p.nodes ∙ length-append old.nodes (node_of o inputs ∷ []))
-
-pub pushed_as : (r : Result Laid LayingFault) (old new : Laying) (o seen : Op) (inputs : List ℕ) (flows : List Flow) (x : Exchange) → op_as_seen o ≡ seen → IfOk r (λ laid. Sends old new o inputs flows x laid)
-    → IfOk r (λ laid. PushedAs old new seen inputs flows x laid)
-pushed_as (Ok laid) old new o seen inputs flows x is p = (o, is, p)
-pushed_as (Err fault) old new o seen inputs flows x is p = tt
 
 pub sends_same : (r : Result Laid LayingFault) (old new : Laying) (o : Op) (inputs : List ℕ) (given flows : List Flow) (x : Exchange) → given ≡ flows → IfOk r (λ laid. Sends old new o inputs given x laid) → IfOk r (λ laid. Sends old new o inputs flows x laid)
 sends_same r old new o inputs given flows x same p = subst (λ (fs : List Flow). IfOk r (λ laid. Sends old new o inputs fs x laid)) same p
 
 -- ---- an operator over its inputs
 
--- the pieces of a node that is seen so, and sends this
-sends_adds : (old new : Laying) (seen : Op) (inputs : List ℕ) (flows : List Flow) (x : Exchange) (laid : Laid) (kinds : KindSet) → PushedAs old new seen inputs flows x laid → laid.kinds ≡ kinds → Adds old new (full_piece seen inputs x kinds ∷ [])
-sends_adds old new seen inputs flows x laid kinds p k =
-    subst (λ (ks : KindSet). Adds old new (full_piece seen inputs x ks ∷ [])) k (pushed_adds old new p.0 inputs x laid.kinds Both laid.root p.2.pushed seen p.1)
+-- the pieces of a node that sends this
+pub sends_adds : (old new : Laying) (o : Op) (inputs : List ℕ) (flows : List Flow) (x : Exchange) (laid : Laid) (kinds : KindSet) → Sends old new o inputs flows x laid → laid.kinds ≡ kinds → Adds old new (full_piece o inputs x kinds ∷ [])
+sends_adds old new o inputs flows x laid kinds p k =
+    subst (λ (ks : KindSet). Adds old new (full_piece o inputs x ks ∷ [])) k (pushed_adds old new o inputs x laid.kinds Both laid.root p.pushed)
 
-sends_root : (old new : Laying) (seen : Op) (inputs : List ℕ) (flows : List Flow) (x : Exchange) (laid : Laid) → PushedAs old new seen inputs flows x laid → laid.root ≡ length new.nodes
-sends_root old new seen inputs flows x laid p = pushed_root old new p.0 inputs x laid.kinds Both laid.root p.2.pushed
-
--- it sends what is sent by what is seen of it
-sends_seen : (old new : Laying) (seen : Op) (inputs : List ℕ) (flows : List Flow) (x : Exchange) (laid : Laid) → PushedAs old new seen inputs flows x laid → laid.kinds ≡ (flow_of old.sources seen flows).sent
-sends_seen old new seen inputs flows x laid p =
-    p.2.kinds_are ∙ ap (λ (f : Flow). f.sent) (sym (flow_seen old.sources p.0 flows) ∙ ap (λ (q : Op). flow_of old.sources q flows) p.1)
+pub sends_root : (old new : Laying) (o : Op) (inputs : List ℕ) (flows : List Flow) (x : Exchange) (laid : Laid) → Sends old new o inputs flows x laid → laid.root ≡ length new.nodes
+sends_root old new o inputs flows x laid p = pushed_root old new o inputs x laid.kinds Both laid.root p.pushed
 
 -- what is told of a tree's kinds, over the tables and bundles that were there before it
 pub local_before : (old mid : Laying) (x : Exchange) (how : Unary) (input : Rel) (below : Laid) → Lays old mid x input below → local_below (bundles_of old) how (tree_kinds old.sources input) ≡ local_below (bundles_of mid) how below.kinds
 local_before old mid x how input below l = sym (λ i. local_below (l.adds.bundles i) how (l.sends i))
 
 pub one_lays : (old mid new : Laying) (x : Exchange) (how : Unary) (input : Rel) (below laid : Laid) → Lays old mid (unary_way how).asks input below → local_below (bundles_of mid) how below.kinds ≡ None
-    → PushedAs mid new ((unary_way how).op mid.mini_batch) (below.root ∷ []) (plain below.kinds ∷ []) x laid → Lays old new x (One how input) laid
+    → Sends mid new ((unary_way how).op mid.mini_batch) (below.root ∷ []) (plain below.kinds ∷ []) x laid → Lays old new x (One how input) laid
 one_lays old mid new x how input below laid l none p =
     let n = length old.nodes in
     let b = bundles_of old in
@@ -106,17 +88,18 @@ one_lays old mid new x how input below laid l none p =
     let ps = pieces_of old.sources (bundles_of old) (length old.nodes) (unary_way how).asks input in
     let below_is : below.root ≡ n + length ps = l.root_is ∙ adds_count old mid ps l.adds in
     let sent : laid.kinds ≡ tree_kinds old.sources (One how input) =
-    sends_seen mid new ((unary_way how).op mid.mini_batch) (below.root ∷ []) (plain below.kinds ∷ []) x laid p ∙ ap (λ (f : Flow). f.sent) (way_sends mid.sources mid.mini_batch how below.kinds)
+    p.kinds_are ∙ ap (λ (f : Flow). f.sent) (way_sends mid.sources mid.mini_batch how below.kinds)
     ∙ (λ i. (flow_of (l.adds.sources i) ((unary_way how).op 0) (plain (l.sends i) ∷ [])).sent) in
-    let seen : PushedAs mid new o (below.root ∷ []) (plain below.kinds ∷ []) x laid = (p.0, p.1 ∙ ap (λ (q : Bundles). (unary_way how).op q.size) l.adds.bundles, p.2) in
-    let own : Adds mid new (full_piece o (below.root ∷ []) x kinds ∷ []) = sends_adds mid new o (below.root ∷ []) (plain below.kinds ∷ []) x laid kinds seen sent in
+    let given : Sends mid new o (below.root ∷ []) (plain below.kinds ∷ []) x laid =
+    subst (λ (q : Bundles). Sends mid new ((unary_way how).op q.size) (below.root ∷ []) (plain below.kinds ∷ []) x laid) l.adds.bundles p in
+    let own : Adds mid new (full_piece o (below.root ∷ []) x kinds ∷ []) = sends_adds mid new o (below.root ∷ []) (plain below.kinds ∷ []) x laid kinds given sent in
     let top : Adds mid new (full_piece o ((n + length ps) ∷ []) x kinds ∷ []) = subst (λ m. Adds mid new (full_piece o (m ∷ []) x kinds ∷ [])) below_is own in
     let all : Adds old new (one_pieces (length old.nodes) (bundles_of old) how None (λ asks. pieces_of old.sources (bundles_of old) (length old.nodes) asks input) x (tree_kinds old.sources (One how input))) =
     adds_more old mid new ps (full_piece o ((n + length ps) ∷ []) x kinds ∷ []) l.adds top in
     record {
       adds = subst (λ (local : Option Op). Adds old new (one_pieces (length old.nodes) (bundles_of old) how local (λ asks. pieces_of old.sources (bundles_of old) (length old.nodes) asks input) x (tree_kinds old.sources (One how input))))
           (sym (local_before old mid (unary_way how).asks how input below l ∙ none)) all;
-      root_is = sends_root mid new o (below.root ∷ []) (plain below.kinds ∷ []) x laid seen;
+      root_is = sends_root mid new o (below.root ∷ []) (plain below.kinds ∷ []) x laid given;
       sends = sent;
       tables = l.tables;
     }
@@ -129,7 +112,7 @@ adds_behind old mid new n x rel laid sources bundles count l =
     (subst (λ (b : Bundles). Adds mid new (pieces_of old.sources b (length mid.nodes) x rel)) bundles (subst (λ (s : List TableDef). Adds mid new (pieces_of s (bundles_of mid) (length mid.nodes) x rel)) sources l.adds))
 
 pub two_lay : (old mid new last : Laying) (x : Exchange) (how : Binary) (left right : Rel) (first second laid : Laid) → Lays old mid (binary_way how).left left first → Lays mid new (binary_way how).right right second
-    → PushedAs new last (binary_way how).op (first.root ∷ (second.root ∷ [])) (plain first.kinds ∷ (plain second.kinds ∷ [])) x laid → Lays old last x (Two how left right) laid
+    → Sends new last (binary_way how).op (first.root ∷ (second.root ∷ [])) (plain first.kinds ∷ (plain second.kinds ∷ [])) x laid → Lays old last x (Two how left right) laid
 two_lay old mid new last x how left right first second laid l m p =
     let n = length old.nodes in
     let o = (binary_way how).op in
@@ -143,7 +126,7 @@ two_lay old mid new last x how left right first second laid l m p =
     let sources : new.sources ≡ old.sources = m.adds.sources ∙ l.adds.sources in
     let other : second.kinds ≡ tree_kinds old.sources right = m.sends ∙ ap (λ (s : List TableDef). tree_kinds s right) l.adds.sources in
     let sent : laid.kinds ≡ tree_kinds old.sources (Two how left right) =
-    sends_seen new last o (first.root ∷ (second.root ∷ [])) (plain first.kinds ∷ (plain second.kinds ∷ [])) x laid p ∙ (λ i. (flow_of (sources i) o (plain (l.sends i) ∷ (plain (other i) ∷ []))).sent) in
+    p.kinds_are ∙ (λ i. (flow_of (sources i) o (plain (l.sends i) ∷ (plain (other i) ∷ []))).sent) in
     let own : Adds new last (full_piece o (first.root ∷ (second.root ∷ [])) x kinds ∷ []) = sends_adds new last o (first.root ∷ (second.root ∷ [])) (plain first.kinds ∷ (plain second.kinds ∷ [])) x laid kinds p sent in
     let top : Adds new last (full_piece o ((n + length ps) ∷ ((n + length ps + length qs) ∷ [])) x kinds ∷ []) =
     subst (λ (inputs : List ℕ). Adds new last (full_piece o inputs x kinds ∷ [])) (λ i. first_is i ∷ (second_is i ∷ [])) own in
@@ -163,12 +146,11 @@ pub union_lays : (old mid new : Laying) (x : Exchange) (inputs : Rels) (roots : 
 union_lays old mid new x inputs roots flows laid all p =
     let kinds = tree_kinds old.sources (r.Union inputs) in
     let sent : laid.kinds ≡ tree_kinds old.sources (r.Union inputs) = p.kinds_are ∙ ap (λ (ks : List KindSet). fold either no_kinds ks) all.send in
-    let seen : PushedAs mid new op.Union roots flows x laid = (op.Union, refl, p) in
-    let own : Adds mid new (full_piece op.Union roots x kinds ∷ []) = sends_adds mid new op.Union roots flows x laid kinds seen sent in
+    let own : Adds mid new (full_piece op.Union roots x kinds ∷ []) = sends_adds mid new op.Union roots flows x laid kinds p sent in
     let top = subst (λ (ro : List ℕ). Adds mid new (full_piece op.Union ro x kinds ∷ [])) all.roots_are own in
     record {
       adds = adds_more old mid new (pieces_of_all old.sources (bundles_of old) (length old.nodes) inputs) (full_piece op.Union (roots_of old.sources (bundles_of old) (length old.nodes) inputs) x kinds ∷ []) all.adds top;
-      root_is = sends_root mid new op.Union roots flows x laid seen;
+      root_is = sends_root mid new op.Union roots flows x laid p;
       sends = sent;
       tables = all.tables;
     }
@@ -193,7 +175,7 @@ plain_lays old new x source laid table is plain p =
     }
   where
     scan : (kinds : KindSet) → laid.kinds ≡ kinds → Adds old new (full_piece (op.Scan source) [] x kinds ∷ [])
-    scan kinds k = sends_adds old new (op.Scan source) [] [] x laid kinds (op.Scan source, refl, p) k
+    scan kinds k = sends_adds old new (op.Scan source) [] [] x laid kinds p k
 
     by_mode : (mode : Declared) → (mode ≡ Upsert → ⊥) → laid.kinds ≡ kinds_of (mode_of mode []) → Adds old new (scan_pieces (length old.nodes) x source mode (unwrap_or table.key [])) × (laid.kinds ≡ kinds_declared mode (kinds_of (mode_of mode [])))
     by_mode Append not k = (scan (kinds_of append) k, k)
@@ -205,16 +187,15 @@ pub upsert_lays : (old mid new : Laying) (x : Exchange) (source : ℕ) (below la
 upsert_lays old mid new x source below laid key table is mode key_is p q =
     let n = length old.nodes in
     let scan = piece (op.Scan source) [] (Hash key) (kinds_of (upsert key)) (After key) in
-    let first : Adds old mid (scan ∷ []) = pushed_adds old mid (op.Scan source) [] (Hash key) (kinds_of (upsert key)) (After key) below.root p (op.Scan source) refl in
-    let seen : PushedAs mid new (op.Normalize key) (below.root ∷ []) (plain below.kinds ∷ []) x laid = (op.Normalize key, refl, q) in
-    let own : Adds mid new (full_piece (op.Normalize key) (below.root ∷ []) x (kinds_of retract) ∷ []) = sends_adds mid new (op.Normalize key) (below.root ∷ []) (plain below.kinds ∷ []) x laid (kinds_of retract) seen q.kinds_are in
+    let first : Adds old mid (scan ∷ []) = pushed_adds old mid (op.Scan source) [] (Hash key) (kinds_of (upsert key)) (After key) below.root p in
+    let own : Adds mid new (full_piece (op.Normalize key) (below.root ∷ []) x (kinds_of retract) ∷ []) = sends_adds mid new (op.Normalize key) (below.root ∷ []) (plain below.kinds ∷ []) x laid (kinds_of retract) q q.kinds_are in
     let top = subst (λ m. Adds mid new (full_piece (op.Normalize key) (m ∷ []) x (kinds_of retract) ∷ [])) p.number_is own in
     let both : Adds old new (scan_pieces (length old.nodes) x source Upsert key) = adds_more old mid new (scan ∷ []) (full_piece (op.Normalize key) ((n + 1) ∷ []) x (kinds_of retract) ∷ []) first top in
     let pieces : Adds old new (scan_pieces (length old.nodes) x source table.mode (unwrap_or table.key [])) =
     subst (λ m. Adds old new (scan_pieces (length old.nodes) x source m (unwrap_or table.key []))) (sym mode) (subst (λ (k : List ℕ). Adds old new (scan_pieces (length old.nodes) x source Upsert k)) (sym key_is) both) in
     record {
       adds = subst (λ (o : Option TableDef). Adds old new (source_pieces (length old.nodes) x source o)) (sym is) pieces;
-      root_is = sends_root mid new (op.Normalize key) (below.root ∷ []) (plain below.kinds ∷ []) x laid seen;
+      root_is = sends_root mid new (op.Normalize key) (below.root ∷ []) (plain below.kinds ∷ []) x laid q;
       sends = q.kinds_are ∙ sym (ap table_kinds is ∙ ap (λ m. kinds_declared m (scan_kinds (Some table))) mode);
       tables = ap is_none is;
     }
@@ -229,18 +210,17 @@ full_fails l rel fault is = subst (Fails l rel) (sym is) tt
 -- ---- the plan
 
 pub plan_is : (start mid new : Laying) (plan : Plan) (rel : Rel) (laid : Laid) (v : ℕ) → start.nodes ≡ [] → start.edges ≡ [] → Lays start mid Forward rel laid → Pushed mid new op.Sink (laid.root ∷ []) Forward (kinds_of retract) Absent v
-    → plan.nodes ≡ new.nodes → plan.edges ≡ new.edges → plan.sources ≡ start.sources → plan.mini_batch ≡ start.mini_batch → plan_as_seen plan ≡ plan_of_tree start.sources plan.sink plan.parallelism (bundles_of start) bare rel
+    → plan.nodes ≡ new.nodes → plan.edges ≡ new.edges → plan.sources ≡ start.sources → plan.mini_batch ≡ start.mini_batch → plan ≡ plan_of_tree start.sources plan.sink plan.parallelism (bundles_of start) bare rel
 plan_is start mid new plan rel laid v no_nodes no_edges l p nodes edges sources batches =
     let ps = pieces_of start.sources (bundles_of start) 0 Forward rel in
     let count : length start.nodes ≡ 0 = ap length no_nodes in
     let tree : Adds start mid ps = subst (λ n. Adds start mid (pieces_of start.sources (bundles_of start) n Forward rel)) count l.adds in
     let counted : length mid.nodes ≡ length start.nodes + length ps = adds_count start mid ps tree in
     let root_is : laid.root ≡ length ps = omega (arith, l.root_is, count, counted) in
-    let own : Adds mid new (piece op.Sink (laid.root ∷ []) Forward (kinds_of retract) Absent ∷ []) = pushed_adds mid new op.Sink (laid.root ∷ []) Forward (kinds_of retract) Absent v p op.Sink refl in
+    let own : Adds mid new (piece op.Sink (laid.root ∷ []) Forward (kinds_of retract) Absent ∷ []) = pushed_adds mid new op.Sink (laid.root ∷ []) Forward (kinds_of retract) Absent v p in
     let sink = subst (λ m. Adds mid new (piece op.Sink (m ∷ []) Forward (kinds_of retract) Absent ∷ [])) root_is own in
     let all : Adds start new (with_sink ps) = adds_more start mid new ps (piece op.Sink (length ps ∷ []) Forward (kinds_of retract) Absent ∷ []) tree sink in
-    let all_nodes : map node_as_seen plan.nodes ≡ nodes_in (with_sink ps) =
-    ap (map node_as_seen) nodes ∙ all.nodes ∙ ap (λ (ns : List Node). map node_as_seen ns ++ nodes_in (with_sink ps)) no_nodes in
+    let all_nodes : plan.nodes ≡ nodes_in (with_sink ps) = nodes ∙ all.nodes ∙ ap (λ (ns : List Node). ns ++ nodes_in (with_sink ps)) no_nodes in
     let all_edges : plan.edges ≡ edges_in (with_sink ps) = edges ∙ all.edges ∙ ap (λ es. es ++ edges_in (with_sink ps)) no_edges in
     λ i. record { sources = sources i; sink = plan.sink; nodes = all_nodes i; edges = all_edges i; parallelism = plan.parallelism; mini_batch = batches i }
 

@@ -1,13 +1,10 @@
 -- Lists without their last, and edges of which the last goes by an exchange.
-use Rattle.std.specs.Prelude.{◌≡◌, ℕ, ◌<◌, List, ◌++◌, length, map, slice_get, Option, option_to_list, IfNone}
+use Rattle.std.specs.Prelude.{◌≡◌, ℕ, ◌<◌, List, ◌++◌, length, slice_get, Option, option_to_list, IfNone}
 use Rattle.std.proofs.Common.{zero, suc, [], ◌∷◌, refl, sym, ap, ◌∙◌, arith, Some, None}
 use Rattle.std.proofs.lemmas.List.{append-nil}
 use Rattle.phys_plan.specs.declared.edge.Edge.{Edge}
 use Rattle.phys_plan.specs.declared.edge.Exchange.{Exchange}
-use Rattle.phys_plan.specs.declared.edge.Exchange.TheVariants.{Forward}
 use Rattle.plan_laying.specs.Topped.{all_but_last, sent_by, send_last}
-use Rattle.plan_laying.specs.declared.laying.Laying.{Laying}
-use Rattle.plan_laying.specs.Laying.{Forwards, bundles_of}
 
 -- ---- all but the last
 
@@ -25,11 +22,6 @@ pub has_last : {A : Type 0} (xs : List A) → 0 < length xs → (x : A) × (xs �
 has_last [] l = absurd (omega arith)
 has_last (x ∷ []) l = (x, refl)
 has_last (x ∷ (y ∷ xs)) l = let rest = has_last (y ∷ xs) (omega arith) in (rest.0, ap (λ ys. x ∷ ys) rest.1)
-
-pub mapped : {A B : Type 0} (f : A → B) (xs : List A) → map f (all_but_last xs) ≡ all_but_last (map f xs)
-mapped f [] = refl
-mapped f (x ∷ []) = refl
-mapped f (x ∷ (y ∷ xs)) = ap (λ ys. f x ∷ ys) (mapped f (y ∷ xs))
 
 -- ---- edges of which the last goes by an exchange
 
@@ -57,7 +49,3 @@ hashed_ahead x [] n l = absurd (omega arith)
 hashed_ahead x (e ∷ []) n l = absurd (omega arith)
 hashed_ahead x (e ∷ (f ∷ es)) zero l = refl
 hashed_ahead x (e ∷ (f ∷ es)) (suc n) l = hashed_ahead x (f ∷ es) n (omega arith)
-
--- a plan's last edge becomes a forward edge: where there is none, nothing is changed
-pub forwards : (old new : Laying) (o : Option Edge) → o ≡ None → new.sources ≡ old.sources → bundles_of new ≡ bundles_of old → new.nodes ≡ old.nodes → old.edges ≡ new.edges ++ option_to_list o → IfNone o (old.edges ≡ []) → Forwards old new
-forwards old new o is sources bundles nodes e none = record { sources = sources; bundles = bundles; nodes = nodes; edges = hashed_none Forward old.edges new.edges o is e none }

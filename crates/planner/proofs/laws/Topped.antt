@@ -1,8 +1,7 @@
--- A plan with a materializer before its sink is, as it is seen, the plan of its tree with that.
-use Rattle.std.specs.Prelude.{◌≡◌, ℕ, ◌+◌, ◌<◌, Bool, List, ◌++◌, length, map, slice_get, option_map}
+-- A plan with a materializer before its sink is the plan of its tree with that.
+use Rattle.std.specs.Prelude.{◌≡◌, ℕ, ◌+◌, ◌<◌, Bool, List, ◌++◌, length, slice_get}
 use Rattle.std.proofs.Common.{zero, suc, false, [], ◌∷◌, refl, sym, ap, ◌∙◌, arith, Some, length-append}
-use Rattle.std.proofs.lemmas.List.{append_assoc, length-map, map-append}
-use Rattle.std.proofs.lemmas.Option.{slice_get-map}
+use Rattle.std.proofs.lemmas.List.{append_assoc, length-map}
 use Rattle.ct_change.specs.Changelog.{retract, upsert, kinds_of}
 use Rattle.ct_change.specs.declared.update.Update.TheVariants.{Absent, Both}
 use Rattle.ct_catalog.specs.declared.table.TableDef.{TableDef}
@@ -15,12 +14,11 @@ use Rattle.phys_plan.specs.declared.node.Op.TheVariants as op
 use Rattle.phys_plan.specs.declared.plan.Plan.{Plan}
 use Rattle.phys_plan.specs.Reading.{numbered}
 use Rattle.plan_rules.specs.Pieces.{Piece, node_of, edge_of, piece, full_piece, pieces_of, nodes_in, edges_in, Top, bare, shown, with_top, with_sink}
-use Rattle.plan_rules.specs.Seen.{node_as_seen, op_as_seen, plan_as_seen}
 use Rattle.sound_plans.proofs.laws.Agreed.{materializes}
 use Rattle.plan_rules.specs.Phases.{Bundles}
 use Rattle.laid_plans.specs.Shapes.{bundles_in, IsLaidWith}
 use Rattle.plan_laying.proofs.laws.LastPieces.{tree_ends, nodes_end, edges_end, same_nodes, other_edges}
-use Rattle.plan_laying.proofs.laws.LastEdges.{all_of, mapped, hashed_many, hashed_ahead}
+use Rattle.plan_laying.proofs.laws.LastEdges.{all_of, hashed_many, hashed_ahead}
 use Rattle.planner.proofs.laws.Ahead.{in_front, behind}
 use Rattle.plan_laying.specs.Topped.{all_but_last, send_last, shown_nodes, shown_edges, topped_plan}
 
@@ -62,49 +60,25 @@ laid_with key laid rel two_phase is =
     let ps = plain laid.sources (bundles_in laid two_phase) rel key in
     let qs = by_key laid.sources (bundles_in laid two_phase) rel key in
     let tree : List Node = all_but_last laid.nodes in
-    let nodes : map node_as_seen tree ≡ nodes_in ps =
-    mapped node_as_seen laid.nodes ∙ ap (λ (p : Plan). all_but_last p.nodes) is
+    let nodes : tree ≡ nodes_in ps =
+    ap (λ (p : Plan). all_but_last p.nodes) is
     ∙ ap all_but_last (nodes_end ps (piece op.Sink (length ps ∷ []) Forward (kinds_of retract) Absent)) ∙ all_of (nodes_in ps) (node_of op.Sink (length ps ∷ [])) in
     let edges : all_but_last laid.edges ≡ edges_in ps =
     ap (λ (p : Plan). all_but_last p.edges) is
     ∙ ap all_but_last (edges_end ps (piece op.Sink (length ps ∷ []) Forward (kinds_of retract) Absent)) ∙ all_of (edges_in ps) (edge_of Forward (kinds_of retract) Absent) in
     let count : length tree ≡ length qs =
-    sym (length-map tree node_as_seen) ∙ ap length nodes ∙ length-map ps (λ (p : Piece). p.node) ∙ same_count laid.sources (bundles_in laid two_phase) rel key in
+    ap length nodes ∙ length-map ps (λ (p : Piece). p.node) ∙ same_count laid.sources (bundles_in laid two_phase) rel key in
     let longer : length (topped laid.sources (bundles_in laid two_phase) rel key) ≡ length qs + 1 = length-append qs (full_piece (op.Materialize key) ((0 + length qs) ∷ []) Forward (kinds_of (upsert key)) ∷ []) in
     let root : length tree ≡ 0 + length qs = omega (arith, count) in
     let last : length tree + 1 ≡ length (topped laid.sources (bundles_in laid two_phase) rel key) = omega (arith, count, longer) in
-    let seen : map node_as_seen tree ≡ nodes_in qs = nodes ∙ same laid.sources (bundles_in laid two_phase) rel key in
-    let all_nodes : map node_as_seen (shown_nodes key tree) ≡ nodes_in (with_sink (topped laid.sources (bundles_in laid two_phase) rel key)) =
-    map-append node_as_seen tree (node_of (op.Materialize key) (length tree ∷ []) ∷ (node_of op.Sink ((length tree + 1) ∷ []) ∷ []))
-    ∙ (λ i. seen i ++ (node_of (op.Materialize key) (root i ∷ []) ∷ (node_of op.Sink (last i ∷ []) ∷ []))) ∙ sym (topped_nodes laid.sources (bundles_in laid two_phase) rel key) in
+    let tree_is : tree ≡ nodes_in qs = nodes ∙ same laid.sources (bundles_in laid two_phase) rel key in
+    let all_nodes : shown_nodes key tree ≡ nodes_in (with_sink (topped laid.sources (bundles_in laid two_phase) rel key)) =
+    (λ i. tree_is i ++ (node_of (op.Materialize key) (root i ∷ []) ∷ (node_of op.Sink (last i ∷ []) ∷ []))) ∙ sym (topped_nodes laid.sources (bundles_in laid two_phase) rel key) in
     let all_edges : shown_edges key (send_last (Hash key) (all_but_last laid.edges)) ≡ edges_in (with_sink (topped laid.sources (bundles_in laid two_phase) rel key)) =
     ap (λ (es : List Edge). shown_edges key (send_last (Hash key) es)) edges ∙ ap (shown_edges key) (hashed_edges laid.sources (bundles_in laid two_phase) rel key) ∙ sym (topped_edges laid.sources (bundles_in laid two_phase) rel key) in
     λ i. record { sources = laid.sources; sink = laid.sink; nodes = all_nodes i; edges = all_edges i; parallelism = laid.parallelism; mini_batch = laid.mini_batch }
 
--- what stands before the sink is put into a plan as it is seen
-pub topped_seen : (top : Top) (plan : Plan) → topped_plan top (plan_as_seen plan) ≡ plan_as_seen (topped_plan top plan)
-topped_seen bare plan = refl
-topped_seen (shown key) plan =
-    let tree : List Node = all_but_last plan.nodes in
-    let seen : all_but_last (map node_as_seen plan.nodes) ≡ map node_as_seen tree = sym (mapped node_as_seen plan.nodes) in
-    let count : length (map node_as_seen tree) ≡ length tree = length-map tree node_as_seen in
-    let nodes : shown_nodes key (all_but_last (map node_as_seen plan.nodes)) ≡ map node_as_seen (shown_nodes key tree) =
-    ap (shown_nodes key) seen ∙ (λ i. map node_as_seen tree ++ (node_of (op.Materialize key) (count i ∷ []) ∷ (node_of op.Sink ((count i + 1) ∷ []) ∷ [])))
-    ∙ sym (map-append node_as_seen tree (node_of (op.Materialize key) (length tree ∷ []) ∷ (node_of op.Sink ((length tree + 1) ∷ []) ∷ []))) in
-    λ i. record {
-      sources = plan.sources;
-      sink = plan.sink;
-      nodes = nodes i;
-      edges = shown_edges key (send_last (Hash key) (all_but_last plan.edges));
-      parallelism = plan.parallelism;
-      mini_batch = plan.mini_batch;
-    }
-
 -- ---- the root
-
-seen_other : (o : Op) → materializes (op_as_seen o) ≡ materializes o
-seen_other (op.Filter cond) = refl
-seen_other _ = refl
 
 some_same : {A : Type 0} (x y : A) → Some x ≡ Some y → x ≡ y
 some_same x y e = cc
@@ -116,16 +90,14 @@ root_other laid rel two_phase is n node many e =
     let last = tree_ends laid.sources (bundles_in laid two_phase) 0 rel in
     let own = node_of last.operator last.inputs in
     let sink = node_of op.Sink (length ps ∷ []) in
-    let nodes : map node_as_seen laid.nodes ≡ nodes_in last.front ++ (own ∷ (sink ∷ [])) =
+    let nodes : laid.nodes ≡ nodes_in last.front ++ (own ∷ (sink ∷ [])) =
     ap (λ (p : Plan). p.nodes) is ∙ nodes_end ps (piece op.Sink (length ps ∷ []) Forward (kinds_of retract) Absent)
     ∙ ap (λ (ns : List Node). ns ++ sink ∷ []) (ap nodes_in (last.are Forward) ∙ nodes_end last.front (full_piece last.operator last.inputs Forward last.kinds)) ∙ append_assoc (nodes_in last.front) (own ∷ []) (sink ∷ []) in
-    let count : length laid.nodes ≡ length (nodes_in last.front) + 2 =
-    sym (length-map laid.nodes node_as_seen) ∙ ap length nodes ∙ length-append (nodes_in last.front) (own ∷ (sink ∷ [])) in
+    let count : length laid.nodes ≡ length (nodes_in last.front) + 2 = ap length nodes ∙ length-append (nodes_in last.front) (own ∷ (sink ∷ [])) in
     let place : n ≡ length (nodes_in last.front) + 0 = omega (arith, many, count) in
-    let seen : option_map node_as_seen (slice_get laid.nodes n) ≡ Some own =
-    sym (slice_get-map node_as_seen laid.nodes n) ∙ (λ i. slice_get (nodes i) (place i)) ∙ behind (nodes_in last.front) (own ∷ (sink ∷ [])) 0 in
-    let same : node_as_seen node ≡ own = some_same (node_as_seen node) own (sym (ap (option_map node_as_seen) e) ∙ seen) in
-    sym (seen_other node.op) ∙ ap (λ (m : Node). materializes m.op) same ∙ last.other
+    let there : slice_get laid.nodes n ≡ Some own = (λ i. slice_get (nodes i) (place i)) ∙ behind (nodes_in last.front) (own ∷ (sink ∷ [])) 0 in
+    let same : node ≡ own = some_same node own (sym e ∙ there) in
+    ap (λ (m : Node). materializes m.op) same ∙ last.other
 
 -- ---- edges
 

@@ -1,7 +1,6 @@
 -- What the view of each variant of a tree is.
 use Rattle.std.proofs.Common.{◌≡◌, ℕ, Bool, List, Option, sym, ap, ◌∙◌}
-use Rattle.std.specs.Prelude.{Box, option_map}
-use Rattle.std.specs.declared.alloc.Global.{Global}
+use Rattle.std.specs.Prelude.{option_map}
 use Rattle.ct_expr.specs.declared.expr.Expr.{Expr}
 use Rattle.ct_expr.specs.View.{expr_view, exprs_view}
 use Rattle.rel_algebra.specs.declared.agg.Agg.{Agg}
@@ -19,11 +18,11 @@ pub view_scan : (source : ℕ) → rel_view (v.Scan source) ≡ r.Scan source
 unfolding rel_view
 view_scan source = ap rel_view (sym (v.rolls-Scan source)) ∙ fold-roll-Rel r.Rel rel_step (Rel-F.Scan source)
 
-pub view_filter : (input : Box Rel Global) (condition : Expr) → rel_view (v.Filter input condition) ≡ r.Filter (rel_view input.value) (expr_view condition)
+pub view_filter : (input : Rel) (condition : Expr) → rel_view (v.Filter input condition) ≡ r.Filter (rel_view input) (expr_view condition)
 unfolding rel_view
 view_filter input condition = ap rel_view (sym (v.rolls-Filter input condition)) ∙ fold-roll-Rel r.Rel rel_step (Rel-F.Filter input condition)
 
-pub view_project : (input : Box Rel Global) (items : List Expr) → rel_view (v.Project input items) ≡ r.Project (rel_view input.value) (exprs_view items)
+pub view_project : (input : Rel) (items : List Expr) → rel_view (v.Project input items) ≡ r.Project (rel_view input) (exprs_view items)
 unfolding rel_view
 view_project input items = ap rel_view (sym (v.rolls-Project input items)) ∙ fold-roll-Rel r.Rel rel_step (Rel-F.Project input items)
 
@@ -31,22 +30,22 @@ pub view_union : (inputs : List Rel) → rel_view (v.Union inputs) ≡ r.Union (
 unfolding rel_view
 view_union inputs = ap rel_view (sym (v.rolls-Union inputs)) ∙ fold-roll-Rel r.Rel rel_step (Rel-F.Union inputs)
 
-pub view_group : (input : Box Rel Global) (keys : ℕ) (aggs : List Agg) → rel_view (v.Group input keys aggs) ≡ r.Group (rel_view input.value) keys aggs
+pub view_group : (input : Rel) (keys : ℕ) (aggs : List Agg) → rel_view (v.Group input keys aggs) ≡ r.Group (rel_view input) keys aggs
 unfolding rel_view
 view_group input keys aggs = ap rel_view (sym (v.rolls-Group input keys aggs)) ∙ fold-roll-Rel r.Rel rel_step (Rel-F.Group input keys aggs)
 
-pub view_join : (left right : Box Rel Global) (kind : JoinKind) (pairs : List Pair) (rest : Option Expr) → rel_view (v.Join left right kind pairs rest) ≡ r.Join (rel_view left.value) (rel_view right.value) kind pairs (option_map expr_view rest)
+pub view_join : (left right : Rel) (kind : JoinKind) (pairs : List Pair) (rest : Option Expr) → rel_view (v.Join left right kind pairs rest) ≡ r.Join (rel_view left) (rel_view right) kind pairs (option_map expr_view rest)
 unfolding rel_view
 view_join left right kind pairs rest = ap rel_view (sym (v.rolls-Join left right kind pairs rest)) ∙ fold-roll-Rel r.Rel rel_step (Rel-F.Join left right kind pairs rest)
 
-pub view_semi : (left right : Box Rel Global) (anti : Bool) (pairs : List Pair) (rest : Option Expr) → rel_view (v.Semi left right anti pairs rest) ≡ r.Semi (rel_view left.value) (rel_view right.value) anti pairs (option_map expr_view rest)
+pub view_semi : (left right : Rel) (anti : Bool) (pairs : List Pair) (rest : Option Expr) → rel_view (v.Semi left right anti pairs rest) ≡ r.Semi (rel_view left) (rel_view right) anti pairs (option_map expr_view rest)
 unfolding rel_view
 view_semi left right anti pairs rest = ap rel_view (sym (v.rolls-Semi left right anti pairs rest)) ∙ fold-roll-Rel r.Rel rel_step (Rel-F.Semi left right anti pairs rest)
 
-pub view_set_op : (left right : Box Rel Global) (except all : Bool) (columns : ℕ) → rel_view (v.SetOp left right except all columns) ≡ r.SetOp (rel_view left.value) (rel_view right.value) except all columns
+pub view_set_op : (left right : Rel) (except all : Bool) (columns : ℕ) → rel_view (v.SetOp left right except all columns) ≡ r.SetOp (rel_view left) (rel_view right) except all columns
 unfolding rel_view
 view_set_op left right except all columns = ap rel_view (sym (v.rolls-SetOp left right except all columns)) ∙ fold-roll-Rel r.Rel rel_step (Rel-F.SetOp left right except all columns)
 
-pub view_rank : (input : Box Rel Global) (partition : List ℕ) (order : List SortCol) (bound : ℕ) (ranked : Bool) → rel_view (v.Rank input partition order bound ranked) ≡ r.Rank (rel_view input.value) partition order bound ranked
+pub view_rank : (input : Rel) (partition : List ℕ) (order : List SortCol) (bound : ℕ) (ranked : Bool) → rel_view (v.Rank input partition order bound ranked) ≡ r.Rank (rel_view input) partition order bound ranked
 unfolding rel_view
 view_rank input partition order bound ranked = ap rel_view (sym (v.rolls-Rank input partition order bound ranked)) ∙ fold-roll-Rel r.Rel rel_step (Rel-F.Rank input partition order bound ranked)

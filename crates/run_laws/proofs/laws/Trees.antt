@@ -20,7 +20,7 @@ use Rattle.phys_plan.specs.declared.node.Node.{Node}
 use Rattle.phys_plan.specs.declared.plan.Plan.{Plan}
 use Rattle.upsert_keys.specs.Keys.{keyed_from}
 use Rattle.phys_plan.specs.Reading.{numbered}
-use Rattle.laid_plans.proofs.laws.LaidTrees.{IsUnary, IsBinary, HasNode, IsOver, ScanLaid, SourceLaid, OneLaid, IsLaid, AreLaid, TopLaid}
+use Rattle.laid_plans.proofs.laws.LaidTrees.{HasNode, IsOver, ScanLaid, SourceLaid, OneLaid, IsLaid, AreLaid, TopLaid}
 use Rattle.plan_rules.specs.Phases.{Bundles, in_phases, local_below}
 use Rattle.plan_rules.specs.TreeKinds.{tree_kinds}
 use Rattle.laid_plans.specs.Shapes.{bundles_in}
@@ -34,9 +34,6 @@ use Rattle.sound_plans.proofs.laws.Numbers.{side}
 use Rattle.run_laws.specs.Runs.{is_tame_op, is_tame_role, TreesHaveTamePlans}
 
 -- ---- operators
-
-is_op : (own : Op) → is_tame_op own ≡ true → (o : Op) → o ≡ own → is_tame_op o ≡ true
-is_op own tame o e = ap is_tame_op e ∙ tame
 
 -- a local group counts or chooses as the group above it
 local_tame : (how : Unary) → is_tame_unary how ≡ true → (b : Bundles) (kinds : KindSet) (o : Op) → local_below b how kinds ≡ Some o → is_tame_op o ≡ true
@@ -70,33 +67,33 @@ module _ (plan : Plan) where
   more : (last root : ℕ) → TameUpTo last → root ≡ last + 1 → TameAt root → TameUpTo root
   more last root before next here v l = elim (side v last) [ inl low ↦ before v low | inr high ↦ subst TameAt (let e : root ≡ v = omega arith in e) here ]
 
-  at_node : (v : ℕ) (IsOp : Op → Type 0) (inputs : List ℕ) → HasNode plan v IsOp inputs → ((o : Op) → IsOp o → is_tame_op o ≡ true) → TameAt v
-  at_node v IsOp inputs has tame node e = ap (λ (x : Node). is_tame_op x.op) (the_same node has.node (sym e ∙ has.is_there)) ∙ tame has.node.op has.is_op
+  at_node : (v : ℕ) (o : Op) (inputs : List ℕ) → HasNode plan v o inputs → is_tame_op o ≡ true → TameAt v
+  at_node v o inputs has tame node e = ap (λ (x : Node). is_tame_op x.op) (the_same node has.node (sym e ∙ has.is_there)) ∙ ap is_tame_op has.is_op ∙ tame
 
   scan_tame : (n : ℕ) (x : Exchange) (source : ℕ) (mode : Declared) (key : List ℕ) (root : ℕ) → TameUpTo n → ScanLaid plan n x source mode key root → TameUpTo root
-  scan_tame n x source Append key root before laid = more n root before laid.0 (at_node root (λ o. o ≡ op.Scan source) [] laid.1 (is_op (op.Scan source) refl))
-  scan_tame n x source Retract key root before laid = more n root before laid.0 (at_node root (λ o. o ≡ op.Scan source) [] laid.1 (is_op (op.Scan source) refl))
+  scan_tame n x source Append key root before laid = more n root before laid.0 (at_node root (op.Scan source) [] laid.1 refl)
+  scan_tame n x source Retract key root before laid = more n root before laid.0 (at_node root (op.Scan source) [] laid.1 refl)
   scan_tame n x source Upsert key root before laid =
       let next = laid.0 in
-      more (n + 1) root (more n (n + 1) before refl (at_node (n + 1) (λ o. o ≡ op.Scan source) [] laid.1 (is_op (op.Scan source) refl))) (omega arith)
-      (at_node root (λ o. o ≡ op.Normalize key) ((n + 1) ∷ []) laid.3 (is_op (op.Normalize key) refl))
+      more (n + 1) root (more n (n + 1) before refl (at_node (n + 1) (op.Scan source) [] laid.1 refl)) (omega arith)
+      (at_node root (op.Normalize key) ((n + 1) ∷ []) laid.3 refl)
 
   source_tame : (n : ℕ) (x : Exchange) (source : ℕ) (o : Option TableDef) (root : ℕ) → TameUpTo n → SourceLaid plan n x source o root → TameUpTo root
-  source_tame n x source None root before laid = more n root before laid.0 (at_node root (λ o. o ≡ op.Scan source) [] laid.1 (is_op (op.Scan source) refl))
+  source_tame n x source None root before laid = more n root before laid.0 (at_node root (op.Scan source) [] laid.1 refl)
   source_tame n x source (Some table) root before laid = scan_tame n x source table.mode (unwrap_or table.key []) root before laid
 
   -- a node behind its only input
-  over_tame : (below root : ℕ) (IsOp : Op → Type 0) (x : Exchange) (kinds : KindSet) → TameUpTo below → ((o : Op) → IsOp o → is_tame_op o ≡ true) → IsOver plan below IsOp root x kinds → TameUpTo root
-  over_tame below root IsOp x kinds before tame laid = more below root before laid.0 (at_node root IsOp (below ∷ []) laid.1 tame)
+  over_tame : (below root : ℕ) (o : Op) (x : Exchange) (kinds : KindSet) → TameUpTo below → is_tame_op o ≡ true → IsOver plan below o root x kinds → TameUpTo root
+  over_tame below root o x kinds before tame laid = more below root before laid.0 (at_node root o (below ∷ []) laid.1 tame)
 
   one_tame : (how : Unary) → is_tame_unary how ≡ true → (n : ℕ) (Laid : Exchange → ℕ → Type 0) → ((asks : Exchange) (below : ℕ) → Laid asks below → TameUpTo below)
       → (local : Option Op) → ((o : Op) → local ≡ Some o → is_tame_op o ≡ true) → (x : Exchange) (kinds : KindSet) (root : ℕ) → OneLaid plan how local Laid x kinds root → TameUpTo root
   one_tame how tame n Laid under None locals x kinds root laid =
-      over_tame laid.0 root (IsUnary plan.mini_batch how) x kinds (under (unary_way how).asks laid.0 laid.1) (λ o is. ap is_tame_role (unary_fits plan how o is).told ∙ tame) laid.2
+      over_tame laid.0 root ((unary_way how).op plan.mini_batch) x kinds (under (unary_way how).asks laid.0 laid.1) (ap is_tame_role (unary_fits plan how).told ∙ tame) laid.2
   one_tame how tame n Laid under (Some local) locals x kinds root laid =
-      over_tame laid.1 root (IsUnary plan.mini_batch how) x kinds
-      (over_tame laid.0 laid.1 (λ o. o ≡ local) (unary_way how).asks inserts (under Forward laid.0 laid.2) (is_op local (locals local refl)) laid.3)
-      (λ o is. ap is_tame_role (unary_fits plan how o is).told ∙ tame) laid.4
+      over_tame laid.1 root ((unary_way how).op plan.mini_batch) x kinds
+      (over_tame laid.0 laid.1 local (unary_way how).asks inserts (under Forward laid.0 laid.2) (locals local refl) laid.3)
+      (ap is_tame_role (unary_fits plan how).told ∙ tame) laid.4
 
   mutual
     tree_tame : (two_phase : Bool) (rel : Rel) → is_tame_rel rel ≡ true → (n : ℕ) (x : Exchange) (root : ℕ) → TameUpTo n → IsLaid plan two_phase n x rel root → TameUpTo root
@@ -110,9 +107,9 @@ module _ (plan : Plan) where
         let q = and_parts _ _ p.1 in
         let first = tree_tame two_phase left p.0 n (binary_way how).left laid.0 before laid.2 in
         more laid.1 root (tree_tame two_phase right q.0 laid.0 (binary_way how).right laid.1 first laid.3) laid.4
-        (at_node root (IsBinary how) (laid.0 ∷ (laid.1 ∷ [])) laid.5 (λ o is. ap is_tame_role (binary_fits plan how o is).told ∙ q.1))
+        (at_node root (binary_way how).op (laid.0 ∷ (laid.1 ∷ [])) laid.5 (ap is_tame_role (binary_fits plan how).told ∙ q.1))
     tree_tame two_phase (Many inputs) tame n x root before laid =
-        more laid.1 root (trees_tame two_phase inputs tame n laid.0 laid.1 before laid.2) laid.3 (at_node root (λ o. o ≡ op.Union) laid.0 laid.4 (is_op op.Union refl))
+        more laid.1 root (trees_tame two_phase inputs tame n laid.0 laid.1 before laid.2) laid.3 (at_node root op.Union laid.0 laid.4 refl)
 
     trees_tame : (two_phase : Bool) (inputs : Rels) → are_tame_rels inputs ≡ true → (n : ℕ) (roots : List ℕ) (last : ℕ) → TameUpTo n → AreLaid plan two_phase n inputs roots last → TameUpTo last
     trees_tame two_phase no_rels tame n roots last before laid = subst TameUpTo (sym laid.1) before
@@ -123,7 +120,7 @@ module _ (plan : Plan) where
   -- what stands before the sink
   topped_tame : (top : Top) (below root : ℕ) → TameUpTo below → TopLaid plan top below root → TameUpTo root
   topped_tame bare below root before between = subst TameUpTo (sym between) before
-  topped_tame (shown key) below root before between = over_tame below root (λ o. o ≡ op.Materialize key) Forward (kinds_of (upsert key)) before (is_op (op.Materialize key) refl) between
+  topped_tame (shown key) below root before between = over_tame below root (op.Materialize key) Forward (kinds_of (upsert key)) before refl between
 
 -- ---- the plan
 
@@ -141,7 +138,7 @@ trees_have_tame_plans plan rel is tame =
     let out = lays_out plan rel is in
     let tree = tree_tame plan is.two_phase rel tame 0 (asks_of is.top) out.below (no_nodes plan) out.laid in
     let under = topped_tame plan is.top out.below out.root tree out.topped in
-    let all = more plan out.root (out.root + 1) under refl (at_node plan (out.root + 1) (λ o. o ≡ op.Sink) (out.root ∷ []) out.sink_node (is_op op.Sink refl)) in
+    let all = more plan out.root (out.root + 1) under refl (at_node plan (out.root + 1) op.Sink (out.root ∷ []) out.sink_node refl) in
     let count = out.nodes in
     keeps (inferred_of plan).keys 1 plan.nodes
     ∙ each_tame plan.nodes (λ n node e. all (suc n) (let l = within plan.nodes n node e in omega arith) node e)

@@ -1,7 +1,6 @@
 -- What the view of each variant and of each struct is.
 use Rattle.std.proofs.Common.{◌≡◌, ℕ, Bool, List, Option, Some, None, sym, ap, ◌∙◌}
-use Rattle.std.specs.Prelude.{Box, option_map}
-use Rattle.std.specs.declared.alloc.Global.{Global}
+use Rattle.std.specs.Prelude.{option_map}
 use Rattle.ct_value.specs.declared.value.CompareOp.{CompareOp}
 use Rattle.sql_syntax.specs.declared.statement.TypeName.{TypeName}
 use Rattle.sql_syntax.specs.declared.tree.Args.TheFolds.{fold-roll-Args, fold-roll-Item, fold-roll-Source, fold-roll-Tree, fold_out-JoinItem, fold_out-ProductTail, fold_out-Sort, fold_out-SumTail, fold_out-TreeWhen, fold-roll-Over, fold-roll-Query, fold-roll-Select, fold-roll-SelectTail, fold-roll-Term, fold-roll-TermTail}
@@ -58,7 +57,7 @@ pub source_table : (name : List ℕ) (alias : Option (List ℕ)) → source_view
 unfolding source_view
 source_table name alias = ap source_view (sym (sources.rolls-Table name alias)) ∙ fold-roll-Source t.Args t.Item t.Source t.Tree t.JoinItem t.Over t.ProductTail t.Query t.Select t.SelectTail t.Sort t.SumTail t.Term t.TermTail t.TreeWhen args_step item_step source_step tree_step join_step over_step product_step query_step select_step select_tail_step sort_step sum_step term_step term_tail_step when_step (Source-F.Table name alias)
 
-pub source_sub : (q : Box Query Global) (alias : Option (List ℕ)) → source_view (sources.Sub q alias) ≡ t.FromQuery (query_view q.value) alias
+pub source_sub : (q : Query) (alias : Option (List ℕ)) → source_view (sources.Sub q alias) ≡ t.FromQuery (query_view q) alias
 unfolding source_view query_view
 source_sub q alias = ap source_view (sym (sources.rolls-Sub q alias)) ∙ fold-roll-Source t.Args t.Item t.Source t.Tree t.JoinItem t.Over t.ProductTail t.Query t.Select t.SelectTail t.Sort t.SumTail t.Term t.TermTail t.TreeWhen args_step item_step source_step tree_step join_step over_step product_step query_step select_step select_tail_step sort_step sum_step term_step term_tail_step when_step (Source-F.Source::Sub q alias)
 
@@ -70,47 +69,47 @@ pub tree_and : (xs : List Tree) → view (trees.And xs) ≡ t.And (t.trees (tree
 unfolding view
 tree_and xs = ap view (sym (trees.rolls-And xs)) ∙ fold-roll-Tree t.Args t.Item t.Source t.Tree t.JoinItem t.Over t.ProductTail t.Query t.Select t.SelectTail t.Sort t.SumTail t.Term t.TermTail t.TreeWhen args_step item_step source_step tree_step join_step over_step product_step query_step select_step select_tail_step sort_step sum_step term_step term_tail_step when_step (Tree-F.And xs)
 
-pub tree_not : (u : Box Tree Global) → view (trees.Not u) ≡ t.Not (view u.value)
+pub tree_not : (u : Tree) → view (trees.Not u) ≡ t.Not (view u)
 unfolding view
 tree_not u = ap view (sym (trees.rolls-Not u)) ∙ fold-roll-Tree t.Args t.Item t.Source t.Tree t.JoinItem t.Over t.ProductTail t.Query t.Select t.SelectTail t.Sort t.SumTail t.Term t.TermTail t.TreeWhen args_step item_step source_step tree_step join_step over_step product_step query_step select_step select_tail_step sort_step sum_step term_step term_tail_step when_step (Tree-F.Not u)
 
-pub tree_exists : (q : Box Query Global) → view (trees.Exists q) ≡ t.Exists (query_view q.value)
+pub tree_exists : (q : Query) → view (trees.Exists q) ≡ t.Exists (query_view q)
 unfolding view query_view
 tree_exists q = ap view (sym (trees.rolls-Exists q)) ∙ fold-roll-Tree t.Args t.Item t.Source t.Tree t.JoinItem t.Over t.ProductTail t.Query t.Select t.SelectTail t.Sort t.SumTail t.Term t.TermTail t.TreeWhen args_step item_step source_step tree_step join_step over_step product_step query_step select_step select_tail_step sort_step sum_step term_step term_tail_step when_step (Tree-F.Exists q)
 
-pub tree_compare : (op : CompareOp) (u : Box Tree Global) (v : Box Tree Global) → view (trees.Compare op u v) ≡ t.Compare op (view u.value) (view v.value)
+pub tree_compare : (op : CompareOp) (u : Tree) (v : Tree) → view (trees.Compare op u v) ≡ t.Compare op (view u) (view v)
 unfolding view
 tree_compare op u v = ap view (sym (trees.rolls-Compare op u v)) ∙ fold-roll-Tree t.Args t.Item t.Source t.Tree t.JoinItem t.Over t.ProductTail t.Query t.Select t.SelectTail t.Sort t.SumTail t.Term t.TermTail t.TreeWhen args_step item_step source_step tree_step join_step over_step product_step query_step select_step select_tail_step sort_step sum_step term_step term_tail_step when_step (Tree-F.Compare op u v)
 
-pub tree_is_null : (u : Box Tree Global) (negated : Bool) → view (trees.IsNull u negated) ≡ t.IsNull (view u.value) negated
+pub tree_is_null : (u : Tree) (negated : Bool) → view (trees.IsNull u negated) ≡ t.IsNull (view u) negated
 unfolding view
 tree_is_null u negated = ap view (sym (trees.rolls-IsNull u negated)) ∙ fold-roll-Tree t.Args t.Item t.Source t.Tree t.JoinItem t.Over t.ProductTail t.Query t.Select t.SelectTail t.Sort t.SumTail t.Term t.TermTail t.TreeWhen args_step item_step source_step tree_step join_step over_step product_step query_step select_step select_tail_step sort_step sum_step term_step term_tail_step when_step (Tree-F.IsNull u negated)
 
-pub tree_between : (u : Box Tree Global) (low : Box Tree Global) (high : Box Tree Global) (negated : Bool) → view (trees.Between u low high negated) ≡ t.Between (view u.value) (view low.value) (view high.value) negated
+pub tree_between : (u : Tree) (low : Tree) (high : Tree) (negated : Bool) → view (trees.Between u low high negated) ≡ t.Between (view u) (view low) (view high) negated
 unfolding view
 tree_between u low high negated = ap view (sym (trees.rolls-Between u low high negated)) ∙ fold-roll-Tree t.Args t.Item t.Source t.Tree t.JoinItem t.Over t.ProductTail t.Query t.Select t.SelectTail t.Sort t.SumTail t.Term t.TermTail t.TreeWhen args_step item_step source_step tree_step join_step over_step product_step query_step select_step select_tail_step sort_step sum_step term_step term_tail_step when_step (Tree-F.Between u low high negated)
 
-pub tree_in_list : (u : Box Tree Global) (xs : List Tree) (negated : Bool) → view (trees.InList u xs negated) ≡ t.InList (view u.value) (t.trees (trees_view xs)) negated
+pub tree_in_list : (u : Tree) (xs : List Tree) (negated : Bool) → view (trees.InList u xs negated) ≡ t.InList (view u) (t.trees (trees_view xs)) negated
 unfolding view
 tree_in_list u xs negated = ap view (sym (trees.rolls-InList u xs negated)) ∙ fold-roll-Tree t.Args t.Item t.Source t.Tree t.JoinItem t.Over t.ProductTail t.Query t.Select t.SelectTail t.Sort t.SumTail t.Term t.TermTail t.TreeWhen args_step item_step source_step tree_step join_step over_step product_step query_step select_step select_tail_step sort_step sum_step term_step term_tail_step when_step (Tree-F.InList u xs negated)
 
-pub tree_in_query : (u : Box Tree Global) (q : Box Query Global) (negated : Bool) → view (trees.InQuery u q negated) ≡ t.InQuery (view u.value) (query_view q.value) negated
+pub tree_in_query : (u : Tree) (q : Query) (negated : Bool) → view (trees.InQuery u q negated) ≡ t.InQuery (view u) (query_view q) negated
 unfolding view query_view
 tree_in_query u q negated = ap view (sym (trees.rolls-InQuery u q negated)) ∙ fold-roll-Tree t.Args t.Item t.Source t.Tree t.JoinItem t.Over t.ProductTail t.Query t.Select t.SelectTail t.Sort t.SumTail t.Term t.TermTail t.TreeWhen args_step item_step source_step tree_step join_step over_step product_step query_step select_step select_tail_step sort_step sum_step term_step term_tail_step when_step (Tree-F.InQuery u q negated)
 
-pub tree_like : (u : Box Tree Global) (v : Box Tree Global) (negated : Bool) → view (trees.Like u v negated) ≡ t.Like (view u.value) (view v.value) negated
+pub tree_like : (u : Tree) (v : Tree) (negated : Bool) → view (trees.Like u v negated) ≡ t.Like (view u) (view v) negated
 unfolding view
 tree_like u v negated = ap view (sym (trees.rolls-Like u v negated)) ∙ fold-roll-Tree t.Args t.Item t.Source t.Tree t.JoinItem t.Over t.ProductTail t.Query t.Select t.SelectTail t.Sort t.SumTail t.Term t.TermTail t.TreeWhen args_step item_step source_step tree_step join_step over_step product_step query_step select_step select_tail_step sort_step sum_step term_step term_tail_step when_step (Tree-F.Like u v negated)
 
-pub tree_sum : (u : Box Tree Global) (xs : List SumTail) → view (trees.Sum u xs) ≡ t.Sum (view u.value) (t.sum_tails (sum_tails_view xs))
+pub tree_sum : (u : Tree) (xs : List SumTail) → view (trees.Sum u xs) ≡ t.Sum (view u) (t.sum_tails (sum_tails_view xs))
 unfolding view sum_view
 tree_sum u xs = ap view (sym (trees.rolls-Sum u xs)) ∙ fold-roll-Tree t.Args t.Item t.Source t.Tree t.JoinItem t.Over t.ProductTail t.Query t.Select t.SelectTail t.Sort t.SumTail t.Term t.TermTail t.TreeWhen args_step item_step source_step tree_step join_step over_step product_step query_step select_step select_tail_step sort_step sum_step term_step term_tail_step when_step (Tree-F.Sum u xs)
 
-pub tree_product : (u : Box Tree Global) (xs : List ProductTail) → view (trees.Product u xs) ≡ t.Product (view u.value) (t.product_tails (product_tails_view xs))
+pub tree_product : (u : Tree) (xs : List ProductTail) → view (trees.Product u xs) ≡ t.Product (view u) (t.product_tails (product_tails_view xs))
 unfolding view product_view
 tree_product u xs = ap view (sym (trees.rolls-Product u xs)) ∙ fold-roll-Tree t.Args t.Item t.Source t.Tree t.JoinItem t.Over t.ProductTail t.Query t.Select t.SelectTail t.Sort t.SumTail t.Term t.TermTail t.TreeWhen args_step item_step source_step tree_step join_step over_step product_step query_step select_step select_tail_step sort_step sum_step term_step term_tail_step when_step (Tree-F.Product u xs)
 
-pub tree_sign : (minus : Bool) (u : Box Tree Global) → view (trees.Sign minus u) ≡ t.Sign minus (view u.value)
+pub tree_sign : (minus : Bool) (u : Tree) → view (trees.Sign minus u) ≡ t.Sign minus (view u)
 unfolding view
 tree_sign minus u = ap view (sym (trees.rolls-Sign minus u)) ∙ fold-roll-Tree t.Args t.Item t.Source t.Tree t.JoinItem t.Over t.ProductTail t.Query t.Select t.SelectTail t.Sort t.SumTail t.Term t.TermTail t.TreeWhen args_step item_step source_step tree_step join_step over_step product_step query_step select_step select_tail_step sort_step sum_step term_step term_tail_step when_step (Tree-F.Sign minus u)
 
@@ -134,26 +133,26 @@ pub tree_name : (of : Option (List ℕ)) (name : List ℕ) (quoted : Bool) → v
 unfolding view
 tree_name of name quoted = ap view (sym (trees.rolls-Name of name quoted)) ∙ fold-roll-Tree t.Args t.Item t.Source t.Tree t.JoinItem t.Over t.ProductTail t.Query t.Select t.SelectTail t.Sort t.SumTail t.Term t.TermTail t.TreeWhen args_step item_step source_step tree_step join_step over_step product_step query_step select_step select_tail_step sort_step sum_step term_step term_tail_step when_step (Tree-F.Name of name quoted)
 
-pub tree_call : (name : List ℕ) (args : Args) (filter : Option (Box Tree Global)) (over : Option Over) → view (trees.Call name args filter over) ≡ t.Call name (args_view args) (t.optional_tree (option_map (λ y. view y.value) filter)) (t.optional_over (option_map over_view over))
+pub tree_call : (name : List ℕ) (args : Args) (filter : Option Tree) (over : Option Over) → view (trees.Call name args filter over) ≡ t.Call name (args_view args) (t.optional_tree (option_map view filter)) (t.optional_over (option_map over_view over))
 unfolding view args_view over_view
 tree_call name args None None = ap view (sym (trees.rolls-Call name args None None)) ∙ fold-roll-Tree t.Args t.Item t.Source t.Tree t.JoinItem t.Over t.ProductTail t.Query t.Select t.SelectTail t.Sort t.SumTail t.Term t.TermTail t.TreeWhen args_step item_step source_step tree_step join_step over_step product_step query_step select_step select_tail_step sort_step sum_step term_step term_tail_step when_step (Tree-F.Call name args None None)
 tree_call name args None (Some y3) = ap view (sym (trees.rolls-Call name args None (Some y3))) ∙ fold-roll-Tree t.Args t.Item t.Source t.Tree t.JoinItem t.Over t.ProductTail t.Query t.Select t.SelectTail t.Sort t.SumTail t.Term t.TermTail t.TreeWhen args_step item_step source_step tree_step join_step over_step product_step query_step select_step select_tail_step sort_step sum_step term_step term_tail_step when_step (Tree-F.Call name args None (Some y3))
 tree_call name args (Some y2) None = ap view (sym (trees.rolls-Call name args (Some y2) None)) ∙ fold-roll-Tree t.Args t.Item t.Source t.Tree t.JoinItem t.Over t.ProductTail t.Query t.Select t.SelectTail t.Sort t.SumTail t.Term t.TermTail t.TreeWhen args_step item_step source_step tree_step join_step over_step product_step query_step select_step select_tail_step sort_step sum_step term_step term_tail_step when_step (Tree-F.Call name args (Some y2) None)
 tree_call name args (Some y2) (Some y3) = ap view (sym (trees.rolls-Call name args (Some y2) (Some y3))) ∙ fold-roll-Tree t.Args t.Item t.Source t.Tree t.JoinItem t.Over t.ProductTail t.Query t.Select t.SelectTail t.Sort t.SumTail t.Term t.TermTail t.TreeWhen args_step item_step source_step tree_step join_step over_step product_step query_step select_step select_tail_step sort_step sum_step term_step term_tail_step when_step (Tree-F.Call name args (Some y2) (Some y3))
 
-pub tree_cast : (u : Box Tree Global) (ty : TypeName) → view (trees.Cast u ty) ≡ t.Cast (view u.value) ty
+pub tree_cast : (u : Tree) (ty : TypeName) → view (trees.Cast u ty) ≡ t.Cast (view u) ty
 unfolding view
 tree_cast u ty = ap view (sym (trees.rolls-Cast u ty)) ∙ fold-roll-Tree t.Args t.Item t.Source t.Tree t.JoinItem t.Over t.ProductTail t.Query t.Select t.SelectTail t.Sort t.SumTail t.Term t.TermTail t.TreeWhen args_step item_step source_step tree_step join_step over_step product_step query_step select_step select_tail_step sort_step sum_step term_step term_tail_step when_step (Tree-F.Cast u ty)
 
-pub tree_paren : (u : Box Tree Global) → view (trees.Paren u) ≡ t.Paren (view u.value)
+pub tree_paren : (u : Tree) → view (trees.Paren u) ≡ t.Paren (view u)
 unfolding view
 tree_paren u = ap view (sym (trees.rolls-Paren u)) ∙ fold-roll-Tree t.Args t.Item t.Source t.Tree t.JoinItem t.Over t.ProductTail t.Query t.Select t.SelectTail t.Sort t.SumTail t.Term t.TermTail t.TreeWhen args_step item_step source_step tree_step join_step over_step product_step query_step select_step select_tail_step sort_step sum_step term_step term_tail_step when_step (Tree-F.Paren u)
 
-pub tree_sub : (q : Box Query Global) → view (trees.Sub q) ≡ t.Sub (query_view q.value)
+pub tree_sub : (q : Query) → view (trees.Sub q) ≡ t.Sub (query_view q)
 unfolding view query_view
 tree_sub q = ap view (sym (trees.rolls-Sub q)) ∙ fold-roll-Tree t.Args t.Item t.Source t.Tree t.JoinItem t.Over t.ProductTail t.Query t.Select t.SelectTail t.Sort t.SumTail t.Term t.TermTail t.TreeWhen args_step item_step source_step tree_step join_step over_step product_step query_step select_step select_tail_step sort_step sum_step term_step term_tail_step when_step (Tree-F.Tree::Sub q)
 
-pub tree_case : (xs : List TreeWhen) (o : Option (Box Tree Global)) → view (trees.Case xs o) ≡ t.Case (t.tree_whens (whens_view xs)) (t.optional_tree (option_map (λ y. view y.value) o))
+pub tree_case : (xs : List TreeWhen) (o : Option Tree) → view (trees.Case xs o) ≡ t.Case (t.tree_whens (whens_view xs)) (t.optional_tree (option_map view o))
 unfolding view when_view
 tree_case xs None = ap view (sym (trees.rolls-Case xs None)) ∙ fold-roll-Tree t.Args t.Item t.Source t.Tree t.JoinItem t.Over t.ProductTail t.Query t.Select t.SelectTail t.Sort t.SumTail t.Term t.TermTail t.TreeWhen args_step item_step source_step tree_step join_step over_step product_step query_step select_step select_tail_step sort_step sum_step term_step term_tail_step when_step (Tree-F.Case xs None)
 tree_case xs (Some y1) = ap view (sym (trees.rolls-Case xs (Some y1))) ∙ fold-roll-Tree t.Args t.Item t.Source t.Tree t.JoinItem t.Over t.ProductTail t.Query t.Select t.SelectTail t.Sort t.SumTail t.Term t.TermTail t.TreeWhen args_step item_step source_step tree_step join_step over_step product_step query_step select_step select_tail_step sort_step sum_step term_step term_tail_step when_step (Tree-F.Case xs (Some y1))

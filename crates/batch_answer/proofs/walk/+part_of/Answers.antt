@@ -92,7 +92,7 @@ pub part_of-returns-in_err-left-in-Join-clause-out : goal.part_of-returns-in_err
 part_of-returns-in_err-left-in-Join-clause-out t c =
     let tables = tables_of c.args.types.now c.args.tables.now in
     let left : Tree = c.deref-in-Join.result.now in
-    let right : Tree = c.in-Join.right.value in
+    let right : Tree = c.in-Join.right in
     let node : Rel = Join (rel_view left) (rel_view right) c.in-Join.kind c.in-Join.on (option_map expr_view c.in-Join.rest) in
     let view : rel_view c.args.rel.now ≡ node = join-view c.args.rel.now c.in-Join.left left c.deref-in-Join.ensures c.in-Join.right right refl c.in-Join.on c.in-Join.rest c.in-Join.kind c.in-Join.is in
     let lost : IsErrOf c.from_residual-in_err-left-in-Join.result EvalFault.Out → IsLost tables (rel_view left) = search rules in
@@ -210,7 +210,7 @@ pub part_of-returns-in_err-left-in-SetOp-clause-out : goal.part_of-returns-in_er
 part_of-returns-in_err-left-in-SetOp-clause-out t c =
     let tables = tables_of c.args.types.now c.args.tables.now in
     let left : Tree = c.deref-in-SetOp.result.now in
-    let right : Tree = c.in-SetOp.right.value in
+    let right : Tree = c.in-SetOp.right in
     let node : Rel = SetOp (rel_view left) (rel_view right) c.in-SetOp.except c.in-SetOp.all c.in-SetOp.columns in
     let view : rel_view c.args.rel.now ≡ node = set-view c.args.rel.now c.in-SetOp.left left c.deref-in-SetOp.ensures c.in-SetOp.right right refl c.in-SetOp.except c.in-SetOp.all c.in-SetOp.columns c.in-SetOp.is in
     let lost : IsErrOf c.from_residual-in_err-left-in-SetOp.result EvalFault.Out → IsLost tables (rel_view left) = search rules in

@@ -78,24 +78,24 @@ bind_node-returns-in_err-value-in-Not-clause-refused u c =
     let L = leaf_of c.args.reach.now in
     let n = c.args.number in
     λ code e.
-    let h : bound L n (view c.in-Not.value.value) ≡ Err code = search rules in
-    (ap (node L n) (ap view c.in-Not.is ∙ tree_not c.in-Not.value)) ∙ not_1 L n (view c.in-Not.value.value) code h
+    let h : bound L n (view c.in-Not.value) ≡ Err code = search rules in
+    (ap (node L n) (ap view c.in-Not.is ∙ tree_not c.in-Not.value)) ∙ not_1 L n (view c.in-Not.value) code h
 
 pub bind_node-returns-in_ok-value-in-Not-clause-ok : goal.bind_node-returns-in_ok-value-in-Not-clause-ok
 bind_node-returns-in_ok-value-in-Not-clause-ok u c =
     let L = leaf_of c.args.reach.now in
     let n = c.args.number in
-    let one : bound L n (view c.in-Not.value.value) ≡ Ok (bound_view c.in_ok-value-in-Not.value) = search rules in
-    let e : node L n (view c.args.tree.now) ≡ negation (bound_view c.in_ok-value-in-Not.value) = (ap (node L n) (ap view c.in-Not.is ∙ tree_not c.in-Not.value)) ∙ not_2 L n (view c.in-Not.value.value) (bound_view c.in_ok-value-in-Not.value) one in
+    let one : bound L n (view c.in-Not.value) ≡ Ok (bound_view c.in_ok-value-in-Not.value) = search rules in
+    let e : node L n (view c.args.tree.now) ≡ negation (bound_view c.in_ok-value-in-Not.value) = (ap (node L n) (ap view c.in-Not.is ∙ tree_not c.in-Not.value)) ∙ not_2 L n (view c.in-Not.value) (bound_view c.in_ok-value-in-Not.value) one in
     ok_as c.negation.result (node L n (view c.args.tree.now)) (negation (bound_view c.in_ok-value-in-Not.value)) e c.negation.ensures.ok
 
 pub bind_node-returns-in_ok-value-in-Not-clause-refused : goal.bind_node-returns-in_ok-value-in-Not-clause-refused
 bind_node-returns-in_ok-value-in-Not-clause-refused u c =
     let L = leaf_of c.args.reach.now in
     let n = c.args.number in
-    let one : bound L n (view c.in-Not.value.value) ≡ Ok (bound_view c.in_ok-value-in-Not.value) = search rules in
+    let one : bound L n (view c.in-Not.value) ≡ Ok (bound_view c.in_ok-value-in-Not.value) = search rules in
     λ code r.
-    let e : node L n (view c.args.tree.now) ≡ negation (bound_view c.in_ok-value-in-Not.value) = (ap (node L n) (ap view c.in-Not.is ∙ tree_not c.in-Not.value)) ∙ not_2 L n (view c.in-Not.value.value) (bound_view c.in_ok-value-in-Not.value) one in
+    let e : node L n (view c.args.tree.now) ≡ negation (bound_view c.in_ok-value-in-Not.value) = (ap (node L n) (ap view c.in-Not.is ∙ tree_not c.in-Not.value)) ∙ not_2 L n (view c.in-Not.value) (bound_view c.in_ok-value-in-Not.value) one in
     e ∙ c.negation.ensures.refused code r
 
 pub bind_node-returns-in_err-value-in-Sign-clause-refused : goal.bind_node-returns-in_err-value-in-Sign-clause-refused
@@ -103,24 +103,24 @@ bind_node-returns-in_err-value-in-Sign-clause-refused u c =
     let L = leaf_of c.args.reach.now in
     let n = c.args.number in
     λ code e.
-    let h : bound L n (view c.in-Sign.value.value) ≡ Err code = search rules in
-    (ap (node L n) (ap view c.in-Sign.is ∙ tree_sign c.in-Sign.minus c.in-Sign.value)) ∙ sign_1 L n c.in-Sign.minus (view c.in-Sign.value.value) code h
+    let h : bound L n (view c.in-Sign.value) ≡ Err code = search rules in
+    (ap (node L n) (ap view c.in-Sign.is ∙ tree_sign c.in-Sign.minus c.in-Sign.value)) ∙ sign_1 L n c.in-Sign.minus (view c.in-Sign.value) code h
 
 pub bind_node-returns-in_ok-value-in-Sign-clause-ok : goal.bind_node-returns-in_ok-value-in-Sign-clause-ok
 bind_node-returns-in_ok-value-in-Sign-clause-ok u c =
     let L = leaf_of c.args.reach.now in
     let n = c.args.number in
-    let one : bound L n (view c.in-Sign.value.value) ≡ Ok (bound_view c.in_ok-value-in-Sign.value) = search rules in
-    let e : node L n (view c.args.tree.now) ≡ signed c.in-Sign.minus (bound_view c.in_ok-value-in-Sign.value) = (ap (node L n) (ap view c.in-Sign.is ∙ tree_sign c.in-Sign.minus c.in-Sign.value)) ∙ sign_2 L n c.in-Sign.minus (view c.in-Sign.value.value) (bound_view c.in_ok-value-in-Sign.value) one in
+    let one : bound L n (view c.in-Sign.value) ≡ Ok (bound_view c.in_ok-value-in-Sign.value) = search rules in
+    let e : node L n (view c.args.tree.now) ≡ signed c.in-Sign.minus (bound_view c.in_ok-value-in-Sign.value) = (ap (node L n) (ap view c.in-Sign.is ∙ tree_sign c.in-Sign.minus c.in-Sign.value)) ∙ sign_2 L n c.in-Sign.minus (view c.in-Sign.value) (bound_view c.in_ok-value-in-Sign.value) one in
     ok_as c.signed.result (node L n (view c.args.tree.now)) (signed c.in-Sign.minus (bound_view c.in_ok-value-in-Sign.value)) e c.signed.ensures.ok
 
 pub bind_node-returns-in_ok-value-in-Sign-clause-refused : goal.bind_node-returns-in_ok-value-in-Sign-clause-refused
 bind_node-returns-in_ok-value-in-Sign-clause-refused u c =
     let L = leaf_of c.args.reach.now in
     let n = c.args.number in
-    let one : bound L n (view c.in-Sign.value.value) ≡ Ok (bound_view c.in_ok-value-in-Sign.value) = search rules in
+    let one : bound L n (view c.in-Sign.value) ≡ Ok (bound_view c.in_ok-value-in-Sign.value) = search rules in
     λ code r.
-    let e : node L n (view c.args.tree.now) ≡ signed c.in-Sign.minus (bound_view c.in_ok-value-in-Sign.value) = (ap (node L n) (ap view c.in-Sign.is ∙ tree_sign c.in-Sign.minus c.in-Sign.value)) ∙ sign_2 L n c.in-Sign.minus (view c.in-Sign.value.value) (bound_view c.in_ok-value-in-Sign.value) one in
+    let e : node L n (view c.args.tree.now) ≡ signed c.in-Sign.minus (bound_view c.in_ok-value-in-Sign.value) = (ap (node L n) (ap view c.in-Sign.is ∙ tree_sign c.in-Sign.minus c.in-Sign.value)) ∙ sign_2 L n c.in-Sign.minus (view c.in-Sign.value) (bound_view c.in_ok-value-in-Sign.value) one in
     e ∙ c.signed.ensures.refused code r
 
 pub bind_node-returns-in_err-left-in-Compare-clause-refused : goal.bind_node-returns-in_err-left-in-Compare-clause-refused
@@ -128,38 +128,38 @@ bind_node-returns-in_err-left-in-Compare-clause-refused u c =
     let L = leaf_of c.args.reach.now in
     let n = c.args.number in
     λ code e.
-    let h : bound L n (view c.in-Compare.left.value) ≡ Err code = search rules in
-    (ap (node L n) (ap view c.in-Compare.is ∙ tree_compare c.in-Compare.op c.in-Compare.left c.in-Compare.right)) ∙ compare_1 L n c.in-Compare.op (view c.in-Compare.left.value) (view c.in-Compare.right.value) code h
+    let h : bound L n (view c.in-Compare.left) ≡ Err code = search rules in
+    (ap (node L n) (ap view c.in-Compare.is ∙ tree_compare c.in-Compare.op c.in-Compare.left c.in-Compare.right)) ∙ compare_1 L n c.in-Compare.op (view c.in-Compare.left) (view c.in-Compare.right) code h
 
 pub bind_node-returns-in_err-right-in-Compare-clause-refused : goal.bind_node-returns-in_err-right-in-Compare-clause-refused
 bind_node-returns-in_err-right-in-Compare-clause-refused u c =
     let L = leaf_of c.args.reach.now in
     let n = c.args.number in
     λ code e.
-    let one : bound L n (view c.in-Compare.left.value) ≡ Ok (bound_view c.in_ok-left-in-Compare.left) = search rules in
-    let e_next : c.in_ok-next-in-Compare.next ≡ n + length (calls (view c.in-Compare.left.value)) = search rules in
-    let h : bound L c.in_ok-next-in-Compare.next (view c.in-Compare.right.value) ≡ Err code = search rules in
-    (ap (node L n) (ap view c.in-Compare.is ∙ tree_compare c.in-Compare.op c.in-Compare.left c.in-Compare.right)) ∙ compare_2 L n c.in-Compare.op (view c.in-Compare.left.value) (view c.in-Compare.right.value) (bound_view c.in_ok-left-in-Compare.left) code one (ap (λ k. bound L k (view c.in-Compare.right.value)) (sym e_next) ∙ h)
+    let one : bound L n (view c.in-Compare.left) ≡ Ok (bound_view c.in_ok-left-in-Compare.left) = search rules in
+    let e_next : c.in_ok-next-in-Compare.next ≡ n + length (calls (view c.in-Compare.left)) = search rules in
+    let h : bound L c.in_ok-next-in-Compare.next (view c.in-Compare.right) ≡ Err code = search rules in
+    (ap (node L n) (ap view c.in-Compare.is ∙ tree_compare c.in-Compare.op c.in-Compare.left c.in-Compare.right)) ∙ compare_2 L n c.in-Compare.op (view c.in-Compare.left) (view c.in-Compare.right) (bound_view c.in_ok-left-in-Compare.left) code one (ap (λ k. bound L k (view c.in-Compare.right)) (sym e_next) ∙ h)
 
 pub bind_node-returns-in_ok-right-in-Compare-clause-ok : goal.bind_node-returns-in_ok-right-in-Compare-clause-ok
 bind_node-returns-in_ok-right-in-Compare-clause-ok u c =
     let L = leaf_of c.args.reach.now in
     let n = c.args.number in
-    let one : bound L n (view c.in-Compare.left.value) ≡ Ok (bound_view c.in_ok-left-in-Compare.left) = search rules in
-    let e_next : c.in_ok-next-in-Compare.next ≡ n + length (calls (view c.in-Compare.left.value)) = search rules in
-    let two : bound L c.in_ok-next-in-Compare.next (view c.in-Compare.right.value) ≡ Ok (bound_view c.in_ok-right-in-Compare.right) = search rules in
-    let e : node L n (view c.args.tree.now) ≡ compare c.in-Compare.op (bound_view c.in_ok-left-in-Compare.left) (bound_view c.in_ok-right-in-Compare.right) = (ap (node L n) (ap view c.in-Compare.is ∙ tree_compare c.in-Compare.op c.in-Compare.left c.in-Compare.right)) ∙ compare_3 L n c.in-Compare.op (view c.in-Compare.left.value) (view c.in-Compare.right.value) (bound_view c.in_ok-left-in-Compare.left) (bound_view c.in_ok-right-in-Compare.right) one (ap (λ k. bound L k (view c.in-Compare.right.value)) (sym e_next) ∙ two) in
+    let one : bound L n (view c.in-Compare.left) ≡ Ok (bound_view c.in_ok-left-in-Compare.left) = search rules in
+    let e_next : c.in_ok-next-in-Compare.next ≡ n + length (calls (view c.in-Compare.left)) = search rules in
+    let two : bound L c.in_ok-next-in-Compare.next (view c.in-Compare.right) ≡ Ok (bound_view c.in_ok-right-in-Compare.right) = search rules in
+    let e : node L n (view c.args.tree.now) ≡ compare c.in-Compare.op (bound_view c.in_ok-left-in-Compare.left) (bound_view c.in_ok-right-in-Compare.right) = (ap (node L n) (ap view c.in-Compare.is ∙ tree_compare c.in-Compare.op c.in-Compare.left c.in-Compare.right)) ∙ compare_3 L n c.in-Compare.op (view c.in-Compare.left) (view c.in-Compare.right) (bound_view c.in_ok-left-in-Compare.left) (bound_view c.in_ok-right-in-Compare.right) one (ap (λ k. bound L k (view c.in-Compare.right)) (sym e_next) ∙ two) in
     ok_as c.compare.result (node L n (view c.args.tree.now)) (compare c.in-Compare.op (bound_view c.in_ok-left-in-Compare.left) (bound_view c.in_ok-right-in-Compare.right)) e c.compare.ensures.ok
 
 pub bind_node-returns-in_ok-right-in-Compare-clause-refused : goal.bind_node-returns-in_ok-right-in-Compare-clause-refused
 bind_node-returns-in_ok-right-in-Compare-clause-refused u c =
     let L = leaf_of c.args.reach.now in
     let n = c.args.number in
-    let one : bound L n (view c.in-Compare.left.value) ≡ Ok (bound_view c.in_ok-left-in-Compare.left) = search rules in
-    let e_next : c.in_ok-next-in-Compare.next ≡ n + length (calls (view c.in-Compare.left.value)) = search rules in
-    let two : bound L c.in_ok-next-in-Compare.next (view c.in-Compare.right.value) ≡ Ok (bound_view c.in_ok-right-in-Compare.right) = search rules in
+    let one : bound L n (view c.in-Compare.left) ≡ Ok (bound_view c.in_ok-left-in-Compare.left) = search rules in
+    let e_next : c.in_ok-next-in-Compare.next ≡ n + length (calls (view c.in-Compare.left)) = search rules in
+    let two : bound L c.in_ok-next-in-Compare.next (view c.in-Compare.right) ≡ Ok (bound_view c.in_ok-right-in-Compare.right) = search rules in
     λ code r.
-    let e : node L n (view c.args.tree.now) ≡ compare c.in-Compare.op (bound_view c.in_ok-left-in-Compare.left) (bound_view c.in_ok-right-in-Compare.right) = (ap (node L n) (ap view c.in-Compare.is ∙ tree_compare c.in-Compare.op c.in-Compare.left c.in-Compare.right)) ∙ compare_3 L n c.in-Compare.op (view c.in-Compare.left.value) (view c.in-Compare.right.value) (bound_view c.in_ok-left-in-Compare.left) (bound_view c.in_ok-right-in-Compare.right) one (ap (λ k. bound L k (view c.in-Compare.right.value)) (sym e_next) ∙ two) in
+    let e : node L n (view c.args.tree.now) ≡ compare c.in-Compare.op (bound_view c.in_ok-left-in-Compare.left) (bound_view c.in_ok-right-in-Compare.right) = (ap (node L n) (ap view c.in-Compare.is ∙ tree_compare c.in-Compare.op c.in-Compare.left c.in-Compare.right)) ∙ compare_3 L n c.in-Compare.op (view c.in-Compare.left) (view c.in-Compare.right) (bound_view c.in_ok-left-in-Compare.left) (bound_view c.in_ok-right-in-Compare.right) one (ap (λ k. bound L k (view c.in-Compare.right)) (sym e_next) ∙ two) in
     e ∙ c.compare.ensures.refused code r
 
 pub bind_node-returns-in_err-value-in-IsNull-clause-refused : goal.bind_node-returns-in_err-value-in-IsNull-clause-refused
@@ -167,35 +167,35 @@ bind_node-returns-in_err-value-in-IsNull-clause-refused u c =
     let L = leaf_of c.args.reach.now in
     let n = c.args.number in
     λ code e.
-    let h : bound L n (view c.in-IsNull.value.value) ≡ Err code = search rules in
-    (ap (node L n) (ap view c.in-IsNull.is ∙ tree_is_null c.in-IsNull.value c.in-IsNull.negated)) ∙ is_null_1 L n (view c.in-IsNull.value.value) c.in-IsNull.negated code h
+    let h : bound L n (view c.in-IsNull.value) ≡ Err code = search rules in
+    (ap (node L n) (ap view c.in-IsNull.is ∙ tree_is_null c.in-IsNull.value c.in-IsNull.negated)) ∙ is_null_1 L n (view c.in-IsNull.value) c.in-IsNull.negated code h
 
 pub bind_node-returns-in_err-test-in-IsNull-clause-refused : goal.bind_node-returns-in_err-test-in-IsNull-clause-refused
 bind_node-returns-in_err-test-in-IsNull-clause-refused u c =
     let L = leaf_of c.args.reach.now in
     let n = c.args.number in
     λ code e.
-    let one : bound L n (view c.in-IsNull.value.value) ≡ Ok (bound_view c.in_ok-value-in-IsNull.value) = search rules in
+    let one : bound L n (view c.in-IsNull.value) ≡ Ok (bound_view c.in_ok-value-in-IsNull.value) = search rules in
     let h : null_test (bound_view c.in_ok-value-in-IsNull.value) ≡ Err code = search rules in
-    (ap (node L n) (ap view c.in-IsNull.is ∙ tree_is_null c.in-IsNull.value c.in-IsNull.negated)) ∙ is_null_2 L n (view c.in-IsNull.value.value) c.in-IsNull.negated (bound_view c.in_ok-value-in-IsNull.value) code one h
+    (ap (node L n) (ap view c.in-IsNull.is ∙ tree_is_null c.in-IsNull.value c.in-IsNull.negated)) ∙ is_null_2 L n (view c.in-IsNull.value) c.in-IsNull.negated (bound_view c.in_ok-value-in-IsNull.value) code one h
 
 pub bind_node-returns-in_ok-test-in-IsNull-clause-ok : goal.bind_node-returns-in_ok-test-in-IsNull-clause-ok
 bind_node-returns-in_ok-test-in-IsNull-clause-ok u c =
     let L = leaf_of c.args.reach.now in
     let n = c.args.number in
-    let one : bound L n (view c.in-IsNull.value.value) ≡ Ok (bound_view c.in_ok-value-in-IsNull.value) = search rules in
+    let one : bound L n (view c.in-IsNull.value) ≡ Ok (bound_view c.in_ok-value-in-IsNull.value) = search rules in
     let tested : null_test (bound_view c.in_ok-value-in-IsNull.value) ≡ Ok (bound_view c.in_ok-test-in-IsNull.test) = search rules in
-    let e : node L n (view c.args.tree.now) ≡ negated_if c.in-IsNull.negated (bound_view c.in_ok-test-in-IsNull.test) = (ap (node L n) (ap view c.in-IsNull.is ∙ tree_is_null c.in-IsNull.value c.in-IsNull.negated)) ∙ is_null_3 L n (view c.in-IsNull.value.value) c.in-IsNull.negated (bound_view c.in_ok-value-in-IsNull.value) (bound_view c.in_ok-test-in-IsNull.test) one tested in
+    let e : node L n (view c.args.tree.now) ≡ negated_if c.in-IsNull.negated (bound_view c.in_ok-test-in-IsNull.test) = (ap (node L n) (ap view c.in-IsNull.is ∙ tree_is_null c.in-IsNull.value c.in-IsNull.negated)) ∙ is_null_3 L n (view c.in-IsNull.value) c.in-IsNull.negated (bound_view c.in_ok-value-in-IsNull.value) (bound_view c.in_ok-test-in-IsNull.test) one tested in
     ok_as c.negated_if.result (node L n (view c.args.tree.now)) (negated_if c.in-IsNull.negated (bound_view c.in_ok-test-in-IsNull.test)) e c.negated_if.ensures.ok
 
 pub bind_node-returns-in_ok-test-in-IsNull-clause-refused : goal.bind_node-returns-in_ok-test-in-IsNull-clause-refused
 bind_node-returns-in_ok-test-in-IsNull-clause-refused u c =
     let L = leaf_of c.args.reach.now in
     let n = c.args.number in
-    let one : bound L n (view c.in-IsNull.value.value) ≡ Ok (bound_view c.in_ok-value-in-IsNull.value) = search rules in
+    let one : bound L n (view c.in-IsNull.value) ≡ Ok (bound_view c.in_ok-value-in-IsNull.value) = search rules in
     let tested : null_test (bound_view c.in_ok-value-in-IsNull.value) ≡ Ok (bound_view c.in_ok-test-in-IsNull.test) = search rules in
     λ code r.
-    let e : node L n (view c.args.tree.now) ≡ negated_if c.in-IsNull.negated (bound_view c.in_ok-test-in-IsNull.test) = (ap (node L n) (ap view c.in-IsNull.is ∙ tree_is_null c.in-IsNull.value c.in-IsNull.negated)) ∙ is_null_3 L n (view c.in-IsNull.value.value) c.in-IsNull.negated (bound_view c.in_ok-value-in-IsNull.value) (bound_view c.in_ok-test-in-IsNull.test) one tested in
+    let e : node L n (view c.args.tree.now) ≡ negated_if c.in-IsNull.negated (bound_view c.in_ok-test-in-IsNull.test) = (ap (node L n) (ap view c.in-IsNull.is ∙ tree_is_null c.in-IsNull.value c.in-IsNull.negated)) ∙ is_null_3 L n (view c.in-IsNull.value) c.in-IsNull.negated (bound_view c.in_ok-value-in-IsNull.value) (bound_view c.in_ok-test-in-IsNull.test) one tested in
     e ∙ c.negated_if.ensures.refused code r
 
 pub bind_node-returns-in_err-value-in-Between-clause-refused : goal.bind_node-returns-in_err-value-in-Between-clause-refused
@@ -203,73 +203,73 @@ bind_node-returns-in_err-value-in-Between-clause-refused u c =
     let L = leaf_of c.args.reach.now in
     let n = c.args.number in
     λ code e.
-    let h : bound L n (view c.in-Between.value.value) ≡ Err code = search rules in
-    (ap (node L n) (ap view c.in-Between.is ∙ tree_between c.in-Between.value c.in-Between.low c.in-Between.high c.in-Between.negated)) ∙ between_1 L n (view c.in-Between.value.value) (view c.in-Between.low.value) (view c.in-Between.high.value) c.in-Between.negated code h
+    let h : bound L n (view c.in-Between.value) ≡ Err code = search rules in
+    (ap (node L n) (ap view c.in-Between.is ∙ tree_between c.in-Between.value c.in-Between.low c.in-Between.high c.in-Between.negated)) ∙ between_1 L n (view c.in-Between.value) (view c.in-Between.low) (view c.in-Between.high) c.in-Between.negated code h
 
 pub bind_node-returns-in_err-low-in-Between-clause-refused : goal.bind_node-returns-in_err-low-in-Between-clause-refused
 bind_node-returns-in_err-low-in-Between-clause-refused u c =
     let L = leaf_of c.args.reach.now in
     let n = c.args.number in
     λ code e.
-    let one : bound L n (view c.in-Between.value.value) ≡ Ok (bound_view c.in_ok-value-in-Between.value) = search rules in
-    let e_next : c.in_ok-next-in-Between.next ≡ n + length (calls (view c.in-Between.value.value)) = search rules in
-    let h : bound L c.in_ok-next-in-Between.next (view c.in-Between.low.value) ≡ Err code = search rules in
-    (ap (node L n) (ap view c.in-Between.is ∙ tree_between c.in-Between.value c.in-Between.low c.in-Between.high c.in-Between.negated)) ∙ between_2 L n (view c.in-Between.value.value) (view c.in-Between.low.value) (view c.in-Between.high.value) c.in-Between.negated (bound_view c.in_ok-value-in-Between.value) code one (ap (λ k. bound L k (view c.in-Between.low.value)) (sym e_next) ∙ h)
+    let one : bound L n (view c.in-Between.value) ≡ Ok (bound_view c.in_ok-value-in-Between.value) = search rules in
+    let e_next : c.in_ok-next-in-Between.next ≡ n + length (calls (view c.in-Between.value)) = search rules in
+    let h : bound L c.in_ok-next-in-Between.next (view c.in-Between.low) ≡ Err code = search rules in
+    (ap (node L n) (ap view c.in-Between.is ∙ tree_between c.in-Between.value c.in-Between.low c.in-Between.high c.in-Between.negated)) ∙ between_2 L n (view c.in-Between.value) (view c.in-Between.low) (view c.in-Between.high) c.in-Between.negated (bound_view c.in_ok-value-in-Between.value) code one (ap (λ k. bound L k (view c.in-Between.low)) (sym e_next) ∙ h)
 
 pub bind_node-returns-in_err-high-in-Between-clause-refused : goal.bind_node-returns-in_err-high-in-Between-clause-refused
 bind_node-returns-in_err-high-in-Between-clause-refused u c =
     let L = leaf_of c.args.reach.now in
     let n = c.args.number in
     λ code e.
-    let one : bound L n (view c.in-Between.value.value) ≡ Ok (bound_view c.in_ok-value-in-Between.value) = search rules in
-    let e_next : c.in_ok-next-in-Between.next ≡ n + length (calls (view c.in-Between.value.value)) = search rules in
-    let e_step : c.in_ok-last-in-Between.last ≡ c.in_ok-next-in-Between.next + length (calls (view c.in-Between.low.value)) = search rules in
-    let e_last : c.in_ok-last-in-Between.last ≡ n + length (calls (view c.in-Between.value.value)) + length (calls (view c.in-Between.low.value)) = e_step ∙ ap (λ k. k + length (calls (view c.in-Between.low.value))) e_next in
-    let two : bound L c.in_ok-next-in-Between.next (view c.in-Between.low.value) ≡ Ok (bound_view c.in_ok-low-in-Between.low) = search rules in
-    let h : bound L c.in_ok-last-in-Between.last (view c.in-Between.high.value) ≡ Err code = search rules in
-    (ap (node L n) (ap view c.in-Between.is ∙ tree_between c.in-Between.value c.in-Between.low c.in-Between.high c.in-Between.negated)) ∙ between_3 L n (view c.in-Between.value.value) (view c.in-Between.low.value) (view c.in-Between.high.value) c.in-Between.negated (bound_view c.in_ok-value-in-Between.value) (bound_view c.in_ok-low-in-Between.low) code one (ap (λ k. bound L k (view c.in-Between.low.value)) (sym e_next) ∙ two) (ap (λ k. bound L k (view c.in-Between.high.value)) (sym e_last) ∙ h)
+    let one : bound L n (view c.in-Between.value) ≡ Ok (bound_view c.in_ok-value-in-Between.value) = search rules in
+    let e_next : c.in_ok-next-in-Between.next ≡ n + length (calls (view c.in-Between.value)) = search rules in
+    let e_step : c.in_ok-last-in-Between.last ≡ c.in_ok-next-in-Between.next + length (calls (view c.in-Between.low)) = search rules in
+    let e_last : c.in_ok-last-in-Between.last ≡ n + length (calls (view c.in-Between.value)) + length (calls (view c.in-Between.low)) = e_step ∙ ap (λ k. k + length (calls (view c.in-Between.low))) e_next in
+    let two : bound L c.in_ok-next-in-Between.next (view c.in-Between.low) ≡ Ok (bound_view c.in_ok-low-in-Between.low) = search rules in
+    let h : bound L c.in_ok-last-in-Between.last (view c.in-Between.high) ≡ Err code = search rules in
+    (ap (node L n) (ap view c.in-Between.is ∙ tree_between c.in-Between.value c.in-Between.low c.in-Between.high c.in-Between.negated)) ∙ between_3 L n (view c.in-Between.value) (view c.in-Between.low) (view c.in-Between.high) c.in-Between.negated (bound_view c.in_ok-value-in-Between.value) (bound_view c.in_ok-low-in-Between.low) code one (ap (λ k. bound L k (view c.in-Between.low)) (sym e_next) ∙ two) (ap (λ k. bound L k (view c.in-Between.high)) (sym e_last) ∙ h)
 
 pub bind_node-returns-in_err-test-in-Between-clause-refused : goal.bind_node-returns-in_err-test-in-Between-clause-refused
 bind_node-returns-in_err-test-in-Between-clause-refused u c =
     let L = leaf_of c.args.reach.now in
     let n = c.args.number in
     λ code e.
-    let one : bound L n (view c.in-Between.value.value) ≡ Ok (bound_view c.in_ok-value-in-Between.value) = search rules in
-    let e_next : c.in_ok-next-in-Between.next ≡ n + length (calls (view c.in-Between.value.value)) = search rules in
-    let e_step : c.in_ok-last-in-Between.last ≡ c.in_ok-next-in-Between.next + length (calls (view c.in-Between.low.value)) = search rules in
-    let e_last : c.in_ok-last-in-Between.last ≡ n + length (calls (view c.in-Between.value.value)) + length (calls (view c.in-Between.low.value)) = e_step ∙ ap (λ k. k + length (calls (view c.in-Between.low.value))) e_next in
-    let two : bound L c.in_ok-next-in-Between.next (view c.in-Between.low.value) ≡ Ok (bound_view c.in_ok-low-in-Between.low) = search rules in
-    let three : bound L c.in_ok-last-in-Between.last (view c.in-Between.high.value) ≡ Ok (bound_view c.in_ok-high-in-Between.high) = search rules in
+    let one : bound L n (view c.in-Between.value) ≡ Ok (bound_view c.in_ok-value-in-Between.value) = search rules in
+    let e_next : c.in_ok-next-in-Between.next ≡ n + length (calls (view c.in-Between.value)) = search rules in
+    let e_step : c.in_ok-last-in-Between.last ≡ c.in_ok-next-in-Between.next + length (calls (view c.in-Between.low)) = search rules in
+    let e_last : c.in_ok-last-in-Between.last ≡ n + length (calls (view c.in-Between.value)) + length (calls (view c.in-Between.low)) = e_step ∙ ap (λ k. k + length (calls (view c.in-Between.low))) e_next in
+    let two : bound L c.in_ok-next-in-Between.next (view c.in-Between.low) ≡ Ok (bound_view c.in_ok-low-in-Between.low) = search rules in
+    let three : bound L c.in_ok-last-in-Between.last (view c.in-Between.high) ≡ Ok (bound_view c.in_ok-high-in-Between.high) = search rules in
     let h : between (bound_view c.in_ok-value-in-Between.value) (bound_view c.in_ok-low-in-Between.low) (bound_view c.in_ok-high-in-Between.high) ≡ Err code = search rules in
-    (ap (node L n) (ap view c.in-Between.is ∙ tree_between c.in-Between.value c.in-Between.low c.in-Between.high c.in-Between.negated)) ∙ between_4 L n (view c.in-Between.value.value) (view c.in-Between.low.value) (view c.in-Between.high.value) c.in-Between.negated (bound_view c.in_ok-value-in-Between.value) (bound_view c.in_ok-low-in-Between.low) (bound_view c.in_ok-high-in-Between.high) code one (ap (λ k. bound L k (view c.in-Between.low.value)) (sym e_next) ∙ two) (ap (λ k. bound L k (view c.in-Between.high.value)) (sym e_last) ∙ three) h
+    (ap (node L n) (ap view c.in-Between.is ∙ tree_between c.in-Between.value c.in-Between.low c.in-Between.high c.in-Between.negated)) ∙ between_4 L n (view c.in-Between.value) (view c.in-Between.low) (view c.in-Between.high) c.in-Between.negated (bound_view c.in_ok-value-in-Between.value) (bound_view c.in_ok-low-in-Between.low) (bound_view c.in_ok-high-in-Between.high) code one (ap (λ k. bound L k (view c.in-Between.low)) (sym e_next) ∙ two) (ap (λ k. bound L k (view c.in-Between.high)) (sym e_last) ∙ three) h
 
 pub bind_node-returns-in_ok-test-in-Between-clause-ok : goal.bind_node-returns-in_ok-test-in-Between-clause-ok
 bind_node-returns-in_ok-test-in-Between-clause-ok u c =
     let L = leaf_of c.args.reach.now in
     let n = c.args.number in
-    let one : bound L n (view c.in-Between.value.value) ≡ Ok (bound_view c.in_ok-value-in-Between.value) = search rules in
-    let e_next : c.in_ok-next-in-Between.next ≡ n + length (calls (view c.in-Between.value.value)) = search rules in
-    let e_step : c.in_ok-last-in-Between.last ≡ c.in_ok-next-in-Between.next + length (calls (view c.in-Between.low.value)) = search rules in
-    let e_last : c.in_ok-last-in-Between.last ≡ n + length (calls (view c.in-Between.value.value)) + length (calls (view c.in-Between.low.value)) = e_step ∙ ap (λ k. k + length (calls (view c.in-Between.low.value))) e_next in
-    let two : bound L c.in_ok-next-in-Between.next (view c.in-Between.low.value) ≡ Ok (bound_view c.in_ok-low-in-Between.low) = search rules in
-    let three : bound L c.in_ok-last-in-Between.last (view c.in-Between.high.value) ≡ Ok (bound_view c.in_ok-high-in-Between.high) = search rules in
+    let one : bound L n (view c.in-Between.value) ≡ Ok (bound_view c.in_ok-value-in-Between.value) = search rules in
+    let e_next : c.in_ok-next-in-Between.next ≡ n + length (calls (view c.in-Between.value)) = search rules in
+    let e_step : c.in_ok-last-in-Between.last ≡ c.in_ok-next-in-Between.next + length (calls (view c.in-Between.low)) = search rules in
+    let e_last : c.in_ok-last-in-Between.last ≡ n + length (calls (view c.in-Between.value)) + length (calls (view c.in-Between.low)) = e_step ∙ ap (λ k. k + length (calls (view c.in-Between.low))) e_next in
+    let two : bound L c.in_ok-next-in-Between.next (view c.in-Between.low) ≡ Ok (bound_view c.in_ok-low-in-Between.low) = search rules in
+    let three : bound L c.in_ok-last-in-Between.last (view c.in-Between.high) ≡ Ok (bound_view c.in_ok-high-in-Between.high) = search rules in
     let tested : between (bound_view c.in_ok-value-in-Between.value) (bound_view c.in_ok-low-in-Between.low) (bound_view c.in_ok-high-in-Between.high) ≡ Ok (bound_view c.in_ok-test-in-Between.test) = search rules in
-    let e : node L n (view c.args.tree.now) ≡ negated_if c.in-Between.negated (bound_view c.in_ok-test-in-Between.test) = (ap (node L n) (ap view c.in-Between.is ∙ tree_between c.in-Between.value c.in-Between.low c.in-Between.high c.in-Between.negated)) ∙ between_5 L n (view c.in-Between.value.value) (view c.in-Between.low.value) (view c.in-Between.high.value) c.in-Between.negated (bound_view c.in_ok-value-in-Between.value) (bound_view c.in_ok-low-in-Between.low) (bound_view c.in_ok-high-in-Between.high) (bound_view c.in_ok-test-in-Between.test) one (ap (λ k. bound L k (view c.in-Between.low.value)) (sym e_next) ∙ two) (ap (λ k. bound L k (view c.in-Between.high.value)) (sym e_last) ∙ three) tested in
+    let e : node L n (view c.args.tree.now) ≡ negated_if c.in-Between.negated (bound_view c.in_ok-test-in-Between.test) = (ap (node L n) (ap view c.in-Between.is ∙ tree_between c.in-Between.value c.in-Between.low c.in-Between.high c.in-Between.negated)) ∙ between_5 L n (view c.in-Between.value) (view c.in-Between.low) (view c.in-Between.high) c.in-Between.negated (bound_view c.in_ok-value-in-Between.value) (bound_view c.in_ok-low-in-Between.low) (bound_view c.in_ok-high-in-Between.high) (bound_view c.in_ok-test-in-Between.test) one (ap (λ k. bound L k (view c.in-Between.low)) (sym e_next) ∙ two) (ap (λ k. bound L k (view c.in-Between.high)) (sym e_last) ∙ three) tested in
     ok_as c.negated_if-in-Between.result (node L n (view c.args.tree.now)) (negated_if c.in-Between.negated (bound_view c.in_ok-test-in-Between.test)) e c.negated_if-in-Between.ensures.ok
 
 pub bind_node-returns-in_ok-test-in-Between-clause-refused : goal.bind_node-returns-in_ok-test-in-Between-clause-refused
 bind_node-returns-in_ok-test-in-Between-clause-refused u c =
     let L = leaf_of c.args.reach.now in
     let n = c.args.number in
-    let one : bound L n (view c.in-Between.value.value) ≡ Ok (bound_view c.in_ok-value-in-Between.value) = search rules in
-    let e_next : c.in_ok-next-in-Between.next ≡ n + length (calls (view c.in-Between.value.value)) = search rules in
-    let e_step : c.in_ok-last-in-Between.last ≡ c.in_ok-next-in-Between.next + length (calls (view c.in-Between.low.value)) = search rules in
-    let e_last : c.in_ok-last-in-Between.last ≡ n + length (calls (view c.in-Between.value.value)) + length (calls (view c.in-Between.low.value)) = e_step ∙ ap (λ k. k + length (calls (view c.in-Between.low.value))) e_next in
-    let two : bound L c.in_ok-next-in-Between.next (view c.in-Between.low.value) ≡ Ok (bound_view c.in_ok-low-in-Between.low) = search rules in
-    let three : bound L c.in_ok-last-in-Between.last (view c.in-Between.high.value) ≡ Ok (bound_view c.in_ok-high-in-Between.high) = search rules in
+    let one : bound L n (view c.in-Between.value) ≡ Ok (bound_view c.in_ok-value-in-Between.value) = search rules in
+    let e_next : c.in_ok-next-in-Between.next ≡ n + length (calls (view c.in-Between.value)) = search rules in
+    let e_step : c.in_ok-last-in-Between.last ≡ c.in_ok-next-in-Between.next + length (calls (view c.in-Between.low)) = search rules in
+    let e_last : c.in_ok-last-in-Between.last ≡ n + length (calls (view c.in-Between.value)) + length (calls (view c.in-Between.low)) = e_step ∙ ap (λ k. k + length (calls (view c.in-Between.low))) e_next in
+    let two : bound L c.in_ok-next-in-Between.next (view c.in-Between.low) ≡ Ok (bound_view c.in_ok-low-in-Between.low) = search rules in
+    let three : bound L c.in_ok-last-in-Between.last (view c.in-Between.high) ≡ Ok (bound_view c.in_ok-high-in-Between.high) = search rules in
     let tested : between (bound_view c.in_ok-value-in-Between.value) (bound_view c.in_ok-low-in-Between.low) (bound_view c.in_ok-high-in-Between.high) ≡ Ok (bound_view c.in_ok-test-in-Between.test) = search rules in
     λ code r.
-    let e : node L n (view c.args.tree.now) ≡ negated_if c.in-Between.negated (bound_view c.in_ok-test-in-Between.test) = (ap (node L n) (ap view c.in-Between.is ∙ tree_between c.in-Between.value c.in-Between.low c.in-Between.high c.in-Between.negated)) ∙ between_5 L n (view c.in-Between.value.value) (view c.in-Between.low.value) (view c.in-Between.high.value) c.in-Between.negated (bound_view c.in_ok-value-in-Between.value) (bound_view c.in_ok-low-in-Between.low) (bound_view c.in_ok-high-in-Between.high) (bound_view c.in_ok-test-in-Between.test) one (ap (λ k. bound L k (view c.in-Between.low.value)) (sym e_next) ∙ two) (ap (λ k. bound L k (view c.in-Between.high.value)) (sym e_last) ∙ three) tested in
+    let e : node L n (view c.args.tree.now) ≡ negated_if c.in-Between.negated (bound_view c.in_ok-test-in-Between.test) = (ap (node L n) (ap view c.in-Between.is ∙ tree_between c.in-Between.value c.in-Between.low c.in-Between.high c.in-Between.negated)) ∙ between_5 L n (view c.in-Between.value) (view c.in-Between.low) (view c.in-Between.high) c.in-Between.negated (bound_view c.in_ok-value-in-Between.value) (bound_view c.in_ok-low-in-Between.low) (bound_view c.in_ok-high-in-Between.high) (bound_view c.in_ok-test-in-Between.test) one (ap (λ k. bound L k (view c.in-Between.low)) (sym e_next) ∙ two) (ap (λ k. bound L k (view c.in-Between.high)) (sym e_last) ∙ three) tested in
     e ∙ c.negated_if-in-Between.ensures.refused code r
 
 pub bind_node-returns-in_err-value-in-InList-clause-refused : goal.bind_node-returns-in_err-value-in-InList-clause-refused
@@ -277,51 +277,51 @@ bind_node-returns-in_err-value-in-InList-clause-refused u c =
     let L = leaf_of c.args.reach.now in
     let n = c.args.number in
     λ code e.
-    let h : bound L n (view c.in-InList.value.value) ≡ Err code = search rules in
-    (ap (node L n) (ap view c.in-InList.is ∙ tree_in_list c.in-InList.value c.in-InList.items c.in-InList.negated)) ∙ in_list_1 L n (view c.in-InList.value.value) (t.trees (trees_view c.in-InList.items)) c.in-InList.negated code h
+    let h : bound L n (view c.in-InList.value) ≡ Err code = search rules in
+    (ap (node L n) (ap view c.in-InList.is ∙ tree_in_list c.in-InList.value c.in-InList.items c.in-InList.negated)) ∙ in_list_1 L n (view c.in-InList.value) (t.trees (trees_view c.in-InList.items)) c.in-InList.negated code h
 
 pub bind_node-returns-in_err-items-in-InList-clause-refused : goal.bind_node-returns-in_err-items-in-InList-clause-refused
 bind_node-returns-in_err-items-in-InList-clause-refused u c =
     let L = leaf_of c.args.reach.now in
     let n = c.args.number in
     λ code e.
-    let one : bound L n (view c.in-InList.value.value) ≡ Ok (bound_view c.in_ok-value-in-InList.value) = search rules in
-    let e_next : c.in_ok-next-in-InList.next ≡ n + length (calls (view c.in-InList.value.value)) = search rules in
+    let one : bound L n (view c.in-InList.value) ≡ Ok (bound_view c.in_ok-value-in-InList.value) = search rules in
+    let e_next : c.in_ok-next-in-InList.next ≡ n + length (calls (view c.in-InList.value)) = search rules in
     let h : all_bound L c.in_ok-next-in-InList.next (t.trees (trees_view c.in-InList.items)) ≡ Err code = search rules in
-    (ap (node L n) (ap view c.in-InList.is ∙ tree_in_list c.in-InList.value c.in-InList.items c.in-InList.negated)) ∙ in_list_2 L n (view c.in-InList.value.value) (t.trees (trees_view c.in-InList.items)) c.in-InList.negated (bound_view c.in_ok-value-in-InList.value) code one (ap (λ k. all_bound L k (t.trees (trees_view c.in-InList.items))) (sym e_next) ∙ h)
+    (ap (node L n) (ap view c.in-InList.is ∙ tree_in_list c.in-InList.value c.in-InList.items c.in-InList.negated)) ∙ in_list_2 L n (view c.in-InList.value) (t.trees (trees_view c.in-InList.items)) c.in-InList.negated (bound_view c.in_ok-value-in-InList.value) code one (ap (λ k. all_bound L k (t.trees (trees_view c.in-InList.items))) (sym e_next) ∙ h)
 
 pub bind_node-returns-in_err-test-in-InList-clause-refused : goal.bind_node-returns-in_err-test-in-InList-clause-refused
 bind_node-returns-in_err-test-in-InList-clause-refused u c =
     let L = leaf_of c.args.reach.now in
     let n = c.args.number in
     λ code e.
-    let one : bound L n (view c.in-InList.value.value) ≡ Ok (bound_view c.in_ok-value-in-InList.value) = search rules in
-    let e_next : c.in_ok-next-in-InList.next ≡ n + length (calls (view c.in-InList.value.value)) = search rules in
+    let one : bound L n (view c.in-InList.value) ≡ Ok (bound_view c.in_ok-value-in-InList.value) = search rules in
+    let e_next : c.in_ok-next-in-InList.next ≡ n + length (calls (view c.in-InList.value)) = search rules in
     let two : all_bound L c.in_ok-next-in-InList.next (t.trees (trees_view c.in-InList.items)) ≡ Ok (bounds_view c.in_ok-items-in-InList.items) = search rules in
     let h : in_list (bound_view c.in_ok-value-in-InList.value) (bounds_view c.in_ok-items-in-InList.items) ≡ Err code = search rules in
-    (ap (node L n) (ap view c.in-InList.is ∙ tree_in_list c.in-InList.value c.in-InList.items c.in-InList.negated)) ∙ in_list_3 L n (view c.in-InList.value.value) (t.trees (trees_view c.in-InList.items)) c.in-InList.negated (bound_view c.in_ok-value-in-InList.value) (bounds_view c.in_ok-items-in-InList.items) code one (ap (λ k. all_bound L k (t.trees (trees_view c.in-InList.items))) (sym e_next) ∙ two) h
+    (ap (node L n) (ap view c.in-InList.is ∙ tree_in_list c.in-InList.value c.in-InList.items c.in-InList.negated)) ∙ in_list_3 L n (view c.in-InList.value) (t.trees (trees_view c.in-InList.items)) c.in-InList.negated (bound_view c.in_ok-value-in-InList.value) (bounds_view c.in_ok-items-in-InList.items) code one (ap (λ k. all_bound L k (t.trees (trees_view c.in-InList.items))) (sym e_next) ∙ two) h
 
 pub bind_node-returns-in_ok-test-in-InList-clause-ok : goal.bind_node-returns-in_ok-test-in-InList-clause-ok
 bind_node-returns-in_ok-test-in-InList-clause-ok u c =
     let L = leaf_of c.args.reach.now in
     let n = c.args.number in
-    let one : bound L n (view c.in-InList.value.value) ≡ Ok (bound_view c.in_ok-value-in-InList.value) = search rules in
-    let e_next : c.in_ok-next-in-InList.next ≡ n + length (calls (view c.in-InList.value.value)) = search rules in
+    let one : bound L n (view c.in-InList.value) ≡ Ok (bound_view c.in_ok-value-in-InList.value) = search rules in
+    let e_next : c.in_ok-next-in-InList.next ≡ n + length (calls (view c.in-InList.value)) = search rules in
     let two : all_bound L c.in_ok-next-in-InList.next (t.trees (trees_view c.in-InList.items)) ≡ Ok (bounds_view c.in_ok-items-in-InList.items) = search rules in
     let tested : in_list (bound_view c.in_ok-value-in-InList.value) (bounds_view c.in_ok-items-in-InList.items) ≡ Ok (bound_view c.in_ok-test-in-InList.test) = search rules in
-    let e : node L n (view c.args.tree.now) ≡ negated_if c.in-InList.negated (bound_view c.in_ok-test-in-InList.test) = (ap (node L n) (ap view c.in-InList.is ∙ tree_in_list c.in-InList.value c.in-InList.items c.in-InList.negated)) ∙ in_list_4 L n (view c.in-InList.value.value) (t.trees (trees_view c.in-InList.items)) c.in-InList.negated (bound_view c.in_ok-value-in-InList.value) (bounds_view c.in_ok-items-in-InList.items) (bound_view c.in_ok-test-in-InList.test) one (ap (λ k. all_bound L k (t.trees (trees_view c.in-InList.items))) (sym e_next) ∙ two) tested in
+    let e : node L n (view c.args.tree.now) ≡ negated_if c.in-InList.negated (bound_view c.in_ok-test-in-InList.test) = (ap (node L n) (ap view c.in-InList.is ∙ tree_in_list c.in-InList.value c.in-InList.items c.in-InList.negated)) ∙ in_list_4 L n (view c.in-InList.value) (t.trees (trees_view c.in-InList.items)) c.in-InList.negated (bound_view c.in_ok-value-in-InList.value) (bounds_view c.in_ok-items-in-InList.items) (bound_view c.in_ok-test-in-InList.test) one (ap (λ k. all_bound L k (t.trees (trees_view c.in-InList.items))) (sym e_next) ∙ two) tested in
     ok_as c.negated_if-in-InList.result (node L n (view c.args.tree.now)) (negated_if c.in-InList.negated (bound_view c.in_ok-test-in-InList.test)) e c.negated_if-in-InList.ensures.ok
 
 pub bind_node-returns-in_ok-test-in-InList-clause-refused : goal.bind_node-returns-in_ok-test-in-InList-clause-refused
 bind_node-returns-in_ok-test-in-InList-clause-refused u c =
     let L = leaf_of c.args.reach.now in
     let n = c.args.number in
-    let one : bound L n (view c.in-InList.value.value) ≡ Ok (bound_view c.in_ok-value-in-InList.value) = search rules in
-    let e_next : c.in_ok-next-in-InList.next ≡ n + length (calls (view c.in-InList.value.value)) = search rules in
+    let one : bound L n (view c.in-InList.value) ≡ Ok (bound_view c.in_ok-value-in-InList.value) = search rules in
+    let e_next : c.in_ok-next-in-InList.next ≡ n + length (calls (view c.in-InList.value)) = search rules in
     let two : all_bound L c.in_ok-next-in-InList.next (t.trees (trees_view c.in-InList.items)) ≡ Ok (bounds_view c.in_ok-items-in-InList.items) = search rules in
     let tested : in_list (bound_view c.in_ok-value-in-InList.value) (bounds_view c.in_ok-items-in-InList.items) ≡ Ok (bound_view c.in_ok-test-in-InList.test) = search rules in
     λ code r.
-    let e : node L n (view c.args.tree.now) ≡ negated_if c.in-InList.negated (bound_view c.in_ok-test-in-InList.test) = (ap (node L n) (ap view c.in-InList.is ∙ tree_in_list c.in-InList.value c.in-InList.items c.in-InList.negated)) ∙ in_list_4 L n (view c.in-InList.value.value) (t.trees (trees_view c.in-InList.items)) c.in-InList.negated (bound_view c.in_ok-value-in-InList.value) (bounds_view c.in_ok-items-in-InList.items) (bound_view c.in_ok-test-in-InList.test) one (ap (λ k. all_bound L k (t.trees (trees_view c.in-InList.items))) (sym e_next) ∙ two) tested in
+    let e : node L n (view c.args.tree.now) ≡ negated_if c.in-InList.negated (bound_view c.in_ok-test-in-InList.test) = (ap (node L n) (ap view c.in-InList.is ∙ tree_in_list c.in-InList.value c.in-InList.items c.in-InList.negated)) ∙ in_list_4 L n (view c.in-InList.value) (t.trees (trees_view c.in-InList.items)) c.in-InList.negated (bound_view c.in_ok-value-in-InList.value) (bounds_view c.in_ok-items-in-InList.items) (bound_view c.in_ok-test-in-InList.test) one (ap (λ k. all_bound L k (t.trees (trees_view c.in-InList.items))) (sym e_next) ∙ two) tested in
     e ∙ c.negated_if-in-InList.ensures.refused code r
 
 pub bind_node-returns-in_err-value-in-Like-clause-refused : goal.bind_node-returns-in_err-value-in-Like-clause-refused
@@ -329,51 +329,51 @@ bind_node-returns-in_err-value-in-Like-clause-refused u c =
     let L = leaf_of c.args.reach.now in
     let n = c.args.number in
     λ code e.
-    let h : bound L n (view c.in-Like.value.value) ≡ Err code = search rules in
-    (ap (node L n) (ap view c.in-Like.is ∙ tree_like c.in-Like.value c.in-Like.pattern c.in-Like.negated)) ∙ like_1 L n (view c.in-Like.value.value) (view c.in-Like.pattern.value) c.in-Like.negated code h
+    let h : bound L n (view c.in-Like.value) ≡ Err code = search rules in
+    (ap (node L n) (ap view c.in-Like.is ∙ tree_like c.in-Like.value c.in-Like.pattern c.in-Like.negated)) ∙ like_1 L n (view c.in-Like.value) (view c.in-Like.pattern) c.in-Like.negated code h
 
 pub bind_node-returns-in_err-pattern-in-Like-clause-refused : goal.bind_node-returns-in_err-pattern-in-Like-clause-refused
 bind_node-returns-in_err-pattern-in-Like-clause-refused u c =
     let L = leaf_of c.args.reach.now in
     let n = c.args.number in
     λ code e.
-    let one : bound L n (view c.in-Like.value.value) ≡ Ok (bound_view c.in_ok-value-in-Like.value) = search rules in
-    let e_next : c.in_ok-next-in-Like.next ≡ n + length (calls (view c.in-Like.value.value)) = search rules in
-    let h : bound L c.in_ok-next-in-Like.next (view c.in-Like.pattern.value) ≡ Err code = search rules in
-    (ap (node L n) (ap view c.in-Like.is ∙ tree_like c.in-Like.value c.in-Like.pattern c.in-Like.negated)) ∙ like_2 L n (view c.in-Like.value.value) (view c.in-Like.pattern.value) c.in-Like.negated (bound_view c.in_ok-value-in-Like.value) code one (ap (λ k. bound L k (view c.in-Like.pattern.value)) (sym e_next) ∙ h)
+    let one : bound L n (view c.in-Like.value) ≡ Ok (bound_view c.in_ok-value-in-Like.value) = search rules in
+    let e_next : c.in_ok-next-in-Like.next ≡ n + length (calls (view c.in-Like.value)) = search rules in
+    let h : bound L c.in_ok-next-in-Like.next (view c.in-Like.pattern) ≡ Err code = search rules in
+    (ap (node L n) (ap view c.in-Like.is ∙ tree_like c.in-Like.value c.in-Like.pattern c.in-Like.negated)) ∙ like_2 L n (view c.in-Like.value) (view c.in-Like.pattern) c.in-Like.negated (bound_view c.in_ok-value-in-Like.value) code one (ap (λ k. bound L k (view c.in-Like.pattern)) (sym e_next) ∙ h)
 
 pub bind_node-returns-in_err-test-in-Like-clause-refused : goal.bind_node-returns-in_err-test-in-Like-clause-refused
 bind_node-returns-in_err-test-in-Like-clause-refused u c =
     let L = leaf_of c.args.reach.now in
     let n = c.args.number in
     λ code e.
-    let one : bound L n (view c.in-Like.value.value) ≡ Ok (bound_view c.in_ok-value-in-Like.value) = search rules in
-    let e_next : c.in_ok-next-in-Like.next ≡ n + length (calls (view c.in-Like.value.value)) = search rules in
-    let two : bound L c.in_ok-next-in-Like.next (view c.in-Like.pattern.value) ≡ Ok (bound_view c.in_ok-pattern-in-Like.pattern) = search rules in
+    let one : bound L n (view c.in-Like.value) ≡ Ok (bound_view c.in_ok-value-in-Like.value) = search rules in
+    let e_next : c.in_ok-next-in-Like.next ≡ n + length (calls (view c.in-Like.value)) = search rules in
+    let two : bound L c.in_ok-next-in-Like.next (view c.in-Like.pattern) ≡ Ok (bound_view c.in_ok-pattern-in-Like.pattern) = search rules in
     let h : like (bound_view c.in_ok-value-in-Like.value) (bound_view c.in_ok-pattern-in-Like.pattern) ≡ Err code = search rules in
-    (ap (node L n) (ap view c.in-Like.is ∙ tree_like c.in-Like.value c.in-Like.pattern c.in-Like.negated)) ∙ like_3 L n (view c.in-Like.value.value) (view c.in-Like.pattern.value) c.in-Like.negated (bound_view c.in_ok-value-in-Like.value) (bound_view c.in_ok-pattern-in-Like.pattern) code one (ap (λ k. bound L k (view c.in-Like.pattern.value)) (sym e_next) ∙ two) h
+    (ap (node L n) (ap view c.in-Like.is ∙ tree_like c.in-Like.value c.in-Like.pattern c.in-Like.negated)) ∙ like_3 L n (view c.in-Like.value) (view c.in-Like.pattern) c.in-Like.negated (bound_view c.in_ok-value-in-Like.value) (bound_view c.in_ok-pattern-in-Like.pattern) code one (ap (λ k. bound L k (view c.in-Like.pattern)) (sym e_next) ∙ two) h
 
 pub bind_node-returns-in_ok-test-in-Like-clause-ok : goal.bind_node-returns-in_ok-test-in-Like-clause-ok
 bind_node-returns-in_ok-test-in-Like-clause-ok u c =
     let L = leaf_of c.args.reach.now in
     let n = c.args.number in
-    let one : bound L n (view c.in-Like.value.value) ≡ Ok (bound_view c.in_ok-value-in-Like.value) = search rules in
-    let e_next : c.in_ok-next-in-Like.next ≡ n + length (calls (view c.in-Like.value.value)) = search rules in
-    let two : bound L c.in_ok-next-in-Like.next (view c.in-Like.pattern.value) ≡ Ok (bound_view c.in_ok-pattern-in-Like.pattern) = search rules in
+    let one : bound L n (view c.in-Like.value) ≡ Ok (bound_view c.in_ok-value-in-Like.value) = search rules in
+    let e_next : c.in_ok-next-in-Like.next ≡ n + length (calls (view c.in-Like.value)) = search rules in
+    let two : bound L c.in_ok-next-in-Like.next (view c.in-Like.pattern) ≡ Ok (bound_view c.in_ok-pattern-in-Like.pattern) = search rules in
     let tested : like (bound_view c.in_ok-value-in-Like.value) (bound_view c.in_ok-pattern-in-Like.pattern) ≡ Ok (bound_view c.in_ok-test-in-Like.test) = search rules in
-    let e : node L n (view c.args.tree.now) ≡ negated_if c.in-Like.negated (bound_view c.in_ok-test-in-Like.test) = (ap (node L n) (ap view c.in-Like.is ∙ tree_like c.in-Like.value c.in-Like.pattern c.in-Like.negated)) ∙ like_4 L n (view c.in-Like.value.value) (view c.in-Like.pattern.value) c.in-Like.negated (bound_view c.in_ok-value-in-Like.value) (bound_view c.in_ok-pattern-in-Like.pattern) (bound_view c.in_ok-test-in-Like.test) one (ap (λ k. bound L k (view c.in-Like.pattern.value)) (sym e_next) ∙ two) tested in
+    let e : node L n (view c.args.tree.now) ≡ negated_if c.in-Like.negated (bound_view c.in_ok-test-in-Like.test) = (ap (node L n) (ap view c.in-Like.is ∙ tree_like c.in-Like.value c.in-Like.pattern c.in-Like.negated)) ∙ like_4 L n (view c.in-Like.value) (view c.in-Like.pattern) c.in-Like.negated (bound_view c.in_ok-value-in-Like.value) (bound_view c.in_ok-pattern-in-Like.pattern) (bound_view c.in_ok-test-in-Like.test) one (ap (λ k. bound L k (view c.in-Like.pattern)) (sym e_next) ∙ two) tested in
     ok_as c.negated_if-in-Like.result (node L n (view c.args.tree.now)) (negated_if c.in-Like.negated (bound_view c.in_ok-test-in-Like.test)) e c.negated_if-in-Like.ensures.ok
 
 pub bind_node-returns-in_ok-test-in-Like-clause-refused : goal.bind_node-returns-in_ok-test-in-Like-clause-refused
 bind_node-returns-in_ok-test-in-Like-clause-refused u c =
     let L = leaf_of c.args.reach.now in
     let n = c.args.number in
-    let one : bound L n (view c.in-Like.value.value) ≡ Ok (bound_view c.in_ok-value-in-Like.value) = search rules in
-    let e_next : c.in_ok-next-in-Like.next ≡ n + length (calls (view c.in-Like.value.value)) = search rules in
-    let two : bound L c.in_ok-next-in-Like.next (view c.in-Like.pattern.value) ≡ Ok (bound_view c.in_ok-pattern-in-Like.pattern) = search rules in
+    let one : bound L n (view c.in-Like.value) ≡ Ok (bound_view c.in_ok-value-in-Like.value) = search rules in
+    let e_next : c.in_ok-next-in-Like.next ≡ n + length (calls (view c.in-Like.value)) = search rules in
+    let two : bound L c.in_ok-next-in-Like.next (view c.in-Like.pattern) ≡ Ok (bound_view c.in_ok-pattern-in-Like.pattern) = search rules in
     let tested : like (bound_view c.in_ok-value-in-Like.value) (bound_view c.in_ok-pattern-in-Like.pattern) ≡ Ok (bound_view c.in_ok-test-in-Like.test) = search rules in
     λ code r.
-    let e : node L n (view c.args.tree.now) ≡ negated_if c.in-Like.negated (bound_view c.in_ok-test-in-Like.test) = (ap (node L n) (ap view c.in-Like.is ∙ tree_like c.in-Like.value c.in-Like.pattern c.in-Like.negated)) ∙ like_4 L n (view c.in-Like.value.value) (view c.in-Like.pattern.value) c.in-Like.negated (bound_view c.in_ok-value-in-Like.value) (bound_view c.in_ok-pattern-in-Like.pattern) (bound_view c.in_ok-test-in-Like.test) one (ap (λ k. bound L k (view c.in-Like.pattern.value)) (sym e_next) ∙ two) tested in
+    let e : node L n (view c.args.tree.now) ≡ negated_if c.in-Like.negated (bound_view c.in_ok-test-in-Like.test) = (ap (node L n) (ap view c.in-Like.is ∙ tree_like c.in-Like.value c.in-Like.pattern c.in-Like.negated)) ∙ like_4 L n (view c.in-Like.value) (view c.in-Like.pattern) c.in-Like.negated (bound_view c.in_ok-value-in-Like.value) (bound_view c.in_ok-pattern-in-Like.pattern) (bound_view c.in_ok-test-in-Like.test) one (ap (λ k. bound L k (view c.in-Like.pattern)) (sym e_next) ∙ two) tested in
     e ∙ c.negated_if-in-Like.ensures.refused code r
 
 pub bind_node-returns-in_err-refuse_long-in-Sum-clause-refused : goal.bind_node-returns-in_err-refuse_long-in-Sum-clause-refused
@@ -383,7 +383,7 @@ bind_node-returns-in_err-refuse_long-in-Sum-clause-refused u c =
     λ code e.
     let counted : c.len.result ≡ length c.in-Sum.rest = search rules in
     let long : Long c.len.result code = search rules in
-    (ap (node L n) (ap view c.in-Sum.is ∙ tree_sum c.in-Sum.first c.in-Sum.rest)) ∙ sum_long L n (view c.in-Sum.first.value) (t.sum_tails (sum_tails_view c.in-Sum.rest)) (ap is_long (sum_length_is c.in-Sum.rest ∙ ap suc (sym counted)) ∙ long.0) ∙ ap Err (sym long.1)
+    (ap (node L n) (ap view c.in-Sum.is ∙ tree_sum c.in-Sum.first c.in-Sum.rest)) ∙ sum_long L n (view c.in-Sum.first) (t.sum_tails (sum_tails_view c.in-Sum.rest)) (ap is_long (sum_length_is c.in-Sum.rest ∙ ap suc (sym counted)) ∙ long.0) ∙ ap Err (sym long.1)
 
 pub bind_node-returns-in_err-first-in-Sum-clause-refused : goal.bind_node-returns-in_err-first-in-Sum-clause-refused
 bind_node-returns-in_err-first-in-Sum-clause-refused u c =
@@ -392,8 +392,8 @@ bind_node-returns-in_err-first-in-Sum-clause-refused u c =
     λ code e.
     let counted : c.len.result ≡ length c.in-Sum.rest = search rules in
     let short : is_long (suc c.len.result) ≡ false = search rules in
-    let h : bound L n (view c.in-Sum.first.value) ≡ Err code = search rules in
-    (ap (node L n) (ap view c.in-Sum.is ∙ tree_sum c.in-Sum.first c.in-Sum.rest)) ∙ sum_1 L n (view c.in-Sum.first.value) (t.sum_tails (sum_tails_view c.in-Sum.rest)) code (ap is_long (sum_length_is c.in-Sum.rest ∙ ap suc (sym counted)) ∙ short) h
+    let h : bound L n (view c.in-Sum.first) ≡ Err code = search rules in
+    (ap (node L n) (ap view c.in-Sum.is ∙ tree_sum c.in-Sum.first c.in-Sum.rest)) ∙ sum_1 L n (view c.in-Sum.first) (t.sum_tails (sum_tails_view c.in-Sum.rest)) code (ap is_long (sum_length_is c.in-Sum.rest ∙ ap suc (sym counted)) ∙ short) h
 
 pub bind_node-returns-in_ok-first-in-Sum-clause-ok : goal.bind_node-returns-in_ok-first-in-Sum-clause-ok
 bind_node-returns-in_ok-first-in-Sum-clause-ok u c =
@@ -401,9 +401,9 @@ bind_node-returns-in_ok-first-in-Sum-clause-ok u c =
     let n = c.args.number in
     let counted : c.len.result ≡ length c.in-Sum.rest = search rules in
     let short : is_long (suc c.len.result) ≡ false = search rules in
-    let one : bound L n (view c.in-Sum.first.value) ≡ Ok (bound_view c.in_ok-first-in-Sum.first) = search rules in
-    let e_next : c.in_ok-next-in-Sum.next ≡ n + length (calls (view c.in-Sum.first.value)) = search rules in
-    let e : node L n (view c.args.tree.now) ≡ sum_bound L c.in_ok-next-in-Sum.next (bound_view c.in_ok-first-in-Sum.first) (t.sum_tails (sum_tails_view c.in-Sum.rest)) = (ap (node L n) (ap view c.in-Sum.is ∙ tree_sum c.in-Sum.first c.in-Sum.rest)) ∙ (sum_2 L n (view c.in-Sum.first.value) (t.sum_tails (sum_tails_view c.in-Sum.rest)) (bound_view c.in_ok-first-in-Sum.first) (ap is_long (sum_length_is c.in-Sum.rest ∙ ap suc (sym counted)) ∙ short) one ∙ ap (λ k. sum_bound L k (bound_view c.in_ok-first-in-Sum.first) (t.sum_tails (sum_tails_view c.in-Sum.rest))) (sym e_next)) in
+    let one : bound L n (view c.in-Sum.first) ≡ Ok (bound_view c.in_ok-first-in-Sum.first) = search rules in
+    let e_next : c.in_ok-next-in-Sum.next ≡ n + length (calls (view c.in-Sum.first)) = search rules in
+    let e : node L n (view c.args.tree.now) ≡ sum_bound L c.in_ok-next-in-Sum.next (bound_view c.in_ok-first-in-Sum.first) (t.sum_tails (sum_tails_view c.in-Sum.rest)) = (ap (node L n) (ap view c.in-Sum.is ∙ tree_sum c.in-Sum.first c.in-Sum.rest)) ∙ (sum_2 L n (view c.in-Sum.first) (t.sum_tails (sum_tails_view c.in-Sum.rest)) (bound_view c.in_ok-first-in-Sum.first) (ap is_long (sum_length_is c.in-Sum.rest ∙ ap suc (sym counted)) ∙ short) one ∙ ap (λ k. sum_bound L k (bound_view c.in_ok-first-in-Sum.first) (t.sum_tails (sum_tails_view c.in-Sum.rest))) (sym e_next)) in
     ok_as c.bind_sum.result (node L n (view c.args.tree.now)) (sum_bound L c.in_ok-next-in-Sum.next (bound_view c.in_ok-first-in-Sum.first) (t.sum_tails (sum_tails_view c.in-Sum.rest))) e c.bind_sum.ensures.ok
 
 pub bind_node-returns-in_ok-first-in-Sum-clause-refused : goal.bind_node-returns-in_ok-first-in-Sum-clause-refused
@@ -412,10 +412,10 @@ bind_node-returns-in_ok-first-in-Sum-clause-refused u c =
     let n = c.args.number in
     let counted : c.len.result ≡ length c.in-Sum.rest = search rules in
     let short : is_long (suc c.len.result) ≡ false = search rules in
-    let one : bound L n (view c.in-Sum.first.value) ≡ Ok (bound_view c.in_ok-first-in-Sum.first) = search rules in
-    let e_next : c.in_ok-next-in-Sum.next ≡ n + length (calls (view c.in-Sum.first.value)) = search rules in
+    let one : bound L n (view c.in-Sum.first) ≡ Ok (bound_view c.in_ok-first-in-Sum.first) = search rules in
+    let e_next : c.in_ok-next-in-Sum.next ≡ n + length (calls (view c.in-Sum.first)) = search rules in
     λ code r.
-    let e : node L n (view c.args.tree.now) ≡ sum_bound L c.in_ok-next-in-Sum.next (bound_view c.in_ok-first-in-Sum.first) (t.sum_tails (sum_tails_view c.in-Sum.rest)) = (ap (node L n) (ap view c.in-Sum.is ∙ tree_sum c.in-Sum.first c.in-Sum.rest)) ∙ (sum_2 L n (view c.in-Sum.first.value) (t.sum_tails (sum_tails_view c.in-Sum.rest)) (bound_view c.in_ok-first-in-Sum.first) (ap is_long (sum_length_is c.in-Sum.rest ∙ ap suc (sym counted)) ∙ short) one ∙ ap (λ k. sum_bound L k (bound_view c.in_ok-first-in-Sum.first) (t.sum_tails (sum_tails_view c.in-Sum.rest))) (sym e_next)) in
+    let e : node L n (view c.args.tree.now) ≡ sum_bound L c.in_ok-next-in-Sum.next (bound_view c.in_ok-first-in-Sum.first) (t.sum_tails (sum_tails_view c.in-Sum.rest)) = (ap (node L n) (ap view c.in-Sum.is ∙ tree_sum c.in-Sum.first c.in-Sum.rest)) ∙ (sum_2 L n (view c.in-Sum.first) (t.sum_tails (sum_tails_view c.in-Sum.rest)) (bound_view c.in_ok-first-in-Sum.first) (ap is_long (sum_length_is c.in-Sum.rest ∙ ap suc (sym counted)) ∙ short) one ∙ ap (λ k. sum_bound L k (bound_view c.in_ok-first-in-Sum.first) (t.sum_tails (sum_tails_view c.in-Sum.rest))) (sym e_next)) in
     e ∙ c.bind_sum.ensures.refused code r
 
 pub bind_node-returns-in_err-refuse_long-in-Product-clause-refused : goal.bind_node-returns-in_err-refuse_long-in-Product-clause-refused
@@ -425,7 +425,7 @@ bind_node-returns-in_err-refuse_long-in-Product-clause-refused u c =
     λ code e.
     let counted : c.len-in-Product.result ≡ length c.in-Product.rest = search rules in
     let long : Long c.len-in-Product.result code = search rules in
-    (ap (node L n) (ap view c.in-Product.is ∙ tree_product c.in-Product.first c.in-Product.rest)) ∙ product_long L n (view c.in-Product.first.value) (t.product_tails (product_tails_view c.in-Product.rest)) (ap is_long (product_length_is c.in-Product.rest ∙ ap suc (sym counted)) ∙ long.0) ∙ ap Err (sym long.1)
+    (ap (node L n) (ap view c.in-Product.is ∙ tree_product c.in-Product.first c.in-Product.rest)) ∙ product_long L n (view c.in-Product.first) (t.product_tails (product_tails_view c.in-Product.rest)) (ap is_long (product_length_is c.in-Product.rest ∙ ap suc (sym counted)) ∙ long.0) ∙ ap Err (sym long.1)
 
 pub bind_node-returns-in_err-first-in-Product-clause-refused : goal.bind_node-returns-in_err-first-in-Product-clause-refused
 bind_node-returns-in_err-first-in-Product-clause-refused u c =
@@ -434,8 +434,8 @@ bind_node-returns-in_err-first-in-Product-clause-refused u c =
     λ code e.
     let counted : c.len-in-Product.result ≡ length c.in-Product.rest = search rules in
     let short : is_long (suc c.len-in-Product.result) ≡ false = search rules in
-    let h : bound L n (view c.in-Product.first.value) ≡ Err code = search rules in
-    (ap (node L n) (ap view c.in-Product.is ∙ tree_product c.in-Product.first c.in-Product.rest)) ∙ product_1 L n (view c.in-Product.first.value) (t.product_tails (product_tails_view c.in-Product.rest)) code (ap is_long (product_length_is c.in-Product.rest ∙ ap suc (sym counted)) ∙ short) h
+    let h : bound L n (view c.in-Product.first) ≡ Err code = search rules in
+    (ap (node L n) (ap view c.in-Product.is ∙ tree_product c.in-Product.first c.in-Product.rest)) ∙ product_1 L n (view c.in-Product.first) (t.product_tails (product_tails_view c.in-Product.rest)) code (ap is_long (product_length_is c.in-Product.rest ∙ ap suc (sym counted)) ∙ short) h
 
 pub bind_node-returns-in_ok-first-in-Product-clause-ok : goal.bind_node-returns-in_ok-first-in-Product-clause-ok
 bind_node-returns-in_ok-first-in-Product-clause-ok u c =
@@ -443,9 +443,9 @@ bind_node-returns-in_ok-first-in-Product-clause-ok u c =
     let n = c.args.number in
     let counted : c.len-in-Product.result ≡ length c.in-Product.rest = search rules in
     let short : is_long (suc c.len-in-Product.result) ≡ false = search rules in
-    let one : bound L n (view c.in-Product.first.value) ≡ Ok (bound_view c.in_ok-first-in-Product.first) = search rules in
-    let e_next : c.in_ok-next-in-Product.next ≡ n + length (calls (view c.in-Product.first.value)) = search rules in
-    let e : node L n (view c.args.tree.now) ≡ product_bound L c.in_ok-next-in-Product.next (bound_view c.in_ok-first-in-Product.first) (t.product_tails (product_tails_view c.in-Product.rest)) = (ap (node L n) (ap view c.in-Product.is ∙ tree_product c.in-Product.first c.in-Product.rest)) ∙ (product_2 L n (view c.in-Product.first.value) (t.product_tails (product_tails_view c.in-Product.rest)) (bound_view c.in_ok-first-in-Product.first) (ap is_long (product_length_is c.in-Product.rest ∙ ap suc (sym counted)) ∙ short) one ∙ ap (λ k. product_bound L k (bound_view c.in_ok-first-in-Product.first) (t.product_tails (product_tails_view c.in-Product.rest))) (sym e_next)) in
+    let one : bound L n (view c.in-Product.first) ≡ Ok (bound_view c.in_ok-first-in-Product.first) = search rules in
+    let e_next : c.in_ok-next-in-Product.next ≡ n + length (calls (view c.in-Product.first)) = search rules in
+    let e : node L n (view c.args.tree.now) ≡ product_bound L c.in_ok-next-in-Product.next (bound_view c.in_ok-first-in-Product.first) (t.product_tails (product_tails_view c.in-Product.rest)) = (ap (node L n) (ap view c.in-Product.is ∙ tree_product c.in-Product.first c.in-Product.rest)) ∙ (product_2 L n (view c.in-Product.first) (t.product_tails (product_tails_view c.in-Product.rest)) (bound_view c.in_ok-first-in-Product.first) (ap is_long (product_length_is c.in-Product.rest ∙ ap suc (sym counted)) ∙ short) one ∙ ap (λ k. product_bound L k (bound_view c.in_ok-first-in-Product.first) (t.product_tails (product_tails_view c.in-Product.rest))) (sym e_next)) in
     ok_as c.bind_product.result (node L n (view c.args.tree.now)) (product_bound L c.in_ok-next-in-Product.next (bound_view c.in_ok-first-in-Product.first) (t.product_tails (product_tails_view c.in-Product.rest))) e c.bind_product.ensures.ok
 
 pub bind_node-returns-in_ok-first-in-Product-clause-refused : goal.bind_node-returns-in_ok-first-in-Product-clause-refused
@@ -454,10 +454,10 @@ bind_node-returns-in_ok-first-in-Product-clause-refused u c =
     let n = c.args.number in
     let counted : c.len-in-Product.result ≡ length c.in-Product.rest = search rules in
     let short : is_long (suc c.len-in-Product.result) ≡ false = search rules in
-    let one : bound L n (view c.in-Product.first.value) ≡ Ok (bound_view c.in_ok-first-in-Product.first) = search rules in
-    let e_next : c.in_ok-next-in-Product.next ≡ n + length (calls (view c.in-Product.first.value)) = search rules in
+    let one : bound L n (view c.in-Product.first) ≡ Ok (bound_view c.in_ok-first-in-Product.first) = search rules in
+    let e_next : c.in_ok-next-in-Product.next ≡ n + length (calls (view c.in-Product.first)) = search rules in
     λ code r.
-    let e : node L n (view c.args.tree.now) ≡ product_bound L c.in_ok-next-in-Product.next (bound_view c.in_ok-first-in-Product.first) (t.product_tails (product_tails_view c.in-Product.rest)) = (ap (node L n) (ap view c.in-Product.is ∙ tree_product c.in-Product.first c.in-Product.rest)) ∙ (product_2 L n (view c.in-Product.first.value) (t.product_tails (product_tails_view c.in-Product.rest)) (bound_view c.in_ok-first-in-Product.first) (ap is_long (product_length_is c.in-Product.rest ∙ ap suc (sym counted)) ∙ short) one ∙ ap (λ k. product_bound L k (bound_view c.in_ok-first-in-Product.first) (t.product_tails (product_tails_view c.in-Product.rest))) (sym e_next)) in
+    let e : node L n (view c.args.tree.now) ≡ product_bound L c.in_ok-next-in-Product.next (bound_view c.in_ok-first-in-Product.first) (t.product_tails (product_tails_view c.in-Product.rest)) = (ap (node L n) (ap view c.in-Product.is ∙ tree_product c.in-Product.first c.in-Product.rest)) ∙ (product_2 L n (view c.in-Product.first) (t.product_tails (product_tails_view c.in-Product.rest)) (bound_view c.in_ok-first-in-Product.first) (ap is_long (product_length_is c.in-Product.rest ∙ ap suc (sym counted)) ∙ short) one ∙ ap (λ k. product_bound L k (bound_view c.in_ok-first-in-Product.first) (t.product_tails (product_tails_view c.in-Product.rest))) (sym e_next)) in
     e ∙ c.bind_product.ensures.refused code r
 
 pub bind_node-returns-in_err-value-in-Cast-clause-refused : goal.bind_node-returns-in_err-value-in-Cast-clause-refused
@@ -465,24 +465,24 @@ bind_node-returns-in_err-value-in-Cast-clause-refused u c =
     let L = leaf_of c.args.reach.now in
     let n = c.args.number in
     λ code e.
-    let h : unless_null (view c.in-Cast.value.value) (bound L n (view c.in-Cast.value.value)) ≡ Err code = search rules in
-    (ap (node L n) (ap view c.in-Cast.is ∙ tree_cast c.in-Cast.value c.in-Cast.ty)) ∙ cast_1 L n (view c.in-Cast.value.value) c.in-Cast.ty code h
+    let h : unless_null (view c.in-Cast.value) (bound L n (view c.in-Cast.value)) ≡ Err code = search rules in
+    (ap (node L n) (ap view c.in-Cast.is ∙ tree_cast c.in-Cast.value c.in-Cast.ty)) ∙ cast_1 L n (view c.in-Cast.value) c.in-Cast.ty code h
 
 pub bind_node-returns-in_ok-value-in-Cast-clause-ok : goal.bind_node-returns-in_ok-value-in-Cast-clause-ok
 bind_node-returns-in_ok-value-in-Cast-clause-ok u c =
     let L = leaf_of c.args.reach.now in
     let n = c.args.number in
-    let one : unless_null (view c.in-Cast.value.value) (bound L n (view c.in-Cast.value.value)) ≡ Ok (option_map bound_view c.in_ok-value-in-Cast.value) = search rules in
-    let e : node L n (view c.args.tree.now) ≡ cast_to c.type_of.result (option_map bound_view c.in_ok-value-in-Cast.value) = (ap (node L n) (ap view c.in-Cast.is ∙ tree_cast c.in-Cast.value c.in-Cast.ty)) ∙ (cast_2 L n (view c.in-Cast.value.value) c.in-Cast.ty (option_map bound_view c.in_ok-value-in-Cast.value) one ∙ ap (λ y. cast_to y (option_map bound_view c.in_ok-value-in-Cast.value)) (sym c.type_of.ensures)) in
+    let one : unless_null (view c.in-Cast.value) (bound L n (view c.in-Cast.value)) ≡ Ok (option_map bound_view c.in_ok-value-in-Cast.value) = search rules in
+    let e : node L n (view c.args.tree.now) ≡ cast_to c.type_of.result (option_map bound_view c.in_ok-value-in-Cast.value) = (ap (node L n) (ap view c.in-Cast.is ∙ tree_cast c.in-Cast.value c.in-Cast.ty)) ∙ (cast_2 L n (view c.in-Cast.value) c.in-Cast.ty (option_map bound_view c.in_ok-value-in-Cast.value) one ∙ ap (λ y. cast_to y (option_map bound_view c.in_ok-value-in-Cast.value)) (sym c.type_of.ensures)) in
     ok_as c.cast_to.result (node L n (view c.args.tree.now)) (cast_to c.type_of.result (option_map bound_view c.in_ok-value-in-Cast.value)) e c.cast_to.ensures.ok
 
 pub bind_node-returns-in_ok-value-in-Cast-clause-refused : goal.bind_node-returns-in_ok-value-in-Cast-clause-refused
 bind_node-returns-in_ok-value-in-Cast-clause-refused u c =
     let L = leaf_of c.args.reach.now in
     let n = c.args.number in
-    let one : unless_null (view c.in-Cast.value.value) (bound L n (view c.in-Cast.value.value)) ≡ Ok (option_map bound_view c.in_ok-value-in-Cast.value) = search rules in
+    let one : unless_null (view c.in-Cast.value) (bound L n (view c.in-Cast.value)) ≡ Ok (option_map bound_view c.in_ok-value-in-Cast.value) = search rules in
     λ code r.
-    let e : node L n (view c.args.tree.now) ≡ cast_to c.type_of.result (option_map bound_view c.in_ok-value-in-Cast.value) = (ap (node L n) (ap view c.in-Cast.is ∙ tree_cast c.in-Cast.value c.in-Cast.ty)) ∙ (cast_2 L n (view c.in-Cast.value.value) c.in-Cast.ty (option_map bound_view c.in_ok-value-in-Cast.value) one ∙ ap (λ y. cast_to y (option_map bound_view c.in_ok-value-in-Cast.value)) (sym c.type_of.ensures)) in
+    let e : node L n (view c.args.tree.now) ≡ cast_to c.type_of.result (option_map bound_view c.in_ok-value-in-Cast.value) = (ap (node L n) (ap view c.in-Cast.is ∙ tree_cast c.in-Cast.value c.in-Cast.ty)) ∙ (cast_2 L n (view c.in-Cast.value) c.in-Cast.ty (option_map bound_view c.in_ok-value-in-Cast.value) one ∙ ap (λ y. cast_to y (option_map bound_view c.in_ok-value-in-Cast.value)) (sym c.type_of.ensures)) in
     e ∙ c.cast_to.ensures.refused code r
 
 pub bind_node-returns-in_err-operands-in-Call-clause-refused : goal.bind_node-returns-in_err-operands-in-Call-clause-refused
@@ -490,7 +490,7 @@ bind_node-returns-in_err-operands-in-Call-clause-refused u c =
     let L = leaf_of c.args.reach.now in
     let n = c.args.number in
     let A = args_view c.in-Call.args in
-    let F = t.optional_tree (option_map (λ y. view y.value) c.in-Call.filter) in
+    let F = t.optional_tree (option_map view c.in-Call.filter) in
     let O = t.optional_over (option_map over_view c.in-Call.over) in
     λ code e.
     let h : args_bound L n A ≡ Err code = search rules in
@@ -501,7 +501,7 @@ bind_node-returns-in_err-bind_optional-in-Call-clause-refused u c =
     let L = leaf_of c.args.reach.now in
     let n = c.args.number in
     let A = args_view c.in-Call.args in
-    let F = t.optional_tree (option_map (λ y. view y.value) c.in-Call.filter) in
+    let F = t.optional_tree (option_map view c.in-Call.filter) in
     let O = t.optional_over (option_map over_view c.in-Call.over) in
     λ code e.
     let one : args_bound L n A ≡ Ok (bounds_view c.in_ok-operands-in-Call.operands) = search rules in
@@ -514,7 +514,7 @@ bind_node-returns-in_err-bind_window_if-in-Call-clause-refused u c =
     let L = leaf_of c.args.reach.now in
     let n = c.args.number in
     let A = args_view c.in-Call.args in
-    let F = t.optional_tree (option_map (λ y. view y.value) c.in-Call.filter) in
+    let F = t.optional_tree (option_map view c.in-Call.filter) in
     let O = t.optional_over (option_map over_view c.in-Call.over) in
     λ code e.
     let one : args_bound L n A ≡ Ok (bounds_view c.in_ok-operands-in-Call.operands) = search rules in
@@ -531,7 +531,7 @@ bind_node-returns-in_ok-bind_window_if-in-Call-clause-ok u c =
     let L = leaf_of c.args.reach.now in
     let n = c.args.number in
     let A = args_view c.in-Call.args in
-    let F = t.optional_tree (option_map (λ y. view y.value) c.in-Call.filter) in
+    let F = t.optional_tree (option_map view c.in-Call.filter) in
     let O = t.optional_over (option_map over_view c.in-Call.over) in
     let one : args_bound L n A ≡ Ok (bounds_view c.in_ok-operands-in-Call.operands) = search rules in
     let e_next : c.in_ok-next-in-Call.next ≡ n + length (args_calls A) = search rules in
@@ -550,7 +550,7 @@ bind_node-returns-in_ok-bind_window_if-in-Call-clause-refused u c =
     let L = leaf_of c.args.reach.now in
     let n = c.args.number in
     let A = args_view c.in-Call.args in
-    let F = t.optional_tree (option_map (λ y. view y.value) c.in-Call.filter) in
+    let F = t.optional_tree (option_map view c.in-Call.filter) in
     let O = t.optional_over (option_map over_view c.in-Call.over) in
     let one : args_bound L n A ≡ Ok (bounds_view c.in_ok-operands-in-Call.operands) = search rules in
     let e_next : c.in_ok-next-in-Call.next ≡ n + length (args_calls A) = search rules in
@@ -571,7 +571,7 @@ bind_node-returns-in_err-branches-in-Case-clause-refused u c =
     let n = c.args.number in
     λ code e.
     let h : whens_bound L n (t.tree_whens (whens_view c.in-Case.whens)) ≡ Err code = search rules in
-    (ap (node L n) (ap view c.in-Case.is ∙ tree_case c.in-Case.whens c.in-Case.otherwise)) ∙ case_1 L n (t.tree_whens (whens_view c.in-Case.whens)) (t.optional_tree (option_map (λ y. view y.value) c.in-Case.otherwise)) code h
+    (ap (node L n) (ap view c.in-Case.is ∙ tree_case c.in-Case.whens c.in-Case.otherwise)) ∙ case_1 L n (t.tree_whens (whens_view c.in-Case.whens)) (t.optional_tree (option_map view c.in-Case.otherwise)) code h
 
 pub bind_node-returns-in_err-otherwise-in-Case-clause-refused : goal.bind_node-returns-in_err-otherwise-in-Case-clause-refused
 bind_node-returns-in_err-otherwise-in-Case-clause-refused u c =
@@ -580,8 +580,8 @@ bind_node-returns-in_err-otherwise-in-Case-clause-refused u c =
     λ code e.
     let one : whens_bound L n (t.tree_whens (whens_view c.in-Case.whens)) ≡ Ok (branches_view c.in_ok-branches-in-Case.branches) = search rules in
     let e_next : c.in_ok-next-in-Case.next ≡ n + length (when_calls (t.tree_whens (whens_view c.in-Case.whens))) = search rules in
-    let h : otherwise_bound L c.in_ok-next-in-Case.next (t.optional_tree (option_map (λ y. view y.value) c.in-Case.otherwise)) ≡ Err code = search rules in
-    (ap (node L n) (ap view c.in-Case.is ∙ tree_case c.in-Case.whens c.in-Case.otherwise)) ∙ case_2 L n (t.tree_whens (whens_view c.in-Case.whens)) (t.optional_tree (option_map (λ y. view y.value) c.in-Case.otherwise)) (branches_view c.in_ok-branches-in-Case.branches) code one (ap (λ k. otherwise_bound L k (t.optional_tree (option_map (λ y. view y.value) c.in-Case.otherwise))) (sym e_next) ∙ h)
+    let h : otherwise_bound L c.in_ok-next-in-Case.next (t.optional_tree (option_map view c.in-Case.otherwise)) ≡ Err code = search rules in
+    (ap (node L n) (ap view c.in-Case.is ∙ tree_case c.in-Case.whens c.in-Case.otherwise)) ∙ case_2 L n (t.tree_whens (whens_view c.in-Case.whens)) (t.optional_tree (option_map view c.in-Case.otherwise)) (branches_view c.in_ok-branches-in-Case.branches) code one (ap (λ k. otherwise_bound L k (t.optional_tree (option_map view c.in-Case.otherwise))) (sym e_next) ∙ h)
 
 pub bind_node-returns-in_ok-otherwise-in-Case-clause-ok : goal.bind_node-returns-in_ok-otherwise-in-Case-clause-ok
 bind_node-returns-in_ok-otherwise-in-Case-clause-ok u c =
@@ -589,8 +589,8 @@ bind_node-returns-in_ok-otherwise-in-Case-clause-ok u c =
     let n = c.args.number in
     let one : whens_bound L n (t.tree_whens (whens_view c.in-Case.whens)) ≡ Ok (branches_view c.in_ok-branches-in-Case.branches) = search rules in
     let e_next : c.in_ok-next-in-Case.next ≡ n + length (when_calls (t.tree_whens (whens_view c.in-Case.whens))) = search rules in
-    let two : otherwise_bound L c.in_ok-next-in-Case.next (t.optional_tree (option_map (λ y. view y.value) c.in-Case.otherwise)) ≡ Ok (option_map (option_map bound_view) c.in_ok-otherwise-in-Case.otherwise) = search rules in
-    let e : node L n (view c.args.tree.now) ≡ case (branches_view c.in_ok-branches-in-Case.branches) (option_map (option_map bound_view) c.in_ok-otherwise-in-Case.otherwise) = (ap (node L n) (ap view c.in-Case.is ∙ tree_case c.in-Case.whens c.in-Case.otherwise)) ∙ case_3 L n (t.tree_whens (whens_view c.in-Case.whens)) (t.optional_tree (option_map (λ y. view y.value) c.in-Case.otherwise)) (branches_view c.in_ok-branches-in-Case.branches) (option_map (option_map bound_view) c.in_ok-otherwise-in-Case.otherwise) one (ap (λ k. otherwise_bound L k (t.optional_tree (option_map (λ y. view y.value) c.in-Case.otherwise))) (sym e_next) ∙ two) in
+    let two : otherwise_bound L c.in_ok-next-in-Case.next (t.optional_tree (option_map view c.in-Case.otherwise)) ≡ Ok (option_map (option_map bound_view) c.in_ok-otherwise-in-Case.otherwise) = search rules in
+    let e : node L n (view c.args.tree.now) ≡ case (branches_view c.in_ok-branches-in-Case.branches) (option_map (option_map bound_view) c.in_ok-otherwise-in-Case.otherwise) = (ap (node L n) (ap view c.in-Case.is ∙ tree_case c.in-Case.whens c.in-Case.otherwise)) ∙ case_3 L n (t.tree_whens (whens_view c.in-Case.whens)) (t.optional_tree (option_map view c.in-Case.otherwise)) (branches_view c.in_ok-branches-in-Case.branches) (option_map (option_map bound_view) c.in_ok-otherwise-in-Case.otherwise) one (ap (λ k. otherwise_bound L k (t.optional_tree (option_map view c.in-Case.otherwise))) (sym e_next) ∙ two) in
     ok_as c.case.result (node L n (view c.args.tree.now)) (case (branches_view c.in_ok-branches-in-Case.branches) (option_map (option_map bound_view) c.in_ok-otherwise-in-Case.otherwise)) e c.case.ensures.ok
 
 pub bind_node-returns-in_ok-otherwise-in-Case-clause-refused : goal.bind_node-returns-in_ok-otherwise-in-Case-clause-refused
@@ -599,9 +599,9 @@ bind_node-returns-in_ok-otherwise-in-Case-clause-refused u c =
     let n = c.args.number in
     let one : whens_bound L n (t.tree_whens (whens_view c.in-Case.whens)) ≡ Ok (branches_view c.in_ok-branches-in-Case.branches) = search rules in
     let e_next : c.in_ok-next-in-Case.next ≡ n + length (when_calls (t.tree_whens (whens_view c.in-Case.whens))) = search rules in
-    let two : otherwise_bound L c.in_ok-next-in-Case.next (t.optional_tree (option_map (λ y. view y.value) c.in-Case.otherwise)) ≡ Ok (option_map (option_map bound_view) c.in_ok-otherwise-in-Case.otherwise) = search rules in
+    let two : otherwise_bound L c.in_ok-next-in-Case.next (t.optional_tree (option_map view c.in-Case.otherwise)) ≡ Ok (option_map (option_map bound_view) c.in_ok-otherwise-in-Case.otherwise) = search rules in
     λ code r.
-    let e : node L n (view c.args.tree.now) ≡ case (branches_view c.in_ok-branches-in-Case.branches) (option_map (option_map bound_view) c.in_ok-otherwise-in-Case.otherwise) = (ap (node L n) (ap view c.in-Case.is ∙ tree_case c.in-Case.whens c.in-Case.otherwise)) ∙ case_3 L n (t.tree_whens (whens_view c.in-Case.whens)) (t.optional_tree (option_map (λ y. view y.value) c.in-Case.otherwise)) (branches_view c.in_ok-branches-in-Case.branches) (option_map (option_map bound_view) c.in_ok-otherwise-in-Case.otherwise) one (ap (λ k. otherwise_bound L k (t.optional_tree (option_map (λ y. view y.value) c.in-Case.otherwise))) (sym e_next) ∙ two) in
+    let e : node L n (view c.args.tree.now) ≡ case (branches_view c.in_ok-branches-in-Case.branches) (option_map (option_map bound_view) c.in_ok-otherwise-in-Case.otherwise) = (ap (node L n) (ap view c.in-Case.is ∙ tree_case c.in-Case.whens c.in-Case.otherwise)) ∙ case_3 L n (t.tree_whens (whens_view c.in-Case.whens)) (t.optional_tree (option_map view c.in-Case.otherwise)) (branches_view c.in_ok-branches-in-Case.branches) (option_map (option_map bound_view) c.in_ok-otherwise-in-Case.otherwise) one (ap (λ k. otherwise_bound L k (t.optional_tree (option_map view c.in-Case.otherwise))) (sym e_next) ∙ two) in
     e ∙ c.case.ensures.refused code r
 
 pub bind_sum-returns-in_err-value-clause-refused : goal.bind_sum-returns-in_err-value-clause-refused
@@ -767,7 +767,7 @@ pub in_group-returns-in_err-operands-in-Some-clause-refused : goal.in_group-retu
 in_group-returns-in_err-operands-in-Some-clause-refused u c = λ code e.
     let g = c.args.group.now in
     let w = c.in-Call in
-    let filter = t.optional_tree (option_map (λ y. view y.value) w.filter) in
+    let filter = t.optional_tree (option_map view w.filter) in
     let over = t.optional_over (option_map over_view w.over) in
     let is : aggregate_of (function_of w.name) over ≡ Some c.in-Some.call = search rules in
     let h : args_bound (leaf_of (r.Rows (l.Own g.scope))) 0 (args_view w.args) ≡ Err code = search rules in
@@ -778,7 +778,7 @@ pub in_group-returns-in_err-filter-in-Some-clause-refused : goal.in_group-return
 in_group-returns-in_err-filter-in-Some-clause-refused u c = λ code e.
     let g = c.args.group.now in
     let w = c.in-Call in
-    let filter = t.optional_tree (option_map (λ y. view y.value) w.filter) in
+    let filter = t.optional_tree (option_map view w.filter) in
     let over = t.optional_over (option_map over_view w.over) in
     let is : aggregate_of (function_of w.name) over ≡ Some c.in-Some.call = search rules in
     let one : args_bound (leaf_of (r.Rows (l.Own g.scope))) 0 (args_view w.args) ≡ Ok (bounds_view c.in_ok-operands-in-Some.operands) = search rules in
@@ -792,7 +792,7 @@ in_group-returns-in_err-column-in-Some-clause-refused u c = λ code e.
     let g = c.args.group.now in
     let w = c.in-Call in
     let K = bounds_view g.keys in
-    let filter = t.optional_tree (option_map (λ y. view y.value) w.filter) in
+    let filter = t.optional_tree (option_map view w.filter) in
     let over = t.optional_over (option_map over_view w.over) in
     let xs = bounds_view c.in_ok-operands-in-Some.operands in
     let o = option_map bound_view c.in_ok-filter-in-Some.filter in
@@ -809,7 +809,7 @@ in_group-returns-in_ok-column-in-Some-clause-ok u c =
     let g = c.args.group.now in
     let w = c.in-Call in
     let K = bounds_view g.keys in
-    let filter = t.optional_tree (option_map (λ y. view y.value) w.filter) in
+    let filter = t.optional_tree (option_map view w.filter) in
     let over = t.optional_over (option_map over_view w.over) in
     let xs = bounds_view c.in_ok-operands-in-Some.operands in
     let o = option_map bound_view c.in_ok-filter-in-Some.filter in

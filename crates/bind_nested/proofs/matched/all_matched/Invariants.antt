@@ -6,4 +6,4 @@ use Rattle.bind_nested.specs.PartViews.{parts_view}
 use Rattle.bind_nested.proofs.matched.all_matched.Given as goal
 
 abbrev pub invariant-loop-part : goal.invariant-loop-part
-invariant-loop-part l = q.all_matched (parts_view (into_iter_items l.part-iterator)) (rel_view l.all.value) ≡ q.all_matched (parts_view l.fn.parts) (rel_view l.fn.input.value)
+invariant-loop-part l = q.all_matched (parts_view (into_iter_items l.part-iterator)) (rel_view l.all) ≡ q.all_matched (parts_view l.fn.parts) (rel_view l.fn.input)

@@ -23,8 +23,8 @@ returns-clause-ok c =
     let width : c.in-Ok.places ≡ length c.args.left.scope = search rules in
     let wide : c.len-width.result ≡ length c.args.left.scope = search rules in
     let here : accepted_tests c.append.new.self c.in-Ok.places (view c.args.on.now) ≡ Ok (c.in_ok-tests.tests.pairs, option_map expr_view c.in_ok-tests.tests.rest) = search rules in
-    let rel : rel_view c.in_ok-rel.rel.value ≡ r.Join (rel_view c.args.left.rel.value) (rel_view c.args.right.rel.value) c.args.kind c.in_ok-tests.tests.pairs (option_map expr_view c.in_ok-tests.tests.rest) = search rules in
+    let rel : rel_view c.in_ok-rel.rel ≡ r.Join (rel_view c.args.left.rel) (rel_view c.args.right.rel) c.args.kind c.in_ok-tests.tests.pairs (option_map expr_view c.in_ok-tests.tests.rest) = search rules in
     let scope : c.in_ok-scope.scope ≡ columns c.args.kind c.len-width.result c.append.new.self = search rules in
-    on_made c.args.kind (relation_view c.args.left) (relation_view c.args.right) (view c.args.on.now) c.in_ok-tests.tests.pairs (option_map expr_view c.in_ok-tests.tests.rest) (rel_view c.in_ok-rel.rel.value) c.in_ok-scope.scope
+    on_made c.args.kind (relation_view c.args.left) (relation_view c.args.right) (view c.args.on.now) c.in_ok-tests.tests.pairs (option_map expr_view c.in_ok-tests.tests.rest) (rel_view c.in_ok-rel.rel) c.in_ok-scope.scope
     ((λ i. accepted_tests (sym both i) (sym width i) (view c.args.on.now)) ∙ here) rel
     (scope ∙ (λ i. columns c.args.kind (wide i) (both i)) ∙ columns_are c.args.kind c.args.left.scope c.args.right.scope)

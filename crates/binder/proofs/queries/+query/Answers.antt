@@ -262,9 +262,9 @@ bind_alone-returns-in-Sub-clause-ok u c =
     let F = c.args.free in
     let S = c.args.sources.now in
     let O = select_view c.args.outer.now in
-    let is : source_view c.args.from.now ≡ t.FromQuery (query_view c.in-Sub.query.value) c.in-Sub.alias = ap source_view c.in-Sub.is ∙ source_sub c.in-Sub.query c.in-Sub.alias in
-    let same : c.deref.result.now ≡ c.in-Sub.query.value = search rules in
-    let h : IfOk c.bind_alone_query.result (λ y. only_framed F S O (t.FromQuery (query_view c.in-Sub.query.value) c.in-Sub.alias) ≡ Ok (framed_view y)) =
+    let is : source_view c.args.from.now ≡ t.FromQuery (query_view c.in-Sub.query) c.in-Sub.alias = ap source_view c.in-Sub.is ∙ source_sub c.in-Sub.query c.in-Sub.alias in
+    let same : c.deref.result.now ≡ c.in-Sub.query = search rules in
+    let h : IfOk c.bind_alone_query.result (λ y. only_framed F S O (t.FromQuery (query_view c.in-Sub.query) c.in-Sub.alias) ≡ Ok (framed_view y)) =
     subst (λ (q : Query). IfOk c.bind_alone_query.result (λ y. only_framed F S O (t.FromQuery (query_view q) c.in-Sub.alias) ≡ Ok (framed_view y))) same c.bind_alone_query.ensures.ok in
     subst (λ (s : t.Source). IfOk c.bind_alone_query.result (λ y. only_framed F S O s ≡ Ok (framed_view y))) (sym is) h
 
@@ -273,8 +273,8 @@ bind_alone-returns-in-Sub-clause-refused u c = λ code e.
     let F = c.args.free in
     let S = c.args.sources.now in
     let O = select_view c.args.outer.now in
-    let is : source_view c.args.from.now ≡ t.FromQuery (query_view c.in-Sub.query.value) c.in-Sub.alias = ap source_view c.in-Sub.is ∙ source_sub c.in-Sub.query c.in-Sub.alias in
-    let same : c.deref.result.now ≡ c.in-Sub.query.value = search rules in
+    let is : source_view c.args.from.now ≡ t.FromQuery (query_view c.in-Sub.query) c.in-Sub.alias = ap source_view c.in-Sub.is ∙ source_sub c.in-Sub.query c.in-Sub.alias in
+    let same : c.deref.result.now ≡ c.in-Sub.query = search rules in
     ap (only_framed F S O) is ∙ ap (λ q. only_framed F S O (t.FromQuery (query_view q) c.in-Sub.alias)) (sym same) ∙ c.bind_alone_query.ensures.refused code e
 
 pub bind_alone_query-returns-in_err-relation-in-None-clause-refused : goal.bind_alone_query-returns-in_err-relation-in-None-clause-refused
@@ -371,4 +371,4 @@ bind_parts-returns-in-InQuery-clause-refused u c = λ code e.
     let O = c.args.own.now in
     let x = c.args.tree.now in
     let h : only_part F S A O (view x) ≡ Err code = search rules in
-    in_query F S A O x c.in-InQuery.is ∙ h
+    in_query c.in-InQuery.value c.in-InQuery.query c.in-InQuery.negated F S A O x c.in-InQuery.is ∙ h

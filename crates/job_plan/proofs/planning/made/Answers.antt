@@ -4,14 +4,12 @@ use Rattle.ct_catalog.specs.declared.settings.Settings.{Settings}
 use Rattle.planner.specs.Planned as p
 use Rattle.job_judgement.specs.Views.{accepted_view}
 use Rattle.job_plan.specs.Planned.{laid}
-use Rattle.job_plan.specs.Views.{plan_view}
+use Rattle.plan_check.specs.Checked.{plan_in}
 use Rattle.job_plan.proofs.Made.{answers, faults, laid_well, ruled}
 use Rattle.job_plan.proofs.planning.made.Goals as goal
 use Rattle.job_judgement.proofs.laws.Theorems.{accepted_is_bound}
 use Rattle.job_plan.proofs.laws.PlannedInserts.{inserts_have_laid_plans}
 use Rattle.planner.proofs.laws.Theorems.{planned_plans_are_ruled}
-use Rattle.job_plan.proofs.laws.Inferred.{infers_as_seen as plans_infer_as_seen_same, with_inferred_seen as plans_infer_as_seen_with}
-use Rattle.job_plan.proofs.laws.Refused.{refusal_seen as plans_are_refused_as_seen_refused, way_seen as plans_are_refused_as_seen_taken}
 
 pub plan-requires : goal.plan-requires
 plan-requires c =
@@ -22,9 +20,8 @@ pub returns-clause-planned : goal.returns-clause-planned
 returns-clause-planned c =
     let script = accepted_view c.args.script.now in
     let same = ap (λ (s : Settings). s.materialize) c.settings.ensures in
-    subst (λ (m : Materialize). IfOk c.plan.result (λ checked. p.made (laid script) m ≡ p.Planned (plan_view checked))) same
-    (answers plans_infer_as_seen_same plans_infer_as_seen_with plans_are_refused_as_seen_refused plans_are_refused_as_seen_taken script c.in_ok-laid.laid c.in_ok-laid.ensures
-    c.settings.result.now.materialize c.plan.result c.plan.ensures.planned)
+    subst (λ (m : Materialize). IfOk c.plan.result (λ checked. p.made (laid script) m ≡ p.Planned (plan_in checked))) same
+    (answers script c.in_ok-laid.laid c.in_ok-laid.ensures c.settings.result.now.materialize c.plan.result c.plan.ensures.planned)
 
 pub returns-clause-ruled : goal.returns-clause-ruled
 returns-clause-ruled c =
@@ -37,5 +34,4 @@ returns-clause-fault c =
     let script = accepted_view c.args.script.now in
     let same = ap (λ (s : Settings). s.materialize) c.settings.ensures in
     subst (λ (m : Materialize). IfErr c.plan.result (λ fault. p.Says (p.made (laid script) m) fault)) same
-    (faults plans_infer_as_seen_same plans_infer_as_seen_with plans_are_refused_as_seen_refused plans_are_refused_as_seen_taken script c.in_ok-laid.laid c.in_ok-laid.ensures
-    c.settings.result.now.materialize c.plan.result c.plan.ensures.refused)
+    (faults script c.in_ok-laid.laid c.in_ok-laid.ensures c.settings.result.now.materialize c.plan.result c.plan.ensures.refused)

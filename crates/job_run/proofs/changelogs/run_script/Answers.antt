@@ -1,15 +1,12 @@
 use Rattle.std.proofs.Common.{ap, refl, subst, sym, ◌∙◌}
 use Rattle.std.proofs.lemmas.Result.{err_from_is_err_and}
-use Rattle.plan_check.specs.Checked.{plan_in}
 use Rattle.sound_plans.specs.Sound.{IsRuled}
 use Rattle.job_ending.proofs.laws.Runs.{runs_halted, runs_moved}
 use Rattle.command_line.specs.Requests.{input_view}
 use Rattle.job_run.specs.Outcome.{after_judgement, run_plan}
-use Rattle.job_run.proofs.Alike.{runs_as_seen}
 use Rattle.job_run.proofs.Loads.{judged_halt}
 use Rattle.job_run.proofs.Printable.{printable_halt}
 use Rattle.job_run.proofs.changelogs.run_script.Goals as goal
-use Rattle.job_plan.proofs.laws.SeenNetworks.{plans_run_as_seen}
 
 pub returns-in_err-checked-clause-runs : goal.returns-in_err-checked-clause-runs
 returns-in_err-checked-clause-runs g c =
@@ -29,6 +26,5 @@ returns-clause-runs g c =
     runs_moved _ _ _ _ _ _ _ _ _ _ refl
     (λ h is.
     ap (after_judgement (run_plan h (input_view c.args.input.now) c.args.order.now)) c.in_ok-checked.ensures.ok
-    ∙ runs_as_seen plans_run_as_seen (plan_in c.in_ok-checked.checked) h (input_view c.args.input.now) c.args.order.now
     ∙ ap (run_plan h (input_view c.args.input.now) c.args.order.now) (sym c.plan.ensures.same))
     (λ rose. rose) c.run_plan.ensures.runs
