@@ -4,7 +4,7 @@ ghost use Rattle.mode_infer.specs.Kinds.{asked, by_columns};
 ghost use Rattle.rel_algebra.specs.Rel.{Rel, Unary, One};
 ghost use Rattle.phys_plan.specs.declared.node.Op.TheVariants as op;
 ghost use Rattle.plan_rules.specs.Roles.{unary_way};
-ghost use Rattle.plan_laying.specs.Laying.{Above, Phased, Resent, Tops, bundles_of};
+ghost use Rattle.plan_laying.specs.Laying.{Above, Phased, Resent, Tops};
 ghost use Rattle.plan_laying.specs.Steps.{local_of};
 
 use crate::laying::{Laid, Laying};

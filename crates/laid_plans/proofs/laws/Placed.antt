@@ -1,6 +1,6 @@
 -- The pieces of a tree, wherever they stand in a plan, are the tree laid.
-use Rattle.std.specs.Prelude.{◌≡◌, ℕ, ◌+◌, Bool, List, ◌++◌, length, map, slice_get, Option, unwrap_or}
-use Rattle.std.proofs.Common.{zero, suc, [], ◌∷◌, refl, sym, ap, subst, ◌∙◌, arith, Some, None, length-append}
+use Rattle.std.specs.Prelude.{◌≡◌, ℕ, ◌+◌, Bool, List, ◌++◌, length, slice_get, Option, unwrap_or}
+use Rattle.std.proofs.Common.{suc, [], ◌∷◌, refl, sym, ap, subst, ◌∙◌, arith, Some, None, length-append}
 use Rattle.std.proofs.lemmas.List.{length-map}
 use Rattle.ct_change.specs.Changelog.{append, retract, upsert, kinds_of}
 use Rattle.ct_change.specs.declared.kind.Declared.{Declared}
@@ -19,7 +19,7 @@ use Rattle.phys_plan.specs.declared.node.Op.TheVariants as op
 use Rattle.phys_plan.specs.declared.plan.Plan.{Plan}
 use Rattle.phys_plan.specs.Reading.{numbered}
 use Rattle.mode_infer.specs.Kinds.{inserts, no_kinds}
-use Rattle.plan_rules.specs.Phases.{Bundles, local_below}
+use Rattle.plan_rules.specs.Phases.{local_below}
 use Rattle.plan_rules.specs.TreeKinds.{tree_kinds}
 use Rattle.plan_rules.specs.Pieces.{Piece, node_of, edge_of, piece, full_piece, one_pieces, topped, topped_both, scan_pieces, source_pieces, pieces_of, pieces_of_all, roots_of, Top, bare, shown, asks_of, with_top, with_sink, nodes_in, edges_in}
 use Rattle.plan_rules.specs.Roles.{unary_way, binary_way}

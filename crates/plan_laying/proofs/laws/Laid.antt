@@ -1,6 +1,6 @@
 -- What nodes and trees add to what is laid.
-use Rattle.std.specs.Prelude.{◌≡◌, ℕ, ◌+◌, List, ◌++◌, fold, is_none, length, map, slice_get, Option, unwrap_or, Result, IfOk}
-use Rattle.std.proofs.Common.{false, [], ◌∷◌, refl, sym, ap, subst, ◌∙◌, arith, Some, None, Ok, Err, length-append}
+use Rattle.std.specs.Prelude.{◌≡◌, ℕ, ◌+◌, List, ◌++◌, fold, is_none, length, slice_get, Option, unwrap_or, Result, IfOk}
+use Rattle.std.proofs.Common.{false, [], ◌∷◌, refl, sym, ap, subst, ◌∙◌, arith, Some, None, length-append}
 use Rattle.std.proofs.lemmas.Bool.{or_from}
 use Rattle.std.proofs.lemmas.List.{append-nil, append_assoc, length-map, map-append}
 use Rattle.ct_change.specs.Changelog.{append, retract, upsert, kinds_of, mode_of}

@@ -1,7 +1,7 @@
 -- What is laid of a node of a tree, by what stands there.
-use Rattle.std.specs.Prelude.{◌≡◌, ℕ, List, ◌||◌, Result, IfOk, IfErr}
+use Rattle.std.specs.Prelude.{◌≡◌, ℕ, List, Result, IfOk, IfErr}
 use Rattle.std.specs.Borrow.{Bor}
-use Rattle.std.proofs.Common.{refl, sym, ap, subst}
+use Rattle.std.proofs.Common.{sym, subst}
 use Rattle.std.proofs.lemmas.Bool.{or_right}
 use Rattle.rel_algebra.specs.declared.rel.Rel.{Rel as CodeRel}
 use Rattle.rel_algebra.specs.Rel as r

@@ -1,6 +1,6 @@
 -- A plan with a materializer before its sink is the plan of its tree with that.
 use Rattle.std.specs.Prelude.{◌≡◌, ℕ, ◌+◌, ◌<◌, Bool, List, ◌++◌, length, slice_get}
-use Rattle.std.proofs.Common.{zero, suc, false, [], ◌∷◌, refl, sym, ap, ◌∙◌, arith, Some, length-append}
+use Rattle.std.proofs.Common.{zero, suc, false, [], ◌∷◌, sym, ap, ◌∙◌, arith, Some, length-append}
 use Rattle.std.proofs.lemmas.List.{append_assoc, length-map}
 use Rattle.ct_change.specs.Changelog.{retract, upsert, kinds_of}
 use Rattle.ct_change.specs.declared.update.Update.TheVariants.{Absent, Both}
@@ -9,11 +9,10 @@ use Rattle.rel_algebra.specs.Rel.{Rel}
 use Rattle.phys_plan.specs.declared.edge.Edge.{Edge}
 use Rattle.phys_plan.specs.declared.edge.Exchange.TheVariants.{Forward, Hash}
 use Rattle.phys_plan.specs.declared.node.Node.{Node}
-use Rattle.phys_plan.specs.declared.node.Op.{Op}
 use Rattle.phys_plan.specs.declared.node.Op.TheVariants as op
 use Rattle.phys_plan.specs.declared.plan.Plan.{Plan}
 use Rattle.phys_plan.specs.Reading.{numbered}
-use Rattle.plan_rules.specs.Pieces.{Piece, node_of, edge_of, piece, full_piece, pieces_of, nodes_in, edges_in, Top, bare, shown, with_top, with_sink}
+use Rattle.plan_rules.specs.Pieces.{Piece, node_of, edge_of, piece, full_piece, pieces_of, nodes_in, edges_in, bare, shown, with_top, with_sink}
 use Rattle.sound_plans.proofs.laws.Agreed.{materializes}
 use Rattle.plan_rules.specs.Phases.{Bundles}
 use Rattle.laid_plans.specs.Shapes.{bundles_in, IsLaidWith}
