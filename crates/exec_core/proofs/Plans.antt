@@ -1,44 +1,29 @@
 -- What is asked of the nodes of a sound plan so that it opens.
-use Rattle.std.specs.Prelude.{◌≡◌, ℕ, ◌<◌, ◌≤◌, ◌^◌, ◌==◌, ◌&&◌, nat_le, Bool, cond, max, List, ◌++◌, length, map, take, slice_get, Option, option_and_then, option_map}
-use Rattle.std.proofs.Common.{zero, suc, true, false, [], ◌∷◌, refl, sym, ap, subst, ◌∙◌, arith, Some, None}
-use Rattle.std.specs.List.{All, AllByRecursion}
-use Rattle.std.proofs.lemmas.Bool.{leb-true, eqb-true}
+use Rattle.std.specs.Prelude.{◌≡◌, ℕ, ◌<◌, ◌≤◌, ◌^◌, ◌==◌, ◌&&◌, nat_le, cond, max, List, length, take, slice_get, Option}
+use Rattle.std.proofs.Common.{zero, suc, true, [], ◌∷◌, refl, sym, ap, subst, ◌∙◌, arith, Some, None}
+use Rattle.std.specs.List.{All}
+use Rattle.std.proofs.lemmas.Bool.{leb-true}
 use Rattle.std.proofs.lemmas.List.{length-take-le}
 use Rattle.std.proofs.lemmas.List.Elements.{All-from_recursion}
 use Rattle.ct_value.specs.declared.ty.ColTy.{ColTy}
-use Rattle.ct_expr.specs.Expr.{Expr}
-use Rattle.ct_expr.specs.View.{expr_view}
-use Rattle.rel_algebra.specs.declared.agg.Agg.{Agg}
-use Rattle.rel_algebra.specs.declared.join.Pair.{Pair}
-use Rattle.rel_algebra.specs.declared.sort.SortCol.{SortCol}
-use Rattle.rel_algebra.specs.Groups.{group_columns}
-use Rattle.rel_algebra.specs.Joins.{join_columns}
-use Rattle.rel_algebra.specs.Sets.{set_columns, set_kind}
-use Rattle.rel_algebra.proofs.laws.Sets.{set_columns-lengths}
-use Rattle.typing_laws.proofs.laws.CommonColumns.{if_all}
-use Rattle.rel_algebra.specs.Types.{columns_if, is_condition_if, match_fits, pairs_fit}
 use Rattle.phys_plan.specs.declared.edge.Edge.{Edge as PlanEdge}
 use Rattle.phys_plan.specs.declared.edge.Exchange.TheVariants.{Hash}
 use Rattle.phys_plan.specs.declared.node.Node.{Node}
 use Rattle.phys_plan.specs.declared.node.Op.{Op}
 use Rattle.phys_plan.specs.declared.node.Op.TheVariants as op
 use Rattle.phys_plan.specs.declared.plan.Plan.{Plan}
-use Rattle.mode_infer.specs.Kinds.{asked, side_columns}
+use Rattle.mode_infer.specs.Kinds.{asked}
 use Rattle.mode_infer.specs.Updates.{is_input}
 use Rattle.column_sets.specs.Places.{first_columns}
 use Rattle.plan_inferred.specs.Rules.{by_columns, consumer}
 use Rattle.plan_rules.specs.Plans.{HasShape, spread_of}
-use Rattle.phys_plan.specs.Reading.{numbered, first_input}
+use Rattle.phys_plan.specs.Reading.{numbered}
 use Rattle.ct_catalog.specs.Columns.{column_types}
-use Rattle.plan_rules.specs.Columns.{columns_at, columns_by, matched_columns, only}
+use Rattle.plan_rules.specs.Columns.{columns_at}
 use Rattle.plan_shape.specs.Shape.{has_nodes, has_sizes, is_shaped, is_up_to, is_whole, most_bundled, most_nodes, most_subtasks, takes as ports_of}
 use Rattle.plan_shape.specs.Shaped.{MeetsShape}
 use Rattle.plan_shape.specs.Tables.{are_tables}
-use Rattle.sound_plans.specs.Outputs.{Output}
 use Rattle.sound_plans.proofs.laws.Widths.{first_within}
-use Rattle.sound_plans.proofs.laws.JoinColumns.{made_if}
-use Rattle.sound_plans.proofs.laws.Routes.{left_within, right_within}
-use Rattle.plan_rules.specs.Behaviours.{has_rule}
 use Rattle.sound_plans.specs.Sound.{IsRuled, SoundPlansAreWired, SoundPlansMeetFacts, SoundPlansSuit, SoundPortsTake}
 use Rattle.sound_plans.proofs.laws.Agreed as agreed
 use Rattle.sound_plans.proofs.laws.Consumers.{by_test}
@@ -46,10 +31,10 @@ use Rattle.sound_plans.specs.Promises.{Laws}
 use Rattle.sound_plans.proofs.laws.Lists.{both, found, is_somewhere, of_each, the_same, within}
 use Rattle.sound_plans.proofs.laws.Local as local
 use Rattle.sound_plans.proofs.laws.SentTypes.{ColumnsHaveTypes, sent_types_exist}
-use Rattle.sound_plans.proofs.laws.Outputs.{edge_or, output_at}
+use Rattle.sound_plans.proofs.laws.Outputs.{edge_or}
 use Rattle.sound_plans.proofs.laws.Shapes as shapes
-use Rattle.sound_plans.proofs.laws.Stands.{proper_inputs}
-use Rattle.sound_plans.proofs.laws.Suits as suited
+use Rattle.sound_plans.proofs.laws.Asked.{AsksFor, keys_there}
+use Rattle.sound_plans.proofs.laws.EachNode.{asks, proper_inputs}
 use Rattle.typing_laws.specs.Exist.{Exist}
 use Rattle.session_open.specs.Opening.{AreRoutable, IsExchange, spread_types, types_by}
 use Rattle.exec_core.specs.Opening.{PlansOpen}
@@ -65,24 +50,6 @@ consumer_there v (first ∷ nodes) node e =
     let same : first ≡ node = the_same first node (sym (ap (λ b. cond b (Some first) (consumer v nodes)) t) ∙ e) in
     (0, ap (λ x. Some x) same, sym (ap (λ (x : Node). is_input v x.inputs) same) ∙ t))
     (λ f. let later = consumer_there v nodes node (sym (ap (λ b. cond b (Some first) (consumer v nodes)) f) ∙ e) in (suc later.0, later.1, later.2))
-
--- ---- columns
-
--- a group's key columns are there
-keys_there : (keys : ℕ) (columns : List ColTy) (aggs : List Agg) (made : List ColTy) → group_columns keys columns aggs ≡ Some made → keys ≤ length columns
-keys_there keys columns aggs made is = by (nat_le keys (length columns)) refl _ is
-  where
-    by : (b : Bool) → nat_le keys (length columns) ≡ b → (o : Option (List ColTy)) → cond b o None ≡ Some made → keys ≤ length columns
-    by true e o k = leb-true keys (length columns) e
-    by false e o k = absurd (cc)
-
--- the columns of a join's pairs
-pairs_there : (left right : List ColTy) (on : List Pair) (rest : Option Expr) (joined made : List ColTy) → columns_if (match_fits left right on rest) joined ≡ Some made → pairs_fit left right on ≡ true
-pairs_there left right on rest joined made is = (both (pairs_fit left right on) (is_condition_if (left ++ right) rest) (made_if (match_fits left right on rest) joined made is).0).0
-
-only_there : (x y p : ℕ) → slice_get (x ∷ []) p ≡ Some y → x ≡ y
-only_there x y zero e = the_same x y e
-only_there x y (suc p) e = absurd (cc)
 
 module _ (types : ColumnsHaveTypes) (laws : Laws) (plan : Plan) (ruled : IsRuled plan) where
   meets : MeetsShape plan
@@ -135,12 +102,6 @@ module _ (types : ColumnsHaveTypes) (laws : Laws) (plan : Plan) (ruled : IsRuled
       let nodes_few = few in
       omega (arith, ports_few, last, nodes_few)
 
-  -- the columns that a node sends, as they are made of those of its inputs
-  made_of : (v : ℕ) (node : Node) → numbered plan.nodes v ≡ Some node → (o : Op) (inputs : List ℕ) → node.op ≡ o → node.inputs ≡ inputs
-      → columns_by plan.sources o (map (λ (out : Output). Some out.columns) (map (output_at plan) inputs)) ≡ Some (columns_of v)
-  made_of v node e o inputs is are =
-      sym (λ k. columns_by plan.sources (is k) (map (λ (out : Output). Some out.columns) (map (output_at plan) (are k)))) ∙ local.columns_made laws plan ruled v node e
-
   -- ---- types
 
   exist : (v : ℕ) → Exist (columns_of v)
@@ -148,95 +109,10 @@ module _ (types : ColumnsHaveTypes) (laws : Laws) (plan : Plan) (ruled : IsRuled
 
   -- ---- exchanges
 
-  abbrev AreThere : ℕ → List ℕ → Type 0
-  AreThere input columns = AllByRecursion (λ column. column < length (columns_of input)) columns
-
-  -- the input of a node that has only one
-  is_only : (v : ℕ) (node : Node) (p input : ℕ) → numbered plan.nodes v ≡ Some node → slice_get node.inputs p ≡ Some input
-      → (o : Op) → node.op ≡ o → ((n : ℕ) → ports_of o n ≡ (n == 1)) → node.inputs ≡ input ∷ []
-  is_only v node p input e h o is takes_one =
-      let i = suited.one_input laws plan ruled v node e o is takes_one in
-      subst (λ (n : ℕ). node.inputs ≡ n ∷ []) (only_there i.0 input p (sym (ap (λ (inputs : List ℕ). slice_get inputs p) i.1) ∙ h)) i.1
-
-  key_there : (v : ℕ) (node : Node) (p input : ℕ) → numbered plan.nodes v ≡ Some node → slice_get node.inputs p ≡ Some input → (key : List ℕ) → node.op ≡ op.Normalize key → AreThere input key
-  key_there v node p input e h key is =
-      let are = is_only v node p input e h (op.Normalize key) is (λ n. refl) in
-      (agreed.normalize_agrees laws plan ruled v node key input e is are (proper_inputs laws plan ruled v node e)).within
-
-  groups_there : (v : ℕ) (node : Node) (p input : ℕ) → numbered plan.nodes v ≡ Some node → slice_get node.inputs p ≡ Some input
-      → (o : Op) → node.op ≡ o → ((n : ℕ) → ports_of o n ≡ (n == 1))
-      → (keys : ℕ) (aggs : List Agg) → ((inputs : List (Option (List ColTy))) → columns_by plan.sources o inputs ≡ option_and_then (λ columns. group_columns keys columns aggs) (only inputs))
-      → AreThere input (first_columns keys)
-  groups_there v node p input e h o is takes_one keys aggs same =
-      let are = is_only v node p input e h o is takes_one in
-      let typed = sym (same (Some (columns_of input) ∷ [])) ∙ made_of v node e o (input ∷ []) is are in
-      first_within keys (length (columns_of input)) (keys_there keys (columns_of input) aggs (columns_of v) typed)
-
-  partition_there : (v : ℕ) (node : Node) (p input : ℕ) → numbered plan.nodes v ≡ Some node → slice_get node.inputs p ≡ Some input
-      → (partition : List ℕ) (order : List SortCol) (bound : ℕ) (ranked : Bool) → node.op ≡ op.TopN partition order bound ranked → AreThere input partition
-  partition_there v node p input e h partition order bound ranked is =
-      let are = is_only v node p input e h (op.TopN partition order bound ranked) is (λ n. refl) in
-      subst (λ (inputs : List ℕ). AreThere (first_input inputs) partition) are (suited.ranks laws plan ruled v node e partition order bound ranked is).within
-
-  shown_there : (v : ℕ) (node : Node) (p input : ℕ) → numbered plan.nodes v ≡ Some node → slice_get node.inputs p ≡ Some input → (key : List ℕ) → node.op ≡ op.Materialize key → AreThere input key
-  shown_there v node p input e h key is =
-      let are = is_only v node p input e h (op.Materialize key) is (λ n. refl) in
-      (agreed.materialize_agrees laws plan ruled v node key input e is are (proper_inputs laws plan ruled v node e)).within
-
-  at_port : (left right input p : ℕ) (on : List Pair) → pairs_fit (columns_of left) (columns_of right) on ≡ true → slice_get (left ∷ (right ∷ [])) p ≡ Some input → AreThere input (side_columns on p)
-  at_port left right input zero on fits h = subst (λ (n : ℕ). AreThere n (side_columns on zero)) (the_same left input h) (left_within (columns_of left) (columns_of right) on fits)
-  at_port left right input (suc zero) on fits h = subst (λ (n : ℕ). AreThere n (side_columns on (suc zero))) (the_same right input h) (right_within (columns_of left) (columns_of right) on fits)
-  at_port left right input (suc (suc p)) on fits h = absurd (cc)
-
-  sides_there : (v : ℕ) (node : Node) (p input : ℕ) → numbered plan.nodes v ≡ Some node → slice_get node.inputs p ≡ Some input
-      → (o : Op) → node.op ≡ o → ((n : ℕ) → ports_of o n ≡ (n == 2))
-      → (on : List Pair) (rest : Option Expr) (joined : List ColTy → List ColTy → List ColTy) → ((inputs : List (Option (List ColTy))) → columns_by plan.sources o inputs ≡ matched_columns on rest joined inputs)
-      → AreThere input (side_columns on p)
-  sides_there v node p input e h o is takes_two on rest joined same =
-      let i = agreed.two_inputs laws plan ruled v node e (λ n. ap (λ x. ports_of x n) is ∙ takes_two n) in
-      let left = columns_of i.0 in
-      let right = columns_of i.1 in
-      let typed = sym (same (Some left ∷ (Some right ∷ []))) ∙ made_of v node e o (i.0 ∷ (i.1 ∷ [])) is i.2 in
-      at_port i.0 i.1 input p on (pairs_there left right on rest (joined left right) (columns_of v) typed) (sym (ap (λ (inputs : List ℕ). slice_get inputs p) i.2) ∙ h)
-
-  at_both : (left right input p columns : ℕ) → length (columns_of left) ≡ columns → length (columns_of right) ≡ columns → slice_get (left ∷ (right ∷ [])) p ≡ Some input → AreThere input (first_columns columns)
-  at_both left right input zero columns l r h = subst (λ (n : ℕ). AreThere n (first_columns columns)) (the_same left input h) (first_within columns (length (columns_of left)) (omega arith))
-  at_both left right input (suc zero) columns l r h = subst (λ (n : ℕ). AreThere n (first_columns columns)) (the_same right input h) (first_within columns (length (columns_of right)) (omega arith))
-  at_both left right input (suc (suc p)) columns l r h = absurd (cc)
-
-  all_there : (v : ℕ) (node : Node) (p input : ℕ) → numbered plan.nodes v ≡ Some node → slice_get node.inputs p ≡ Some input
-      → (except all : Bool) (columns : ℕ) → node.op ≡ op.SetOp except all columns → AreThere input (first_columns columns)
-  all_there v node p input e h except all columns is =
-      let i = agreed.two_inputs laws plan ruled v node e (λ n. ap (λ x. ports_of x n) is) in
-      let left = columns_of i.0 in
-      let right = columns_of i.1 in
-      let typed = if_all (length left == columns) (set_columns (set_kind except) left right) (columns_of v) (made_of v node e (op.SetOp except all columns) (i.0 ∷ (i.1 ∷ [])) is i.2) in
-      let many : length left ≡ columns = eqb-true (length left) columns typed.0 in
-      let as_many = set_columns-lengths (set_kind except) left right (columns_of v) typed.1 in
-      at_both i.0 i.1 input p columns many (sym as_many.1 ∙ as_many.0 ∙ many) (sym (ap (λ (inputs : List ℕ). slice_get inputs p) i.2) ∙ h)
-
   -- an input is asked for by columns that it has, whose types exist
-  asked_by : (v : ℕ) (node : Node) (p input : ℕ) → numbered plan.nodes v ≡ Some node → slice_get node.inputs p ≡ Some input → Exist (columns_of input)
-      → (o : Op) → node.op ≡ o → has_rule o ≡ true → IsExchange (columns_of input) (by_columns (asked o p))
-  asked_by v node p input e h there (op.Scan source) is r = tt
-  asked_by v node p input e h there (op.Filter cond) is r = tt
-  asked_by v node p input e h there (op.Project items) is r = tt
-  asked_by v node p input e h there op.Union is r = tt
-  asked_by v node p input e h there (op.Normalize key) is r = routable (columns_of input) key (key_there v node p input e h key is) there
-  asked_by v node p input e h there (op.Group keys aggs) is r =
-      routable (columns_of input) (first_columns keys) (groups_there v node p input e h (op.Group keys aggs) is (λ n. refl) keys aggs (λ inputs. refl)) there
-  asked_by v node p input e h there (op.BatchGroup keys aggs) is r =
-      routable (columns_of input) (first_columns keys) (groups_there v node p input e h (op.BatchGroup keys aggs) is (λ n. refl) keys aggs (λ inputs. refl)) there
-  asked_by v node p input e h there (op.Join kind on rest) is r =
-      routable (columns_of input) (side_columns on p) (sides_there v node p input e h (op.Join kind on rest) is (λ n. refl) on (option_map expr_view rest) (join_columns kind) (λ inputs. refl)) there
-  asked_by v node p input e h there (op.Semi anti on rest) is r =
-      routable (columns_of input) (side_columns on p) (sides_there v node p input e h (op.Semi anti on rest) is (λ n. refl) on (option_map expr_view rest) (λ left right. left) (λ inputs. refl)) there
-  asked_by v node p input e h there (op.SetOp except all columns) is r = routable (columns_of input) (first_columns columns) (all_there v node p input e h except all columns is) there
-  asked_by v node p input e h there (op.TopN partition order bound ranked) is r = routable (columns_of input) partition (partition_there v node p input e h partition order bound ranked is) there
-  asked_by v node p input e h there (op.Materialize key) is r = routable (columns_of input) key (shown_there v node p input e h key is) there
-  asked_by v node p input e h there op.Sink is r = tt
-  asked_by v node p input e h there (op.LocalGroup keys aggs) is r = tt
-  asked_by v node p input e h there _ is r = absurd (cc)
+  asked_there : (input : ℕ) (columns : Option (List ℕ)) → AsksFor plan input columns → IsExchange (columns_of input) (by_columns columns)
+  asked_there input None asks = tt
+  asked_there input (Some columns) asks = routable (columns_of input) columns asks (exist input)
 
   goes : (v : ℕ) (node : Node) → numbered plan.nodes v ≡ Some node → (o : Option Node) → consumer v plan.nodes ≡ o → IsExchange (columns_of v) (edge_or (numbered plan.edges v)).exchange
   goes v node e None is = subst (λ x. IsExchange (columns_of v) x) (sym (local.forwards_alone laws plan ruled v node e is)) tt
@@ -245,7 +121,7 @@ module _ (types : ColumnsHaveTypes) (laws : Laws) (plan : Plan) (ruled : IsRuled
       let w = suc has.0 in
       let p = is_somewhere v above.inputs has.2 in
       subst (λ x. IsExchange (columns_of v) x) (sym (local.exchanged laws plan ruled w above p.0 v has.1 p.1))
-      (asked_by w above p.0 v has.1 p.1 (exist v) above.op refl (ruled.rules w above has.1))
+      (asked_there v (asked above.op p.0) (asks laws plan ruled w above p.0 v has.1 p.1))
 
   pub exchanged : (v : ℕ) (edge : PlanEdge) → numbered plan.edges v ≡ Some edge → IsExchange (columns_of v) edge.exchange
   exchanged v edge there =

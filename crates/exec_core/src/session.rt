@@ -1,6 +1,7 @@
 //! Sessions over plans.
 ghost use Rattle.std.specs.Prelude.{◌≡◌, ◌+◌, ◌≤◌, ◌++◌, [], ◌∷◌, drop, length, true, OnOk, IfOk, IfErr};
 ghost use Rattle.ct_catalog.specs.Columns.{table_mode};
+ghost use Rattle.plan_check.specs.Checked.{plan_in};
 ghost use Rattle.plan_rules.specs.Doings.{network};
 ghost use Rattle.sound_plans.specs.Sound.{IsRuled};
 ghost use Rattle.stream_model.specs.Machine as machine;
@@ -16,8 +17,7 @@ ghost use Rattle.exec_core.specs.Stands.{ForRuns, ForSteps, HasDrained, HasMoved
 use crate::TableCheck;
 use ct_change::Steps;
 use ct_value::Memory;
-use phys_plan::Plan;
-use plan_shape::columns_of;
+use plan_check::CheckedPlan;
 use session_core::{Buffer, Lane, Stage};
 use session_open::{AnyOperator, OpenFault, open_job};
 use std::alloc::Global;
@@ -34,14 +34,19 @@ pub struct Session {
 impl Session {
     /// Opens a job of a plan that sends at most so many changes. `Limit` comes exactly where the rows with which its nodes open
     /// are more than these.
-    pub fn open_job(alloc: Global, plan: &Plan, sent_limit: u32) -> Result<Session, OpenFault>
-        requires { IsRuled plan.now }
-        ensures ok { IfOk result (λ session. Stands session plan.now sent_limit [] []) }
-        ensures within { OnOk result ((opened (network plan.now)).sends ≤ sent_limit) }
-        ensures err { IfErr result (λ fault. IsTooMany sent_limit (opened (network plan.now)).sends fault) }
+    pub fn open_job(
+        alloc: Global,
+        checked: &CheckedPlan,
+        sent_limit: u32,
+    ) -> Result<Session, OpenFault>
+        requires { IsRuled (plan_in checked.now) }
+        ensures ok { IfOk result (λ session. Stands session (plan_in checked.now) sent_limit [] []) }
+        ensures within { OnOk result ((opened (network (plan_in checked.now))).sends ≤ sent_limit) }
+        ensures err { IfErr result (λ fault. IsTooMany sent_limit (opened (network (plan_in checked.now))).sends fault) }
     {
-        let columns = columns_of(alloc, plan)?;
-        let job = open_job::<AnyOperator, TableCheck>(alloc, plan, &columns, sent_limit)?;
+        let plan = checked.plan();
+        let columns = &checked.inferred().columns;
+        let job = open_job::<AnyOperator, TableCheck>(alloc, plan, columns, sent_limit)?;
         match Box::new(alloc, job) {
             Ok(job) => Ok(Session { job }),
             Err(_) => Err(OpenFault::Memory),

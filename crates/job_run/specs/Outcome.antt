@@ -79,9 +79,13 @@ with_order holdings (Some name) by_table next = after_load OrderLimit (λ bytes.
 
 -- ---- requests
 
--- the changelog that a run of a plan prints: its change files are loaded, then the order
+-- the changelog that a run of a plan over change files prints: the order is loaded
+abbrev pub run_files : Holdings → Option (List ℕ) → Plan → ChangeFiles → Outcome
+run_files holdings order plan files = with_order holdings order (is_by_table files) (streamed plan files)
+
+-- its change files are loaded, then the order
 abbrev pub run_plan : Holdings → Input → Option (List ℕ) → Plan → Outcome
-run_plan holdings input order plan = over_input holdings input plan.sources (λ files. with_order holdings order (is_by_table files) (streamed plan files))
+run_plan holdings input order plan = over_input holdings input plan.sources (run_files holdings order plan)
 
 -- that of the script's plan, where the script can be run
 abbrev pub run_script : Holdings → Input → Option (List ℕ) → Accepted → Outcome

@@ -6,10 +6,11 @@ ghost use Rattle.job_ending.specs.Endings.{IsPrintable};
 ghost use Rattle.job_ending.specs.Runs.{Runs, RunsThere, ending_of};
 ghost use Rattle.job_judgement.specs.Judged.{IsJudged};
 ghost use Rattle.job_judgement.specs.Views.{accepted_view};
+ghost use Rattle.plan_check.specs.Checked.{plan_in};
 ghost use Rattle.sound_plans.specs.Sound.{IsRuled};
 ghost use Rattle.source_lines.specs.Supply.{AreWithin, is_by_table};
 ghost use Rattle.job_stream.specs.Stream.{streamed};
-ghost use Rattle.job_run.specs.Outcome.{run_named, run_plan, run_script, with_order};
+ghost use Rattle.job_run.specs.Outcome.{run_files, run_named, run_plan, run_script};
 
 use crate::files::{load_input, load_order};
 use crate::load::load_script;
@@ -21,7 +22,7 @@ use job_judgement::Accepted;
 use job_plan::planned;
 use job_stream::stream;
 use job_text::Orders;
-use phys_plan::Plan;
+use plan_check::CheckedPlan;
 use source_lines::ChangeFiles;
 use std::alloc::Global;
 
@@ -54,43 +55,43 @@ fn run_script<F: Shelf, K: Sink>(
     ensures later { F.faults shelf.old ≤ F.faults shelf.new }
 {
     let checked = planned(alloc, script)?;
-    run_plan(alloc, checked.plan(), input, order, shelf, out)
+    run_plan(alloc, &checked, input, order, shelf, out)
 }
 
 fn run_plan<F: Shelf, K: Sink>(
     alloc: Global,
-    plan: &Plan,
+    checked: &CheckedPlan,
     input: &Input,
     order: &Option<Text>,
     shelf: &mut F,
     out: &mut K,
 ) -> Result<(), Halt>
-    requires ruled { IsRuled plan.now }
-    ensures runs { Runs (F.holdings shelf.old) (λ h. run_plan h (input_view input.now) order.now plan.now) (Rose (F.faults shelf.old) (F.faults shelf.new)) (Rose (K.faults out.old) (K.faults out.new)) (K.written out.old) (K.written out.new) (ending_of result) }
+    requires ruled { IsRuled (plan_in checked.now) }
+    ensures runs { Runs (F.holdings shelf.old) (λ h. run_plan h (input_view input.now) order.now (plan_in checked.now)) (Rose (F.faults shelf.old) (F.faults shelf.new)) (Rose (K.faults out.old) (K.faults out.new)) (K.written out.old) (K.written out.new) (ending_of result) }
     ensures printable { IsPrintable (ending_of result) }
     ensures later { F.faults shelf.old ≤ F.faults shelf.new }
 {
-    let files = load_input(alloc, shelf, input, &plan.sources)?;
-    run_files(alloc, plan, files, order, shelf, out)
+    let files = load_input(alloc, shelf, input, &checked.plan().sources)?;
+    run_files(alloc, checked, files, order, shelf, out)
 }
 
 // The run over change files.
 fn run_files<F: Shelf, K: Sink>(
     alloc: Global,
-    plan: &Plan,
+    checked: &CheckedPlan,
     files: ChangeFiles,
     order: &Option<Text>,
     shelf: &mut F,
     out: &mut K,
 ) -> Result<(), Halt>
-    requires ruled { IsRuled plan.now }
+    requires ruled { IsRuled (plan_in checked.now) }
     requires within { AreWithin files }
-    ensures runs { Runs (F.holdings shelf.old) (λ h. with_order h order.now (is_by_table files) (streamed plan.now files)) (Rose (F.faults shelf.old) (F.faults shelf.new)) (Rose (K.faults out.old) (K.faults out.new)) (K.written out.old) (K.written out.new) (ending_of result) }
+    ensures runs { Runs (F.holdings shelf.old) (λ h. run_files h order.now (plan_in checked.now) files) (Rose (F.faults shelf.old) (F.faults shelf.new)) (Rose (K.faults out.old) (K.faults out.new)) (K.written out.old) (K.written out.new) (ending_of result) }
     ensures printable { IsPrintable (ending_of result) }
     ensures later { F.faults shelf.old ≤ F.faults shelf.new }
 {
     let orders = load_order(alloc, shelf, order, is_by_table(&files))?;
-    run_lines(alloc, plan, files, &orders, out)
+    run_lines(alloc, checked, files, &orders, out)
 }
 
 // Whether each source has a file of its own.
@@ -103,15 +104,15 @@ fn is_by_table(files: &ChangeFiles) -> bool
 // The run over the lines of change files and of an order.
 fn run_lines<K: Sink>(
     alloc: Global,
-    plan: &Plan,
+    checked: &CheckedPlan,
     files: ChangeFiles,
     orders: &Orders,
     out: &mut K,
 ) -> Result<(), Halt>
-    requires ruled { IsRuled plan.now }
+    requires ruled { IsRuled (plan_in checked.now) }
     requires within { AreWithin files }
-    ensures runs { RunsThere (streamed plan.now files orders.now) (Rose (K.faults out.old) (K.faults out.new)) (K.written out.old) (K.written out.new) result }
+    ensures runs { RunsThere (streamed (plan_in checked.now) files orders.now) (Rose (K.faults out.old) (K.faults out.new)) (K.written out.old) (K.written out.new) result }
     ensures printable { IsPrintable (ending_of result) }
 {
-    stream(alloc, plan, files, orders, out)
+    stream(alloc, checked, files, orders, out)
 }

@@ -140,3 +140,7 @@ ForFinished sheet early P = (plan : Plan) (limit : ℕ) (p : At State) (files : 
 -- where a job opens
 abbrev pub opening : Network → ChangeFiles → At State
 opening g files = record { state = opened g; files = all_unread files }
+
+-- so goes the run over these files
+abbrev pub FinishesOver : Sheet → Plan → ℕ → ChangeFiles → EarlySession → Type 0
+FinishesOver sheet plan limit files early = (left : List LinesLeft) × IsFinished sheet plan limit (lines_and_stages sheet.by_table plan limit (opening (network plan) files)) (opening (network plan) files) early left

@@ -1,5 +1,6 @@
 // A job that is drained in one call.
 ghost use Rattle.std.specs.Prelude.{◌≡◌, ◌<◌};
+ghost use Rattle.plan_check.specs.Checked.{plan_in};
 ghost use Rattle.sound_plans.specs.Sound.{IsRuled};
 
 use crate::scripts::COUNT_ALL;
@@ -7,7 +8,7 @@ use crate::sent::plan_of;
 use ct_change::{Change, Kind, Steps};
 use ct_value::{Memory, Value};
 use exec_core::Session;
-use phys_plan::Plan;
+use plan_check::CheckedPlan;
 use std::alloc::Global;
 use std::marker::Brand;
 use std::sync::ledger::{Blank, Ledger};
@@ -16,14 +17,18 @@ use stream_model::{PrintItem, PrintList};
 const MOST_SENT: u32 = 4294967295;
 
 // What a job that took nothing prints in a drain.
-fn drained<L: Ledger>(alloc: Global, plan: &Plan, blank: Blank) -> Result<PrintList, Memory>
+fn drained<L: Ledger>(
+    alloc: Global,
+    checked: &CheckedPlan,
+    blank: Blank,
+) -> Result<PrintList, Memory>
     requires name { blank.name ≡ L.name }
     requires parts { blank.parts ≡ L.parts }
     requires some { 0 < L.parts }
-    requires ruled { IsRuled plan.now }
+    requires ruled { IsRuled (plan_in checked.now) }
 {
     let mut steps = Steps::<L>::new(blank);
-    let Ok(session) = Session::open_job(alloc, plan, MOST_SENT) else {
+    let Ok(session) = Session::open_job(alloc, checked, MOST_SENT) else {
         return Err(Memory);
     };
     match session.drain(&mut steps) {
@@ -37,7 +42,7 @@ fn told(alloc: Global, script: &str) -> Result<PrintList, Memory> {
     let Ok(checked) = plan_of(alloc, script) else {
         return Err(Memory);
     };
-    drained::<Brand>(alloc, checked.plan(), Blank::new(1))
+    drained::<Brand>(alloc, &checked, Blank::new(1))
 }
 
 // Whether a change brings a row that counts nothing.

@@ -5,6 +5,8 @@
 #[cfg(test)]
 mod by_order;
 #[cfg(test)]
+mod checked;
+#[cfg(test)]
 mod drained;
 #[cfg(test)]
 mod files;

@@ -10,14 +10,18 @@ use job_ending::{Halt, LimitName};
 use job_plan::planned;
 use job_stream::stream_within;
 use job_text::Orders;
-use phys_plan::Plan;
 use plan_check::CheckedPlan;
 use source_lines::ChangeFiles;
 use std::alloc::Global;
 
 // Runs a plan over the lines of a text, where so many changes are sent at most.
-fn streams_within(alloc: Global, plan: &Plan, changes: &str, sent_limit: u32) -> Result<(), Halt>
-    requires ruled { IsRuled plan.now }
+fn streams_within(
+    alloc: Global,
+    checked: &CheckedPlan,
+    changes: &str,
+    sent_limit: u32,
+) -> Result<(), Halt>
+    requires ruled { IsRuled (plan_in checked.now) }
 {
     let bytes = bytes_of(alloc, changes)?;
     if bytes.len() > 1000 {
@@ -28,7 +32,7 @@ fn streams_within(alloc: Global, plan: &Plan, changes: &str, sent_limit: u32) ->
             let files = ChangeFiles::One(bytes);
             stream_within(
                 alloc,
-                plan,
+                checked,
                 files,
                 &Orders::new(alloc),
                 sent_limit,
@@ -51,7 +55,7 @@ pub(crate) fn plan_of(alloc: Global, script: &str) -> Result<CheckedPlan, Halt>
 // The same of a script.
 fn runs_within(alloc: Global, script: &str, changes: &str, sent_limit: u32) -> Result<(), Halt> {
     let checked = plan_of(alloc, script)?;
-    streams_within(alloc, checked.plan(), changes, sent_limit)
+    streams_within(alloc, &checked, changes, sent_limit)
 }
 
 // Whether that stops since a change more would be sent.

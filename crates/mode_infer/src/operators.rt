@@ -56,7 +56,8 @@ pub fn asked(alloc: Global, op: &Op, port: usize) -> Result<Option<Cols>, Memory
         Op::Materialize { key } => Ok(Some(key.dup()?)),
         Op::MultiJoin { on } => Ok(Some(chain_columns(alloc, on.as_slice(), port)?)),
         Op::SetOp { columns, .. } => Ok(Some(first_columns(alloc, *columns)?)),
-        _ => Ok(None),
+        Op::Scan { .. } | Op::Filter { .. } | Op::Project { .. } => Ok(None),
+        Op::Union | Op::Sink | Op::LocalGroup { .. } => Ok(None),
     }
 }
 
@@ -67,7 +68,9 @@ pub fn needs_old_rows(op: &Op) -> bool
     match op {
         Op::Filter { .. } | Op::Union | Op::Group { .. } => true,
         Op::BatchGroup { .. } | Op::LocalGroup { .. } | Op::SetOp { .. } => true,
-        _ => false,
+        Op::Scan { .. } | Op::Project { .. } | Op::Normalize { .. } => false,
+        Op::Join { .. } | Op::Semi { .. } | Op::MultiJoin { .. } => false,
+        Op::TopN { .. } | Op::Materialize { .. } | Op::Sink => false,
     }
 }
 
@@ -91,7 +94,9 @@ pub fn takes(
         Op::TopN { partition, .. } => Ok(is_within(partition, key)),
         Op::Sink => Ok(sink_takes(sink, key)),
         Op::MultiJoin { on } => chain_takes(alloc, on, port, key),
-        _ => Ok(false),
+        Op::Scan { .. } | Op::Filter { .. } | Op::Union | Op::SetOp { .. } => Ok(false),
+        Op::Normalize { .. } | Op::Materialize { .. } => Ok(false),
+        Op::Group { .. } | Op::BatchGroup { .. } | Op::LocalGroup { .. } => Ok(false),
     }
 }
 

@@ -4,14 +4,14 @@ ghost use Rattle.phys_plan.specs.declared.plan.Rule.TheVariants as r;
 ghost use Rattle.plan_shape.specs.Shape.{is_whole};
 ghost use Rattle.plan_check.specs.Checked.{plan_in};
 ghost use Rattle.plan_check.specs.Faults.{IsFault, Suffices};
-ghost use Rattle.plan_check.specs.Sound.{IsSound, MeetsFirst, first_failing, looked_at, meets, place};
+ghost use Rattle.plan_check.specs.Sound.{IsSound, MeetsFirst, first_failing, inferred_of, looked_at, meets, place};
 
 use crate::CheckedPlan;
 use crate::known::{Known, all_known, nothing_known, types_known};
 use crate::nodes::has_types;
 use ct_value::Memory;
 use phys_plan::{Plan, Rule};
-use plan_inferred::{has_keys, has_kinds, has_update, is_exchanged, suits_sink};
+use plan_inferred::{Inferred, has_keys, has_kinds, has_update, is_exchanged, suits_sink};
 use plan_shape::{has_shape, is_whole};
 use std::alloc::Global;
 
@@ -41,13 +41,14 @@ pub fn check_plan(alloc: Global, plan: Plan) -> Result<CheckedPlan, PlanFault>
     ensures sound { IfOk result (λ _. IsSound plan) }
     ensures refused { IfErr result (λ fault. IsFault plan fault) }
 {
-    test_plan(alloc, &plan)?;
-    Ok(CheckedPlan::new(plan))
+    let inferred = test_plan(alloc, &plan)?;
+    Ok(CheckedPlan::new(plan, inferred))
 }
 
-// Whether a plan is sound.
-fn test_plan(alloc: Global, plan: &Plan) -> Result<(), PlanFault>
+// What is inferred of a plan, which is sound.
+fn test_plan(alloc: Global, plan: &Plan) -> Result<Inferred, PlanFault>
     ensures sound { OnOk result (IsSound plan.now) }
+    ensures known { IfOk result (λ inferred. inferred ≡ inferred_of plan.now) }
     ensures refused { IfErr result (λ fault. IsFault plan.now fault) }
 {
     if !is_whole(alloc, plan)? {
@@ -63,12 +64,13 @@ fn test_plan(alloc: Global, plan: &Plan) -> Result<(), PlanFault>
     test_inferred(alloc, plan, known)
 }
 
-// Whether each node of a plan is what is inferred of it.
-fn test_inferred(alloc: Global, plan: &Plan, known: Known) -> Result<(), PlanFault>
+// What is inferred of a plan, each of whose nodes says that.
+fn test_inferred(alloc: Global, plan: &Plan, known: Known) -> Result<Inferred, PlanFault>
     requires whole { is_whole plan.now ≡ true }
     requires types { Suffices r.Types plan.now known }
     requires earlier { MeetsFirst 2 plan.now }
     ensures sound { OnOk result (IsSound plan.now) }
+    ensures known { IfOk result (λ inferred. inferred ≡ inferred_of plan.now) }
     ensures refused { IfErr result (λ fault. IsFault plan.now fault) }
 {
     let known = all_known(alloc, plan, known)?;
@@ -77,7 +79,7 @@ fn test_inferred(alloc: Global, plan: &Plan, known: Known) -> Result<(), PlanFau
     require(alloc, Rule::UpdateKind, plan, &known)?;
     require(alloc, Rule::Exchanged, plan, &known)?;
     require(alloc, Rule::SinkKey, plan, &known)?;
-    Ok(())
+    Ok(known.inferred)
 }
 
 // A rule that each node has to meet, behind those before it.

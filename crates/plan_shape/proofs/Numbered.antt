@@ -1,65 +1,13 @@
 -- Lists of the columns of nodes.
-use Rattle.std.proofs.Common.{◌≡◌, ℕ, zero, suc, ◌+◌, ◌<◌, ◌≤◌, ◌==◌, true, false, List, [], ◌∷◌, ◌++◌, length, length-append, map, drop, get_or, Option, None, refl, sym, ap, ◌∙◌, arith}
-use Rattle.std.specs.Prelude.{unwrap_or}
+use Rattle.std.proofs.Common.{◌≡◌, ℕ, suc, ◌+◌, ◌<◌, ◌≤◌, ◌==◌, true, false, List, [], ◌∷◌, length, map, drop, get_or, Option, None, refl, sym, ap, ◌∙◌, arith}
 use Rattle.std.proofs.lemmas.Bool.{eqb-true}
 use Rattle.std.proofs.lemmas.List.{at_drop_more, drop_all}
-use Rattle.ct_catalog.specs.declared.table.TableDef.{TableDef}
 use Rattle.ct_value.specs.declared.ty.ColTy.{ColTy}
 use Rattle.ct_expr.specs.Expr.{Expr}
 use Rattle.ct_expr.specs.Types.{both_of}
 use Rattle.rel_algebra.specs.declared.join.Pair.{Pair}
 use Rattle.rel_algebra.specs.Types.{columns_if, match_fits, pairs_fit}
-use Rattle.phys_plan.specs.declared.node.Node.{Node}
-use Rattle.plan_rules.specs.Columns.{columns_after, common_of, common_with, matched_columns, next_columns, numbered_columns, only, AreColumns}
-
--- the columns of nodes, in order
-abbrev pub Found : Type 0
-Found = List (Option (List ColTy))
-
-abbrev pub or_empty : Option (List ColTy) → List ColTy
-or_empty found = unwrap_or found []
-
--- ---- the list by numbers
-
-pub are-columns : (done : Found) → AreColumns ([] ∷ map or_empty done) (λ v. unwrap_or (numbered_columns done v) [])
-are-columns done zero = refl
-are-columns done (suc n) = at done n
-  where
-    at : (found : Found) (m : ℕ) → get_or ([] ∷ map or_empty found) (suc m) [] ≡ unwrap_or (numbered_columns found (suc m)) []
-    at [] zero = refl
-    at [] (suc m) = refl
-    at (x ∷ found) zero = refl
-    at (x ∷ found) (suc m) = at found m
-
-length-map : (done : Found) → length (map or_empty done) ≡ length done
-length-map [] = refl
-length-map (x ∷ done) = ap suc (length-map done)
-
--- ---- one node behind the other
-
-pub after-more : (sources : List TableDef) (done : Found) (nodes : List Node) (i : ℕ) (node : Node) → i < length nodes → node ≡ get_or nodes i node → columns_after sources done (drop i nodes) ≡ columns_after sources (done ++ next_columns sources done node ∷ []) (drop (i + 1) nodes)
-after-more sources done nodes i node l h =
-    at_drop_more (columns_after sources done) nodes i node l
-    ∙ ap (λ (x : Node). columns_after sources (done ++ next_columns sources done x ∷ []) (drop (i + 1) nodes)) (sym h)
-
-pub after-end : (sources : List TableDef) (done : Found) (nodes : List Node) (i : ℕ) → length nodes ≤ i → columns_after sources done (drop i nodes) ≡ done
-after-end sources done nodes i l = ap (columns_after sources done) (drop_all i nodes l)
-
-length-after : (sources : List TableDef) (done : Found) (nodes : List Node) → length (columns_after sources done nodes) ≡ length done + length nodes
-length-after sources done [] = let g : length done ≡ length done + 0 = omega arith in g
-length-after sources done (node ∷ nodes) =
-    let more : Found = done ++ next_columns sources done node ∷ [] in
-    let l : length more ≡ length done + 1 = length-append done (next_columns sources done node ∷ []) in
-    let rest : length (columns_after sources more nodes) ≡ length more + length nodes = length-after sources more nodes in
-    let g : length (columns_after sources more nodes) ≡ length done + suc (length nodes) = omega (arith, l, rest) in
-    g
-
-pub as-many : (sources : List TableDef) (nodes : List Node) → length ([] ∷ map or_empty (columns_after sources [] nodes)) ≡ length nodes + 1
-as-many sources nodes =
-    let l : length (map or_empty (columns_after sources [] nodes)) ≡ length (columns_after sources [] nodes) = length-map (columns_after sources [] nodes) in
-    let m : length (columns_after sources [] nodes) ≡ 0 + length nodes = length-after sources [] nodes in
-    let g : suc (length (map or_empty (columns_after sources [] nodes))) ≡ length nodes + 1 = omega (arith, l, m) in
-    g
+use Rattle.plan_rules.specs.Columns.{common_of, common_with, matched_columns, only}
 
 -- ---- inputs
 

@@ -28,7 +28,9 @@ pub(crate) fn takes(op: &Op, inputs: usize) -> bool
         Op::Union => 2 <= inputs,
         Op::Join { .. } | Op::Semi { .. } | Op::SetOp { .. } => inputs == 2,
         Op::MultiJoin { .. } => 3 <= inputs && inputs <= 8,
-        _ => inputs == 1,
+        Op::Filter { .. } | Op::Project { .. } | Op::Normalize { .. } => inputs == 1,
+        Op::Group { .. } | Op::BatchGroup { .. } | Op::LocalGroup { .. } => inputs == 1,
+        Op::TopN { .. } | Op::Materialize { .. } | Op::Sink => inputs == 1,
     }
 }
 
@@ -72,7 +74,7 @@ pub fn next_columns(
         ),
         Op::Materialize { .. } => same_columns(only_input(done, &node.inputs)),
         Op::Sink => same_columns(only_input(done, &node.inputs)),
-        _ => Ok(None),
+        Op::MultiJoin { .. } => Ok(None),
     }
 }
 

@@ -4,7 +4,7 @@
 //! Top-N, changes into an append table, an upsert table whose key isn't unique, NULL where it may not stand, a materializer that is
 //! needed and off, and too many nodes. `plan` answers a checked plan, or exactly the first refusal: the plan is the one that is laid,
 //! with a materializer before its sink where that takes what comes by one (`specs/Tops`), and with what is inferred of it so. That such
-//! a plan is sound is proved, so its check never refuses it. It stands on what is laid, on what is inferred of plans and on their check.
+//! a plan is sound is proved, so it isn't checked. It stands on what is laid, on what is inferred of plans and on their check.
 #![tactic(auto)]
 
 mod fault;

@@ -18,7 +18,7 @@ use ct_catalog::Materialize;
 use ct_value::{Cols, Memory, ScriptCode};
 use mode_infer::set_modes;
 use phys_plan::Plan;
-use plan_check::{CheckedPlan, PlanFault, check_plan, infer_plan};
+use plan_check::{CheckedPlan, infer_plan};
 use plan_inferred::Inferred;
 use plan_laying::with_materializer;
 use std::alloc::Global;
@@ -40,8 +40,7 @@ pub fn plan(alloc: Global, laid: Plan, setting: Materialize) -> Result<CheckedPl
     test_size(alloc, &laid)?;
     let inferred = infer_plan(alloc, &laid)?;
     let key = test_refusals(alloc, &inferred, &laid, setting)?;
-    let plan = finished(alloc, laid, &inferred, key)?;
-    Ok(checked(alloc, plan)?)
+    Ok(finished(alloc, laid, inferred, key)?)
 }
 
 // A plan that is refused for its size alone is refused before anything is inferred of it, and a larger one is want of memory.
@@ -80,20 +79,31 @@ fn test_refusals(
 fn finished(
     alloc: Global,
     laid: Plan,
-    inferred: &Inferred,
+    inferred: Inferred,
     key: Option<Cols>,
-) -> Result<Plan, Memory>
-    requires { inferred.now ≡ inferred_of laid }
-    ensures { IfOk result (λ plan. plan ≡ with_inferred (topped_plan (top_of key) laid)) }
+) -> Result<CheckedPlan, Memory>
+    requires known { inferred ≡ inferred_of laid }
+    requires sound { IsSound (with_inferred (topped_plan (top_of key) laid)) }
+    ensures { IfOk result (λ checked. plan_in checked ≡ with_inferred (topped_plan (top_of key) laid)) }
 {
     match key {
-        None => with_inferred(laid, inferred),
+        None => checked(laid, inferred),
         Some(key) => {
             let shown = with_materializer(alloc, laid, key)?;
             let inferred = infer_plan(alloc, &shown)?;
-            with_inferred(shown, &inferred)
+            checked(shown, inferred)
         }
     }
+}
+
+// The plan with what is inferred of it: that is inferred of the plan with it too.
+fn checked(laid: Plan, inferred: Inferred) -> Result<CheckedPlan, Memory>
+    requires known { inferred ≡ inferred_of laid }
+    requires sound { IsSound (with_inferred laid) }
+    ensures { IfOk result (λ checked. plan_in checked ≡ with_inferred laid) }
+{
+    let plan = with_inferred(laid, &inferred)?;
+    Ok(CheckedPlan::new(plan, inferred))
 }
 
 fn with_inferred(laid: Plan, inferred: &Inferred) -> Result<Plan, Memory>
@@ -116,16 +126,4 @@ fn with_inferred(laid: Plan, inferred: &Inferred) -> Result<Plan, Memory>
         parallelism,
         mini_batch,
     })
-}
-
-// A sound plan, checked: no node breaks a rule.
-fn checked(alloc: Global, plan: Plan) -> Result<CheckedPlan, Memory>
-    requires { IsSound plan }
-    ensures { IfOk result (λ checked. plan_in checked ≡ plan) }
-{
-    match check_plan(alloc, plan) {
-        Ok(checked) => Ok(checked),
-        Err(PlanFault::Memory) => Err(Memory),
-        Err(PlanFault::Broken { .. }) => unreachable!(),
-    }
 }

@@ -49,7 +49,8 @@ use Rattle.sound_plans.proofs.laws.Lists.{the_same}
 use Rattle.sound_plans.proofs.laws.Numbers.{index_at}
 use Rattle.sound_plans.proofs.laws.Outputs.{local_at}
 use Rattle.sound_plans.proofs.laws.Shapes.{input_there, plain_below, takes_parts}
-use Rattle.sound_plans.proofs.laws.Stands.{proper_inputs, sends_rows}
+use Rattle.sound_plans.proofs.laws.EachNode.{proper_inputs}
+use Rattle.sound_plans.proofs.laws.Stands.{sends_rows}
 use Rattle.sound_plans.proofs.laws.Theorems.{nodes_fit}
 use Rattle.emission_rules.specs.Joining.{Joining, emits, join_rule}
 use Rattle.run_laws.proofs.Answers.{not_err, err_same, OutsAt, outs_both}

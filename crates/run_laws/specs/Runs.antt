@@ -1,11 +1,10 @@
 -- What a run never stops by, where its plan calculates nothing.
-use Rattle.std.specs.Prelude.{◌≡◌, ℕ, ◌*◌, ◌<◌, Bool, true, false, List, Some}
+use Rattle.std.specs.Prelude.{◌≡◌, ℕ, ◌*◌, ◌<◌, Bool, true, List, Some}
 use Rattle.std.specs.List.{list_all}
 use Rattle.ct_value.specs.declared.row.Row.{Row}
 use Rattle.ct_value.specs.declared.ty.ColTy.{ColTy}
-use Rattle.rel_algebra.specs.Rel.{Rel, group_by}
-use Rattle.range_rules.specs.Tame.{is_tame_unary, is_tame_binary, is_tame_rel}
-use Rattle.phys_plan.specs.declared.node.Op.{Op}
+use Rattle.rel_algebra.specs.Rel.{Rel}
+use Rattle.range_rules.specs.Tame.{is_tame_rel}
 use Rattle.phys_plan.specs.declared.node.Node.{Node}
 use Rattle.phys_plan.specs.declared.plan.Plan.{Plan}
 use Rattle.phys_plan.specs.Reading.{numbered}
@@ -13,26 +12,13 @@ use Rattle.stream_model.specs.declared.events.StepFault.TheVariants.{Range}
 use Rattle.stream_model.specs.Machine.{State}
 use Rattle.plan_rules.specs.Doings.{network}
 use Rattle.plan_rules.specs.Phases.{sends_parts}
-use Rattle.plan_rules.specs.Roles.{Role, reads_table, one_of, two_of, all_of, same_as, part_of, not_told, role}
 use Rattle.sound_plans.specs.Sound.{IsRuled}
+use Rattle.sound_plans.specs.TameOps.{is_tame_op}
 use Rattle.laid_plans.specs.Inferred.{with_inferred}
 use Rattle.laid_plans.specs.Shapes.{IsLaidOut}
 use Rattle.job_text.specs.declared.orders.OrderLine.{OrderLine}
 use Rattle.source_lines.specs.Run.{At, halts, stopped, whole_run}
 use Rattle.source_lines.specs.declared.supply.ChangeFiles.{ChangeFiles}
-
--- an operator that calculates nothing, by its role
-abbrev pub is_tame_role : Role → Bool
-is_tame_role (reads_table source) = true
-is_tame_role (one_of how) = is_tame_unary how
-is_tame_role (two_of how) = is_tame_binary how
-is_tame_role all_of = true
-is_tame_role same_as = true
-is_tame_role (part_of keys aggs) = is_tame_unary (group_by keys aggs)
-is_tame_role (not_told so_many) = false
-
-abbrev pub is_tame_op : Op → Bool
-is_tame_op operator = is_tame_role (role operator)
 
 -- a plan of such operators
 abbrev pub is_tame_plan : Plan → Bool

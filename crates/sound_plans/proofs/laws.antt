@@ -1,7 +1,9 @@
 pub mod Agreed
+pub mod Asked
 pub mod Calls
 pub mod Columns
 pub mod Consumers
+pub mod EachNode
 pub mod Filters
 pub mod Gone
 pub mod Groups
@@ -12,8 +14,10 @@ pub mod JoinColumns
 pub mod JoinInputs
 pub mod Joined
 pub mod Joins
+pub mod KeptColumns
 pub mod KeyFamilies
 pub mod Kinds
+pub mod Lawful
 pub mod Lists
 pub mod Local
 pub mod Materializes
@@ -37,6 +41,7 @@ pub mod Shapes
 pub mod Sinks
 pub mod Stands
 pub mod States
+pub mod Stays
 pub mod Suits
 pub mod Tables
 pub mod Theorems

@@ -5,3 +5,4 @@ pub mod Promises
 pub mod RowFits
 pub mod Sound
 pub mod States
+pub mod TameOps

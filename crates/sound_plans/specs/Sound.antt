@@ -1,5 +1,5 @@
 -- Sound plans whose operators have rules, and what is known of them.
-use Rattle.std.specs.Prelude.{◌≡◌, ℕ, ◌<◌, ◌≤◌, true, List, length, None, Some}
+use Rattle.std.specs.Prelude.{◌≡◌, ℕ, ◌+◌, ◌<◌, ◌≤◌, true, List, length, None, Some}
 use Rattle.ct_value.specs.declared.ty.ColTy.{ColTy}
 use Rattle.ct_change.specs.Changelog.{Rows}
 use Rattle.rel_algebra.specs.Answer.{answer}
@@ -12,12 +12,12 @@ use Rattle.stream_model.specs.Theorem.{PrintsAnswer}
 use Rattle.plan_rules.specs.Plans.{scan_of}
 use Rattle.phys_plan.specs.Reading.{numbered}
 use Rattle.ct_catalog.specs.Columns.{table_mode}
-use Rattle.plan_rules.specs.Columns.{node_columns}
+use Rattle.plan_rules.specs.Columns.{node_columns, columns_at, AreColumns}
 use Rattle.plan_rules.specs.Answers.{tables_with}
 use Rattle.plan_rules.specs.Behaviours.{behaviour, has_rule, Suits, TakesBy}
 use Rattle.plan_rules.specs.Doings.{around_of, network}
 use Rattle.plan_rules.specs.Erased.{erased_at}
-use Rattle.plan_check.specs.Sound.{IsSound}
+use Rattle.plan_check.specs.Sound.{IsSound, inferred_of}
 
 pub record IsRuled (plan : Plan) : Type 0 where
   pub sound : IsSound plan
@@ -32,6 +32,10 @@ SoundPlansMeetFacts = (plan : Plan) → IsRuled plan → MeetsFacts (network pla
 
 abbrev pub SoundNodesHaveColumns : Type 0
 SoundNodesHaveColumns = (plan : Plan) → IsRuled plan → (v : ℕ) → 0 < v → v ≤ length plan.nodes → (columns : List ColTy) × (node_columns plan.sources plan.nodes v ≡ Some columns)
+
+-- what is inferred of it tells of each node, by its number, the columns that its network's node sends
+abbrev pub SoundPlansKeepColumns : Type 0
+SoundPlansKeepColumns = (plan : Plan) → IsRuled plan → AreColumns (inferred_of plan).columns (columns_at plan.sources plan.nodes) × (length (inferred_of plan).columns ≡ length plan.nodes + 1)
 
 abbrev pub SoundPortsTake : Type 0
 SoundPortsTake = (plan : Plan) → IsRuled plan → (v : ℕ) (node : Node) → numbered plan.nodes v ≡ Some node → scan_of node.op ≡ None

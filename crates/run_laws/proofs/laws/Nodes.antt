@@ -1,13 +1,11 @@
 -- Each node of a plan that calculates nothing stays in range, between what its inputs send and what it sends.
-use Rattle.std.specs.Prelude.{◌≡◌, ℕ, ◌+◌, ◌*◌, ◌<◌, ◌≤◌, ◌++◌, Bool, cond, List, length, map, slice_get, slice_index_or, Option, option_map}
+use Rattle.std.specs.Prelude.{◌≡◌, ℕ, ◌+◌, ◌*◌, ◌<◌, ◌≤◌, ◌++◌, Bool, List, length, slice_get, slice_index_or, Option}
 use Rattle.std.proofs.Common.{zero, suc, true, [], ◌∷◌, refl, sym, ap, subst, ◌∙◌, arith, Some, None}
 use Rattle.std.specs.List.{AllByRecursion, list_all}
 use Rattle.std.proofs.lemmas.Bool.{and_parts}
 use Rattle.ct_value.specs.declared.ty.ColTy.{ColTy}
 use Rattle.ct_change.specs.Changelog.{Mode}
 use Rattle.ct_change.specs.declared.change.Change.{Change}
-use Rattle.ct_expr.specs.View.{expr_view}
-use Rattle.rel_algebra.specs.declared.agg.Agg.{Agg}
 use Rattle.phase_rules.specs.LocalGrouping.{LocalGrouping}
 use Rattle.phys_plan.specs.declared.node.Op.{Op}
 use Rattle.phys_plan.specs.declared.node.Op.TheVariants as op
@@ -16,29 +14,22 @@ use Rattle.phys_plan.specs.declared.plan.Plan.{Plan}
 use Rattle.phys_plan.specs.Reading.{first_input, numbered}
 use Rattle.op_rules.specs.History.{Arrival, arrival}
 use Rattle.op_rules.specs.Ports.{ReadyArrives}
-use Rattle.op_rules.specs.Rules.{Rule}
 use Rattle.op_rules.specs.Tasks.{IsReady}
-use Rattle.op_rules.proofs.laws.Histories.{all-each}
 use Rattle.stream_model.specs.Machine.{is_number, size_of}
 use Rattle.stream_model.specs.Network.{Feed, IsWired, task}
-use Rattle.plan_rules.specs.Around.{Around, mode_read, filter_of, project_of, union_of, normalize_of, grouping_of, local_of, merging_of, join_of, semi_of, ranking_of, sink_of}
-use Rattle.plan_rules.specs.Behaviours.{Behaviour, BundlesWell, Suits, TakesBy, behaviour, bundled_rule, doing_of}
+use Rattle.plan_rules.specs.Around.{Around, mode_read}
+use Rattle.plan_rules.specs.Behaviours.{Behaviour, Suits, TakesBy, behaviour, doing_of, has_rule}
 use Rattle.plan_rules.specs.Columns.{columns_at}
 use Rattle.plan_rules.specs.Doings.{around_of, doing_in, network}
 use Rattle.plan_rules.specs.Phases.{local_by, sends_parts}
 use Rattle.plan_rules.specs.Plans.{bundle_in, bundle_of, inputs_in, kinds_in, local_in, scan_in, scan_of, update_in}
 use Rattle.sound_plans.proofs.laws.Lists.{the_same}
 use Rattle.range_rules.specs.Tame.{only_counts}
-use Rattle.range_rules.specs.Ranges.{IsShort, ArrivesShort, IsAnswerOf, RuleStaysInRange, GoesShort, ComesShort, StaysBetween}
-use Rattle.range_rules.proofs.laws.Rows.{filters_stay, projects_stay, unions_stay, normalizes_stay, sinks_stay}
-use Rattle.range_rules.proofs.laws.Groups.{groups_stay}
-use Rattle.range_rules.proofs.laws.Joins.{joins_stay}
-use Rattle.range_rules.proofs.laws.LocalGroups.{local_groups_stay}
-use Rattle.range_rules.proofs.laws.Materializes.{materializes_stay}
-use Rattle.range_rules.proofs.laws.MergingGroups.{merging_groups_stay}
-use Rattle.range_rules.proofs.laws.Ranks.{topns_stay}
-use Rattle.range_rules.proofs.laws.SetOps.{set_operations_stay}
-use Rattle.run_laws.specs.Runs.{is_tame_op, is_tame_plan}
+use Rattle.range_rules.specs.Ranges.{IsShort, IsAnswerOf, GoesShort, ComesShort}
+use Rattle.sound_plans.specs.TameOps.{is_tame_op}
+use Rattle.sound_plans.proofs.laws.Lawful.{lawful}
+use Rattle.sound_plans.proofs.laws.Stays.{AreCounted, StaysBy}
+use Rattle.run_laws.specs.Runs.{is_tame_plan}
 use Rattle.run_laws.proofs.laws.Steps.{StayInRange, piece_size, some_size}
 
 -- a node among those that calculate nothing
@@ -54,57 +45,18 @@ abbrev ComesBy : ℕ → Option LocalGrouping → Option Behaviour → Arrival �
 ComesBy most partial None a = Unit {0}
 ComesBy most partial (Some b) a = ComesShort most partial b.rule a
 
--- all that partial rows sum up can be counted, and their calls count or choose
-record AreCounted (most limit : ℕ) (l : LocalGrouping) : Type 0 where
-  few : limit * most < 9223372036854775808
-  tame : list_all (λ agg. only_counts agg.call) l.aggs ≡ true
-
+-- all calls of what partial rows sum up count or choose
 abbrev all_count : Option LocalGrouping → Bool
 all_count None = true
 all_count (Some l) = list_all (λ agg. only_counts agg.call) l.aggs
 
 module _ (most limit : ℕ) (small : limit < 9223372036854775808) where
-  abbrev StaysBy : Option LocalGrouping → Option LocalGrouping → Option Behaviour → Type 0
-  StaysBy partial own None = Unit {0}
-  StaysBy partial own (Some b) = StaysBetween most limit partial own b.rule
-
-  -- a rule over rows
-  rows : (rule : Rule) (partial : Option LocalGrouping) → RuleStaysInRange rule → StaysBetween most limit partial None rule
-  rows rule partial h = record {
-    opens = h.opens;
-    answers = λ before piece c d few within.
-        h.answers before piece (all-each (ComesShort most partial rule) ArrivesShort (λ a k. k.short) before c) (all-each (ComesShort most partial rule) ArrivesShort (λ a k. k.short) piece d) (omega (arith, within, small));
-  }
-
-  bundled : (keys : ℕ) (aggs : List Agg) (around : Around) (partial : Option LocalGrouping) → list_all (λ agg. only_counts agg.call) aggs ≡ true → BundlesWell keys aggs around partial
-      → ((l : LocalGrouping) → partial ≡ Some l → AreCounted most limit l) → StaysBetween most limit partial None (bundled_rule keys aggs around partial)
-  bundled keys aggs around None tame suits counted = rows (bundled_rule keys aggs around None) None (groups_stay (grouping_of keys aggs around) tame)
-  bundled keys aggs around (Some l) tame suits counted = let c = counted l refl in merging_groups_stay (merging_of l around) suits.0 c.tame most limit c.few
-
-  does : (o : Op) (around : Around) → is_tame_op o ≡ true → Suits o around → ((l : LocalGrouping) → around.partial ≡ Some l → AreCounted most limit l)
-      → StaysBy around.partial (local_by o around.columns (mode_read around.kinds around.input)) (behaviour o around)
-  does (op.Scan source) around tame suits counted = tt
-  does (op.Filter cond) around tame suits counted = rows _ around.partial (filters_stay (filter_of (expr_view cond)) tame)
-  does (op.Project items) around tame suits counted = rows _ around.partial (projects_stay (project_of (map expr_view items) around) tame)
-  does op.Union around tame suits counted = rows _ around.partial (unions_stay (union_of around))
-  does (op.Normalize key) around tame suits counted = rows _ around.partial (normalizes_stay (normalize_of key around))
-  does (op.Group keys aggs) around tame suits counted = rows _ around.partial (groups_stay (grouping_of keys aggs around) tame)
-  does (op.BatchGroup keys aggs) around tame suits counted = bundled keys aggs around around.partial tame suits counted
-  does (op.LocalGroup keys aggs) around tame suits counted = local_groups_stay (local_of keys aggs around) suits.0 tame most limit around.partial
-  does (op.Join kind on rest) around tame suits counted = rows _ around.partial (joins_stay (join_of kind on (option_map expr_view rest) around) tame)
-  does (op.Semi anti on rest) around tame suits counted = rows _ around.partial (joins_stay (semi_of anti on (option_map expr_view rest) around) tame)
-  does (op.SetOp except all columns) around tame suits counted = rows _ around.partial (set_operations_stay (record { except = except; all = all }))
-  does (op.TopN partition order bound ranked) around tame suits counted = rows _ around.partial (topns_stay (ranking_of partition order bound ranked around))
-  does (op.Materialize key) around tame suits counted = rows _ around.partial (materializes_stay key)
-  does op.Sink around tame suits counted = rows _ around.partial (sinks_stay (sink_of around))
-  does (op.MultiJoin on) around tame suits counted = tt
-
   -- of what a node does
-  opens_by : (partial own : Option LocalGrouping) (b : Option Behaviour) → StaysBy partial own b → (subtask : ℕ) → AllByRecursion (GoesShort most own) ((doing_of b).opening subtask)
+  opens_by : (partial own : Option LocalGrouping) (b : Option Behaviour) → StaysBy most limit small partial own b → (subtask : ℕ) → AllByRecursion (GoesShort most own) ((doing_of b).opening subtask)
   opens_by partial own None stays subtask = tt
   opens_by partial own (Some b) stays subtask = stays.opens subtask
 
-  answers_by : (partial own : Option LocalGrouping) (b : Option Behaviour) → StaysBy partial own b → (before piece : List Arrival) → AllByRecursion (ComesBy most partial b) before → AllByRecursion (ComesBy most partial b) piece
+  answers_by : (partial own : Option LocalGrouping) (b : Option Behaviour) → StaysBy most limit small partial own b → (before piece : List Arrival) → AllByRecursion (ComesBy most partial b) before → AllByRecursion (ComesBy most partial b) piece
       → length piece ≤ most → length before + length piece ≤ limit → IsAnswerOf (GoesShort most own) ((doing_of b).emits before piece)
   answers_by partial own None stays before piece h k few within = tt
   answers_by partial own (Some b) stays before piece h k few within = stays.answers before piece h k few within
@@ -157,6 +109,7 @@ module _ (plan : Plan) where
       (parts_small : (v : ℕ) (node : Node) → numbered plan.nodes v ≡ Some node → sends_parts node.op ≡ true → limit * plan.mini_batch < 9223372036854775808)
       (wired : IsWired (network plan))
       (take : (v : ℕ) (node : Node) → numbered plan.nodes v ≡ Some node → scan_of node.op ≡ None → TakesBy (does_at v node) (task (network plan) v))
+      (rules : (v : ℕ) (node : Node) → numbered plan.nodes v ≡ Some node → has_rule node.op ≡ true)
       (suit : (v : ℕ) (node : Node) → numbered plan.nodes v ≡ Some node → Suits node.op (around_of plan v node.inputs)) (ready : ReadyArrives) where
     numbered_tame : (v : ℕ) (node : Node) → numbered plan.nodes v ≡ Some node → is_tame_op node.op ≡ true
     numbered_tame zero node e = absurd (cc)
@@ -180,7 +133,7 @@ module _ (plan : Plan) where
 
     node_stays : (v : ℕ) (node : Node) → numbered plan.nodes v ≡ Some node → StaysBy most limit small (around_of plan v node.inputs).partial (local_at (Some node)) (does_at v node)
     node_stays v node there =
-        does most limit small node.op (around_of plan v node.inputs) (numbered_tame v node there) (suit v node there)
+        (lawful node.op (rules v node there)).stays most limit small (around_of plan v node.inputs) (numbered_tame v node there) (suit v node there)
         (λ l e. counted (first_input node.inputs) (numbered plan.nodes (first_input node.inputs)) refl l e)
 
     opens : (v i : ℕ) (o : Option Node) → numbered plan.nodes v ≡ o → AllByRecursion (GoesShort most (local_at o)) ((doing_in plan v o).opening i)

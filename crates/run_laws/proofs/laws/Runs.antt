@@ -59,6 +59,6 @@ runs_stay fit wired meets take suit ready safe drains plan ruled tame limit smal
     let ends = subst (Ends plan limit files (IsDone plan limit files)) stops (run_ends plan limit files fit drains orders) in
     let stop : StopsAt plan limit files (Range node subtask row types) p.state = ends.1.cause_is in
     let reached = ends.0.is_at.reached in
-    let stays = nodes_stay plan tame limit small parts_small (wired plan ruled) (take plan ruled) (suit plan ruled) ready in
+    let stays = nodes_stay plan tame limit small parts_small (wired plan ruled) (take plan ruled) ruled.rules (suit plan ruled) ready in
     subst (InRange g limit (Sends plan) (Comes plan)) stop.stops
     (in_range_at g (wired plan ruled) (meets plan ruled) safe limit (Sends plan) (Comes plan) stays stop.starts p.state reached.events reached.typed reached.short reached.there stop.item (move_short stop.item stop.moves))

@@ -31,7 +31,8 @@ use Rattle.laid_plans.proofs.laws.Placed.{lays_out}
 use Rattle.laid_plans.proofs.laws.Trees.{unary_fits, binary_fits}
 use Rattle.sound_plans.proofs.laws.Lists.{the_same, within}
 use Rattle.sound_plans.proofs.laws.Numbers.{side}
-use Rattle.run_laws.specs.Runs.{is_tame_op, is_tame_role, TreesHaveTamePlans}
+use Rattle.run_laws.specs.Runs.{TreesHaveTamePlans}
+use Rattle.sound_plans.specs.TameOps.{is_tame_op, is_tame_role}
 
 -- ---- operators
 

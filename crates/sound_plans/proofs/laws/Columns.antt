@@ -21,7 +21,7 @@ use Rattle.sound_plans.proofs.laws.Lists.{the_same, map_same}
 
 -- ---- the columns of a node are made of those of its inputs
 
-longer : {A : Type 0} (xs : List A) (x : A) → length (xs ++ x ∷ []) ≡ suc (length xs)
+pub longer : {A : Type 0} (xs : List A) (x : A) → length (xs ++ x ∷ []) ≡ suc (length xs)
 longer [] x = refl
 longer (y ∷ xs) x = ap suc (longer xs x)
 

@@ -136,7 +136,7 @@ module _ (laws : Laws) (plan : Plan) (ruled : IsRuled plan) where
       let same : columns_at plan.sources plan.nodes v ≡ has.0 = ap (λ o. unwrap_or o []) has.2 in
       (has.1 ∙ ap (λ x. Some x) (sym same), has.2 ∙ ap (λ x. Some x) (sym same))
 
-  inferred_same : (v : ℕ) (node : Node) → numbered plan.nodes v ≡ Some node → columns_of plan v ≡ columns_at plan.sources plan.nodes v
+  pub inferred_same : (v : ℕ) (node : Node) → numbered plan.nodes v ≡ Some node → columns_of plan v ≡ columns_at plan.sources plan.nodes v
   inferred_same v node e = c.inferred_columns plan.sources plan.nodes v (columns_at plan.sources plan.nodes v) (columns_are v node e).0
 
   -- the rule counts the columns of a node by those of its inputs

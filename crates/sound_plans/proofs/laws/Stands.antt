@@ -47,7 +47,7 @@ use Rattle.plan_rules.specs.Phases.{local_by}
 use Rattle.plan_rules.specs.Plans.{inputs_in, kinds_in, local_in, scan_of, table_of, update_in}
 use Rattle.phys_plan.specs.Reading.{first_input, numbered}
 use Rattle.plan_rules.specs.Around.{Around, filter_of, grouping_of, join_of, local_of, merging_of, mode_read, mode_told, normalize_of, project_of, ranking_of, semi_of, sink_of, union_of}
-use Rattle.plan_rules.specs.Behaviours.{behaviour, has_rule, TakesBy}
+use Rattle.plan_rules.specs.Behaviours.{behaviour, TakesBy}
 use Rattle.plan_rules.specs.Doings.{around_of, doing_by, doing_in, network}
 use Rattle.plan_shape.specs.Shape.{is_sink, takes as ports_of}
 use Rattle.plan_shape.specs.Shaped.{MeetsShape}
@@ -100,13 +100,13 @@ module _ (many : ℕ) (some : 0 < many) (sources : List TableDef) (sink : TableD
   one_port input zero l = refl
   one_port input (suc p) l = absurd (omega arith)
 
-  filter_works : (cond : Expr) (input own : Output) → Agrees sources sink (op.Filter cond) (input ∷ []) own → Works (op.Filter cond) (input ∷ []) own
+  pub filter_works : (cond : Expr) (input own : Output) → Agrees sources sink (op.Filter cond) (input ∷ []) own → Works (op.Filter cond) (input ∷ []) own
   filter_works cond input own agrees =
       let f = filters_fit many sources sink cond input own agrees in
       let rule = filter_of (expr_view cond) in
       ((filters_stand rule many (edges_of many (input ∷ [])) (edge_of many own) f.0, filters_take rule many (edges_of many (input ∷ [])) (edge_of many own) f.0), f.1)
 
-  project_works : (items : List Expr) (input own : Output) → Agrees sources sink (op.Project items) (input ∷ []) own → Works (op.Project items) (input ∷ []) own
+  pub project_works : (items : List Expr) (input own : Output) → Agrees sources sink (op.Project items) (input ∷ []) own → Works (op.Project items) (input ∷ []) own
   project_works items input own agrees =
       let f = projects_fit many sources sink items input own agrees in
       let rule = project_of (map expr_view items) (around_by sink (input ∷ []) own) in
@@ -129,7 +129,7 @@ module _ (many : ℕ) (some : 0 < many) (sources : List TableDef) (sink : TableD
       let f = materializes_fit many some sink key input own agrees in
       ((materializers_stand key many (edges_of many (input ∷ [])) (edge_of many own) f.0, materializers_take key many (edges_of many (input ∷ [])) (edge_of many own) f.0), f.1)
 
-  group_works : (keys : ℕ) (aggs : List Agg) (input own : Output) → Agrees sources sink (op.Group keys aggs) (input ∷ []) own → Works (op.Group keys aggs) (input ∷ []) own
+  pub group_works : (keys : ℕ) (aggs : List Agg) (input own : Output) → Agrees sources sink (op.Group keys aggs) (input ∷ []) own → Works (op.Group keys aggs) (input ∷ []) own
   group_works keys aggs input own agrees =
       let f = groups_fit many some sources sink keys aggs input own agrees in
       let g = grouping_of keys aggs (around_by sink (input ∷ []) own) in
@@ -142,7 +142,7 @@ module _ (many : ℕ) (some : 0 < many) (sources : List TableDef) (sink : TableD
       )
 
   -- and so works one in bundles
-  bundles_work : (keys : ℕ) (aggs : List Agg) (input own : Output) → Agrees sources sink (op.BatchGroup keys aggs) (input ∷ []) own → Works (op.BatchGroup keys aggs) (input ∷ []) own
+  pub bundles_work : (keys : ℕ) (aggs : List Agg) (input own : Output) → Agrees sources sink (op.BatchGroup keys aggs) (input ∷ []) own → Works (op.BatchGroup keys aggs) (input ∷ []) own
   bundles_work keys aggs input own agrees = group_works keys aggs input own (as_group sources sink keys aggs input own agrees)
 
   -- a local group, whose edge carries partial rows
@@ -206,19 +206,19 @@ module _ (many : ℕ) (some : 0 < many) (sources : List TableDef) (sink : TableD
       ) in
       (subst (λ (columns : List ColTy). Facts (merging_over keys aggs input below own from columns) × TakesAll (merge_rule m) (merging_over keys aggs input below own from columns)) typed whole, f.1)
 
-  join_works : (kind : JoinKind) (on : List Pair) (rest : Option Expr) (left right own : Output) → Agrees sources sink (op.Join kind on rest) (left ∷ (right ∷ [])) own → Works (op.Join kind on rest) (left ∷ (right ∷ [])) own
+  pub join_works : (kind : JoinKind) (on : List Pair) (rest : Option Expr) (left right own : Output) → Agrees sources sink (op.Join kind on rest) (left ∷ (right ∷ [])) own → Works (op.Join kind on rest) (left ∷ (right ∷ [])) own
   join_works kind on rest left right own agrees =
       let f = joins_fit many some sources sink kind on rest left right own agrees in
       let j = join_of kind on (option_map expr_view rest) (around_by sink (left ∷ (right ∷ [])) own) in
       ((joins_stand many j (edges_of many (left ∷ (right ∷ []))) (edge_of many own) f.0, joins_take many j (edges_of many (left ∷ (right ∷ []))) (edge_of many own) f.0), f.1)
 
-  semi_works : (anti : Bool) (on : List Pair) (rest : Option Expr) (left right own : Output) → Agrees sources sink (op.Semi anti on rest) (left ∷ (right ∷ [])) own → Works (op.Semi anti on rest) (left ∷ (right ∷ [])) own
+  pub semi_works : (anti : Bool) (on : List Pair) (rest : Option Expr) (left right own : Output) → Agrees sources sink (op.Semi anti on rest) (left ∷ (right ∷ [])) own → Works (op.Semi anti on rest) (left ∷ (right ∷ [])) own
   semi_works anti on rest left right own agrees =
       let f = semis_fit many some sources sink anti on rest left right own agrees in
       let j = semi_of anti on (option_map expr_view rest) (around_by sink (left ∷ (right ∷ [])) own) in
       ((joins_stand many j (edges_of many (left ∷ (right ∷ []))) (edge_of many own) f.0, joins_take many j (edges_of many (left ∷ (right ∷ []))) (edge_of many own) f.0), f.1)
 
-  set_works : (except all : Bool) (columns : ℕ) (left right own : Output) → Agrees sources sink (op.SetOp except all columns) (left ∷ (right ∷ [])) own → Works (op.SetOp except all columns) (left ∷ (right ∷ [])) own
+  pub set_works : (except all : Bool) (columns : ℕ) (left right own : Output) → Agrees sources sink (op.SetOp except all columns) (left ∷ (right ∷ [])) own → Works (op.SetOp except all columns) (left ∷ (right ∷ [])) own
   set_works except all columns left right own agrees =
       let f = set_operations_fit many some sources sink except all columns left right own agrees in
       let operation : SetOperation = record { except = except; all = all } in (
@@ -229,7 +229,7 @@ module _ (many : ℕ) (some : 0 < many) (sources : List TableDef) (sink : TableD
         f.1,
       )
 
-  rank_works : (partition : List ℕ) (order : List SortCol) (bound : ℕ) (ranked : Bool) (input own : Output) → Agrees sources sink (op.TopN partition order bound ranked) (input ∷ []) own → Works (op.TopN partition order bound ranked) (input ∷ []) own
+  pub rank_works : (partition : List ℕ) (order : List SortCol) (bound : ℕ) (ranked : Bool) (input own : Output) → Agrees sources sink (op.TopN partition order bound ranked) (input ∷ []) own → Works (op.TopN partition order bound ranked) (input ∷ []) own
   rank_works partition order bound ranked input own agrees =
       let f = topns_fit many some sources sink partition order bound ranked input own agrees in
       let r = ranking_of partition order bound ranked (around_by sink (input ∷ []) own) in
@@ -259,7 +259,7 @@ module _ (laws : Laws) (plan : Plan) (ruled : IsRuled plan) where
   meets : MeetsShape plan
   meets = a.meets laws plan ruled
 
-  some : 0 < plan.parallelism
+  pub some : 0 < plan.parallelism
   some = (s.shape plan meets laws.shaped).parallel
 
   abbrev Fits : Op → List Output → Output → Edge → Type 0
@@ -386,7 +386,7 @@ module _ (laws : Laws) (plan : Plan) (ruled : IsRuled plan) where
       absurd (let h = s.inner_no_sink plan meets laws.shaped v node e (omega arith) in let k : true ≡ false = sym (ap (λ x. is_sink (Some x)) is) ∙ h in cc))
 
   -- what isn't a group in bundles takes rows
-  plain : (v : ℕ) (node : Node) → numbered plan.nodes v ≡ Some node → {o : Op} → node.op ≡ o → s.takes_parts o ≡ false → a.ArePlain laws plan ruled node.inputs
+  pub plain : (v : ℕ) (node : Node) → numbered plan.nodes v ≡ Some node → {o : Op} → node.op ≡ o → s.takes_parts o ≡ false → a.ArePlain laws plan ruled node.inputs
   plain v node e is n = a.all_plain laws plan ruled v node e (ap s.takes_parts is ∙ n)
 
   -- a node with one input that works
@@ -406,7 +406,7 @@ module _ (laws : Laws) (plan : Plan) (ruled : IsRuled plan) where
       }
 
   -- such a node, by its operator
-  one : (v : ℕ) (node : Node) → numbered plan.nodes v ≡ Some node → (o : Op) → node.op ≡ o → ((n : ℕ) → ports_of o n ≡ (n == 1)) → a.ArePlain laws plan ruled node.inputs → s.sends_parts o ≡ false → scan_of o ≡ None → a.scans o ≡ false → a.normalizes o ≡ false → a.materializes o ≡ false → a.sinks o ≡ false
+  pub one : (v : ℕ) (node : Node) → numbered plan.nodes v ≡ Some node → (o : Op) → node.op ≡ o → ((n : ℕ) → ports_of o n ≡ (n == 1)) → a.ArePlain laws plan ruled node.inputs → s.sends_parts o ≡ false → scan_of o ≡ None → a.scans o ≡ false → a.normalizes o ≡ false → a.materializes o ≡ false → a.sinks o ≡ false
       → a.AreProper laws plan ruled node.inputs → ((input own : Output) → Agrees plan.sources plan.sink o (input ∷ []) own → Works plan.parallelism some plan.sources plan.sink o (input ∷ []) own) → NodeStands v node
   one v node e o is takes_one are_plain rows no_scan x y m z proper works =
       let i = a.one_input laws plan ruled v node e (λ n. ap (λ p. ports_of p n) is ∙ takes_one n) in
@@ -417,7 +417,7 @@ module _ (laws : Laws) (plan : Plan) (ruled : IsRuled plan) where
       (works (output_at plan i.0) own (subst (λ xs. Agrees plan.sources plan.sink o xs own) sent (subst (λ p. Agrees plan.sources plan.sink p (outs node.inputs) own) is agrees)))
 
   -- a node with two inputs, by its operator
-  two : (v : ℕ) (node : Node) → numbered plan.nodes v ≡ Some node → (o : Op) → node.op ≡ o → ((n : ℕ) → ports_of o n ≡ (n == 2)) → a.ArePlain laws plan ruled node.inputs → s.sends_parts o ≡ false → scan_of o ≡ None → a.scans o ≡ false → a.normalizes o ≡ false → a.materializes o ≡ false → a.sinks o ≡ false
+  pub two : (v : ℕ) (node : Node) → numbered plan.nodes v ≡ Some node → (o : Op) → node.op ≡ o → ((n : ℕ) → ports_of o n ≡ (n == 2)) → a.ArePlain laws plan ruled node.inputs → s.sends_parts o ≡ false → scan_of o ≡ None → a.scans o ≡ false → a.normalizes o ≡ false → a.materializes o ≡ false → a.sinks o ≡ false
       → a.AreProper laws plan ruled node.inputs
       → ((left right own : Output) → Agrees plan.sources plan.sink o (left ∷ (right ∷ [])) own → Works plan.parallelism some plan.sources plan.sink o (left ∷ (right ∷ [])) own) → NodeStands v node
   two v node e o is takes_two are_plain rows no_scan x y m z proper works =
@@ -436,7 +436,7 @@ module _ (laws : Laws) (plan : Plan) (ruled : IsRuled plan) where
         proper = w.1;
       }
 
-  scan : (v : ℕ) (node : Node) → numbered plan.nodes v ≡ Some node → (source : ℕ) → node.op ≡ op.Scan source → NodeStands v node
+  pub scan : (v : ℕ) (node : Node) → numbered plan.nodes v ≡ Some node → (source : ℕ) → node.op ≡ op.Scan source → NodeStands v node
   scan v node e source is =
       let t = a.table_there laws plan ruled v node source e is in
       let f = scans_fit plan.parallelism some t.0 (output_at plan v) (a.scan_agrees laws plan ruled v node source t.0 e is t.1 t.2) in
@@ -454,7 +454,7 @@ module _ (laws : Laws) (plan : Plan) (ruled : IsRuled plan) where
         proper = f.1;
       }
 
-  union : (v : ℕ) (node : Node) → numbered plan.nodes v ≡ Some node → node.op ≡ op.Union → a.AreProper laws plan ruled node.inputs → NodeStands v node
+  pub union : (v : ℕ) (node : Node) → numbered plan.nodes v ≡ Some node → node.op ≡ op.Union → a.AreProper laws plan ruled node.inputs → NodeStands v node
   union v node e is proper =
       let i = a.some_inputs laws plan ruled v node e is in
       let own = output_at plan v in
@@ -470,13 +470,13 @@ module _ (laws : Laws) (plan : Plan) (ruled : IsRuled plan) where
         proper = w.1;
       }
 
-  normalize : (v : ℕ) (node : Node) → numbered plan.nodes v ≡ Some node → (key : List ℕ) → node.op ≡ op.Normalize key → a.AreProper laws plan ruled node.inputs → NodeStands v node
+  pub normalize : (v : ℕ) (node : Node) → numbered plan.nodes v ≡ Some node → (key : List ℕ) → node.op ≡ op.Normalize key → a.AreProper laws plan ruled node.inputs → NodeStands v node
   normalize v node e key is proper =
       let i = a.one_input laws plan ruled v node e (λ n. ap (λ p. ports_of p n) is) in
       works_over v node e (op.Normalize key) is i.0 (plain v node e is refl) i.1 refl refl refl
       (normalize_works plan.parallelism some plan.sources plan.sink key (output_at plan i.0) (output_at plan v) (a.normalize_agrees laws plan ruled v node key i.0 e is i.1 proper))
 
-  materialize : (v : ℕ) (node : Node) → numbered plan.nodes v ≡ Some node → (key : List ℕ) → node.op ≡ op.Materialize key → a.AreProper laws plan ruled node.inputs → NodeStands v node
+  pub materialize : (v : ℕ) (node : Node) → numbered plan.nodes v ≡ Some node → (key : List ℕ) → node.op ≡ op.Materialize key → a.AreProper laws plan ruled node.inputs → NodeStands v node
   materialize v node e key is proper =
       let i = a.one_input laws plan ruled v node e (λ n. ap (λ p. ports_of p n) is) in
       works_over v node e (op.Materialize key) is i.0 (plain v node e is refl) i.1 refl refl refl
@@ -488,7 +488,7 @@ module _ (laws : Laws) (plan : Plan) (ruled : IsRuled plan) where
       let i = a.one_input laws plan ruled v node e (λ n. ap (λ p. ports_of p n) is) in
       (i.0, i.1, a.sink_agrees laws plan ruled v node i.0 e is (is_last v node e is) i.1 proper)
 
-  sink : (v : ℕ) (node : Node) → numbered plan.nodes v ≡ Some node → node.op ≡ op.Sink → a.AreProper laws plan ruled node.inputs → NodeStands v node
+  pub sink : (v : ℕ) (node : Node) → numbered plan.nodes v ≡ Some node → node.op ≡ op.Sink → a.AreProper laws plan ruled node.inputs → NodeStands v node
   sink v node e is proper =
       let i = sink_is v node e is proper in
       let own = output_at plan v in
@@ -514,7 +514,7 @@ module _ (laws : Laws) (plan : Plan) (ruled : IsRuled plan) where
       ∙ (λ i. local_by (is i) (columns_at plan.sources plan.nodes (first_input (are i))) (mode_read (kinds_in (numbered plan.edges (first_input (are i)))) (update_in (numbered plan.edges (first_input (are i))))))
       ∙ (λ i. Some (record { keys = keys; aggs = aggs; columns = columns_at plan.sources plan.nodes input; input = mode_read (kinds_is plan (numbered plan.edges input) i) (update_is plan (numbered plan.edges input) i) }))
 
-  local_node : (v : ℕ) (node : Node) → numbered plan.nodes v ≡ Some node → (keys : ℕ) (aggs : List Agg) → node.op ≡ op.LocalGroup keys aggs → a.AreProper laws plan ruled node.inputs → NodeStands v node
+  pub local_node : (v : ℕ) (node : Node) → numbered plan.nodes v ≡ Some node → (keys : ℕ) (aggs : List Agg) → node.op ≡ op.LocalGroup keys aggs → a.AreProper laws plan ruled node.inputs → NodeStands v node
   local_node v node e keys aggs is proper =
       let i = a.one_input laws plan ruled v node e (λ n. ap (λ p. ports_of p n) is) in
       let own = output_at plan v in
@@ -536,8 +536,12 @@ module _ (laws : Laws) (plan : Plan) (ruled : IsRuled plan) where
       }
 
   -- those below a node are proper
-  abbrev AreLower : ℕ → Type 0
+  abbrev pub AreLower : ℕ → Type 0
   AreLower v = (w : ℕ) (other : Node) → w < v → numbered plan.nodes w ≡ Some other → IsProper (output_at plan w)
+
+  -- so are the inputs of those
+  pub lower_proper : (v : ℕ) → AreLower v → (w : ℕ) (below : Node) → numbered plan.nodes w ≡ Some below → w < v → a.AreProper laws plan ruled below.inputs
+  lower_proper v lower w below f l p other h = let under = (s.input_there plan meets laws.shaped w below p other f h).1 in lower other under.0 (let k = under.2 in omega (arith, l)) under.1
 
   -- above a local group
   merging_node : (v : ℕ) (node : Node) (below_at : ℕ) (below : Node) → numbered plan.nodes v ≡ Some node → (keys : ℕ) (aggs : List Agg) → node.op ≡ op.BatchGroup keys aggs → node.inputs ≡ below_at ∷ [] → numbered plan.nodes below_at ≡ Some below
@@ -582,48 +586,11 @@ module _ (laws : Laws) (plan : Plan) (ruled : IsRuled plan) where
       let alike : found ≡ below = the_same found below (sym g ∙ ap (numbered plan.nodes) (sym same) ∙ f) in
       ap (λ (x : Node). s.sends_parts x.op) alike ∙ n
 
-  bundled_node : (v : ℕ) (node : Node) → numbered plan.nodes v ≡ Some node → (keys : ℕ) (aggs : List Agg) → node.op ≡ op.BatchGroup keys aggs → AreLower v → a.AreProper laws plan ruled node.inputs → NodeStands v node
+  pub bundled_node : (v : ℕ) (node : Node) → numbered plan.nodes v ≡ Some node → (keys : ℕ) (aggs : List Agg) → node.op ≡ op.BatchGroup keys aggs → AreLower v → a.AreProper laws plan ruled node.inputs → NodeStands v node
   bundled_node v node e keys aggs is lower proper =
       let i = a.one_input laws plan ruled v node e (λ n. ap (λ p. ports_of p n) is) in
       let first : slice_get node.inputs 0 ≡ Some i.0 = ap (λ (xs : List ℕ). slice_get xs 0) i.1 in
       let there = (s.input_there plan meets laws.shaped v node 0 i.0 e first).1 in
       by_test (s.sends_parts there.0.op)
-      (λ t. let local = s.is_local there.0.op t in merging_node v node i.0 there.0 e keys aggs is i.1 there.1 local.0 local.1 local.2 (below_proper i.0 there.0 there.1 there.2))
+      (λ t. let local = s.is_local there.0.op t in merging_node v node i.0 there.0 e keys aggs is i.1 there.1 local.0 local.1 local.2 (lower_proper v lower i.0 there.0 there.1 there.2))
       (λ n. one v node e (op.BatchGroup keys aggs) is (λ m. refl) (only_plain node i.0 there.0 there.1 i.1 n) refl refl refl refl refl refl proper (bundles_work plan.parallelism some plan.sources plan.sink keys aggs))
-    where
-      below_proper : (input : ℕ) (below : Node) → numbered plan.nodes input ≡ Some below → input < v → a.AreProper laws plan ruled below.inputs
-      below_proper input below f l p other h = let under = (s.input_there plan meets laws.shaped input below p other f h).1 in lower other under.0 (let k = under.2 in omega (arith, l)) under.1
-
-  by_op : (v : ℕ) (node : Node) → numbered plan.nodes v ≡ Some node → AreLower v → a.AreProper laws plan ruled node.inputs → (o : Op) → node.op ≡ o → has_rule o ≡ true → NodeStands v node
-  by_op v node e lower proper (op.Scan source) is r = scan v node e source is
-  by_op v node e lower proper (op.Filter cond) is r = one v node e (op.Filter cond) is (λ n. refl) (plain v node e is refl) refl refl refl refl refl refl proper (filter_works plan.parallelism some plan.sources plan.sink cond)
-  by_op v node e lower proper (op.Project items) is r = one v node e (op.Project items) is (λ n. refl) (plain v node e is refl) refl refl refl refl refl refl proper (project_works plan.parallelism some plan.sources plan.sink items)
-  by_op v node e lower proper op.Union is r = union v node e is proper
-  by_op v node e lower proper (op.Normalize key) is r = normalize v node e key is proper
-  by_op v node e lower proper (op.Group keys aggs) is r = one v node e (op.Group keys aggs) is (λ n. refl) (plain v node e is refl) refl refl refl refl refl refl proper (group_works plan.parallelism some plan.sources plan.sink keys aggs)
-  by_op v node e lower proper (op.Join kind on rest) is r = two v node e (op.Join kind on rest) is (λ n. refl) (plain v node e is refl) refl refl refl refl refl refl proper (join_works plan.parallelism some plan.sources plan.sink kind on rest)
-  by_op v node e lower proper (op.Semi anti on rest) is r = two v node e (op.Semi anti on rest) is (λ n. refl) (plain v node e is refl) refl refl refl refl refl refl proper (semi_works plan.parallelism some plan.sources plan.sink anti on rest)
-  by_op v node e lower proper (op.TopN partition order bound ranked) is r =
-      one v node e (op.TopN partition order bound ranked) is (λ n. refl) (plain v node e is refl) refl refl refl refl refl refl proper (rank_works plan.parallelism some plan.sources plan.sink partition order bound ranked)
-  by_op v node e lower proper (op.Materialize key) is r = materialize v node e key is proper
-  by_op v node e lower proper op.Sink is r = sink v node e is proper
-  by_op v node e lower proper (op.BatchGroup keys aggs) is r = bundled_node v node e keys aggs is lower proper
-  by_op v node e lower proper (op.LocalGroup keys aggs) is r = local_node v node e keys aggs is proper
-  by_op v node e lower proper (op.MultiJoin on) is r = absurd (cc)
-  by_op v node e lower proper (op.SetOp except all columns) is r = two v node e (op.SetOp except all columns) is (λ n. refl) (plain v node e is refl) refl refl refl refl refl refl proper (set_works plan.parallelism some plan.sources plan.sink except all columns)
-
-  -- by the numbers below a bound
-  up_to : (bound v : ℕ) (node : Node) → v < bound → numbered plan.nodes v ≡ Some node → NodeStands v node
-  up_to zero v node l e = absurd (omega arith)
-  up_to (suc bound) v node l e =
-      by_op v node e (λ w other k f. (up_to bound w other (omega (arith, k, l)) f).proper)
-      (λ p input h.
-      let there = (s.input_there plan meets laws.shaped v node p input e h).1 in
-      (up_to bound input there.0 (let k = there.2 in omega arith) there.1).proper)
-      node.op refl (ruled.rules v node e)
-
-  pub node_stands : (v : ℕ) (node : Node) → numbered plan.nodes v ≡ Some node → NodeStands v node
-  node_stands v node e = up_to (suc v) v node (omega arith) e
-
-  pub proper_inputs : (v : ℕ) (node : Node) → numbered plan.nodes v ≡ Some node → a.AreProper laws plan ruled node.inputs
-  proper_inputs v node e p input h = let there = (s.input_there plan meets laws.shaped v node p input e h).1 in (node_stands input there.0 there.1).proper

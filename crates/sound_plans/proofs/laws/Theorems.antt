@@ -9,8 +9,9 @@ use Rattle.stream_model.proofs.laws.Theorems.{plans_compose, printed_folds_to_an
 use Rattle.sound_plans.proofs.laws.States.{plans_hold}
 use Rattle.sound_plans.proofs.laws.Wiring as wiring
 use Rattle.sound_plans.proofs.laws.Outputs.{local_at}
-use Rattle.sound_plans.specs.Sound.{IsRuled, SoundNodesHaveColumns, SoundPlansAnswer, SoundPlansMeetFacts, SoundPlansSuit, SoundPortsTake, SoundPlansAreWired, SoundPlansPrint}
-use Rattle.sound_plans.proofs.laws.Suits as suited
+use Rattle.sound_plans.specs.Sound.{IsRuled, SoundNodesHaveColumns, SoundPlansAnswer, SoundPlansKeepColumns, SoundPlansMeetFacts, SoundPlansSuit, SoundPortsTake, SoundPlansAreWired, SoundPlansPrint}
+use Rattle.sound_plans.proofs.laws.KeptColumns as kept
+use Rattle.sound_plans.proofs.laws.EachNode as suited
 use Rattle.sound_plans.specs.States.{SoundPlansHold}
 use Rattle.plan_rules.proofs.laws.Theorems.{plans_answer_as_erased, plans_are_wired}
 
@@ -28,6 +29,10 @@ nodes_fit = record {
 -- Each of its nodes has columns.
 pub sound_nodes_have_columns : SoundNodesHaveColumns
 sound_nodes_have_columns = wiring.sound_nodes_have_columns nodes_fit
+
+-- What is inferred of it tells the columns that its network's nodes send.
+pub sound_plans_keep_columns : SoundPlansKeepColumns
+sound_plans_keep_columns = kept.sound_plans_keep_columns nodes_fit
 
 -- Each of its nodes meets its facts, in however many subtasks it runs, and each port takes what its edge carries.
 pub sound_plans_meet_facts_facts : SoundPlansMeetFacts

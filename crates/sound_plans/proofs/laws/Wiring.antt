@@ -46,7 +46,8 @@ use Rattle.sound_plans.proofs.laws.Local as l
 use Rattle.sound_plans.proofs.laws.Shapes as s
 use Rattle.sound_plans.proofs.laws.Sinks.{sinks_fit}
 use Rattle.sound_plans.proofs.laws.Outputs.{edge_or, keys_or, local_at, output_at, printed_is}
-use Rattle.sound_plans.proofs.laws.Stands.{IsScanNode, IsWorker, edge_at, grouping_there, node_stands, proper_inputs, sends_rows, sink_is}
+use Rattle.sound_plans.proofs.laws.Stands.{IsScanNode, IsWorker, edge_at, grouping_there, sends_rows, sink_is}
+use Rattle.sound_plans.proofs.laws.EachNode.{node_stands, proper_inputs}
 
 -- the consumer of an edge is a node that has it among its inputs
 consumer_there : (v : ℕ) (nodes : List Node) (node : Node) → consumer v nodes ≡ Some node → (n : ℕ) × (slice_get nodes n ≡ Some node) × (is_input v node.inputs ≡ true)

@@ -1,6 +1,5 @@
-use Rattle.std.proofs.Common.{ap, refl, subst, sym, ◌∙◌}
+use Rattle.std.proofs.Common.{ap, refl}
 use Rattle.std.proofs.lemmas.Result.{err_from_is_err_and}
-use Rattle.sound_plans.specs.Sound.{IsRuled}
 use Rattle.job_ending.proofs.laws.Runs.{runs_halted, runs_moved}
 use Rattle.command_line.specs.Requests.{input_view}
 use Rattle.job_run.specs.Outcome.{after_judgement, run_plan}
@@ -19,12 +18,10 @@ returns-in_err-checked-clause-printable g c =
     rw (p.1, p.2) (printable_halt _ _ c.in_err-checked.ensures.halts)
 
 pub run_plan-requires : goal.run_plan-requires
-run_plan-requires g c = record { ruled = subst IsRuled (sym c.plan.ensures.same) c.in_ok-checked.ensures.ruled }
+run_plan-requires g c = record { ruled = c.in_ok-checked.ensures.ruled }
 
 pub returns-clause-runs : goal.returns-clause-runs
 returns-clause-runs g c =
     runs_moved _ _ _ _ _ _ _ _ _ _ refl
-    (λ h is.
-    ap (after_judgement (run_plan h (input_view c.args.input.now) c.args.order.now)) c.in_ok-checked.ensures.ok
-    ∙ ap (run_plan h (input_view c.args.input.now) c.args.order.now) (sym c.plan.ensures.same))
+    (λ h is. ap (after_judgement (run_plan h (input_view c.args.input.now) c.args.order.now)) c.in_ok-checked.ensures.ok)
     (λ rose. rose) c.run_plan.ensures.runs

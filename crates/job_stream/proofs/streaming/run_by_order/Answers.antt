@@ -1,4 +1,5 @@
 use Rattle.std.proofs.Common.{[], sym, refl, ap, ◌∙◌}
+use Rattle.plan_check.specs.Checked.{plan_in}
 use Rattle.plan_rules.specs.Doings.{network}
 use Rattle.stream_model.specs.Machine.{opened}
 use Rattle.exec_core.specs.Goes.{StandsIn}
@@ -16,7 +17,7 @@ returns-in_default g c = ends_wanting _ _ _
 
 pub go_over-requires : goal.go_over-requires
 go_over-requires g c =
-    let plan = c.args.plan.now in
+    let plan = plan_in c.args.checked.now in
     record { ready = (plan, c.args.sent_limit, opened (network plan), c.requires.sheet, sym c.requires.sources, record { items = []; stands = c.in-Ok-open_job.ensures.ok; is = refl }) }
 
 pub returns : goal.returns
@@ -24,7 +25,7 @@ returns g c = ends_wanting _ _ _
 
 pub returns-in-Ok-go_over : goal.returns-in-Ok-go_over
 returns-in-Ok-go_over g c =
-    let plan = c.args.plan.now in
+    let plan = plan_in c.args.checked.now in
     let limit = c.args.sent_limit in
     let sheet = c.args.sheet.now in
     let orders = c.args.orders.now in
@@ -39,7 +40,7 @@ returns-in-Ok-go_over g c =
 
 pub returns-in-Ok-open_job : goal.returns-in-Ok-open_job
 returns-in-Ok-open_job g c =
-    let plan = c.args.plan.now in
+    let plan = plan_in c.args.checked.now in
     let limit = c.args.sent_limit in
     let sheet = c.args.sheet.now in
     let orders = c.args.orders.now in

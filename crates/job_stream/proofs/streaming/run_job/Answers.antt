@@ -3,6 +3,7 @@ use Rattle.std.proofs.lemmas.Bool.{eqb-true}
 use Rattle.ct_io.specs.Counts.{Rose}
 use Rattle.job_ending.specs.Runs.{RunsThere}
 use Rattle.job_text.specs.declared.orders.OrderLine.{OrderLine}
+use Rattle.plan_check.specs.Checked.{plan_in}
 use Rattle.plan_rules.specs.Doings.{network}
 use Rattle.job_stream.specs.Early.{opening}
 use Rattle.job_stream.specs.Stream.{streamed_within}
@@ -17,11 +18,11 @@ pub returns-in_default : goal.returns-in_default
 returns-in_default g c = ends_wanting _ _ _
 
 pub write_early-requires : goal.write_early-requires
-write_early-requires g c = record { ready = (c.args.plan.now, c.args.sent_limit, _, _, c.in-Some.ensures.finished.0, c.requires.sheet, c.in-Some.ensures.finished.1) }
+write_early-requires g c = record { ready = ((plan_in c.args.checked.now), c.args.sent_limit, _, _, c.in-Some.ensures.finished.0, c.requires.sheet, c.in-Some.ensures.finished.1) }
 
 pub returns-in-Some : goal.returns-in-Some
 returns-in-Some g c =
-    let plan = c.args.plan.now in
+    let plan = plan_in c.args.checked.now in
     let files = c.args.files.now in
     let limit = c.args.sent_limit in
     let finished = c.in-Some.ensures.finished in

@@ -13,24 +13,23 @@ use Rattle.plan_shape.proofs.laws.Theorems.{shaped_plans_have_shape}
 use Rattle.laid_plans.proofs.laws.Erased.{laid_plans_are_erased}
 use Rattle.laid_plans.proofs.laws.LaidPlans.{laid_plans_have_shape}
 
-pub checked-requires : goal.checked-requires
-checked-requires c =
+pub finished-requires-clause-sound : goal.finished-requires-clause-sound
+finished-requires-clause-sound c =
     let laid = c.args.laid in
-    let made : c.in_ok-plan.plan ≡ with_inferred (topped_plan (sink_top laid c.args.setting) laid) =
-    c.in_ok-plan.ensures ∙ ap (λ key. with_inferred (topped_plan (top_of key) laid)) c.in_ok-key.ensures.shown in
-    subst (λ (p : Plan). IsSound p) (sym made)
+    let shown = ap (λ key. with_inferred (topped_plan (top_of key) laid)) c.in_ok-key.ensures.shown in
+    subst (λ (p : Plan). IsSound p) (sym shown)
     (made_is_sound laid c.requires.0 c.requires.1 c.args.setting laid_plans_have_shape inferred_plans_are_sound shaped_plans_have_shape c.in_ok-key.ensures.accepted)
 
 pub returns-clause-planned : goal.returns-clause-planned
 returns-clause-planned c =
     let laid = c.args.laid in
-    let plan = c.in_ok-checked.ensures ∙ c.in_ok-plan.ensures ∙ ap (λ key. with_inferred (topped_plan (top_of key) laid)) c.in_ok-key.ensures.shown in
+    let plan = c.in_ok-finished.ensures ∙ ap (λ key. with_inferred (topped_plan (top_of key) laid)) c.in_ok-key.ensures.shown in
     ap (λ code. made_by laid code (sink_top laid c.args.setting)) c.in_ok-key.ensures.accepted ∙ ap Planned (sym plan)
 
 pub returns-clause-erased : goal.returns-clause-erased
 returns-clause-erased c = λ rel is.
     let laid = c.args.laid in
-    ap erased (c.in_ok-checked.ensures ∙ c.in_ok-plan.ensures ∙ ap (λ key. with_inferred (topped_plan (top_of key) laid)) c.in_ok-key.ensures.shown)
+    ap erased (c.in_ok-finished.ensures ∙ ap (λ key. with_inferred (topped_plan (top_of key) laid)) c.in_ok-key.ensures.shown)
     ∙ laid_plans_are_erased (topped_plan (sink_top laid c.args.setting) laid) rel (laid_so laid rel is c.args.setting)
 
 pub returns-in_err-test_size-clause-refused : goal.returns-in_err-test_size-clause-refused
