@@ -1,8 +1,9 @@
-ghost use Rattle.std.specs.Prelude.{◌≡◌, ◌++◌, [], ◌∷◌, false, IfOk, OnOk};
+ghost use Rattle.std.specs.Prelude.{◌≡◌, ◌++◌, List, [], ◌∷◌, true, false, Ok, IfOk, OnOk};
 ghost use Rattle.ct_change.specs.Changelog.{adds, mode_of};
 ghost use Rattle.ct_change.specs.KeyRows.{row_told};
 ghost use Rattle.emission_rules.specs.Changes.{after_key};
 ghost use Rattle.emission_rules.specs.Sink as r;
+ghost use Rattle.op_rules.specs.History.{Arrival};
 
 use ct_change::{Change, Changes, Declared, Kind, Steps, Update, key_row};
 use ct_value::{Cols, Memory, Row};
@@ -41,6 +42,18 @@ impl SinkWriter {
             key,
             broken: false,
         })
+    }
+
+    /// Whether it prints each change as it comes, as all writers do but that of an upsert table.
+    pub fn relays(&self) -> bool
+        ensures emits { result ≡ true → (before : List Arrival) (a : Arrival) → (⟦<SinkWriter as Operator>⟧.rule self.now).emits before (a ∷ []) ≡ Ok (a.change ∷ []) }
+        ensures stands { (before : List Arrival) → ⟦<SinkWriter as Operator>⟧.stands_for self.now before }
+    {
+        match self.declared {
+            Declared::Append => true,
+            Declared::Retract => true,
+            Declared::Upsert => false,
+        }
     }
 }
 

@@ -3,6 +3,7 @@ pub mod Flights
 pub mod Pending
 pub mod QuietStates
 pub mod Running
+pub mod Relays
 pub mod Runs
 pub mod Slots
 pub mod Steps

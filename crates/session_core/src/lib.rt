@@ -9,10 +9,12 @@
 
 mod operators;
 mod printing;
+mod relay;
 mod session;
 mod session_drain;
 mod session_looks;
 mod session_opened;
+mod session_relay;
 mod sessions;
 mod source;
 mod traffic;
@@ -21,6 +23,7 @@ mod wiring;
 mod wiring_looks;
 
 pub use operators::Operators;
+pub use relay::RelayOperator;
 pub use session::{Buffer, Session};
 pub use source::{SourceCheck, SourceFault};
 pub use traffic::Traffic;

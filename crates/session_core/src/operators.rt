@@ -1,12 +1,13 @@
-ghost use Rattle.std.specs.Prelude.{◌≡◌, ℕ, ◌<◌, ◌+◌, ◌*◌, Bool, true, length, OnOk, IfOk, IfErr};
+ghost use Rattle.std.specs.Prelude.{◌≡◌, ℕ, ◌<◌, ◌+◌, ◌*◌, Bool, true, None, get_or, length, OnOk, IfOk, IfErr};
 ghost use Rattle.op_rules.specs.Faults.{IfRange};
 ghost use Rattle.op_rules.specs.Rules.{Answer};
 ghost use Rattle.stream_model.specs.Network.{Network};
 ghost use Rattle.session_core.specs.LaidOut.{IsLaidOut};
 ghost use Rattle.session_subtasks.specs.Subtasks.{IsOutOf};
+ghost use Rattle.session_core.specs.Relay.{RelaysIn};
 ghost use Rattle.session_core.specs.Runs.{AreEmpty, ForAllRun, HasConsumed, HasFlushed, HasFlushedIn, HasTakenIn, IsEmptyAt, IsOutAt, IsOutConsuming, IsOutFlushing, IsOutFlushingIn, IsOutTakingIn, MayFlushIn, MayTakeIn, MaySomeConsume, MaySomeFlushAt, StopsConsuming, StopsFlushing};
 
-use crate::{Feed, Wiring};
+use crate::{Feed, RelayOperator, Wiring};
 use ct_change::{Change, Steps};
 use ct_value::{Boxed, Memory, Row};
 use op_rules::{OpFault, PieceOperator};
@@ -122,6 +123,20 @@ impl<O: PieceOperator> Operators<O> {
         ensures within { result < length self.now.items.items }
     {
         node as usize * self.width + subtask as usize
+    }
+}
+
+impl<O: RelayOperator> Operators<O> {
+    /// Whether there is such a subtask, and its operator emits each change as it came.
+    pub fn relays(&self, node: u32, subtask: u32) -> bool
+        ensures { result ≡ true → RelaysIn O.rule O.stands_for (get_or self.now.items.items (node * self.now.width + subtask) None) }
+    {
+        let place = node as usize * self.width + subtask as usize;
+        match self.items.get(place) {
+            Some(Some(subtask)) => subtask.operator.relays(),
+            Some(None) => false,
+            None => false,
+        }
     }
 }
 

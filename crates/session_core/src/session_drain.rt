@@ -8,16 +8,15 @@ ghost use Rattle.session_core.specs.LaidOut.{IsStageThere, IsThere, stage_of};
 ghost use Rattle.session_core.specs.declared.wiring.Stage.TheVariants.{Deliver as Delivers};
 ghost use Rattle.session_core.specs.Stands.{ForKept, ForRuns, HasDrained, HasMoved, HasStage, HasTold, Keeps, KeepsBehind, KeepsBehindStage, KeepsSome, StandsForSome, StopsAlongStage, StopsDraining, StopsMoving};
 
-use crate::{Lane, Session, SourceCheck, Stage};
+use crate::{Lane, RelayOperator, Session, SourceCheck, Stage};
 use ct_change::Steps;
 use ct_value::Memory;
-use op_rules::PieceOperator;
 use std::sync::ledger::Ledger;
 use stream_model::StepFault;
 
-impl<O: PieceOperator + Drop, S: SourceCheck> Session<O, S> {
-    // So many changes leave the front of a channel, one after the other.
-    fn advance_all<L: Ledger>(
+impl<O: RelayOperator + Drop, S: SourceCheck> Session<O, S> {
+    // So many changes leave the front of a channel, and are consumed one after the other.
+    fn advance_each<L: Ledger>(
         &mut self,
         lane: Lane,
         count: u32,
@@ -31,6 +30,24 @@ impl<O: PieceOperator + Drop, S: SourceCheck> Session<O, S> {
             self.advance(lane.edge, lane.from, lane.to, steps)?;
         }
         Ok(())
+    }
+
+    // So many changes leave the front of a channel, one after the other; where it leads to a sink that prints each as it
+    // came, the sink isn't asked for each.
+    fn advance_all<L: Ledger>(
+        &mut self,
+        lane: Lane,
+        count: u32,
+        steps: &mut Steps<L>,
+    ) -> Result<(), StepFault>
+        requires ready { KeepsSome O.rule O.broken O.stands_for O.takes_pieces S.stands_for self.old }
+        ensures ok { OnOk result (KeepsBehind O.rule O.broken O.stands_for O.takes_pieces S.stands_for self.old (λ g limit s. moves lane.edge lane.from lane.to count) self.new) }
+        ensures err { IfErr result (λ fault. ForKept O.rule O.broken O.stands_for O.takes_pieces S.stands_for self.old (λ g limit handed s. StopsAlong g limit s (moves lane.edge lane.from lane.to count) fault (handed ++ self.new.traffic.printed))) }
+    {
+        if self.relays(lane) {
+            return self.relay_all(lane, count);
+        }
+        self.advance_each(lane, count, steps)
     }
 
     // What is in flight in a channel is delivered whole.

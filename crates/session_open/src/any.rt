@@ -13,6 +13,7 @@ use op_semi::SemiJoin;
 use op_setops::SetOp;
 use op_sink::{Materialize, SinkWriter};
 use op_topn::TopN;
+use session_core::RelayOperator;
 use std::sync::ledger::Ledger;
 
 /// An operator of any of the kinds that a plan has.
@@ -190,6 +191,26 @@ impl PieceOperator for AnyOperator {
             AnyOperator::TopN(_) => unreachable!(),
             AnyOperator::Materialize(_) => unreachable!(),
             AnyOperator::Sink(_) => unreachable!(),
+        }
+    }
+}
+
+impl RelayOperator for AnyOperator {
+    fn relays(&self) -> bool {
+        match self {
+            AnyOperator::Sink(o) => o.relays(),
+            AnyOperator::Filter(_) => false,
+            AnyOperator::Project(_) => false,
+            AnyOperator::Union(_) => false,
+            AnyOperator::Normalize(_) => false,
+            AnyOperator::Group(_) => false,
+            AnyOperator::Local(_) => false,
+            AnyOperator::Merge(_) => false,
+            AnyOperator::Join(_) => false,
+            AnyOperator::Semi(_) => false,
+            AnyOperator::SetOp(_) => false,
+            AnyOperator::TopN(_) => false,
+            AnyOperator::Materialize(_) => false,
         }
     }
 }

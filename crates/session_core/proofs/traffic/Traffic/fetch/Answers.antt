@@ -1,7 +1,6 @@
 use Rattle.std.proofs.Common.{sym, ◌∙◌, arith}
-use Rattle.session_channels.specs.Lanes.{flight_in}
 use Rattle.session_core.specs.LaidOut.{port_of}
-use Rattle.session_core.proofs.Flights.{carry_front}
+use Rattle.session_core.proofs.Relays.{front_taken}
 use Rattle.session_core.proofs.Wires.{channel_there, fed_there, move_unfed, move_off, move_empty}
 use Rattle.session_core.proofs.traffic.Traffic.fetch.Goals as goal
 
@@ -26,34 +25,9 @@ take_front-requires-clause-to c =
 
 pub returns-in-Some-take_front-clause-ok : goal.returns-in-Some-take_front-clause-ok
 returns-in-Some-take_front-clause-ok c = λ g limit handed s laid kept.
-    let e = c.args.edge in
-    let i = c.args.from in
-    let j = c.args.to in
-    let new = c.take_front.new.self in
-    let fed = sym (c.in-Some.ensures g limit laid) in
     let on = sym (c.is_channel.ensures g limit laid) ∙ c.if-not-is_channel.false in
-    let there = channel_there g e i j on in
-    let edge = (fed_there g laid.wired e (port_of c.in-Some.feed) fed).edge in
-    let rest = flight_in new.width new.lanes.items e i j in
-    let some = c.in-Some-take_front.ensures.some in
-    record {
-      fed = fed;
-      channel = on;
-      rest = rest;
-      front = sym (kept.flight.at e i j (omega (arith, edge, kept.edges)) (omega (arith, there.0, kept.width)) (omega (arith, there.1, kept.width))) ∙ some.0;
-      carries = record {
-        width = c.take_front.ensures.width ∙ kept.width;
-        edges = c.take_front.ensures.edges ∙ kept.edges;
-        flight = carry_front c.args.self.now.channels new s.flight e i j rest kept.flight c.take_front.ensures.edges c.take_front.ensures.width some.1;
-        sends = c.take_front.ensures.sent ∙ kept.sends;
-        within = kept.within;
-        took = kept.took;
-        few = kept.few;
-        counted = kept.counted;
-        shares = kept.shares;
-        printed = kept.printed;
-      };
-    }
+    front_taken c.args.wiring.now g limit handed s c.args.self.now c.take_front.new.self c.args.edge c.args.from c.args.to c.in-Some.feed c.in-Some-take_front.change laid kept
+    (sym (c.in-Some.ensures g limit laid)) on c.in-Some-take_front.ensures.some c.take_front.ensures.width c.take_front.ensures.edges c.take_front.ensures.sent
 
 pub returns-in-None-clause-err : goal.returns-in-None-clause-err
 returns-in-None-clause-err c = λ g limit handed s laid kept.

@@ -1,35 +1,16 @@
-use Rattle.std.proofs.Common.{◌≡◌, ℕ, ◌+◌, ◌≤◌, true, List, ◌++◌, map, length, refl, sym, ap, subst, ◌∙◌, arith}
-use Rattle.std.proofs.lemmas.List.{append_assoc}
+use Rattle.std.proofs.Common.{◌≡◌, ℕ, ◌+◌, ◌≤◌, true, length, refl, sym, subst, ◌∙◌, arith}
 use Rattle.ct_change.specs.declared.change.Change.{Change}
-use Rattle.stream_model.specs.declared.events.PrintItem.{PrintItem}
-use Rattle.stream_model.specs.declared.events.PrintItem.TheVariants.{Change as Printed}
-use Rattle.stream_model.specs.Machine.{print, send}
+use Rattle.stream_model.specs.Machine.{send}
 use Rattle.session_channels.specs.Routes.{IsWide, RoutesFor}
 use Rattle.session_core.proofs.Wires.{get_at}
-use Rattle.session_core.proofs.Flights.{all_at, rec_map, handed_print, handed_send, send_fits, wide_for}
+use Rattle.session_core.proofs.Flights.{all_at, rec_map, handed_send, send_fits, wide_for}
+use Rattle.session_core.proofs.Relays.{printed_on}
 use Rattle.session_core.proofs.traffic.Traffic.hand_on.Goals as goal
 
 pub returns-then-node-wiring-clause-ok : goal.returns-then-node-wiring-clause-ok
 returns-then-node-wiring-clause-ok c = λ g limit handed s may.
-    let kept = may.carries in
-    let last = c.if-node-wiring.true ∙ may.laid.nodes in (
-      print c.args.node c.args.subtask c.args.changes.now s,
-      handed_print g limit c.args.node c.args.subtask c.args.changes.now s last,
-      record { pieces = refl; bundle = refl; taken = refl },
-      record {
-        width = kept.width;
-        edges = kept.edges;
-        flight = kept.flight;
-        sends = kept.sends;
-        within = kept.within;
-        took = kept.took;
-        few = kept.few;
-        counted = kept.counted;
-        shares = kept.shares;
-        printed = ap (λ (l : List PrintItem). l ++ map Printed c.args.changes.now) kept.printed
-            ∙ (append_assoc handed c.args.self.now.printed (map Printed c.args.changes.now) ∙ ap (λ (l : List PrintItem). handed ++ l) (sym c.in_ok-print_all.ensures.ok));
-      },
-    )
+    printed_on c.args.wiring.now c.args.self.now c.args.node c.args.subtask c.args.changes.now g limit handed s c.print_all.new.printed may
+    (c.if-node-wiring.true ∙ may.laid.nodes) c.in_ok-print_all.ensures.ok
 
 pub send_all-requires-clause-wide : goal.send_all-requires-clause-wide
 send_all-requires-clause-wide c =

@@ -4,7 +4,7 @@ use Rattle.stream_model.specs.Network.{Network}
 use Rattle.stream_model.specs.Machine.{State}
 use Rattle.stream_model.specs.Drain.{Leads, moves}
 use Rattle.session_core.specs.Stands.{Keeps}
-use Rattle.session_core.proofs.session.Session.advance_all.Given as goal
+use Rattle.session_core.proofs.session.Session.advance_each.Given as goal
 
 abbrev pub invariant-loop-moved : goal.invariant-loop-moved
 invariant-loop-moved b l = (g : Network) (limit : ℕ) (handed : List PrintItem) (s : State) → Keeps b.O.Operator.rule b.O.Operator.broken b.O.Operator.stands_for b.O.PieceOperator.takes_pieces b.S.SourceCheck.stands_for g limit l.fn.self handed s

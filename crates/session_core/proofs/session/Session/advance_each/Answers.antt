@@ -4,7 +4,7 @@ use Rattle.stream_model.specs.declared.events.PrintItem.{PrintItem}
 use Rattle.stream_model.specs.Machine.{State}
 use Rattle.stream_model.specs.Drain.{Leads, StopsAlong, moves}
 use Rattle.session_core.proofs.Runs.{leads_move, stops_move}
-use Rattle.session_core.proofs.session.Session.advance_all.Goals as goal
+use Rattle.session_core.proofs.session.Session.advance_each.Goals as goal
 
 pub advance-requires : goal.advance-requires
 advance-requires b c =
