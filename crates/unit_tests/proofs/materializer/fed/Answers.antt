@@ -1,6 +1,6 @@
 use Rattle.std.proofs.Common.{arith}
-use Rattle.op_tests.proofs.MaterializeArrivals.{arrives, fed_more}
-use Rattle.op_tests.proofs.materializer.fed.Goals as goal
+use Rattle.unit_tests.proofs.MaterializeArrivals.{arrives, fed_more}
+use Rattle.unit_tests.proofs.materializer.fed.Goals as goal
 
 pub returns-clause-fed : goal.returns-clause-fed
 returns-clause-fed g c =

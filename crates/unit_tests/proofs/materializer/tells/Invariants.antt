@@ -1,4 +1,4 @@
-use Rattle.op_tests.proofs.materializer.tells.Given as goal
+use Rattle.unit_tests.proofs.materializer.tells.Given as goal
 
 abbrev pub ghosts-told : goal.ghosts-told
 ghosts-told a = record { name = a.blank.name; parts = a.blank.parts }
