@@ -4,6 +4,7 @@ ghost use Rattle.ct_change.specs.KeyRows.{row_told};
 ghost use Rattle.emission_rules.specs.Changes.{after_key};
 ghost use Rattle.emission_rules.specs.Sink as r;
 ghost use Rattle.op_rules.specs.History.{Arrival};
+ghost use Rattle.op_sink.specs.Relays.{relays};
 
 use ct_change::{Change, Changes, Declared, Kind, Steps, Update, key_row};
 use ct_value::{Cols, Memory, Row};
@@ -46,6 +47,7 @@ impl SinkWriter {
 
     /// Whether it prints each change as it comes, as all writers do but that of an upsert table.
     pub fn relays(&self) -> bool
+        ensures declared { (sink : r.Sink) × (⟦<SinkWriter as Operator>⟧.rule self.now ≡ r.sink_rule sink) × (result ≡ relays sink.declared) }
         ensures emits { result ≡ true → (before : List Arrival) (a : Arrival) → (⟦<SinkWriter as Operator>⟧.rule self.now).emits before (a ∷ []) ≡ Ok (a.change ∷ []) }
         ensures stands { (before : List Arrival) → ⟦<SinkWriter as Operator>⟧.stands_for self.now before }
     {
